@@ -1,0 +1,2 @@
+pub mod AvpList
+pub mod AvpReading

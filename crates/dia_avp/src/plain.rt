@@ -1,0 +1,133 @@
+//! The plain reading and writing of AVPs: over slices, with copies.
+
+ghost use Rattle.std.specs.Prelude.{◌≡◌, ◌≤◌, ◌<◌, ◌^◌, ◌∷◌, ◌++◌, IfOk, OnOk, OnErr, IsOkUnless, MatchOption};
+ghost use Rattle.byteorder.specs.Endian.{big_bytes};
+ghost use Rattle.dia_avp.specs.AvpList.{Reads, Answers, BeginsWith, fault_at, has_vendor as vendor_flag, header_len as header_len_of, padding_of as padding_len, length_of, written};
+
+use crate::avp::RawAvp;
+use crate::fault::AvpFault;
+use crate::octets::Octets;
+use crate::wire::{DEPTH_LIMIT, Wire};
+use byteorder::{BigEndian, ByteOrder};
+use std::alloc::Global;
+
+/// The flag V: a Vendor-ID follows the length.
+const VENDOR_FLAG: u8 = 0x80;
+
+fn has_vendor(flags: u8) -> bool
+    ensures { result ≡ vendor_flag flags }
+{
+    flags & VENDOR_FLAG != 0
+}
+
+fn header_len(flags: u8) -> usize
+    ensures value { result ≡ header_len_of flags }
+    ensures least { 8 ≤ result }
+    ensures most { result ≤ 12 }
+{
+    if has_vendor(flags) { 12 } else { 8 }
+}
+
+fn padding_of(len: usize) -> usize
+    ensures value { result ≡ padding_len len }
+    ensures most { result < 4 }
+{
+    (4 - len % 4) % 4
+}
+
+/// The AVP that the octets begin with, and what stands behind its padding.
+fn front_of<'a>(alloc: Global, at: usize, octets: &'a [u8]) -> Result<(RawAvp, &'a [u8]), AvpFault>
+    ensures found { IfOk result (λ x. BeginsWith octets.now x.0 x.1.now) }
+    ensures fault { MatchOption (fault_at at octets.now) (IsOkUnless result AvpFault.OutOfMemory) (λ f. result ≡ Err f) }
+{
+    if octets.len() < 8 {
+        return Err(AvpFault::ShortHeader { at });
+    }
+    let code = BigEndian::read_u32(octets);
+    let flags = octets[4];
+    let len = BigEndian::read_u24(&octets[5..]) as usize;
+    let header = header_len(flags);
+    if len < header {
+        return Err(AvpFault::LengthTooSmall { at, code });
+    }
+    if octets.len() < len {
+        return Err(AvpFault::Overrun { at, code });
+    }
+    let vendor = if has_vendor(flags) {
+        BigEndian::read_u32(&octets[8..])
+    } else {
+        0
+    };
+    let value = Octets::copy_of(alloc, &octets[header..len])?;
+    let end = (len + padding_of(len)).min(octets.len());
+    let avp = RawAvp {
+        code,
+        flags,
+        vendor,
+        value,
+    };
+    let (_, rest) = octets.split_at(end);
+    Ok((avp, rest))
+}
+
+/// A header with a vendor. Without V it is the first 8 octets.
+fn header_of(avp: &RawAvp, len: u32) -> [u8; 12]
+    requires { len < 2 ^ 24 }
+    ensures { result ≡ big_bytes 4 avp.now.code ++ (avp.now.flags ∷ big_bytes 3 len) ++ big_bytes 4 avp.now.vendor }
+{
+    let mut header = [0u8; 12];
+    BigEndian::write_u32(&mut header, avp.code);
+    header[4] = avp.flags;
+    BigEndian::write_u24(&mut header[5..], len);
+    BigEndian::write_u32(&mut header[8..], avp.vendor);
+    header
+}
+
+/// The plain reading and writing.
+#[derive(Clone, Copy, Debug, PartialEq, Eq)]
+pub struct PlainWire;
+
+fn split(alloc: Global, octets: &[u8]) -> Result<Vec<RawAvp>, AvpFault>
+    ensures { Answers (Reads octets.now) result }
+{
+    let mut avps = Vec::new(alloc);
+    let mut rest = octets;
+    while !rest.is_empty() {
+        let (avp, behind) = front_of(alloc, octets.len() - rest.len(), rest)?;
+        avps.push(avp)?;
+        rest = behind;
+    }
+    Ok(avps)
+}
+
+impl Wire for PlainWire {
+    fn split(alloc: Global, body: &Octets) -> Result<Vec<RawAvp>, AvpFault> {
+        split(alloc, body.as_slice())
+    }
+
+    fn inside(alloc: Global, avp: &RawAvp, depth: u32) -> Result<Vec<RawAvp>, AvpFault> {
+        if depth > DEPTH_LIMIT {
+            return Err(AvpFault::TooDeep);
+        }
+        split(alloc, avp.value.as_slice())
+    }
+
+    fn spell(out: &mut Vec<u8>, avp: &RawAvp) -> Result<(), AvpFault> {
+        let header = header_len(avp.flags);
+        let value = avp.value.as_slice();
+        if value.len() >= TOO_LONG - header {
+            return Err(AvpFault::TooLong);
+        }
+        let len = header + value.len();
+        let padding = padding_of(len);
+        let head = header_of(avp, len as u32);
+        out.reserve(len + padding)?;
+        out.extend_from_slice(&head[..header])?;
+        out.extend_from_slice(value)?;
+        out.extend_from_slice(&[0; 3][..padding])?;
+        Ok(())
+    }
+}
+
+/// What no AVP's length reaches.
+const TOO_LONG: usize = 0x0100_0000;

@@ -1,0 +1,56 @@
+//! Items in order, which contracts see as a list.
+
+ghost use Rattle.std.specs.Prelude.{◌≡◌, ◌==◌, length};
+
+use std::marker::Model;
+
+/// Items in order. It is made from a `Vec` and gives it back without taking memory.
+#[derive(Debug, Drop)]
+pub struct Listing<T> {
+    items: Vec<T>,
+}
+
+impl<T> Model for Listing<T> {
+    ghost use Rattle.std.specs.Prelude.{List};
+
+    ghost Value = { List T };
+
+    ghost view = { λ listing. listing.items.items };
+}
+
+impl<T> Listing<T> {
+    /// The items of the vector.
+    pub fn from_vec(items: Vec<T>) -> Self
+        ensures { result ≡ items.items }
+    {
+        Listing { items }
+    }
+
+    /// The items as a vector again.
+    pub fn into_vec(self) -> Vec<T>
+        ensures { result.items ≡ self }
+    {
+        self.items
+    }
+
+    /// The items themselves.
+    pub fn as_slice(&self) -> &[T]
+        ensures { result.now ≡ self.now }
+    {
+        &self.items
+    }
+
+    /// How many items there are.
+    pub fn len(&self) -> usize
+        ensures { result ≡ length self.now }
+    {
+        self.items.len()
+    }
+
+    /// Whether there is no item.
+    pub fn is_empty(&self) -> bool
+        ensures { result ≡ (length self.now == 0) }
+    {
+        self.items.is_empty()
+    }
+}
