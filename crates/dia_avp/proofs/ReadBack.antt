@@ -1,12 +1,13 @@
 -- A written AVP, with octets behind it, reads as that AVP and those octets.
-use Rattle.std.proofs.Common.{◌≡◌, ℕ, ◌+◌, ◌-◌, ◌^◌, ◌<◌, ◌≤◌, List, [], ◌∷◌, ◌++◌, length, take, drop, slice_range, Bool, true, false, cond, refl, sym, subst, ap, ◌∙◌, arith, length-append, append_assoc}
+use Rattle.std.proofs.Common.{◌≡◌, ℕ, ◌+◌, ◌-◌, ◌^◌, ◌<◌, ◌≤◌, List, [], ◌∷◌, ◌++◌, length, take, drop, slice_range, Bool, true, false, cond, refl, sym, subst, ap, ◌∙◌, arith, length-append, append_assoc, All}
 use Rattle.std.specs.Prelude.{replicate}
-use Rattle.std.proofs.lemmas.List.{take_at, drop_at, length-replicate}
+use Rattle.std.proofs.lemmas.List.{take_at, drop_at, length-replicate, append-nil}
+use Rattle.std.proofs.lemmas.List.Elements.{All-head, All-tail}
 use Rattle.byteorder.specs.Endian.{big_bytes, big_number}
 use Rattle.byteorder.specs.Numbers.{big_number-reads_back}
 use Rattle.dia_avp.specs.declared.avp.RawAvp.{RawAvp}
 use Rattle.dia_avp.proofs.Reading.{least_header}
-use Rattle.dia_avp.specs.AvpList.{BeginsWith, HasSpelling, length_in, has_vendor, header_len, length_of, padding_of, vendor_of, written}
+use Rattle.dia_avp.specs.AvpList.{BeginsWith, Begins, IsSpelling, HasSpelling, length_in, has_vendor, header_len, length_of, padding_of, vendor_of, written, written_list}
 
 -- the vendor, where the octets after the first eight are these
 vendor_back : (has : Bool) (vendor : ℕ) (after : List ℕ) → vendor < 2 ^ 32 → (has ≡ false → vendor ≡ 0) → vendor ≡ cond has (big_number 4 (cond has (big_bytes 4 vendor) [] ++ after)) 0
@@ -68,3 +69,15 @@ BeginsWith-written avp rest w =
           ∙ drop_at (written avp) rest (length_of avp + padding_of (length_of avp)) spelled
           );
     })
+
+-- written AVPs, with octets behind them, read as those AVPs and these octets
+pub Begins-written_list : (avps : List RawAvp) (rest : List ℕ) → All HasSpelling avps → Begins (written_list avps ++ rest) avps rest
+Begins-written_list [] rest has = refl
+Begins-written_list (a ∷ avps) rest has =
+    let between : List ℕ = written_list avps ++ rest in
+    let same : (written a ++ written_list avps) ++ rest ≡ written a ++ between = append_assoc (written a) (written_list avps) rest in
+    (between, subst (λ (o : List ℕ). BeginsWith o a between) (sym same) (BeginsWith-written a between (All-head HasSpelling a avps has)), Begins-written_list avps rest (All-tail HasSpelling a avps has))
+
+-- written AVPs are read back
+pub IsSpelling-written_list : (avps : List RawAvp) → All HasSpelling avps → IsSpelling (written_list avps) avps
+IsSpelling-written_list avps has = subst (λ (o : List ℕ). Begins o avps []) (append-nil (written_list avps)) (Begins-written_list avps [] has)

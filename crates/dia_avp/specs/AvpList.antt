@@ -1,5 +1,5 @@
 -- AVPs as octets (RFC 6733, section 4.1). A number stands in network order, the highest octet first.
-use Rattle.std.specs.Prelude.{◌≡◌, ◌≢◌, ℕ, ◌+◌, ◌-◌, ◌%◌, ◌≤◌, ◌<◌, ◌^◌, List, [], ◌∷◌, ◌++◌, length, drop, slice_range, replicate, bit_and, not, slice_index, Bool, false, ◌==◌, nat_lt, if◌then◌else◌, Option, Some, None, Result, Ok, Err}
+use Rattle.std.specs.Prelude.{◌≡◌, ◌≢◌, ℕ, ◌+◌, ◌-◌, ◌%◌, ◌≤◌, ◌<◌, ◌^◌, List, [], ◌∷◌, ◌++◌, length, drop, slice_range, replicate, flat_map, All, bit_and, not, slice_index, Bool, false, ◌==◌, nat_lt, if◌then◌else◌, Option, Some, None, Result, Ok, Err}
 use Rattle.std.specs.Global.{Vec}
 use Rattle.byteorder.specs.Endian.{big_number, big_bytes}
 use Rattle.dia_avp.specs.declared.avp.RawAvp.{RawAvp}
@@ -91,15 +91,34 @@ length_of avp = header_len avp.flags + length avp.value
 abbrev pub vendor_of : RawAvp → List ℕ
 vendor_of avp = if has_vendor avp.flags then big_bytes 4 avp.vendor else []
 
--- the written spelling: the padding is zero
-abbrev pub written : RawAvp → List ℕ
-written avp =
-    big_bytes 4 avp.code ++ (avp.flags ∷ big_bytes 3 (length_of avp)) ++ vendor_of avp ++ avp.value
-    ++ replicate (padding_of (length_of avp)) 0
+-- code, flags, length, Vendor-ID and value
+abbrev pub unpadded : RawAvp → List ℕ
+unpadded avp = big_bytes 4 avp.code ++ (avp.flags ∷ big_bytes 3 (length_of avp)) ++ vendor_of avp ++ avp.value
 
--- what has a written spelling that is read back
+-- the written spelling: all of the padding is there, and it is zero
+abbrev pub written : RawAvp → List ℕ
+written avp = unpadded avp ++ replicate (padding_of (length_of avp)) 0
+
+-- the written spellings of AVPs, one after the other
+abbrev pub written_list : List RawAvp → List ℕ
+written_list avps = flat_map written avps
+
+-- The numbers fit their places, and a vendor stands there only with V: so the written spelling is read back.
 pub record HasSpelling (avp : RawAvp) : Type 0 where
   pub code : avp.code < 2 ^ 32
   pub vendor : avp.vendor < 2 ^ 32
   pub no_vendor : has_vendor avp.flags ≡ false → avp.vendor ≡ 0
   pub long : length_of avp < 2 ^ 24
+
+-- ---- which octets spell one AVP
+
+abbrev pub AreOctets : List ℕ → Type 0
+AreOctets octets = All (λ octet. octet < 256) octets
+
+-- The octets are those of the AVP, its padding and the rest. The padding is of the right length,
+-- but that some of it, or all, may be missing where nothing follows.
+pub record HasPadding (octets : List ℕ) (avp : RawAvp) (rest : List ℕ) : Type 0 where
+  pub padding : List ℕ
+  pub parts : octets ≡ unpadded avp ++ padding ++ rest
+  pub most : length padding ≤ padding_of (length_of avp)
+  pub whole : rest ≢ [] → length padding ≡ padding_of (length_of avp)

@@ -1,14 +1,25 @@
-//! Laws of the reading of octets.
+//! Laws of the spelling of AVPs (RFC 6733, section 4.1). Each is the contract of a function without a body.
 
-ghost use Rattle.std.specs.Prelude.{◌≡◌, ◌↔◌, ◌∷◌, ◌++◌, ◌%◌, ℕ, List, length, Result};
+ghost use Rattle.std.specs.Prelude.{◌≡◌, ◌↔◌, ◌∷◌, ◌++◌, ◌%◌, ℕ, List, length, All, Result};
+ghost use Rattle.std.specs.Global.{Vec};
 ghost use Rattle.dia_avp.specs.declared.avp.RawAvp.{RawAvp};
 ghost use Rattle.dia_avp.specs.declared.fault.AvpFault.{AvpFault};
-ghost use Rattle.dia_avp.specs.AvpList.{Reads, HasSpelling, IsSpelling, written};
-ghost use Rattle.dia_avp.specs.AvpReading.{split_of};
+ghost use Rattle.dia_avp.specs.AvpList.{AreOctets, BeginsWith, HasPadding, Reads, Answers, HasSpelling, IsSpelling, written, written_list};
+ghost use Rattle.dia_avp.specs.AvpReading.{split_of, IsAnswer};
 
 /// Octets have one reading: one list of AVPs, or one first fault.
 pub fn one_reading()
     ensures { (octets : List ℕ) (r : Result (List RawAvp) AvpFault) → Reads octets r ↔ (r ≡ split_of octets) }
+{}
+
+/// What a call may answer to octets is their one reading, or that memory ran out.
+pub fn one_answer()
+    ensures { (octets : List ℕ) (r : Result (Vec RawAvp) AvpFault) → Answers (Reads octets) r ↔ IsAnswer (split_of octets) r }
+{}
+
+/// Octets spell at most one list of AVPs.
+pub fn one_list()
+    ensures { (octets : List ℕ) (avps others : List RawAvp) → IsSpelling octets avps → IsSpelling octets others → avps ≡ others }
 {}
 
 /// What is written, with octets behind it that spell AVPs, reads as that AVP and those.
@@ -16,7 +27,23 @@ pub fn written_is_read()
     ensures { (avp : RawAvp) (avps : List RawAvp) (rest : List ℕ) → HasSpelling avp → IsSpelling rest avps → IsSpelling (written avp ++ rest) (avp ∷ avps) }
 {}
 
+/// A written list is read back.
+pub fn written_list_is_read()
+    ensures { (avps : List RawAvp) → All HasSpelling avps → IsSpelling (written_list avps) avps }
+{}
+
 /// Behind octets of whole AVPs with all of their padding, more AVPs may stand.
 pub fn more_avps()
     ensures { (octets more : List ℕ) (avps others : List RawAvp) → length octets % 4 ≡ 0 → IsSpelling octets avps → IsSpelling more others → IsSpelling (octets ++ more) (avps ++ others) }
+{}
+
+/// Octets that begin with an AVP are its octets as they are written, padding, and the rest: two
+/// spellings of an AVP differ in their padding alone.
+pub fn only_padding_differs()
+    ensures { (octets rest : List ℕ) (avp : RawAvp) → AreOctets octets → BeginsWith octets avp rest → HasPadding octets avp rest }
+{}
+
+/// What was read can be written.
+pub fn read_is_writable()
+    ensures { (octets : List ℕ) (avps : List RawAvp) → AreOctets octets → IsSpelling octets avps → All HasSpelling avps }
 {}

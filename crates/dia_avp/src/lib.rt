@@ -1,4 +1,22 @@
-//! Attribute-value pairs: lists of octets as lists of AVPs (RFC 6733, section 4.1).
+//! Attribute-value pairs: lists of AVPs as octets, and back (RFC 6733, section 4.1).
+//!
+//! - [`Wire`]: reads and writes lists of AVPs. Its contract says which list or which fault octets
+//!   read as and how an AVP is written, for any body; [`PlainWire`] is the plain one, with copies.
+//! - [`RawAvp`]: an AVP whose value is not looked at. [`u32_of`], [`u64_of`], [`i32_of`] and
+//!   [`i64_of`] read a value as a number. [`Octets`] are octets that contracts see as a list.
+//! - [`AvpFault`]: why octets are no list of AVPs, with the place of the first fault.
+//!
+//! `specs/AvpList` says which octets spell which list, as a relation on whole texts: the padding of
+//! an AVP is any octets, and that of the last may be missing. Where octets spell no list, it says
+//! which is the first fault. It also says how an AVP is written. `specs/AvpReading` computes the
+//! reading as a function. Both are computed on worked examples in `proofs/Examples`.
+//!
+//! The functions of `laws` have no body: their contracts are laws of these definitions, for the
+//! proofs of the crates above. Octets have one reading, which is that function ([`one_reading`],
+//! [`one_answer`], [`one_list`]); what is written is read back ([`written_is_read`],
+//! [`written_list_is_read`]) and what was read can be written ([`read_is_writable`]); spellings
+//! differ in their padding alone ([`only_padding_differs`]); and more AVPs may stand behind whole
+//! ones ([`more_avps`]).
 #![tactic(auto)]
 
 mod avp;
@@ -11,7 +29,10 @@ mod wire;
 
 pub use avp::RawAvp;
 pub use fault::AvpFault;
-pub use laws::{more_avps, one_reading, written_is_read};
+pub use laws::{
+    more_avps, one_answer, one_list, one_reading, only_padding_differs, read_is_writable,
+    written_is_read, written_list_is_read,
+};
 pub use number::{i32_of, i64_of, u32_of, u64_of};
 pub use octets::Octets;
 pub use plain::PlainWire;

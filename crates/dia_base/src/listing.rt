@@ -1,7 +1,8 @@
 //! Items in order, which contracts see as a list.
 
-ghost use Rattle.std.specs.Prelude.{◌≡◌, ◌==◌, length};
+ghost use Rattle.std.specs.Prelude.{◌≡◌, ◌<◌, ◌==◌, [], ◌∷◌, ◌++◌, length, remove, OnOk, OnErr, slice_index_or};
 
+use std::alloc::{AllocError, Global};
 use std::marker::Model;
 
 /// Items in order. It is made from a `Vec` and gives it back without taking memory.
@@ -30,7 +31,8 @@ impl<T> Listing<T> {
     pub fn into_vec(self) -> Vec<T>
         ensures { result.items ≡ self }
     {
-        self.items
+        let Listing { items } = self;
+        items
     }
 
     /// The items themselves.
@@ -52,5 +54,34 @@ impl<T> Listing<T> {
         ensures { result ≡ (length self.now == 0) }
     {
         self.items.is_empty()
+    }
+
+    /// No items, which takes no memory.
+    pub fn empty(alloc: Global) -> Self
+        ensures { result ≡ [] }
+    {
+        Listing {
+            items: Vec::new(alloc),
+        }
+    }
+
+    /// Removes the item at this place and returns it.
+    pub fn remove(&mut self, place: usize) -> T
+        requires { place < length self.old }
+        ensures value { result ≡ slice_index_or self.old place result }
+        ensures items { self.new ≡ remove self.old place }
+    {
+        self.items.remove(place)
+    }
+}
+
+impl<T: Drop> Listing<T> {
+    /// Adds an item at the end. An error leaves the items as they were.
+    pub fn push(&mut self, item: T) -> Result<(), AllocError>
+        ensures ok { OnOk result (self.new ≡ self.old ++ item ∷ []) }
+        ensures err { OnErr result (self.new ≡ self.old) }
+    {
+        self.items.push(item)?;
+        Ok(())
     }
 }

@@ -1,0 +1,4 @@
+pub mod Header
+pub mod Spelling
+pub mod Stream
+pub mod Feeding

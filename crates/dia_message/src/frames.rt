@@ -1,16 +1,219 @@
 //! The messages of a stream of octets, in whatever pieces it comes.
 
+ghost use Rattle.std.specs.Prelude.{◌≡◌, ℕ, ◌≤◌, ◌<◌, List, [], ◌++◌, length, take, drop, is_some, IfOk, OnOk, OnErr, IfSome};
+ghost use Rattle.dia_message.specs.declared.frames.FrameFault.TheVariants.{OutOfMemory};
+ghost use Rattle.dia_message.specs.Header.{length_in};
+ghost use Rattle.dia_message.specs.Stream.{fault_at, is_whole, message_in, stream_of, unread};
+ghost use Rattle.dia_message.specs.Feeding.{Feeds, only_message};
+
+use crate::header::{HEADER_LEN, VERSION, read_header};
+use crate::message::Message;
+use byteorder::{BigEndian, ByteOrder};
+use dia_avp::Octets;
+use dia_base::MESSAGE_LIMIT;
+use std::alloc::{AllocError, Global};
+use std::marker::Model;
 use thiserror::Error;
 
 /// Why the rest of a stream begins with no message.
 #[derive(Clone, Copy, Debug, PartialEq, Eq, Error)]
 pub enum FrameFault {
+    /// Seen with the first octet.
     #[error("a message does not begin with version 1")]
     Version,
+    /// Seen with four octets, as is `TooLong`.
     #[error("a message length is below 20 or no multiple of 4")]
     Length,
     #[error("a message is longer than 65536 octets")]
     TooLong,
+    /// No fault of the stream: the piece was not taken, and may be fed again.
     #[error("out of memory")]
     OutOfMemory,
+}
+
+impl From<AllocError> for FrameFault {
+    ghost from_gives = { λ _ e. e ≡ OutOfMemory };
+
+    fn from(_e: AllocError) -> FrameFault {
+        FrameFault::OutOfMemory
+    }
+}
+
+/// The octets before a Message Length has been read.
+const LENGTH_END: usize = 4;
+
+/// Reads the messages of a stream (RFC 6733, section 3), which comes in pieces.
+///
+/// It keeps all octets that it took and reads them again with each piece. What a caller sees of it
+/// is the octets that are not read yet.
+#[derive(Debug, Drop)]
+pub struct Frames {
+    taken: Vec<u8>,
+}
+
+impl Model for Frames {
+    ghost use Rattle.std.specs.Prelude.{ℕ, List};
+    ghost use Rattle.dia_message.specs.Stream.{stream_of};
+
+    ghost Value = { List ℕ };
+
+    ghost view = { λ f. (stream_of f.taken.items).rest };
+}
+
+impl Frames {
+    /// No octets yet, which takes no memory.
+    pub fn new(alloc: Global) -> Self
+        ensures { result ≡ [] }
+    {
+        Frames {
+            taken: Vec::new(alloc),
+        }
+    }
+
+    /// The messages that are whole with this piece, in order.
+    ///
+    /// A fault is answered where no whole message stands before it, and then by every later call.
+    /// Behind a fault no piece is taken. `OutOfMemory` leaves the piece untaken too.
+    pub fn feed(&mut self, alloc: Global, piece: &[u8]) -> Result<Vec<Message>, FrameFault>
+        ensures answer { Feeds self.old piece.now result self.new }
+
+        // To tell a fault that is known takes no memory.
+        ensures for_good { IfSome (stream_of self.old).fault (λ fault. result ≡ Err fault) }
+    {
+        if let Some(fault) = self.fault() {
+            return Err(fault);
+        }
+        let messages = take_piece(alloc, &mut self.taken, piece)?;
+        match self.fault() {
+            Some(fault) if messages.is_empty() => Err(fault),
+            _ => Ok(messages),
+        }
+    }
+
+    /// What is wrong with the unread octets, if they show it.
+    pub fn fault(&self) -> Option<FrameFault>
+        ensures value { result ≡ (stream_of self.now).fault }
+
+        // No whole message is left unread.
+        ensures unread { stream_of self.now ≡ unread self.now }
+    {
+        fault_of(rest_of(&self.taken))
+    }
+}
+
+/// The message of octets that are one whole message and nothing else (RFC 6733, section 3); else none.
+pub fn whole_message(alloc: Global, octets: &[u8]) -> Result<Option<Message>, AllocError>
+    ensures { IfOk result (λ found. found ≡ only_message octets.now) }
+{
+    let Some((first, behind)) = first_of(octets) else {
+        return Ok(None);
+    };
+    if !behind.is_empty() {
+        return Ok(None);
+    }
+    Ok(Some(message_of(alloc, first)?))
+}
+
+/// Adds the piece to the octets, and gives the messages that are new with it.
+fn take_piece(alloc: Global, taken: &mut Vec<u8>, piece: &[u8]) -> Result<Vec<Message>, AllocError>
+    ensures messages { IfOk result (λ messages. messages.items ≡ (stream_of ((stream_of taken.old.items).rest ++ piece.now)).messages) }
+    ensures ok { OnOk result (taken.new.items ≡ taken.old.items ++ piece.now) }
+    ensures err { OnErr result (taken.new.items ≡ taken.old.items) }
+{
+    let before = taken.len();
+    let read = before - rest_of(taken).len();
+    taken.extend_from_slice(piece)?;
+    let messages = messages_of(alloc, &taken[read..]);
+    if messages.is_err() {
+        taken.truncate(before);
+    }
+    messages
+}
+
+/// The whole messages at the front.
+fn messages_of(alloc: Global, octets: &[u8]) -> Result<Vec<Message>, AllocError>
+    ensures { IfOk result (λ messages. messages.items ≡ (stream_of octets.now).messages) }
+{
+    let mut messages = Vec::new(alloc);
+    let mut rest = octets;
+    while let Some((first, behind)) = first_of(rest) {
+        messages.push(message_of(alloc, first)?)?;
+        rest = behind;
+    }
+    Ok(messages)
+}
+
+/// What stands behind the whole messages at the front.
+fn rest_of(octets: &[u8]) -> &[u8]
+    ensures { result.now ≡ (stream_of octets.now).rest }
+{
+    let mut rest = octets;
+    while let Some((_, behind)) = first_of(rest) {
+        rest = behind;
+    }
+    rest
+}
+
+/// The octets of the whole message at the front, and those behind it.
+fn first_of(octets: &[u8]) -> Option<(&[u8], &[u8])>
+    ensures found { is_some result ≡ is_whole octets.now }
+    ensures first { IfSome result (λ parts. parts.0.now ≡ take (length_in octets.now) octets.now) }
+    ensures behind { IfSome result (λ parts. parts.1.now ≡ drop (length_in octets.now) octets.now) }
+    ensures least { IfSome result (λ parts. 20 ≤ length parts.0.now) }
+{
+    if octets.len() < LENGTH_END || fault_of(octets).is_some() {
+        return None;
+    }
+    let length = length_of(octets);
+    if length <= octets.len() {
+        Some(octets.split_at(length))
+    } else {
+        None
+    }
+}
+
+/// Why no message can begin with these octets, where they show it.
+fn fault_of(octets: &[u8]) -> Option<FrameFault>
+    ensures { result ≡ fault_at octets.now }
+{
+    if octets.is_empty() {
+        return None;
+    }
+    if octets[0] != VERSION {
+        return Some(FrameFault::Version);
+    }
+    if octets.len() < LENGTH_END {
+        return None;
+    }
+    let length = length_of(octets);
+    if length < HEADER_LEN || length % 4 != 0 {
+        Some(FrameFault::Length)
+    } else if length > MESSAGE_LIMIT {
+        Some(FrameFault::TooLong)
+    } else {
+        None
+    }
+}
+
+/// The Message Length that stands behind the version.
+fn length_of(octets: &[u8]) -> usize
+    requires { 4 ≤ length octets.now }
+    ensures { result ≡ length_in octets.now }
+{
+    let (_, behind) = octets.split_at(1);
+    BigEndian::read_u24(behind) as usize
+}
+
+/// The message of octets that are one whole message.
+fn message_of(alloc: Global, octets: &[u8]) -> Result<Message, AllocError>
+    requires { 20 ≤ length octets.now }
+    ensures { IfOk result (λ message. message ≡ message_in octets.now) }
+{
+    let (front, body) = octets.split_at(HEADER_LEN);
+    let mut header = [0u8; HEADER_LEN];
+    header.copy_from_slice(front);
+    Ok(Message {
+        header: read_header(&header).header,
+        body: Octets::copy_of(alloc, body)?,
+    })
 }

@@ -1,12 +1,15 @@
 //! The header of a message (RFC 6733, section 3).
 
+ghost use Rattle.std.specs.Prelude.{◌≡◌};
+ghost use Rattle.dia_message.specs.Header.{flag_of, flags_of as written_flags, header_octets, read_in};
+
 use byteorder::{BigEndian, ByteOrder};
 
 /// The octets of a header.
 pub const HEADER_LEN: usize = 20;
 
 /// The version of Diameter, the first octet of each message.
-const VERSION: u8 = 1;
+pub(crate) const VERSION: u8 = 1;
 
 const REQUEST: u8 = 0x80;
 
@@ -40,13 +43,18 @@ pub struct Header {
 /// A header with the version and the message length that stand in its octets.
 #[derive(Clone, Copy, Debug, PartialEq, Eq)]
 pub struct ReadHeader {
+    /// The other fields.
     pub header: Header,
+    /// The first octet, 1 for Diameter.
     pub version: u8,
+    /// The Message Length in octets, of header and body.
     pub length: u32,
 }
 
-/// The fields of a header.
-pub fn read_header(octets: &[u8; 20]) -> ReadHeader {
+/// The fields that the 20 octets of a header spell (RFC 6733, section 3). Nothing is refused.
+pub fn read_header(octets: &[u8; 20]) -> ReadHeader
+    ensures { result ≡ read_in octets.now }
+{
     let flags = octets[4];
     ReadHeader {
         header: Header {
@@ -64,20 +72,27 @@ pub fn read_header(octets: &[u8; 20]) -> ReadHeader {
     }
 }
 
-fn flag(set: bool, bit: u8) -> u8 {
+fn flag(set: bool, bit: u8) -> u8
+    ensures { result ≡ flag_of bit set }
+{
     if set { bit } else { 0 }
 }
 
-fn flags_of(header: &Header) -> u8 {
+fn flags_of(header: &Header) -> u8
+    ensures { result ≡ written_flags header.now }
+{
     flag(header.request, REQUEST)
         | flag(header.proxiable, PROXIABLE)
         | flag(header.error, ERROR)
         | flag(header.resent, RESENT)
 }
 
-/// The octets of a header with this message length. Of the length and of the Command Code the low
+/// The octets of a header with this Message Length, which counts header and body. The reserved flag
+/// bits are 0. Of the length and of the Command Code the low
 /// 24 bits are written.
-pub fn write_header(header: &Header, length: u32) -> [u8; 20] {
+pub fn write_header(header: &Header, length: u32) -> [u8; 20]
+    ensures { result ≡ header_octets header.now length }
+{
     let mut octets = [0u8; 20];
     octets[0] = VERSION;
     BigEndian::write_u24(&mut octets[1..], length & 0x00ff_ffff);

@@ -1,0 +1,5 @@
+use Rattle.dia_avp.proofs.Padding.{HasPadding-read}
+use Rattle.dia_avp.proofs.laws.only_padding_differs.Goals as goal
+
+pub returns : goal.returns
+returns c = HasPadding-read

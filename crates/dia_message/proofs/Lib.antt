@@ -1,0 +1,11 @@
+pub mod Whole
+pub mod Streaming
+pub mod Cutting
+pub mod Fed
+pub mod Only
+pub mod HeaderBack
+pub mod Spelled
+pub mod OneStream
+pub mod Examples
+pub mod Same
+pub mod Pieces
