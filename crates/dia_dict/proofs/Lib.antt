@@ -1,0 +1,6 @@
+pub mod Memory
+pub mod Naming
+pub mod ReadBack
+pub mod Texts
+pub mod Unlisted
+pub mod Writing

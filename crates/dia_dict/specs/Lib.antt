@@ -1,0 +1,3 @@
+pub mod Dictionary
+pub mod Reading
+pub mod Values

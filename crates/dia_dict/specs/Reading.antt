@@ -1,0 +1,75 @@
+-- AVPs as values of the dictionary, and values as AVPs.
+use Rattle.std.specs.Prelude.{◌≡◌, ℕ, ◌^◌, List, ◌++◌, ◌==◌, nat_le, if◌then◌else◌, Option, Some, None, Result, Ok, Err, IsOk, IsOkUnless, OnOk, OnErr, MatchOption}
+use Rattle.dia_avp.specs.declared.avp.RawAvp.{RawAvp}
+use Rattle.dia_avp.specs.AvpList.{length_of, written}
+use Rattle.dia_dict.specs.declared.row.Kind.{Kind}
+use Rattle.dia_dict.specs.declared.value.Typed.{Typed}
+use Rattle.dia_dict.specs.declared.fault.DictFault.{DictFault}
+use Rattle.dia_dict.specs.declared.fault.DictFault.TheVariants.{BadLength, NoRow, OutOfMemory}
+use Rattle.dia_dict.specs.Dictionary.{Entry, row_of}
+use Rattle.dia_dict.specs.Values.{value_fault, value_of, kind_in, same_kind, octets_of}
+
+-- ---- reading
+
+-- the value, unless there is a fault
+abbrev pub unless : Option DictFault → Typed → Result Typed DictFault
+unless None value = Ok value
+unless (Some fault) value = Err fault
+
+-- what octets read as in an AVP of this code, which is of the kind
+abbrev pub reading_as : Kind → ℕ → List ℕ → Result Typed DictFault
+reading_as kind code octets = unless (value_fault kind code octets) (value_of kind octets)
+
+abbrev pub reading_by : Option Entry → ℕ → List ℕ → Result Typed DictFault
+reading_by None code octets = Err (NoRow code)
+reading_by (Some row) code octets = reading_as row.kind code octets
+
+-- what an AVP reads as: the value by the kind of its row, or the fault
+abbrev pub reading_of : RawAvp → Result Typed DictFault
+reading_of avp = reading_by (row_of avp.code avp.vendor) avp.code avp.value
+
+-- a call answered with the reading, unless memory ran out for the value
+abbrev pub Answers : Result Typed DictFault → Result Typed DictFault → Type 0
+Answers reading (Ok value) = reading ≡ Ok value
+Answers reading (Err OutOfMemory) = IsOk reading
+Answers reading (Err fault) = reading ≡ Err fault
+
+-- ---- writing
+
+-- the flags of a written AVP: M, 40 in hexadecimal, but none for Product-Name (RFC 6733, section 4.5)
+abbrev pub flags_of : ℕ → ℕ
+flags_of code = if code == 269 then 0 else 64
+
+-- the AVP without vendor that has the octets as its value
+abbrev pub avp_with : ℕ → List ℕ → RawAvp
+avp_with code octets = record { code = code; flags = flags_of code; vendor = 0; value = octets }
+
+-- the AVP that is written for a value
+abbrev pub avp_of : ℕ → Typed → RawAvp
+avp_of code value = avp_with code (octets_of value)
+
+-- why octets are no value of the kind in an AVP that is written: too many for an AVP, or no value at all
+abbrev pub octets_fault : Kind → ℕ → List ℕ → Option DictFault
+octets_fault kind code octets =
+    if nat_le (2 ^ 24) (length_of (avp_with code octets)) then Some (BadLength code) else value_fault kind code octets
+
+-- why a value has no spelling in an AVP of this code, which is of the kind
+abbrev pub spelling_fault_as : Kind → ℕ → Typed → Option DictFault
+spelling_fault_as kind code value =
+    if same_kind kind (kind_in value) then octets_fault kind code (octets_of value) else Some (BadLength code)
+
+abbrev pub spelling_fault_by : Option Entry → ℕ → Typed → Option DictFault
+spelling_fault_by None code value = Some (NoRow code)
+spelling_fault_by (Some row) code value = spelling_fault_as row.kind code value
+
+-- why a value has no spelling in an AVP of this code without vendor, if it has none
+abbrev pub spelling_fault : ℕ → Typed → Option DictFault
+spelling_fault code value = spelling_fault_by (row_of code 0) code value
+
+-- what a call did that was to write an AVP for a value: `fault` says why the value has no spelling,
+-- and `reading` what the AVP reads as
+pub record Spells (avp : RawAvp) (value : Typed) (fault : Option DictFault) (reading : Result Typed DictFault) (old new : List ℕ) (result : Result (Unit {0}) DictFault) : Type 0 where
+  pub ok : OnOk result (new ≡ old ++ written avp)
+  pub refused : MatchOption fault (IsOkUnless result OutOfMemory) (λ f. result ≡ Err f)
+  pub err : OnErr result (new ≡ old)
+  pub read_back : OnOk result (reading ≡ Ok value)
