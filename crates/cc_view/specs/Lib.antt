@@ -1,1 +1,14 @@
+pub mod Answer
+pub mod Carried
+pub mod Codes
+pub mod Finding
+pub mod FirstDebit
+pub mod PlainDebit
+pub mod Readdressing
+pub mod RequestNumber
+pub mod RequestView
+pub mod ResultNumber
 pub mod ServiceLimits
+pub mod Short
+pub mod Splitting
+pub mod Writing

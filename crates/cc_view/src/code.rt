@@ -1,5 +1,8 @@
 //! Result codes (RFC 6733, section 7.1; RFC 8506, section 9).
 
+ghost use Rattle.std.specs.Prelude.{◌≡◌};
+ghost use Rattle.cc_view.specs.ResultNumber.{number_of};
+
 /// A value of Result-Code, with its number.
 #[derive(Clone, Copy, Debug, PartialEq, Eq)]
 pub enum ResultCode {
@@ -21,4 +24,13 @@ pub enum ResultCode {
     InvalidAvpLength = 5014,
     UserUnknown = 5030,
     RatingFailed = 5031,
+}
+
+impl ResultCode {
+    /// The number that stands in a Result-Code AVP.
+    pub fn number(self) -> u32
+        ensures { result ≡ number_of self }
+    {
+        self as u32
+    }
 }

@@ -1,12 +1,33 @@
 //! What a credit-control server reads in a request, and what it answers (RFC 8506, section 3).
 #![tactic(auto)]
 
+mod answer;
+mod carried;
 mod code;
+mod debit;
+mod draft;
+mod laws;
+mod matching;
+mod names;
+mod reading;
+mod refusal;
 mod reply;
 mod request;
+mod splitting;
+mod units;
 
+pub use answer::answer_bytes;
 pub use code::ResultCode;
+pub use laws::{
+    answer_without_identifiers, first_debit, refusal_without_identifiers, session_is_written,
+    view_without_identifiers,
+};
+pub use reading::{ViewError, request_of};
+pub use refusal::{Refusal, refusal_bytes};
 pub use reply::{CcReply, Cost, ServiceReply};
 pub use request::{
     CcRequest, RequestKind, RequestedAction, Service, ServiceName, Services, Subscription,
 };
+
+#[cfg(test)]
+mod tests;

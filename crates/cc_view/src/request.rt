@@ -16,6 +16,17 @@ pub enum RequestKind {
     Event = 4,
 }
 
+impl RequestKind {
+    ghost use Rattle.cc_view.specs.RequestNumber.{kind_number};
+
+    /// The number that stands in a CC-Request-Type AVP.
+    pub fn number(self) -> u32
+        ensures { result ≡ kind_number self }
+    {
+        self as u32
+    }
+}
+
 /// Requested-Action (RFC 8506, section 8.41).
 #[derive(Clone, Copy, Debug, PartialEq, Eq)]
 pub enum RequestedAction {
@@ -23,6 +34,17 @@ pub enum RequestedAction {
     RefundAccount = 1,
     CheckBalance = 2,
     PriceEnquiry = 3,
+}
+
+impl RequestedAction {
+    ghost use Rattle.cc_view.specs.RequestNumber.{action_number};
+
+    /// The number that stands in a Requested-Action AVP.
+    pub fn number(self) -> u32
+        ensures { result ≡ action_number self }
+    {
+        self as u32
+    }
 }
 
 /// A Subscription-Id: its type and its data, which is text (RFC 8506, section 8.46).

@@ -1,0 +1,11 @@
+mod Carrying
+mod Debits
+mod Drafts
+mod Examples
+mod Messages
+mod Sessions
+mod Spelling
+mod Splits
+mod Texts
+mod ViewedSessions
+mod Views

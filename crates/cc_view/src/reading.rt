@@ -1,0 +1,73 @@
+//! What is read in a request (RFC 8506, section 3.1).
+
+ghost use Rattle.std.specs.Prelude.{◌≡◌};
+ghost use Rattle.cc_view.specs.RequestView.{IsView, refused as refused_for, view_of};
+ghost use Rattle.cc_view.specs.declared.reading.ViewError.TheVariants.{OutOfMemory};
+
+use crate::carried::carries_too_much;
+use crate::code::ResultCode;
+use crate::debit::plain_debit;
+use crate::names::{CREDIT_CONTROL, CREDIT_CONTROL_APPLICATION};
+use crate::refusal::Refusal;
+use crate::request::CcRequest;
+use crate::splitting::readable;
+use dia_avp::Wire;
+use dia_message::Message;
+use std::alloc::{AllocError, AllocFailed, Global};
+use thiserror::Error;
+
+/// Why a message is not read as a request.
+#[derive(Debug, Drop, Error)]
+pub enum ViewError {
+    #[error("the request is refused")]
+    Refused(Refusal),
+    #[error("out of memory")]
+    OutOfMemory,
+}
+
+impl From<AllocError> for ViewError {
+    ghost from_gives = { λ _ e. e ≡ OutOfMemory };
+
+    fn from(_e: AllocError) -> ViewError {
+        ViewError::OutOfMemory
+    }
+}
+
+impl<T: Drop> From<AllocFailed<T>> for ViewError {
+    ghost from_gives = { λ _ e. e ≡ OutOfMemory };
+
+    fn from(_e: AllocFailed<T>) -> ViewError {
+        ViewError::OutOfMemory
+    }
+}
+
+/// A refusal that names no AVP.
+pub(crate) fn refused(code: ResultCode) -> ViewError
+    ensures { result ≡ ViewError.Refused (refused_for code) }
+{
+    ViewError::Refused(Refusal { code, failed: None })
+}
+
+/// What a message asks of a server that knows AVPs of these vendors, or why it is refused. Of the
+/// header only the Application-ID and the Command Code are read.
+pub fn request_of<W: Wire>(
+    alloc: Global,
+    message: &Message,
+    vendors: &[u32],
+) -> Result<CcRequest, ViewError>
+    ensures { IsView (view_of vendors.now message.now) result }
+{
+    if message.header.application != CREDIT_CONTROL_APPLICATION {
+        return Err(refused(ResultCode::ApplicationUnsupported));
+    }
+    if message.header.command != CREDIT_CONTROL {
+        return Err(refused(ResultCode::CommandUnsupported));
+    }
+    let Some(avps) = readable(W::split(alloc, &message.body))? else {
+        return Err(refused(ResultCode::InvalidAvpLength));
+    };
+    if carries_too_much(&avps) {
+        return Err(refused(ResultCode::UnableToComply));
+    }
+    plain_debit::<W>(alloc, &avps)
+}
