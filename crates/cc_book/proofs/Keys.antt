@@ -1,0 +1,182 @@
+-- Requests with a key, and the replies that are kept for them.
+use Rattle.std.proofs.Common.{◌≡◌, ◌≢◌, ℕ, zero, suc, ◌+◌, ◌<◌, Bool, true, false, cond, not, ◌&&◌, eqb, ltb, List, [], ◌∷◌, ◌++◌, length, take, Option, Some, None, refl, sym, subst, ap, ◌∙◌, arith, rules, append_assoc}
+use Rattle.std.specs.Prelude.{slice_get}
+use Rattle.std.specs.List.{position_or_len, list_all, IsDistinct, AllByRecursion}
+use Rattle.std.proofs.lemmas.List.{append-nil}
+use Rattle.dia_base.specs.declared.number.Moment.{Moment}
+use Rattle.cc_view.specs.declared.reply.CcReply.{CcReply}
+use Rattle.cc_view.specs.declared.request.CcRequest.{CcRequest}
+use Rattle.cc_book.specs.declared.entry.Entry.{Entry}
+use Rattle.cc_book.specs.declared.entry.Entry.TheVariants.{Take, Sweep}
+use Rattle.cc_book.specs.declared.terms.Terms.{Terms}
+use Rattle.cc_book.specs.AccountMachine.{reply_to, reply_at, kept_from, kept_reply}
+use Rattle.cc_book.specs.Duplicate.{Key, key_of, same_session, same_key, has_key}
+use Rattle.cc_book.specs.History.{keys_of, IsLegal, place_of, IsNew, IsKeptAt}
+use Rattle.cc_book.specs.Taking.{KeepsLimits}
+use Rattle.cc_book.proofs.Costs.{and_parts}
+
+both : (a b : Bool) → a ≡ true → b ≡ true → (a && b) ≡ true
+both true b p q = q
+both false b p q = absurd cc
+
+not_true : (b : Bool) → not b ≡ true → b ≡ false
+not_true true e = absurd cc
+not_true false e = refl
+
+-- ---- a kept request
+
+kept_here : (terms : Terms) (before after : List Entry) (key : Key) (entry : Entry) (moment : Moment) (request : CcRequest) → Some entry ≡ Some (Take moment request) → same_key (key_of request) key ≡ true
+    → kept_from terms before (entry ∷ after) key ≡ Some (reply_to terms (before ++ []) request)
+kept_here terms before after key entry moment request is same =
+    let taken : entry ≡ Take moment request = cc in
+    subst (λ (e : Entry). kept_from terms before (e ∷ after) key ≡ Some (reply_to terms (before ++ []) request)) (sym taken)
+    (ap (λ (b : Bool). cond b (Some (reply_to terms before request)) (kept_from terms (before ++ Take moment request ∷ []) after key)) same
+    ∙ ap (λ (h : List Entry). Some (reply_to terms h request)) (sym (append-nil before)))
+
+kept_later : (terms : Terms) (before after : List Entry) (key : Key) (entry : Entry) → has_key key entry ≡ false → kept_from terms before (entry ∷ after) key ≡ kept_from terms (before ++ entry ∷ []) after key
+kept_later terms before after key entry other = ap (λ (b : Bool). cond b (reply_at terms before entry) (kept_from terms (before ++ entry ∷ []) after key)) other
+
+kept_from-at : (terms : Terms) (before history : List Entry) (key : Key) (place : ℕ) (moment : Moment) (request : CcRequest) → IsNew (take place history) key → slice_get history place ≡ Some (Take moment request) → same_key (key_of request) key ≡ true
+    → kept_from terms before history key ≡ Some (reply_to terms (before ++ take place history) request)
+kept_from-at terms before [] key place moment request new is same = absurd cc
+kept_from-at terms before (entry ∷ after) key zero moment request new is same = kept_here terms before after key entry moment request is same
+kept_from-at terms before (entry ∷ after) key (suc place) moment request new is same =
+    let parts = and_parts (not (has_key key entry)) (list_all (λ (e : Entry). not (has_key key e)) (take place after)) new in
+    kept_later terms before after key entry (not_true (has_key key entry) parts.0)
+    ∙ kept_from-at terms (before ++ entry ∷ []) after key place moment request parts.1 is same
+    ∙ ap (λ (h : List Entry). Some (reply_to terms h request)) (append_assoc before (entry ∷ []) (take place after))
+
+pub kept_reply-at : (terms : Terms) (history : List Entry) (key : Key) (place : ℕ) (request : CcRequest) → IsKeptAt history key place request → kept_reply terms history key ≡ Some (reply_to terms (take place history) request)
+unfolding kept_reply
+kept_reply-at terms history key place request kept = kept_from-at terms [] history key place kept.moment request kept.new_before kept.entry kept.same
+
+kept_from-new : (terms : Terms) (before history : List Entry) (key : Key) → IsNew history key → kept_from terms before history key ≡ None
+kept_from-new terms before [] key new = refl
+kept_from-new terms before (entry ∷ after) key new =
+    let parts = and_parts (not (has_key key entry)) (list_all (λ (e : Entry). not (has_key key e)) after) new in
+    kept_later terms before after key entry (not_true (has_key key entry) parts.0) ∙ kept_from-new terms (before ++ entry ∷ []) after key parts.1
+
+pub kept_reply-new : (terms : Terms) (history : List Entry) (key : Key) → IsNew history key → kept_reply terms history key ≡ None
+unfolding kept_reply
+kept_reply-new terms history key new = kept_from-new terms [] history key new
+
+-- ---- its place
+
+has_key-taken : (key : Key) (entry : Entry) (moment : Moment) (request : CcRequest) → Some entry ≡ Some (Take moment request) → same_key (key_of request) key ≡ true → has_key key entry ≡ true
+has_key-taken key entry moment request is same = let taken : entry ≡ Take moment request = cc in ap (has_key key) taken ∙ same
+
+position-at : (history : List Entry) (key : Key) (place : ℕ) (moment : Moment) (request : CcRequest) → IsNew (take place history) key → slice_get history place ≡ Some (Take moment request) → same_key (key_of request) key ≡ true
+    → position_or_len (has_key key) history ≡ place
+position-at [] key place moment request new is same = absurd cc
+position-at (entry ∷ after) key zero moment request new is same =
+    ap (λ (b : Bool). cond {A = ℕ} (not b) (1 + position_or_len (has_key key) after) 0) (has_key-taken key entry moment request is same)
+position-at (entry ∷ after) key (suc place) moment request new is same =
+    let parts = and_parts (not (has_key key entry)) (list_all (λ (e : Entry). not (has_key key e)) (take place after)) new in
+    let more = position-at after key place moment request parts.1 is same in
+    let first : position_or_len (has_key key) (entry ∷ after) ≡ 1 + position_or_len (has_key key) after =
+    ap (λ (b : Bool). cond {A = ℕ} (not b) (1 + position_or_len (has_key key) after) 0) (not_true (has_key key entry) parts.0) in
+    omega arith
+
+within : (place len : ℕ) → place < len → cond (ltb place len) (Some place) None ≡ Some place
+within place len lt = search rules
+
+pub place_of-at : (history : List Entry) (key : Key) (place : ℕ) (request : CcRequest) → IsKeptAt history key place request → place_of history key ≡ Some place
+place_of-at history key place request kept =
+    let at = position-at history key place kept.moment request kept.new_before kept.entry kept.same in
+    ap (λ (n : ℕ). cond (ltb n (length history)) (Some n) None) at ∙ within place (length history) kept.within
+
+-- ---- distinct keys
+
+others_push : (key : Key) (history : List Entry) (moment : Moment) (request : CcRequest) → AllByRecursion (λ (k : Key). same_key key k ≡ false) (keys_of history) → same_key key (key_of request) ≡ false
+    → AllByRecursion (λ (k : Key). same_key key k ≡ false) (keys_of (history ++ Take moment request ∷ []))
+others_push key [] moment request all other = (other, tt)
+others_push key (Take m r ∷ history) moment request all other = (all.0, others_push key history moment request all.1 other)
+others_push key (Sweep m ∷ history) moment request all other = others_push key history moment request all other
+
+distinct_push : (history : List Entry) (moment : Moment) (request : CcRequest) → IsDistinct same_key (keys_of history) → IsNew history (key_of request) → IsDistinct same_key (keys_of (history ++ Take moment request ∷ []))
+unfolding IsDistinct
+distinct_push [] moment request all new = (tt, tt)
+distinct_push (Take m r ∷ history) moment request all new =
+    let parts = and_parts (not (same_key (key_of r) (key_of request))) (list_all (λ (e : Entry). not (has_key (key_of request) e)) history) new in
+    (others_push (key_of r) history moment request all.0 (not_true (same_key (key_of r) (key_of request)) parts.0), distinct_push history moment request all.1 parts.1)
+distinct_push (Sweep m ∷ history) moment request all new = distinct_push history moment request all new
+
+pub IsLegal-push : (history : List Entry) (moment : Moment) (request : CcRequest) → IsLegal history → IsNew history (key_of request) → IsLegal (history ++ Take moment request ∷ [])
+IsLegal-push history moment request legal new = record { distinct = distinct_push history moment request legal.distinct new }
+
+pub KeepsLimits-empty : (limit : ℕ) → KeepsLimits limit []
+unfolding IsDistinct
+KeepsLimits-empty limit = record { legal = record { distinct = tt }; within = omega arith }
+
+-- ---- laws
+
+same_number : (n : ℕ) → eqb n n ≡ true
+same_number n = search rules
+
+same_session-self : (xs : List ℕ) → same_session xs xs ≡ true
+same_session-self [] = refl
+same_session-self (x ∷ xs) = both (eqb x x) (same_session xs xs) (same_number x) (same_session-self xs)
+
+same_key-self : (key : Key) → same_key key key ≡ true
+same_key-self key = both (eqb key.number key.number) (same_session key.session key.session) (same_number key.number) (same_session-self key.session)
+
+kept_stays_by : (b : Bool) (here later grown : Option CcReply) (reply : CcReply) → (later ≡ Some reply → grown ≡ Some reply) → cond b here later ≡ Some reply → cond b here grown ≡ Some reply
+kept_stays_by true here later grown reply more e = e
+kept_stays_by false here later grown reply more e = more e
+
+kept_from-stays : (terms : Terms) (before history more : List Entry) (key : Key) (reply : CcReply) → kept_from terms before history key ≡ Some reply → kept_from terms before (history ++ more) key ≡ Some reply
+kept_from-stays terms before [] more key reply e = absurd cc
+kept_from-stays terms before (entry ∷ after) more key reply e =
+    kept_stays_by (has_key key entry) (reply_at terms before entry) (kept_from terms (before ++ entry ∷ []) after key) (kept_from terms (before ++ entry ∷ []) (after ++ more) key) reply
+    (kept_from-stays terms (before ++ entry ∷ []) after more key reply) e
+
+pub kept_reply-stays : (terms : Terms) (history more : List Entry) (key : Key) (reply : CcReply) → kept_reply terms history key ≡ Some reply → kept_reply terms (history ++ more) key ≡ Some reply
+unfolding kept_reply
+kept_reply-stays terms history more key reply e = kept_from-stays terms [] history more key reply e
+
+-- a key that no later request has
+others_at : (key : Key) (history after : List Entry) (moment : Moment) (request : CcRequest) → AllByRecursion (λ (k : Key). same_key key k ≡ false) (keys_of (history ++ Take moment request ∷ after)) → same_key key (key_of request) ≡ false
+others_at key [] after moment request all = all.0
+others_at key (Take m r ∷ history) after moment request all = others_at key history after moment request all.1
+others_at key (Sweep m ∷ history) after moment request all = others_at key history after moment request all
+
+pub keys-distinct : (before between after : List Entry) (m n : Moment) (one other : CcRequest) → IsDistinct same_key (keys_of (before ++ Take m one ∷ (between ++ Take n other ∷ after))) → same_key (key_of one) (key_of other) ≡ false
+unfolding IsDistinct
+keys-distinct [] between after m n one other all = others_at (key_of one) between after n other all.0
+keys-distinct (Take l r ∷ before) between after m n one other all = keys-distinct before between after m n one other all.1
+keys-distinct (Sweep l ∷ before) between after m n one other all = keys-distinct before between after m n one other all
+
+pub keys-apart : (before between after : List Entry) (m n : Moment) (one other : CcRequest) → IsLegal (before ++ Take m one ∷ (between ++ Take n other ∷ after)) → key_of one ≢ key_of other
+keys-apart before between after m n one other legal same =
+    let apart = keys-distinct before between after m n one other legal.distinct in
+    let met : same_key (key_of one) (key_of other) ≡ true = subst (λ (k : Key). same_key (key_of one) k ≡ true) same (same_key-self (key_of one)) in
+    cc
+
+not_false : (b : Bool) → b ≡ false → not b ≡ true
+not_false b e = ap not e
+
+new_before : (before after : List Entry) (moment : Moment) (request : CcRequest) → IsDistinct same_key (keys_of (before ++ Take moment request ∷ after)) → IsNew before (key_of request)
+unfolding IsDistinct
+new_before [] after moment request all = refl
+new_before (Take m r ∷ before) after moment request all =
+    both (not (same_key (key_of r) (key_of request))) (list_all (λ (e : Entry). not (has_key (key_of request) e)) before)
+    (not_false (same_key (key_of r) (key_of request)) (others_at (key_of r) before after moment request all.0)) (new_before before after moment request all.1)
+new_before (Sweep m ∷ before) after moment request all = new_before before after moment request all
+
+get_behind : (before after : List Entry) (entry : Entry) → slice_get (before ++ entry ∷ after) (length before) ≡ Some entry
+get_behind [] after entry = refl
+get_behind (b ∷ before) after entry = get_behind before after entry
+
+take_front : (before after : List Entry) → take (length before) (before ++ after) ≡ before
+take_front [] after = refl
+take_front (b ∷ before) after = ap (λ (xs : List Entry). b ∷ xs) (take_front before after)
+
+pub kept_reply-first : (terms : Terms) (before after : List Entry) (moment : Moment) (request : CcRequest) → IsLegal (before ++ Take moment request ∷ after)
+    → kept_reply terms (before ++ Take moment request ∷ after) (key_of request) ≡ Some (reply_to terms before request)
+unfolding kept_reply
+kept_reply-first terms before after moment request legal =
+    let front = take_front before (Take moment request ∷ after) in
+    let new : IsNew (take (length before) (before ++ Take moment request ∷ after)) (key_of request) =
+    subst (λ (h : List Entry). IsNew h (key_of request)) (sym front) (new_before before after moment request legal.distinct) in
+    kept_from-at terms [] (before ++ Take moment request ∷ after) (key_of request) (length before) moment request new (get_behind before after (Take moment request)) (same_key-self (key_of request))
+    ∙ ap (λ (h : List Entry). Some (reply_to terms h request)) front

@@ -1,0 +1,11 @@
+pub mod Rating
+pub mod Tariffs
+pub mod Duplicate
+pub mod History
+pub mod Posting
+pub mod Session
+pub mod Reservation
+pub mod AccountMachine
+pub mod Balance
+pub mod Taking
+pub mod Laws

@@ -1,0 +1,82 @@
+-- Sessions: which are open, and until when (RFC 8506, sections 5.1 and 5.7).
+use Rattle.std.specs.Prelude.{ℕ, ◌+◌, ◌*◌, List, [], ◌∷◌, Bool, true, false, ◌&&◌, nat_le, if◌then◌else◌, Option, Some, None, is_some}
+use Rattle.std.specs.List.{fold}
+use Rattle.std.specs.Option.{option_and_then}
+use Rattle.cc_view.specs.declared.code.ResultCode.{ResultCode}
+use Rattle.cc_view.specs.declared.code.ResultCode.TheVariants.{Success}
+use Rattle.cc_view.specs.declared.reply.CcReply.{CcReply}
+use Rattle.cc_view.specs.declared.request.RequestKind.{RequestKind}
+use Rattle.cc_view.specs.declared.request.RequestKind.TheVariants.{Initial, Termination, Event}
+use Rattle.cc_book.specs.declared.entry.Entry.{Entry}
+use Rattle.cc_book.specs.declared.entry.Entry.TheVariants.{Take, Sweep}
+use Rattle.cc_book.specs.Duplicate.{same_session}
+use Rattle.cc_book.specs.Posting.{Posting}
+
+abbrev pub is_success : ResultCode → Bool
+is_success Success = true
+is_success _ = false
+
+abbrev pub replies_success : Option CcReply → Bool
+replies_success None = false
+replies_success (Some reply) = is_success reply.code
+
+-- whether a request begins a session
+abbrev pub is_initial_kind : RequestKind → Bool
+is_initial_kind Initial = true
+is_initial_kind _ = false
+
+abbrev pub is_initial : Entry → Bool
+is_initial (Take moment request) = is_initial_kind request.kind
+is_initial (Sweep moment) = false
+
+-- whether a posting is a request of this session
+abbrev pub is_of : List ℕ → Entry → Bool
+is_of session (Take moment request) = same_session request.session session
+is_of session (Sweep moment) = false
+
+-- whether a posting opens its session: an INITIAL that is settled and answered 2001
+abbrev pub opens : Posting → Bool
+opens posting = posting.settles && (is_initial posting.entry && replies_success posting.reply)
+
+-- a session ends by itself twice the validity, in milliseconds, after its last request
+abbrev pub deadline_at : ℕ → ℕ → ℕ
+deadline_at validity moment = moment + 2000 * validity
+
+-- the deadline of an open session after a request of that session
+abbrev pub deadline_by : ℕ → ℕ → ℕ → RequestKind → Option ℕ
+deadline_by validity deadline moment Termination = None
+deadline_by validity deadline moment Event = Some deadline
+deadline_by validity deadline moment _ = Some (deadline_at validity moment)
+
+-- the deadline of an open session after an entry, none where that ended it
+abbrev pub deadline_after : ℕ → List ℕ → ℕ → Entry → Option ℕ
+deadline_after validity session deadline (Take moment request) =
+    if same_session request.session session then deadline_by validity deadline moment.0 request.kind else Some deadline
+deadline_after validity session deadline (Sweep moment) = if nat_le deadline moment.0 then None else Some deadline
+
+abbrev pub moment_of : Entry → ℕ
+moment_of (Take moment request) = moment.0
+moment_of (Sweep moment) = moment.0
+
+-- the deadline after one more posting, none while the session is not open
+abbrev pub next_deadline : ℕ → List ℕ → Option ℕ → Posting → Option ℕ
+next_deadline validity session deadline posting =
+    if opens posting && is_of session posting.entry then Some (deadline_at validity (moment_of posting.entry))
+    else option_and_then (λ now. deadline_after validity session now posting.entry) deadline
+
+-- the deadline of a session after postings, none where it is not open
+abbrev pub deadline_of : ℕ → List ℕ → List Posting → Option ℕ
+deadline_of validity session postings = fold (next_deadline validity session) None postings
+
+abbrev pub is_open : ℕ → List ℕ → List Posting → Bool
+is_open validity session postings = is_some (deadline_of validity session postings)
+
+-- whether the session that an entry opened is still open after these postings
+abbrev pub outlasts : ℕ → Entry → List Posting → Bool
+outlasts validity (Take moment request) after = is_some (fold (next_deadline validity request.session) (Some (deadline_at validity moment.0)) after)
+outlasts validity (Sweep moment) after = false
+
+-- how many sessions are open: each was opened by a posting after which none ended it
+abbrev pub open_count : ℕ → List Posting → ℕ
+open_count validity [] = 0
+open_count validity (posting ∷ after) = (if opens posting && outlasts validity posting.entry after then 1 else 0) + open_count validity after

@@ -1,0 +1,52 @@
+-- What the book answers to a request, and what it keeps.
+use Rattle.std.specs.Prelude.{◌≡◌, ℕ, ◌≤◌, List, [], ◌∷◌, ◌++◌, length, Bool, true, false, nat_le, if◌then◌else◌, Option, Some, None, unwrap_or, Result, Ok, Err}
+use Rattle.dia_base.specs.declared.number.Moment.{Moment}
+use Rattle.cc_view.specs.declared.reply.CcReply.{CcReply}
+use Rattle.cc_view.specs.declared.request.CcRequest.{CcRequest}
+use Rattle.cc_book.specs.declared.book.Answered.{Answered}
+use Rattle.cc_book.specs.declared.book.BookRefusal.{BookRefusal}
+use Rattle.cc_book.specs.declared.book.BookRefusal.TheVariants.{Full, OutOfMemory}
+use Rattle.cc_book.specs.declared.entry.Entry.{Entry}
+use Rattle.cc_book.specs.declared.entry.Entry.TheVariants.{Take}
+use Rattle.cc_book.specs.declared.terms.Terms.{Terms}
+use Rattle.cc_book.specs.AccountMachine.{reply_to, kept_reply}
+use Rattle.cc_book.specs.Duplicate.{key_of}
+use Rattle.cc_book.specs.History.{IsLegal, place_of}
+
+-- a book, as contracts see it
+pub record Ledger : Type 0 where
+  pub terms : Terms
+  pub limit : ℕ
+  pub history : List Entry
+
+abbrev pub answer_new : Ledger → CcRequest → Result Answered BookRefusal
+answer_new ledger request =
+    if nat_le ledger.limit (length ledger.history) then Err (Full ledger.limit)
+    else Ok (record { reply = reply_to ledger.terms ledger.history request; place = length ledger.history; fresh = true })
+
+-- A request with a kept key gets the kept reply, another one the account machine's, where the book is not full.
+abbrev pub answer_by : Ledger → CcRequest → ℕ → Option CcReply → Result Answered BookRefusal
+answer_by ledger request place None = answer_new ledger request
+answer_by ledger request place (Some reply) = Ok (record { reply = reply; place = place; fresh = false })
+
+abbrev pub answer_of : Ledger → CcRequest → Result Answered BookRefusal
+answer_of ledger request =
+    answer_by ledger request (unwrap_or (place_of ledger.history (key_of request)) 0) (kept_reply ledger.terms ledger.history (key_of request))
+
+-- a call answered so, unless memory ran out
+abbrev pub AnswersWith : Result Answered BookRefusal → Result Answered BookRefusal → Type 0
+AnswersWith expected (Ok answered) = expected ≡ Ok answered
+AnswersWith expected (Err OutOfMemory) = Unit {0}
+AnswersWith expected (Err (Full limit)) = expected ≡ Err (Full limit)
+
+abbrev pub is_fresh : Result Answered BookRefusal → Bool
+is_fresh (Ok answered) = answered.fresh
+is_fresh (Err refusal) = false
+
+abbrev pub with_take : Ledger → Moment → CcRequest → Ledger
+with_take ledger moment request = record ledger { history = ledger.history ++ Take moment request ∷ [] }
+
+-- what is true of each book
+pub record KeepsLimits (limit : ℕ) (history : List Entry) : Type 0 where
+  pub legal : IsLegal history
+  pub within : length history ≤ limit

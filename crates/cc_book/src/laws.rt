@@ -1,0 +1,56 @@
+//! Laws of the account book, in the words of a reader who knows none of its code.
+
+ghost use Rattle.std.specs.Prelude.{◌≡◌, ◌≢◌, ℕ, ◌<◌, List, [], ◌∷◌, ◌++◌, length, Some, if◌then◌else◌, pos, ◌-ℤ◌};
+ghost use Rattle.dia_base.specs.declared.number.Moment.{Moment};
+ghost use Rattle.cc_view.specs.declared.reply.CcReply.{CcReply};
+ghost use Rattle.cc_view.specs.declared.request.CcRequest.{CcRequest};
+ghost use Rattle.cc_book.specs.declared.entry.Entry.{Entry};
+ghost use Rattle.cc_book.specs.declared.entry.Entry.TheVariants.{Take, Sweep};
+ghost use Rattle.cc_book.specs.declared.rating.Tariff.{Tariff};
+ghost use Rattle.cc_book.specs.declared.terms.Terms.{Terms};
+ghost use Rattle.cc_book.specs.AccountMachine.{account_of, opening_at, postings_of, reply_to, kept_reply};
+ghost use Rattle.cc_book.specs.Balance.{debit_of, balance_of};
+ghost use Rattle.cc_book.specs.Duplicate.{Key, key_of};
+ghost use Rattle.cc_book.specs.History.{IsLegal};
+ghost use Rattle.cc_book.specs.Laws.{total_below, debits_of, CostsFewestBlocks};
+ghost use Rattle.cc_book.specs.Posting.{is_account};
+
+/// Units cost the price for each of the fewest blocks that hold them.
+pub fn cost_is_of_fewest_blocks()
+    ensures { (tariff : Tariff) (units : ℕ) → 0 < tariff.block → CostsFewestBlocks tariff units }
+{}
+
+/// In a legal history the reply that is kept for a request is the account machine's after the entries before it.
+pub fn kept_reply_is_the_first()
+    ensures { (terms : Terms) (before after : List Entry) (moment : Moment) (request : CcRequest) →
+        IsLegal (before ++ Take moment request ∷ after) →
+        kept_reply terms (before ++ Take moment request ∷ after) (key_of request) ≡ Some (reply_to terms before request) }
+{}
+
+/// The reply that is kept stays when the history grows.
+pub fn kept_reply_stays()
+    ensures { (terms : Terms) (history more : List Entry) (key : Key) (reply : CcReply) →
+        kept_reply terms history key ≡ Some reply → kept_reply terms (history ++ more) key ≡ Some reply }
+{}
+
+/// No two requests of a legal history have one key.
+pub fn keys_are_distinct()
+    ensures { (before between after : List Entry) (m n : Moment) (one other : CcRequest) →
+        IsLegal (before ++ Take m one ∷ (between ++ Take n other ∷ after)) → key_of one ≢ key_of other }
+{}
+
+/// A request moves the balance of its own account by its debit, and no other balance. A sweep moves none.
+pub fn balances_move_by_debits()
+    ensures by_request { (terms : Terms) (history : List Entry) (moment : Moment) (request : CcRequest) (account : ℕ) →
+        balance_of terms (history ++ Take moment request ∷ []) account
+        ≡ balance_of terms history account -ℤ (if is_account account (account_of terms.accounts request.subscriptions) then debit_of terms history request else pos 0) }
+    ensures by_sweep { (terms : Terms) (history : List Entry) (moment : Moment) (account : ℕ) →
+        balance_of terms (history ++ Sweep moment ∷ []) account ≡ balance_of terms history account }
+{}
+
+/// The balances of all accounts are their opening amounts less all debits: each debit is of one account, once.
+pub fn openings_less_debits_are_balances()
+    ensures { (terms : Terms) (history : List Entry) →
+        total_below (length terms.accounts) (λ account. balance_of terms history account)
+        ≡ total_below (length terms.accounts) (λ account. opening_at terms.accounts account) -ℤ debits_of (postings_of terms history) }
+{}

@@ -1,0 +1,224 @@
+//! The account machine: what is replied to a request, and what it debits (RFC 8506, section 6).
+
+ghost use Rattle.std.specs.Prelude.{◌≡◌, ◌≤◌, ◌<◌, ◌^◌, List, pos, negsuc, ◌≤ℤ◌, ◌-ℤ◌, length, map, int_le, if◌then◌else◌, IfOk, IfSome, IsTrue};
+ghost use Rattle.std.specs.Option.{option_copied};
+ghost use Rattle.std.specs.Int.{int_max};
+ghost use Rattle.cc_view.specs.ServiceLimits.{WithinLimits};
+ghost use Rattle.cc_book.specs.AccountMachine.{account_of, account_with, owns as is_owner, opening_at, service_cost, total_of, granted as shown, code_alone as alone, free_after, is_debiting, posting_of, reply_to};
+ghost use Rattle.cc_book.specs.Balance.{balance_of};
+ghost use Rattle.cc_book.specs.Posting.{Posting, debit_to};
+ghost use Rattle.cc_book.specs.Tariffs.{tariff_of, in_range};
+
+use crate::account::{Account, Money};
+use crate::entry::Entry;
+use crate::rating::{Tariff, Tariffs};
+use cc_view::{
+    CcReply, CcRequest, RequestKind, RequestedAction, ResultCode, Service, ServiceName,
+    ServiceReply, Subscription,
+};
+use dia_base::Listing;
+use std::alloc::{AllocError, Global};
+
+/// What the charging of requests rests on.
+#[derive(Debug, Drop)]
+pub struct Terms {
+    pub accounts: Listing<Account>,
+    pub tariffs: Tariffs,
+    /// Validity-Time of a grant in seconds.
+    pub validity: u32,
+    pub money: Money,
+}
+
+impl Terms {
+    /// The reply to a request that is not kept, after these entries.
+    #[tactic(auto, unfolding(crate::specs::AccountMachine::reply_to))]
+    pub fn reply_to(
+        &self,
+        alloc: Global,
+        history: &[Entry],
+        request: &CcRequest,
+    ) -> Result<CcReply, AllocError>
+        ensures { IfOk result (λ reply. reply ≡ reply_to self.now history.now request.now) }
+    {
+        if !is_direct_debit(request) {
+            return Ok(code_alone(alloc, ResultCode::UnableToComply));
+        }
+        let Some(account) = self.account_of(request) else {
+            return Ok(code_alone(alloc, ResultCode::UserUnknown));
+        };
+        let services = request.services.as_slice();
+        let Some(total) = self.total_of(services) else {
+            return Ok(code_alone(alloc, ResultCode::RatingFailed));
+        };
+        if total as i128 > self.balance_after(history, account) {
+            return Ok(code_alone(alloc, ResultCode::CreditLimitReached));
+        }
+        Ok(CcReply {
+            code: ResultCode::Success,
+            services: Listing::from_vec(self.granted(alloc, services)?),
+            cost: None,
+            check: None,
+        })
+    }
+
+    /// The balance of an account after these entries.
+    pub fn balance_after(&self, history: &[Entry], account: usize) -> i128
+        requires { account < length self.now.accounts }
+        ensures { result ≡ balance_of self.now history.now account }
+    {
+        let mut balance = self.opening_of(account);
+        for entry in history {
+            balance -= self.debit_of(balance, account, entry);
+        }
+        balance
+    }
+
+    fn opening_of(&self, account: usize) -> i128
+        requires { account < length self.now.accounts }
+        ensures value { result ≡ opening_at self.now.accounts account }
+        ensures least { negsuc (2 ^ 63) ≤ℤ result }
+        ensures most { result ≤ℤ pos (2 ^ 63) }
+    {
+        self.accounts.as_slice()[account].opening as i128
+    }
+
+    /// What an entry debits this account of, where so much is free.
+    fn debit_of(&self, free: i128, account: usize, entry: &Entry) -> i128
+        ensures value { (before : List Posting) → free_after self.now before account ≡ free → result ≡ debit_to account (posting_of self.now before entry.now) }
+        ensures least { pos 0 ≤ℤ result }
+        ensures most { result ≤ℤ int_max free (pos 0) }
+    {
+        let Entry::Take { request, .. } = entry else {
+            return 0;
+        };
+        if !is_direct_debit(request) || self.account_of(request) != Some(account) {
+            return 0;
+        }
+        match self.total_of(request.services.as_slice()) {
+            Some(total) => debited(total as i128, free),
+            None => 0,
+        }
+    }
+
+    /// The account of the first Subscription-Id that has one.
+    fn account_of(&self, request: &CcRequest) -> Option<usize>
+        ensures value { result ≡ account_of self.now.accounts request.now.subscriptions }
+        ensures within { IfSome result (λ account. account < length self.now.accounts) }
+    {
+        for subscription in request.subscriptions.as_slice() {
+            if let Some(account) = self.account_with(subscription) {
+                return Some(account);
+            }
+        }
+        None
+    }
+
+    fn account_with(&self, subscription: &Subscription) -> Option<usize>
+        ensures value { result ≡ account_with self.now.accounts subscription.now }
+        ensures within { IfSome result (λ account. account < length self.now.accounts) }
+    {
+        self.accounts
+            .as_slice()
+            .iter()
+            .position(|account| owns(subscription, account))
+    }
+
+    /// The sum of the costs of the asked units. None with no service, or with one that has no tariff.
+    fn total_of(&self, services: &[Service]) -> Option<u128>
+        requires { length services.now ≤ 32 }
+        ensures value { result ≡ total_of self.now.tariffs services.now }
+        ensures most { IfSome result (λ total. total < 2 ^ 90) }
+    {
+        if services.is_empty() {
+            return None;
+        }
+        let mut total = 0;
+        for service in services {
+            total += self.cost_of(service)?;
+        }
+        Some(total)
+    }
+
+    fn tariff_of(&self, service: &Service) -> Option<&Tariff>
+        ensures value { option_copied result ≡ tariff_of self.now.tariffs service.now }
+        ensures rates { IfSome result (λ tariff. IsTrue (in_range tariff.now)) }
+    {
+        self.tariffs.find(service.group, service.ident)
+    }
+
+    /// The cost of the units that a service asks for. None without a tariff.
+    fn cost_of(&self, service: &Service) -> Option<u128>
+        ensures value { result ≡ service_cost self.now.tariffs service.now }
+        ensures most { IfSome result (λ cost. cost < 2 ^ 84) }
+    {
+        let tariff = self.tariff_of(service)?;
+        match tariff.asked(service) {
+            Some(units) => Some(tariff.cost(units as u128)),
+            None => Some(0),
+        }
+    }
+
+    /// The services with the units that they asked for.
+    fn granted(&self, alloc: Global, services: &[Service]) -> Result<Vec<ServiceReply>, AllocError>
+        ensures { IfOk result (λ replies. replies.items ≡ map (shown self.now.tariffs) services.now) }
+    {
+        services
+            .iter()
+            .map(|service| self.granted_to(service))
+            .collect(alloc)
+    }
+
+    fn granted_to(&self, service: &Service) -> ServiceReply
+        ensures { result ≡ shown self.now.tariffs service.now }
+    {
+        let (kind, granted) = match self.tariff_of(service) {
+            Some(tariff) => (Some(tariff.kind), tariff.asked(service)),
+            None => (None, None),
+        };
+        ServiceReply {
+            name: ServiceName {
+                group: service.group,
+                ident: service.ident,
+            },
+            bare: service.bare,
+            code: ResultCode::Success,
+            kind,
+            granted,
+            validity: None,
+            last: false,
+        }
+    }
+}
+
+/// What a debit of this total takes, where so much is free: all of it, or nothing.
+fn debited(total: i128, free: i128) -> i128
+    requires { pos 0 ≤ℤ total }
+    ensures value { result ≡ (if int_le total free then total else pos 0) }
+    ensures least { pos 0 ≤ℤ result }
+    ensures most { result ≤ℤ int_max free (pos 0) }
+{
+    if total <= free { total } else { 0 }
+}
+
+fn is_direct_debit(request: &CcRequest) -> bool
+    ensures { result ≡ is_debiting request.now.kind request.now.action }
+{
+    request.kind == RequestKind::Event && request.action == Some(RequestedAction::DirectDebiting)
+}
+
+fn owns(subscription: &Subscription, account: &Account) -> bool
+    ensures { result ≡ is_owner subscription.now account.now }
+{
+    account.id_kind == subscription.kind && account.id == subscription.text
+}
+
+fn code_alone(alloc: Global, code: ResultCode) -> CcReply
+    ensures { result ≡ alone code }
+{
+    CcReply {
+        code,
+        services: Listing::from_vec(Vec::new(alloc)),
+        cost: None,
+        check: None,
+    }
+}
