@@ -1,0 +1,48 @@
+use Rattle.std.proofs.Common.{rules, ◌≡◌, ◌<◌, List, [], ◌∷◌, ◌++◌, length, sym, subst, ap, ◌∙◌, true, false, Some, Option, arith}
+use Rattle.std.specs.Prelude.{slice_get, slice_set}
+use Rattle.front_core.specs.declared.worker.Worker.{Worker}
+use Rattle.front_core.specs.declared.worker.Worker.TheVariants.{Idle, Done}
+use Rattle.front_core.specs.FrontState.{FrontState, is_among}
+use Rattle.front_core.specs.FrontStep.{Sent, with_worker, after_emit}
+use Rattle.front_core.proofs.Emitting.{held_at, after_emit-done, sent_if}
+use Rattle.front_core.proofs.front.Front.emit.Goals as goal
+
+pub returns-then-not-contains-clause-ok : goal.returns-then-not-contains-clause-ok
+returns-then-not-contains-clause-ok c =
+    let at = c.args.worker in
+    let workers = c.self.inside.workers.items in
+    let within : at < length workers = search rules in
+    let held : slice_get workers at ≡ Some (Done c.in-Done.conn c.in-Done.answer) = held_at workers at c.replace-held.result (Done c.in-Done.conn c.in-Done.answer) within (cc) (search rules) in
+    let among : is_among c.self.inside.connections.items c.in-Done.conn ≡ false = search rules in
+    let front : FrontState = record {
+      name = c.self.inside.name;
+      realm = c.self.inside.realm;
+      vendors = c.self.inside.vendors;
+      queue_limit = c.self.inside.queue_limit;
+      connections = c.self.inside.connections.items;
+      queue = c.self.inside.queue.items;
+      workers = workers;
+    } in
+    rw (← c.self.view_is, after_emit-done front at c.in-Done.conn c.in-Done.answer false held among)
+    (c.nothing.ensures, ap (λ (w : Worker). with_worker front at w) c.replace-held.ensures.after)
+
+pub returns-clause-ok : goal.returns-clause-ok
+returns-clause-ok c =
+    let at = c.args.worker in
+    let workers = c.self.inside.workers.items in
+    let within : at < length workers = search rules in
+    let held : slice_get workers at ≡ Some (Done c.in-Done.conn c.in-Done.answer) = held_at workers at c.replace-held.result (Done c.in-Done.conn c.in-Done.answer) within (cc) (search rules) in
+    let among : is_among c.self.inside.connections.items c.in-Done.conn ≡ true = search rules in
+    let front : FrontState = record {
+      name = c.self.inside.name;
+      realm = c.self.inside.realm;
+      vendors = c.self.inside.vendors;
+      queue_limit = c.self.inside.queue_limit;
+      connections = c.self.inside.connections.items;
+      queue = c.self.inside.queue.items;
+      workers = workers;
+    } in
+    rw (← c.self.view_is, after_emit-done front at c.in-Done.conn c.in-Done.answer true held among) (
+      c.from_vec.ensures ∙ (c.push_reserved.ensures.items ∙ ap (λ (xs : Sent). xs ++ (c.in-Done.conn, c.in-Done.answer) ∷ []) c.in_ok-items.ensures.items),
+      ap (λ (w : Worker). with_worker front at w) c.replace-held.ensures.after,
+    )

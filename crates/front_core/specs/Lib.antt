@@ -1,0 +1,2 @@
+pub mod FrontState
+pub mod FrontStep
