@@ -1,0 +1,13 @@
+pub mod Cutting
+pub mod Digits
+pub mod Examples
+pub mod FrontLemmas
+pub mod Lines
+pub mod ListLemmas
+pub mod Posting
+pub mod Printing
+pub mod Readings
+pub mod Running
+pub mod Streams
+pub mod Turning
+pub mod WordLists

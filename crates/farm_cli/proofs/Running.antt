@@ -1,0 +1,19 @@
+-- Runs that go on by one step.
+use Rattle.std.proofs.Common.{◌≡◌, ℕ, ◌+◌, Bool, List, [], ◌∷◌, ◌++◌, refl, sym, subst, ap, ◌∙◌, arith}
+use Rattle.farm_cli.specs.declared.site.Site.{Site}
+use Rattle.farm_cli.specs.declared.step.Step.{Step}
+use Rattle.farm_cli.specs.World.{WorldState}
+use Rattle.farm_cli.specs.FarmStep.{FarmStep, skips, Run}
+
+first_sum : (skipped k : ℕ) → skipped ≡ 0 → skipped + k ≡ k + 0
+first_sum skipped k e = omega arith
+
+next_sum : (skipped a b k : ℕ) → skipped ≡ a + b → skipped + k ≡ a + (b + k)
+next_sum skipped a b k e = omega arith
+
+pub Run-push : (site : Site) (old : WorldState) (steps : List Step) (skipped : ℕ) (mid : WorldState) (step : Step) (applied : Bool) (new : WorldState) → Run site old steps skipped mid → FarmStep site mid step applied new
+    → Run site old (steps ++ step ∷ []) (skipped + skips applied) new
+Run-push site old [] skipped mid step applied new run made =
+    (applied, new, 0, subst (λ (w : WorldState). FarmStep site w step applied new) run.1 made, (refl, refl), first_sum skipped (skips applied) run.0)
+Run-push site old (first ∷ steps) skipped mid step applied new run made =
+    (run.0, run.1, run.2 + skips applied, run.3, Run-push site run.1 steps run.2 mid step applied new run.4 made, next_sum skipped (skips run.0) run.2 (skips applied) run.5)

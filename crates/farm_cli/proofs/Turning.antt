@@ -1,0 +1,90 @@
+-- What a step leaves, where a front of the farm was changed in its place.
+use Rattle.std.proofs.Common.{◌≡◌, ℕ, Bool, true, false, cond, List, [], ◌∷◌, ◌++◌, get_or, Option, Some, None, refl, sym, subst, ap, ◌∙◌}
+use Rattle.std.specs.Prelude.{slice_set}
+use Rattle.std.proofs.lemmas.List.{set-get_or}
+use Rattle.dia_base.specs.declared.number.ConnId.{ConnId}
+use Rattle.dia_base.specs.declared.number.Moment.{Moment}
+use Rattle.dia_base.specs.declared.number.NodeNo.{NodeNo}
+use Rattle.cc_book.specs.Taking.{Ledger}
+use Rattle.dia_message.specs.declared.message.Message.{Message}
+use Rattle.dia_message.specs.declared.message.Out.{Out}
+use Rattle.front_core.specs.FrontState.{FrontState}
+use Rattle.front_core.specs.FrontStep.{after_arrival, sent_at_arrival, after_pick, after_charge, after_emit, Picks, Charges, Emits}
+use Rattle.farm_cli.specs.declared.site.Site.{Site}
+use Rattle.farm_cli.specs.declared.world.parts.Line.{Line}
+use Rattle.farm_cli.specs.declared.world.parts.FrontPart.{FrontPart}
+use Rattle.farm_cli.specs.Lists.{IsFirst}
+use Rattle.farm_cli.specs.World.{Sent, WorldState, is_client, posted, is_front_at, with_front, front_at}
+use Rattle.farm_cli.specs.FarmStep.{Outcome, arrived, arrived_at_front, picks_at, picked_at, emits_at, emitted_at, charges_at, charged_at}
+use Rattle.farm_cli.proofs.FrontLemmas.{front_found, front_changed}
+
+-- the front of the part at a place, changed
+abbrev pub fronts_with : WorldState → ℕ → FrontPart → FrontState → List FrontPart
+fronts_with w place part front = slice_set w.fronts place (record { node = part.node; front = front })
+
+-- the farm with these lines and fronts
+abbrev pub with_parts : WorldState → List Line → List FrontPart → WorldState
+with_parts w lines fronts = record w { lines = lines; fronts = fronts }
+
+-- nothing is changed
+same_fronts : (w : WorldState) (place : ℕ) (part : FrontPart) (front : FrontState) → part ≡ get_or w.fronts place part → front ≡ part.front → fronts_with w place part front ≡ w.fronts
+same_fronts w place part front read same =
+    ap (fronts_with w place part) same ∙ ap (slice_set w.fronts place) read ∙ set-get_or w.fronts place part
+
+pub arrive_turn : (site : Site) (w : WorldState) (node : NodeNo) (conn : ConnId) (message : Message) (place : ℕ) (part : FrontPart) (front : FrontState) (lines : List Line) (sent : Sent) → is_client site node ≡ false
+    → IsFirst (is_front_at node) w.fronts place → part ≡ get_or w.fronts place part
+    → front ≡ after_arrival part.front conn message → sent ≡ sent_at_arrival part.front conn message → lines ≡ posted node w.lines sent
+    → with_parts w lines (fronts_with w place part front) ≡ arrived site w node conn message
+arrive_turn site w node conn message place part front lines sent is first read front_is sent_is lines_is =
+    ap (λ (ls : List Line). with_parts w ls (fronts_with w place part front)) (lines_is ∙ ap (posted node w.lines) sent_is)
+    ∙ ap (with_parts w (posted node w.lines (sent_at_arrival part.front conn message))) (ap (fronts_with w place part) front_is ∙ front_changed node w.fronts place part (after_arrival part.front conn message) first read)
+    ∙ sym (
+    ap (λ (b : Bool). cond b (record w { received = w.received ++ (conn, message) ∷ [] }) (arrived_at_front w node conn message (front_at node w.fronts))) is
+    ∙ ap (arrived_at_front w node conn message) (front_found node w.fronts place part first read)
+    )
+
+pub pick_turn : (w : WorldState) (node : NodeNo) (worker place : ℕ) (part : FrontPart) (applied : Bool) (front : FrontState) → IsFirst (is_front_at node) w.fronts place → part ≡ get_or w.fronts place part
+    → Picks (after_pick part.front worker) applied part.front front → Outcome (picks_at w node worker (front_at node w.fronts)) applied w (with_parts w w.lines (fronts_with w place part front))
+pick_turn w node worker place part applied front first read picks =
+    subst (λ (o : Option WorldState). Outcome o applied w (with_parts w w.lines (fronts_with w place part front))) (sym (ap (picks_at w node worker) (front_found node w.fronts place part first read))) (go (after_pick part.front worker) picks)
+  where
+    go : (o : Option FrontState) → Picks o applied part.front front → Outcome (picked_at w node o) applied w (with_parts w w.lines (fronts_with w place part front))
+    go None p = (p.0, ap (with_parts w w.lines) (same_fronts w place part front read p.1))
+    go (Some next) p = (p.0, ap (with_parts w w.lines) (ap (fronts_with w place part) p.1 ∙ front_changed node w.fronts place part next first read))
+
+pub emit_none_turn : (w : WorldState) (node : NodeNo) (worker place : ℕ) (part : FrontPart) (front : FrontState) → IsFirst (is_front_at node) w.fronts place → part ≡ get_or w.fronts place part
+    → Emits (after_emit part.front worker) None part.front front → Outcome (emits_at w node worker (front_at node w.fronts)) false w (with_parts w w.lines (fronts_with w place part front))
+emit_none_turn w node worker place part front first read emits =
+    subst (λ (o : Option WorldState). Outcome o false w (with_parts w w.lines (fronts_with w place part front))) (sym (ap (emits_at w node worker) (front_found node w.fronts place part first read))) (go (after_emit part.front worker) emits)
+  where
+    go : (o : Option (FrontState × Sent)) → Emits o None part.front front → Outcome (emitted_at w node o) false w (with_parts w w.lines (fronts_with w place part front))
+    go None e = (refl, ap (with_parts w w.lines) (same_fronts w place part front read e))
+    go (Some turn) e = absurd e
+
+pub emit_turn : (w : WorldState) (node : NodeNo) (worker place : ℕ) (part : FrontPart) (front : FrontState) (out : Out) (lines : List Line) → IsFirst (is_front_at node) w.fronts place → part ≡ get_or w.fronts place part
+    → Emits (after_emit part.front worker) (Some out) part.front front → lines ≡ posted node w.lines out.items
+    → Outcome (emits_at w node worker (front_at node w.fronts)) true w (with_parts w lines (fronts_with w place part front))
+emit_turn w node worker place part front out lines first read emits lines_is =
+    subst (λ (o : Option WorldState). Outcome o true w (with_parts w lines (fronts_with w place part front))) (sym (ap (emits_at w node worker) (front_found node w.fronts place part first read))) (go (after_emit part.front worker) emits)
+  where
+    go : (o : Option (FrontState × Sent)) → Emits o (Some out) part.front front → Outcome (emitted_at w node o) true w (with_parts w lines (fronts_with w place part front))
+    go None e = absurd e
+    go (Some turn) e = (
+      refl,
+      ap (λ (ls : List Line). with_parts w ls (fronts_with w place part front)) (lines_is ∙ ap (posted node w.lines) e.0)
+          ∙ ap (with_parts w (posted node w.lines turn.1)) (ap (fronts_with w place part) e.1 ∙ front_changed node w.fronts place part turn.0 first read),
+    )
+
+pub charge_turn : (w : WorldState) (node : NodeNo) (worker : ℕ) (moment : Moment) (place : ℕ) (part : FrontPart) (applied : Bool) (front : FrontState) (book : Ledger) → IsFirst (is_front_at node) w.fronts place → part ≡ get_or w.fronts place part
+    → Charges (after_charge part.front w.book moment worker) applied part.front w.book front book
+    → Outcome (charges_at w node worker moment (front_at node w.fronts)) applied w (record w { fronts = fronts_with w place part front; book = book })
+charge_turn w node worker moment place part applied front book first read charges =
+    subst (λ (o : Option WorldState). Outcome o applied w (record w { fronts = fronts_with w place part front; book = book })) (sym (ap (charges_at w node worker moment) (front_found node w.fronts place part first read))) (go (after_charge part.front w.book moment worker) charges)
+  where
+    go : (o : Option (FrontState × Ledger)) → Charges o applied part.front w.book front book → Outcome (charged_at w node o) applied w (record w { fronts = fronts_with w place part front; book = book })
+    go None e = (e.0, ap (λ (fs : List FrontPart). record w { fronts = fs; book = book }) (same_fronts w place part front read e.1) ∙ ap (λ (b : Ledger). record w { book = b }) e.2)
+    go (Some turn) e = (
+      e.0,
+      ap (λ (fs : List FrontPart). record w { fronts = fs; book = book }) (ap (fronts_with w place part) e.1 ∙ front_changed node w.fronts place part turn.0 first read)
+          ∙ ap (λ (b : Ledger). record w { fronts = with_front node turn.0 w.fronts; book = b }) e.2,
+    )

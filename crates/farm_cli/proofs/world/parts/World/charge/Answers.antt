@@ -1,0 +1,10 @@
+use Rattle.farm_cli.specs.World.{WorldState}
+use Rattle.farm_cli.proofs.Turning.{charge_turn}
+use Rattle.farm_cli.proofs.world.parts.World.charge.Goals as goal
+
+pub returns : goal.returns
+returns g c =
+    let i = c.self.inside in
+    let w : WorldState = record { lines = i.lines.items; fronts = i.fronts.items; book = i.book; sent = i.sent.items; received = i.received.items; ends = i.ends.items } in
+    let first = rw c.deref.ensures.value at c.in-Some.ensures.found in
+    rw (← c.self.view_is) (charge_turn w c.args.front c.args.worker c.args.moment c.in-Some.place c.index_mut-part.result.now c.in-Ok.applied c.charge.new.self c.charge.new.book first c.index_mut-part.ensures.value c.in-Ok.ensures.ok)

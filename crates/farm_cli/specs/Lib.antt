@@ -1,0 +1,11 @@
+pub mod FarmStep
+pub mod Lists
+pub mod Output
+pub mod Replay
+pub mod Report
+pub mod Run
+pub mod Schedule
+pub mod Site
+pub mod Words
+pub mod World
+pub mod Writing

@@ -1,0 +1,101 @@
+//! The farm before its first step.
+
+ghost use Rattle.std.specs.Prelude.{◌≡◌, ◌≤◌, ◌<◌, ◌^◌, IfOk, None};
+ghost use Rattle.cc_book.specs.Tariffs.{fault_of};
+ghost use Rattle.farm_cli.specs.Run.{IsRunnable, fresh_front, front_if, fronts_from, opened, start};
+
+use crate::site::{Node, NodeKind, Site};
+use crate::world::parts::{FrontPart, World};
+use cc_book::rating::{Tariff, Tariffs};
+use cc_book::{Account, Book, Money};
+use dia_base::{Listing, NodeNo};
+use front_core::Front;
+use std::alloc::{AllocError, Global};
+
+fn fresh_front_of(alloc: Global, site: &Site, node: &Node) -> Result<Front, AllocError>
+    ensures { IfOk result (λ front. front ≡ fresh_front site.now node.now) }
+{
+    let vendors = Vec::from_slice(alloc, site.vendors.as_slice())?;
+    Front::new(
+        alloc,
+        node.name.clone()?,
+        site.realm.clone()?,
+        Listing::from_vec(vendors),
+        site.workers,
+        site.queue,
+    )
+}
+
+fn fronts_of(alloc: Global, site: &Site) -> Result<Vec<FrontPart>, AllocError>
+    requires { IsRunnable site.now }
+    ensures { IfOk result (λ fronts. fronts.items ≡ fronts_from site.now 0 site.now.nodes) }
+{
+    let mut fronts = Vec::new(alloc);
+    for (place, node) in site.nodes.as_slice().iter().enumerate() {
+        match node.kind {
+            NodeKind::Front => {
+                let front = fresh_front_of(alloc, site, node)?;
+                let node = NodeNo(place as u32);
+                fronts.push(FrontPart { node, front })?;
+            }
+            NodeKind::Relay => {}
+            NodeKind::Client => {}
+        }
+    }
+    Ok(fronts)
+}
+
+fn accounts_of(alloc: Global, accounts: &[Account]) -> Result<Vec<Account>, AllocError>
+    ensures { IfOk result (λ copies. copies.items ≡ accounts.now) }
+{
+    let mut copies = Vec::new(alloc);
+    for account in accounts {
+        copies.push(Account {
+            id_kind: account.id_kind,
+            id: account.id.clone()?,
+            opening: account.opening,
+        })?;
+    }
+    Ok(copies)
+}
+
+fn tariffs_of(alloc: Global, tariffs: &[Tariff]) -> Result<Tariffs, AllocError>
+    requires { fault_of tariffs.now ≡ None }
+    ensures { IfOk result (λ made. made ≡ tariffs.now) }
+{
+    let copies = Vec::from_slice(alloc, tariffs)?;
+    match Tariffs::new(alloc, copies) {
+        Ok(made) => Ok(made),
+        Err(_) => Err(AllocError),
+    }
+}
+
+fn open_book(alloc: Global, site: &Site) -> Result<Book, AllocError>
+    requires { IsRunnable site.now }
+    ensures { IfOk result (λ book. book ≡ opened site.now) }
+{
+    let accounts = accounts_of(alloc, site.accounts.as_slice())?;
+    let tariffs = tariffs_of(alloc, site.tariffs.as_slice())?;
+    let money = Money {
+        currency: site.currency,
+        exponent: site.exponent,
+    };
+    Book::new(alloc, accounts, tariffs, site.validity, money, site.limit)
+}
+
+impl World {
+    /// The farm of a site: its fronts, no connection, and the book with its opening amounts.
+    pub fn open(alloc: Global, site: &Site) -> Result<Self, AllocError>
+        requires { IsRunnable site.now }
+        ensures { IfOk result (λ world. world ≡ start site.now) }
+    {
+        Ok(World {
+            lines: Vec::new(alloc),
+            fronts: fronts_of(alloc, site)?,
+            book: open_book(alloc, site)?,
+            sent: Vec::new(alloc),
+            received: Vec::new(alloc),
+            ends: Vec::new(alloc),
+        })
+    }
+}

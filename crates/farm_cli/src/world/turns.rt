@@ -1,0 +1,204 @@
+//! One step of the farm.
+
+ghost use Rattle.std.specs.Prelude.{◌≡◌, [], ◌+◌, ◌^◌, ◌<◌, IfOk, OnOk, Some, length};
+ghost use Rattle.farm_cli.specs.World.{front_at};
+ghost use Rattle.farm_cli.specs.FarmStep.{Outcome, can_rise as can_rise_in, raised, sent_by, arrived, delivered, picks_at, charges_at, emits_at, FarmStep};
+
+use crate::site::Site;
+use crate::step::Step;
+use crate::world::lines::{place_between, post, take_off};
+use crate::world::nodes::{is_client, is_linked, is_relay, learn, place_of_front};
+use crate::world::parts::{Line, World};
+use dia_avp::Wire;
+use dia_base::{ConnId, Listing, Moment, NodeNo};
+use dia_message::Message;
+use std::alloc::{AllocError, Global};
+
+fn fresh_line(alloc: Global, conn: ConnId, one: NodeNo, other: NodeNo) -> Line
+    ensures { result ≡ record { conn = conn; one = one; other = other; there = []; back = [] } }
+{
+    Line {
+        conn,
+        one,
+        other,
+        there: Listing::empty(alloc),
+        back: Listing::empty(alloc),
+    }
+}
+
+impl World {
+    fn can_rise(&self, site: &Site, a: NodeNo, b: NodeNo) -> bool
+        ensures { result ≡ can_rise_in site.now self.now a b }
+    {
+        is_linked(site, a, b)
+            && !is_relay(site, a)
+            && !is_relay(site, b)
+            && place_between(&self.lines, a, b).is_none()
+    }
+
+    /// A new connection, which both nodes learn.
+    pub fn up(
+        &mut self,
+        alloc: Global,
+        site: &Site,
+        a: NodeNo,
+        b: NodeNo,
+    ) -> Result<bool, AllocError>
+        ensures { IfOk result (λ applied. Outcome (raised site.now self.old a b) applied self.old self.new) }
+    {
+        if !self.can_rise(site, a, b) {
+            return Ok(false);
+        }
+        let conn = ConnId(self.ends.len() as u64 + 1);
+        self.lines.push(fresh_line(alloc, conn, a, b))?;
+        learn(&mut self.fronts, a, conn)?;
+        learn(&mut self.fronts, b, conn)?;
+        self.ends.push((a, b))?;
+        Ok(true)
+    }
+
+    /// A client sends a message.
+    pub fn send(
+        &mut self,
+        site: &Site,
+        client: NodeNo,
+        to: NodeNo,
+        message: &Message,
+    ) -> Result<bool, AllocError>
+        ensures { IfOk result (λ applied. Outcome (sent_by site.now self.old client to message.now) applied self.old self.new) }
+    {
+        if !is_client(site, client) {
+            return Ok(false);
+        }
+        let Some(place) = place_between(&self.lines, client, to) else {
+            return Ok(false);
+        };
+        let line = &mut self.lines[place];
+        let conn = line.conn;
+        line.put(client, message.clone()?)?;
+        self.sent.push((conn, message.clone()?))?;
+        Ok(true)
+    }
+
+    /// What a node does with a message that comes to it.
+    fn arrive<W: Wire>(
+        &mut self,
+        alloc: Global,
+        site: &Site,
+        node: NodeNo,
+        conn: ConnId,
+        message: Message,
+    ) -> Result<(), AllocError>
+        ensures { OnOk result (self.new ≡ arrived site.now self.old node conn message) }
+    {
+        if is_client(site, node) {
+            self.received.push((conn, message))?;
+            return Ok(());
+        }
+        let Some(place) = place_of_front(&self.fronts, node) else {
+            return Ok(());
+        };
+        match self.fronts[place]
+            .front
+            .on_message::<W>(alloc, conn, message)
+        {
+            Ok(out) => post(&mut self.lines, node, out),
+            Err(_) => Err(AllocError),
+        }
+    }
+
+    /// A message in flight arrives.
+    pub fn deliver<W: Wire>(
+        &mut self,
+        alloc: Global,
+        site: &Site,
+        from: NodeNo,
+        to: NodeNo,
+        place: u64,
+    ) -> Result<bool, AllocError>
+        ensures { IfOk result (λ applied. Outcome (delivered site.now self.old from to place) applied self.old self.new) }
+    {
+        let Some((conn, message)) = take_off(&mut self.lines, from, to, place) else {
+            return Ok(false);
+        };
+        self.arrive::<W>(alloc, site, to, conn, message)?;
+        Ok(true)
+    }
+
+    /// An idle worker of a front takes a request.
+    pub fn pick(&mut self, front: NodeNo, worker: u64) -> bool
+        ensures { Outcome (picks_at self.old front worker (front_at front self.old.fronts)) result self.old self.new }
+    {
+        match place_of_front(&self.fronts, front) {
+            Some(place) => self.fronts[place].front.pick(worker),
+            None => false,
+        }
+    }
+
+    /// A worker of a front sends its answer.
+    pub fn emit(&mut self, alloc: Global, front: NodeNo, worker: u64) -> Result<bool, AllocError>
+        ensures { IfOk result (λ applied. Outcome (emits_at self.old front worker (front_at front self.old.fronts)) applied self.old self.new) }
+    {
+        let Some(place) = place_of_front(&self.fronts, front) else {
+            return Ok(false);
+        };
+        match self.fronts[place].front.emit(alloc, worker) {
+            Ok(Some(out)) => {
+                post(&mut self.lines, front, out)?;
+                Ok(true)
+            }
+            Ok(None) => Ok(false),
+            Err(_) => Err(AllocError),
+        }
+    }
+
+    /// A worker of a front charges its request in the book.
+    pub fn charge<W: Wire>(
+        &mut self,
+        alloc: Global,
+        front: NodeNo,
+        worker: u64,
+        moment: Moment,
+    ) -> Result<bool, AllocError>
+        ensures { IfOk result (λ applied. Outcome (charges_at self.old front worker moment (front_at front self.old.fronts)) applied self.old self.new) }
+    {
+        let Some(place) = place_of_front(&self.fronts, front) else {
+            return Ok(false);
+        };
+        let part = &mut self.fronts[place];
+        let Ok(applied) = part
+            .front
+            .charge::<W>(alloc, worker, &mut self.book, moment)
+        else {
+            return Err(AllocError);
+        };
+        Ok(applied)
+    }
+
+    /// One step. The answer is whether it applied.
+    pub fn step<W: Wire>(
+        &mut self,
+        alloc: Global,
+        site: &Site,
+        step: &Step,
+    ) -> Result<bool, AllocError>
+        ensures { IfOk result (λ applied. FarmStep site.now self.old step.now applied self.new) }
+    {
+        match step {
+            Step::Up { a, b } => self.up(alloc, site, *a, *b),
+            Step::Send {
+                client,
+                to,
+                message,
+            } => self.send(site, *client, *to, message),
+            Step::Deliver { from, to, place } => self.deliver::<W>(alloc, site, *from, *to, *place),
+            Step::Pick { front, worker } => Ok(self.pick(*front, *worker)),
+            Step::Charge {
+                front,
+                worker,
+                moment,
+            } => self.charge::<W>(alloc, *front, *worker, *moment),
+            Step::Emit { front, worker } => self.emit(alloc, *front, *worker),
+        }
+    }
+}
