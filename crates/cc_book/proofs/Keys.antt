@@ -60,6 +60,25 @@ pub kept_reply-new : (terms : Terms) (history : List Entry) (key : Key) → IsNe
 unfolding kept_reply
 kept_reply-new terms history key new = kept_from-new terms [] history key new
 
+-- no reply is kept
+new_by : (b : Bool) (entry : Option CcReply) (more : Bool) (later : Option CcReply) → (b ≡ true → entry ≢ None) → (later ≡ None → more ≡ true) → cond b entry later ≡ None → (not b && more) ≡ true
+new_by true entry more later some next e = absurd (some refl e)
+new_by false entry more later some next e = next e
+
+takes_reply : (terms : Terms) (before : List Entry) (key : Key) (entry : Entry) → has_key key entry ≡ true → reply_at terms before entry ≢ None
+takes_reply terms before key (Take moment request) has e = absurd cc
+takes_reply terms before key (Sweep moment) has e = absurd cc
+
+new_from : (terms : Terms) (before history : List Entry) (key : Key) → kept_from terms before history key ≡ None → IsNew history key
+new_from terms before [] key e = refl
+new_from terms before (entry ∷ after) key e =
+    new_by (has_key key entry) (reply_at terms before entry) (list_all (λ (other : Entry). not (has_key key other)) after) (kept_from terms (before ++ entry ∷ []) after key)
+    (takes_reply terms before key entry) (new_from terms (before ++ entry ∷ []) after key) e
+
+pub new-without_reply : (terms : Terms) (history : List Entry) (key : Key) → kept_reply terms history key ≡ None → IsNew history key
+unfolding kept_reply
+new-without_reply terms history key e = new_from terms [] history key e
+
 -- ---- its place
 
 has_key-taken : (key : Key) (entry : Entry) (moment : Moment) (request : CcRequest) → Some entry ≡ Some (Take moment request) → same_key (key_of request) key ≡ true → has_key key entry ≡ true

@@ -2,9 +2,9 @@
 use Rattle.std.proofs.Common.{◌≡◌, ℕ, ◌+◌, ◌<◌, ◌≤◌, Bool, true, false, cond, ltb, List, length, take, Option, Some, None, Result, Ok, Err, refl, sym, subst, ap, ◌∙◌, arith, length-take}
 use Rattle.std.specs.Prelude.{IfSome}
 use Rattle.std.specs.Global.{Vec}
-use Rattle.std.specs.List.{enumerate_from}
 use Rattle.std.specs.Str.Lines.{lines}
 use Rattle.std.proofs.lemmas.Bool.{ltb-true, ltb-false, lt-ltb}
+use Rattle.std.proofs.lemmas.List.{take_all}
 use Rattle.farm_cli.specs.declared.script.fault.LineFault.TheVariants.{UnknownWord, WrongCount, UnknownName, BadNumber, BadHex, BadMessage, TooManySteps, OutOfMemory}
 use Rattle.farm_cli.specs.declared.script.fault.ScriptFault.{ScriptFault}
 use Rattle.farm_cli.specs.declared.script.fault.ScriptFault.TheVariants.{Line, TooLong}
@@ -13,9 +13,9 @@ use Rattle.farm_cli.specs.declared.step.Step.{Step}
 use Rattle.farm_cli.specs.Schedule.{steps_of, NoneBefore, AnswersText, all_of, readings_from}
 use Rattle.farm_cli.specs.declared.world.run.Trace.{Trace}
 use Rattle.farm_cli.specs.Output.{output_of}
+use Rattle.farm_cli.specs.Promise.{KeepsPromise}
 use Rattle.farm_cli.specs.Replay.{Replays, IsRefused}
 use Rattle.farm_cli.specs.Run.{IsTrace}
-use Rattle.farm_cli.proofs.Streams.{take_short}
 
 abbrev Answer : Type 0
 Answer = Result (List Step) ScriptFault
@@ -29,7 +29,7 @@ chosen limit f text true is =
     ap (λ (b : Bool). cond b (Err TooLong) (f (take (limit + 1) text))) (lt-ltb _ _ cut) ∙ sym (ap (λ (b : Bool). cond b (Err TooLong) (f text)) is)
 chosen limit f text false is =
     let short : length text ≤ limit = ltb-false limit (length text) is in
-    ap (λ (t : List ℕ). cond (ltb limit (length t)) (Err TooLong) (f t)) (take_short (limit + 1) text (omega arith))
+    ap (λ (t : List ℕ). cond (ltb limit (length t)) (Err TooLong) (f t)) (take_all (limit + 1) text (omega arith))
 
 -- what a cut at one octet above the limit spells
 abbrev pub IsCut : Site → List ℕ → List ℕ → Type 0
@@ -65,15 +65,16 @@ script_refused site (Some octets) text given found fault read same e is =
 
 -- what is printed for what is read
 pub printed_for : (site : Site) (stream : Option (List ℕ)) (text given out : List ℕ) (steps : List Step) (trace : Trace) (P : List ℕ → Type 0) → IsRead stream text → given ≡ text → steps_of site given ≡ Ok steps
-    → IsTrace site steps trace → out ≡ output_of site (length steps) trace → P out → IfSome stream (λ octets. (printed : List ℕ) × Replays site octets printed × P printed)
-printed_for site None text given out steps trace P read same spelled is_trace output p = tt
-printed_for site (Some octets) text given out steps trace P read same spelled is_trace output p = (
+    → IsTrace site steps trace → KeepsPromise site steps trace → out ≡ output_of site (length steps) trace → P out → IfSome stream (λ octets. (printed : List ℕ) × Replays site octets printed × P printed)
+printed_for site None text given out steps trace P read same spelled is_trace promise output p = tt
+printed_for site (Some octets) text given out steps trace P read same spelled is_trace promise output p = (
   out,
   record {
     steps = steps;
     spelled = sym (ap (steps_of site) (same ∙ read) ∙ steps_of-cut site octets) ∙ spelled;
     trace = trace;
     is_trace = is_trace;
+    promise = promise;
     output = output;
   },
   p,

@@ -1,5 +1,5 @@
 -- The definitions of a schedule, computed on examples.
-use Rattle.std.proofs.Common.{◌≡◌, List, [], ◌∷◌, ◌++◌, codes, Ok, Err, refl}
+use Rattle.std.proofs.Common.{◌≡◌, [], ◌∷◌, ◌++◌, codes, Ok, Err, refl}
 use Rattle.std.specs.Str.Lines.{lines}
 use Rattle.farm_cli.specs.Schedule.{steps_of}
 use Rattle.farm_cli.specs.Site.{the_row_site, c1, f1}

@@ -1,13 +1,13 @@
 -- Fronts of the farm, by place and by node.
-use Rattle.std.proofs.Common.{◌≡◌, ℕ, ◌<◌, Bool, true, false, cond, List, [], ◌∷◌, length, get_or, Option, Some, None, refl, sym, subst, ap, ◌∙◌}
-use Rattle.std.specs.Prelude.{slice_get, slice_set, ◌==◌}
+use Rattle.std.proofs.Common.{◌≡◌, ℕ, Bool, true, false, cond, List, [], ◌∷◌, length, get_or, Option, Some, refl, sym, ap, ◌∙◌}
+use Rattle.std.specs.Prelude.{slice_set}
 use Rattle.std.specs.List.{find}
 use Rattle.std.proofs.lemmas.Option.{slice_get_read}
 use Rattle.std.proofs.lemmas.Bool.{eqb-true}
 use Rattle.dia_base.specs.declared.number.NodeNo.{NodeNo}
 use Rattle.front_core.specs.FrontState.{FrontState}
 use Rattle.farm_cli.specs.declared.world.parts.FrontPart.{FrontPart}
-use Rattle.farm_cli.specs.Lists.{replace_first, IsFirst}
+use Rattle.farm_cli.specs.Lists.{IsFirst}
 use Rattle.farm_cli.specs.World.{is_node, is_front_at, with_front, front_of, front_at}
 
 passes_cons : {A : Type 0} (test : A → Bool) (b : Bool) (y x : A) (r : Option A) → test y ≡ b → (r ≡ Some x → test x ≡ true) → cond b (Some y) r ≡ Some x → test x ≡ true
@@ -23,7 +23,7 @@ find-passes test (y ∷ ys) x e = passes_cons test (test y) y x (find test ys) r
 pub first_item : {A : Type 0} (test : A → Bool) (xs : List A) (place : ℕ) (x : A) → IsFirst test xs place → x ≡ get_or xs place x → find test xs ≡ Some x
 first_item test xs place x first read = first.item ∙ slice_get_read xs (length xs) place x refl first.within read
 
-same_node : (a b : NodeNo) → is_node a b ≡ true → a ≡ b
+pub same_node : (a b : NodeNo) → is_node a b ≡ true → a ≡ b
 same_node a b e = ap (λ (n : ℕ). record { 0 = n }) (eqb-true a.0 b.0 e)
 
 -- the front at a place that was found, and the list with that front changed

@@ -1,5 +1,5 @@
 -- Places of the first item that passes.
-use Rattle.std.proofs.Common.{◌≡◌, ℕ, zero, suc, ◌+◌, ◌<◌, ◌≤◌, Bool, true, false, not, cond, List, [], ◌∷◌, length, Option, Some, None, refl, sym, subst, ap, ◌∙◌, arith, ltb}
+use Rattle.std.proofs.Common.{◌≡◌, ℕ, zero, suc, ◌+◌, ◌≤◌, Bool, true, false, not, cond, List, [], ◌∷◌, length, Option, Some, None, refl, sym, subst, ap, ◌∙◌, arith, ltb}
 use Rattle.std.specs.Prelude.{slice_get, slice_set, IfSome, IfNone}
 use Rattle.std.specs.List.{find, position, position_or_len}
 use Rattle.std.proofs.lemmas.List.Folds.{find_at}

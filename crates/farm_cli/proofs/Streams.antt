@@ -1,8 +1,8 @@
 -- What is read from a stream, piece by piece, and what is written to one.
-use Rattle.std.proofs.Common.{◌≡◌, ℕ, zero, suc, ◌+◌, ◌-◌, ◌<◌, ◌≤◌, List, [], ◌∷◌, ◌++◌, length, take, drop, Option, Some, None, refl, sym, subst, ap, ◌∙◌, arith, append_assoc, length-append}
+use Rattle.std.proofs.Common.{◌≡◌, ℕ, zero, suc, ◌≤◌, List, [], ◌∷◌, ◌++◌, length, take, drop, Option, Some, None, refl, sym, subst, ap, ◌∙◌, arith, append_assoc}
 use Rattle.std.specs.Prelude.{IfSome}
 use Rattle.std.specs.Io.KnownBytes.{Appends, Consumes, IsAtEnd, Keeps}
-use Rattle.std.proofs.lemmas.List.{append-nil, take-append-drop}
+use Rattle.std.proofs.lemmas.List.{append-nil, take_all, take-append-drop}
 use Rattle.farm_cli.specs.Writing.{BeginsWithRest}
 
 -- one piece after another
@@ -43,22 +43,13 @@ take_front n [] ys e = subst (λ (k : ℕ). take k ys ≡ []) e refl
 take_front zero (x ∷ xs) ys e = absurd (omega arith)
 take_front (suc n) (x ∷ xs) ys e = ap (λ (zs : List ℕ). x ∷ zs) (take_front n xs ys (omega arith))
 
-pub take_short : (n : ℕ) (xs : List ℕ) → length xs ≤ n → take n xs ≡ xs
-take_short n [] e = take_none n
-  where
-    take_none : (n : ℕ) → take {A = ℕ} n [] ≡ []
-    take_none zero = refl
-    take_none (suc n) = refl
-take_short zero (x ∷ xs) e = absurd (omega arith)
-take_short (suc n) (x ∷ xs) e = ap (λ (zs : List ℕ). x ∷ zs) (take_short n xs (omega arith))
-
 -- all was read
 pub read_to_end : (n : ℕ) (a b : Option (List ℕ)) (xs : List ℕ) → Consumes a b xs → IsAtEnd b → length xs ≤ n → IfSome a (λ octets. xs ≡ take n octets)
 read_to_end n None b xs p end le = tt
 read_to_end n (Some octets) None xs p end le = absurd p
 read_to_end n (Some octets) (Some left) xs p end le =
     let all : octets ≡ xs = p ∙ ap (λ (zs : List ℕ). xs ++ zs) end ∙ append-nil xs in
-    sym (ap (take n) all ∙ take_short n xs le)
+    sym (ap (take n) all ∙ take_all n xs le)
 
 -- so much was read
 pub read_up_to : (n : ℕ) (a b : Option (List ℕ)) (xs : List ℕ) → Consumes a b xs → length xs ≡ n → IfSome a (λ octets. xs ≡ take n octets)

@@ -14,7 +14,7 @@ use Rattle.farm_cli.specs.declared.step.Step.TheVariants.{Up, Send, Deliver, Pic
 use Rattle.farm_cli.specs.declared.world.parts.Line.{Line}
 use Rattle.farm_cli.specs.declared.world.parts.FrontPart.{FrontPart}
 use Rattle.farm_cli.specs.Lists.{replace_first}
-use Rattle.farm_cli.specs.World.{Sent, WorldState, is_node, is_client, is_relay, is_linked, is_between, is_conn, in_flight, with_in_flight, with_message, posted, is_front_at, with_front, front_at}
+use Rattle.farm_cli.specs.World.{Sent, WorldState, is_client, is_relay, is_linked, is_between, in_flight, with_in_flight, with_message, posted, with_front, front_at}
 
 -- ---- up: a new connection, which both nodes learn
 

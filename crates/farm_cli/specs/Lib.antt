@@ -1,6 +1,8 @@
+pub mod Cause
 pub mod FarmStep
 pub mod Lists
 pub mod Output
+pub mod Promise
 pub mod Replay
 pub mod Report
 pub mod Run

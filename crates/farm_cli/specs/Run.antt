@@ -1,24 +1,30 @@
 -- A whole run of the farm, from the empty history.
-use Rattle.std.specs.Prelude.{◌≡◌, ℕ, ◌+◌, ◌≤◌, List, [], ◌∷◌, ◌++◌, length, replicate, Option, Some, None, ℤ}
-use Rattle.dia_base.specs.declared.number.NodeNo.{NodeNo}
+use Rattle.std.specs.Prelude.{◌≡◌, ℕ, ◌+◌, ◌≤◌, Bool, false, ◌&&◌, List, [], ◌∷◌, ◌++◌, length, replicate, None}
+use Rattle.std.specs.List.{list_any}
 use Rattle.cc_book.specs.Taking.{Ledger}
 use Rattle.cc_book.specs.Tariffs.{fault_of}
 use Rattle.front_core.specs.declared.worker.Worker.TheVariants.{Idle}
 use Rattle.front_core.specs.FrontState.{FrontState}
 use Rattle.farm_cli.specs.declared.site.Site.{Site}
+use Rattle.farm_cli.specs.declared.site.Link.{Link}
 use Rattle.farm_cli.specs.declared.site.Node.{Node}
 use Rattle.farm_cli.specs.declared.site.NodeKind.{NodeKind}
 use Rattle.farm_cli.specs.declared.site.NodeKind.TheVariants.{Relay, Front, Client}
 use Rattle.farm_cli.specs.declared.step.Step.{Step}
 use Rattle.farm_cli.specs.declared.world.parts.FrontPart.{FrontPart}
 use Rattle.farm_cli.specs.declared.world.run.Trace.{Trace}
-use Rattle.farm_cli.specs.World.{WorldState}
+use Rattle.farm_cli.specs.World.{WorldState, is_client}
 use Rattle.farm_cli.specs.FarmStep.{Run}
 
--- what a site keeps to: its nodes have numbers, and its tariffs no fault
+-- a link between two clients
+abbrev pub joins_clients : Site → Link → Bool
+joins_clients site link = is_client site link.from && is_client site link.to
+
+-- what a site keeps to: its nodes have numbers, its tariffs no fault, and no two clients are linked
 pub record IsRunnable (site : Site) : Type 0 where
   pub few_nodes : length site.nodes ≤ 64
   pub tariffs : fault_of site.tariffs ≡ None
+  pub clients_apart : list_any (joins_clients site) site.links ≡ false
 
 -- ---- before the first step
 
@@ -60,6 +66,10 @@ start site = record { lines = []; fronts = fronts_from site 0 site.nodes; book =
 -- what is told of a run
 abbrev pub trace_of : ℕ → WorldState → Trace
 trace_of skipped w = record { sent = w.sent; received = w.received; book = w.book; skipped = skipped; ends = w.ends }
+
+-- what is told of the farm is the same
+abbrev pub TellsSame : WorldState → WorldState → Type 0
+TellsSame old new = (new.sent ≡ old.sent) × (new.received ≡ old.received) × (new.book ≡ old.book) × (new.ends ≡ old.ends)
 
 -- the trace of a run of these steps, one after the other
 pub record IsTrace (site : Site) (steps : List Step) (trace : Trace) : Type 0 where

@@ -1,11 +1,11 @@
 -- A worker that is done, in the list of workers.
-use Rattle.std.proofs.Common.{◌≡◌, ℕ, ◌<◌, Bool, true, false, cond, List, [], ◌∷◌, length, get_or, Option, Some, None, refl, sym, subst, ap, ◌∙◌}
+use Rattle.std.proofs.Common.{◌≡◌, ℕ, ◌<◌, Bool, cond, List, [], ◌∷◌, length, get_or, Some, refl, ap, ◌∙◌}
 use Rattle.std.specs.Prelude.{slice_get}
 use Rattle.std.proofs.lemmas.Option.{slice_get_read}
 use Rattle.dia_base.specs.declared.number.ConnId.{ConnId}
 use Rattle.dia_message.specs.declared.message.Message.{Message}
 use Rattle.front_core.specs.declared.worker.Worker.{Worker}
-use Rattle.front_core.specs.declared.worker.Worker.TheVariants.{Idle, Picked, Done}
+use Rattle.front_core.specs.declared.worker.Worker.TheVariants.{Idle, Done}
 use Rattle.front_core.specs.FrontState.{FrontState, is_among}
 use Rattle.front_core.specs.FrontStep.{Sent, with_worker, emitted_by, after_emit}
 

@@ -1,5 +1,5 @@
 -- What a front does at each event.
-use Rattle.std.specs.Prelude.{◌≡◌, ℕ, ◌+◌, Bool, true, false, not, List, [], ◌∷◌, ◌++◌, length, nat_lt, Option, Some, None, slice_get, slice_set, Result, Ok, Err, if◌then◌else◌}
+use Rattle.std.specs.Prelude.{◌≡◌, ℕ, Bool, true, false, List, [], ◌∷◌, ◌++◌, length, nat_lt, Option, Some, None, slice_get, slice_set, Result, Ok, Err, if◌then◌else◌}
 use Rattle.dia_base.specs.declared.number.ConnId.{ConnId}
 use Rattle.dia_message.specs.declared.message.Message.{Message}
 use Rattle.dia_message.specs.declared.message.Out.{Out}

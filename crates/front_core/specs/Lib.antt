@@ -1,2 +1,5 @@
+pub mod Answered
+pub mod Cause
+pub mod ChargeCases
 pub mod FrontState
 pub mod FrontStep

@@ -5,8 +5,13 @@
 mod charging;
 mod error;
 mod front;
+mod laws;
 mod worker;
 
 pub use error::FrontError;
 pub use front::Front;
+pub use laws::{
+    a_charge_answers_or_refuses, an_arrival_is_refused_with_cause, answers_stay,
+    charges_by_four_cases,
+};
 pub use worker::{Job, Worker};

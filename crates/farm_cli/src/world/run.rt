@@ -1,7 +1,8 @@
 //! A whole run of the farm.
 
-ghost use Rattle.std.specs.Prelude.{◌≡◌, ◌≤◌, IfOk};
+ghost use Rattle.std.specs.Prelude.{◌≡◌, ◌≤◌, IfOk, IfErr, IfSome, take};
 ghost use Rattle.farm_cli.specs.FarmStep.{skips as skips_of};
+ghost use Rattle.farm_cli.specs.Promise.{KeepsPromise};
 ghost use Rattle.farm_cli.specs.Run.{IsRunnable, IsTrace, trace_of as told_of};
 
 use crate::site::Site;
@@ -55,10 +56,14 @@ fn skips(applied: bool) -> u64
     if applied { 0 } else { 1 }
 }
 
-/// Runs the steps over a site, from an empty history.
+/// Runs the steps over a site, from an empty history. Where memory is refused at a step, the trace is
+/// that of the steps before it.
 pub fn run<W: Wire>(alloc: Global, site: &Site, steps: &[Step]) -> Result<Trace, RunError>
     requires { IsRunnable site.now }
-    ensures { IfOk result (IsTrace site.now steps.now) }
+    ensures trace { IfOk result (IsTrace site.now steps.now) }
+    ensures promise { IfOk result (KeepsPromise site.now steps.now) }
+    ensures err { IfErr result (λ error. IfSome error.trace (λ trace.
+        IsTrace site.now (take error.step steps.now) trace × KeepsPromise site.now (take error.step steps.now) trace)) }
 {
     let Ok(mut world) = World::open(alloc, site) else {
         return Err(RunError {

@@ -1,6 +1,7 @@
 //! One step of the farm.
 
-ghost use Rattle.std.specs.Prelude.{◌≡◌, [], ◌+◌, ◌^◌, ◌<◌, IfOk, OnOk, Some, length};
+ghost use Rattle.std.specs.Prelude.{◌≡◌, [], ◌+◌, ◌^◌, ◌<◌, IfOk, OnOk, OnErr, Some, length};
+ghost use Rattle.farm_cli.specs.Run.{TellsSame};
 ghost use Rattle.farm_cli.specs.World.{front_at};
 ghost use Rattle.farm_cli.specs.FarmStep.{Outcome, can_rise as can_rise_in, raised, sent_by, arrived, delivered, picks_at, charges_at, emits_at, FarmStep};
 
@@ -44,7 +45,8 @@ impl World {
         a: NodeNo,
         b: NodeNo,
     ) -> Result<bool, AllocError>
-        ensures { IfOk result (λ applied. Outcome (raised site.now self.old a b) applied self.old self.new) }
+        ensures ok { IfOk result (λ applied. Outcome (raised site.now self.old a b) applied self.old self.new) }
+        ensures err { OnErr result (TellsSame self.old self.new) }
     {
         if !self.can_rise(site, a, b) {
             return Ok(false);
@@ -65,7 +67,8 @@ impl World {
         to: NodeNo,
         message: &Message,
     ) -> Result<bool, AllocError>
-        ensures { IfOk result (λ applied. Outcome (sent_by site.now self.old client to message.now) applied self.old self.new) }
+        ensures ok { IfOk result (λ applied. Outcome (sent_by site.now self.old client to message.now) applied self.old self.new) }
+        ensures err { OnErr result (TellsSame self.old self.new) }
     {
         if !is_client(site, client) {
             return Ok(false);
@@ -89,7 +92,8 @@ impl World {
         conn: ConnId,
         message: Message,
     ) -> Result<(), AllocError>
-        ensures { OnOk result (self.new ≡ arrived site.now self.old node conn message) }
+        ensures ok { OnOk result (self.new ≡ arrived site.now self.old node conn message) }
+        ensures err { OnErr result (TellsSame self.old self.new) }
     {
         if is_client(site, node) {
             self.received.push((conn, message))?;
@@ -116,7 +120,8 @@ impl World {
         to: NodeNo,
         place: u64,
     ) -> Result<bool, AllocError>
-        ensures { IfOk result (λ applied. Outcome (delivered site.now self.old from to place) applied self.old self.new) }
+        ensures ok { IfOk result (λ applied. Outcome (delivered site.now self.old from to place) applied self.old self.new) }
+        ensures err { OnErr result (TellsSame self.old self.new) }
     {
         let Some((conn, message)) = take_off(&mut self.lines, from, to, place) else {
             return Ok(false);
@@ -137,7 +142,8 @@ impl World {
 
     /// A worker of a front sends its answer.
     pub fn emit(&mut self, alloc: Global, front: NodeNo, worker: u64) -> Result<bool, AllocError>
-        ensures { IfOk result (λ applied. Outcome (emits_at self.old front worker (front_at front self.old.fronts)) applied self.old self.new) }
+        ensures ok { IfOk result (λ applied. Outcome (emits_at self.old front worker (front_at front self.old.fronts)) applied self.old self.new) }
+        ensures err { OnErr result (TellsSame self.old self.new) }
     {
         let Some(place) = place_of_front(&self.fronts, front) else {
             return Ok(false);
@@ -160,7 +166,8 @@ impl World {
         worker: u64,
         moment: Moment,
     ) -> Result<bool, AllocError>
-        ensures { IfOk result (λ applied. Outcome (charges_at self.old front worker moment (front_at front self.old.fronts)) applied self.old self.new) }
+        ensures ok { IfOk result (λ applied. Outcome (charges_at self.old front worker moment (front_at front self.old.fronts)) applied self.old self.new) }
+        ensures err { OnErr result (TellsSame self.old self.new) }
     {
         let Some(place) = place_of_front(&self.fronts, front) else {
             return Ok(false);
@@ -182,7 +189,8 @@ impl World {
         site: &Site,
         step: &Step,
     ) -> Result<bool, AllocError>
-        ensures { IfOk result (λ applied. FarmStep site.now self.old step.now applied self.new) }
+        ensures ok { IfOk result (λ applied. FarmStep site.now self.old step.now applied self.new) }
+        ensures err { OnErr result (TellsSame self.old self.new) }
     {
         match step {
             Step::Up { a, b } => self.up(alloc, site, *a, *b),

@@ -1,4 +1,4 @@
-use Rattle.std.proofs.Common.{rules, ◌≡◌, ◌<◌, ◌≤◌, length, sym, subst, refl, ℕ, arith}
+use Rattle.std.proofs.Common.{rules, ◌≡◌, ◌≤◌, length, arith}
 use Rattle.farm_cli.proofs.Streams.{read_end, read_up_to}
 use Rattle.farm_cli.proofs.replay.read_text.Goals as goal
 

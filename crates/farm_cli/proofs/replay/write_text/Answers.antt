@@ -1,4 +1,4 @@
-use Rattle.std.proofs.Common.{rules, ◌≡◌, ◌∙◌, drop, length, sym, ap, subst, List, ℕ}
+use Rattle.std.proofs.Common.{sym, subst, List, ℕ}
 use Rattle.farm_cli.specs.Writing.{BeginsWithRest}
 use Rattle.farm_cli.proofs.Streams.{write_more}
 use Rattle.farm_cli.proofs.replay.write_text.Goals as goal

@@ -1,4 +1,4 @@
-use Rattle.std.proofs.Common.{◌≡◌, ◌++◌, ◌∷◌, [], replicate, ap, ◌∙◌, List}
+use Rattle.std.proofs.Common.{◌++◌, ◌∷◌, [], ap, ◌∙◌, List}
 use Rattle.std.proofs.lemmas.List.{replicate-append-replicate}
 use Rattle.front_core.specs.declared.worker.Worker.{Worker}
 use Rattle.front_core.specs.declared.worker.Worker.TheVariants.{Idle}

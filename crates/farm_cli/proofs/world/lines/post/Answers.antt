@@ -1,6 +1,6 @@
-use Rattle.std.proofs.Common.{◌≡◌, sym, ap, ◌∙◌, List}
+use Rattle.std.proofs.Common.{sym, ap, ◌∙◌, List}
 use Rattle.farm_cli.specs.declared.world.parts.Line.{Line}
-use Rattle.farm_cli.specs.World.{posted, posted_one}
+use Rattle.farm_cli.specs.World.{posted_one}
 use Rattle.farm_cli.proofs.Posting.{posted-push}
 use Rattle.farm_cli.proofs.world.lines.post.Goals as goal
 

@@ -1,10 +1,10 @@
-use Rattle.std.proofs.Common.{rules, ◌≡◌, ◌<◌, List, [], ◌∷◌, ◌++◌, length, sym, subst, ap, ◌∙◌, true, false, Some, Option, arith}
-use Rattle.std.specs.Prelude.{slice_get, slice_set}
+use Rattle.std.proofs.Common.{rules, ◌≡◌, ◌<◌, [], ◌∷◌, ◌++◌, length, ap, ◌∙◌, true, false, Some}
+use Rattle.std.specs.Prelude.{slice_get}
 use Rattle.front_core.specs.declared.worker.Worker.{Worker}
-use Rattle.front_core.specs.declared.worker.Worker.TheVariants.{Idle, Done}
+use Rattle.front_core.specs.declared.worker.Worker.TheVariants.{Done}
 use Rattle.front_core.specs.FrontState.{FrontState, is_among}
-use Rattle.front_core.specs.FrontStep.{Sent, with_worker, after_emit}
-use Rattle.front_core.proofs.Emitting.{held_at, after_emit-done, sent_if}
+use Rattle.front_core.specs.FrontStep.{Sent, with_worker}
+use Rattle.front_core.proofs.Emitting.{held_at, after_emit-done}
 use Rattle.front_core.proofs.front.Front.emit.Goals as goal
 
 pub returns-then-not-contains-clause-ok : goal.returns-then-not-contains-clause-ok

@@ -4,8 +4,8 @@ use Rattle.std.proofs.lemmas.Result.{on_ok_weaker}
 use Rattle.farm_cli.proofs.Turning.{arrive_turn}
 use Rattle.farm_cli.proofs.world.parts.World.arrive.Goals as goal
 
-pub returns-in-Ok : goal.returns-in-Ok
-returns-in-Ok g c =
+pub returns-in-Ok-clause-ok : goal.returns-in-Ok-clause-ok
+returns-in-Ok-clause-ok g c =
     let i = c.self.inside in
     let w : WorldState = record { lines = i.lines.items; fronts = i.fronts.items; book = i.book; sent = i.sent.items; received = i.received.items; ends = i.ends.items } in
     let first = rw c.deref.ensures.value at c.in-Some.ensures.found in

@@ -2,8 +2,8 @@ use Rattle.farm_cli.specs.World.{WorldState}
 use Rattle.farm_cli.proofs.Turning.{charge_turn}
 use Rattle.farm_cli.proofs.world.parts.World.charge.Goals as goal
 
-pub returns : goal.returns
-returns g c =
+pub returns-clause-ok : goal.returns-clause-ok
+returns-clause-ok g c =
     let i = c.self.inside in
     let w : WorldState = record { lines = i.lines.items; fronts = i.fronts.items; book = i.book; sent = i.sent.items; received = i.received.items; ends = i.ends.items } in
     let first = rw c.deref.ensures.value at c.in-Some.ensures.found in
