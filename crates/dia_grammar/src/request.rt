@@ -1,8 +1,9 @@
 //! The AVPs of a Credit-Control-Request (RFC 8506, section 3.1).
 
 ghost use Rattle.std.specs.Prelude.{◌≡◌};
+ghost use Rattle.std.specs.List.{list_any};
 ghost use Rattle.std.specs.Result.{result_err};
-ghost use Rattle.dia_grammar.specs.Grammar.{begins_with_session as begins_with_session_id, grammar_fault, is_event_type as is_event_type_of, missing_of, required_codes, required_in, session_fault as session_fault_of, single_codes};
+ghost use Rattle.dia_grammar.specs.Grammar.{begins_with_session as begins_with_session_id, grammar_fault, is_event_type as is_event_type_of, missing_of, required_in, session_fault as session_fault_of};
 
 use crate::asking::{first_missing, first_repeated, first_unknown, has_avp, is_of};
 use crate::fault::GrammarFault;
@@ -70,13 +71,21 @@ fn is_event_type(avp: &RawAvp) -> bool
     is_of(avp, CC_REQUEST_TYPE) && u32_of(avp) == Some(EVENT_REQUEST)
 }
 
+/// Whether the AVPs say that the request is an event. A CC-Request-Type that has not 4 octets does
+/// not.
+fn is_event(avps: &[RawAvp]) -> bool
+    ensures { result ≡ list_any is_event_type_of avps.now }
+{
+    avps.iter().any(is_event_type)
+}
+
 /// The first code that the request has to have and no AVP has. An event says what it asks for, by
-/// Requested-Action (RFC 8506, section 8.3); a CC-Request-Type that has not 4 octets is no event.
+/// Requested-Action (RFC 8506, section 8.3).
 fn missing_in_request(avps: &[RawAvp]) -> Option<u32>
     ensures { result ≡ missing_of (required_in avps.now) avps.now }
 {
     let missing = first_missing(avps, &REQUIRED);
-    if missing.is_none() && avps.iter().any(is_event_type) {
+    if missing.is_none() && is_event(avps) {
         first_missing(avps, &[REQUESTED_ACTION])
     } else {
         missing

@@ -1,0 +1,5 @@
+pub mod Tests
+pub mod Seconds
+pub mod Requests
+pub mod Following
+pub mod Shapes
