@@ -11,7 +11,7 @@ use Rattle.dia_grammar.specs.declared.fault.GrammarFault.TheVariants.{Missing, T
 use Rattle.dia_grammar.specs.Codes.{session_id, cc_request_type, requested_action, requested_service_unit, service_identifier}
 use Rattle.dia_grammar.specs.Grammar.{is_of, is_among, is_mandatory, is_known, is_unknown_mandatory, has_row, has_avp, unknown_of, is_second, second_behind, second_of, missing_of, begins_with_session, session_fault, required_codes, single_codes, is_event_type, required_in, grammar_fault}
 use Rattle.dia_grammar.specs.Request.{route_record}
-use Rattle.dia_grammar.proofs.Tests.{or_first, or_second}
+use Rattle.dia_grammar.proofs.Finding.{or_first, or_second}
 use Rattle.dia_grammar.proofs.Requests.{fault-is}
 
 or_last : (a b : Bool) → b ≡ false → (a || (b || false)) ≡ a

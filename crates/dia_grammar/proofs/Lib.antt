@@ -1,4 +1,4 @@
-pub mod Tests
+pub mod Finding
 pub mod Seconds
 pub mod Requests
 pub mod Following

@@ -9,7 +9,7 @@ use Rattle.dia_grammar.specs.declared.fault.GrammarFault.TheVariants.{Missing, T
 use Rattle.dia_grammar.specs.Codes.{session_id, requested_action}
 use Rattle.dia_grammar.specs.Grammar.{is_of, is_mandatory, is_known, is_unknown_mandatory, has_avp, unknown_of, second_of, missing_of, begins_with_session, session_fault, required_codes, single_codes, is_event_type, required_in, first_fault, grammar_fault}
 use Rattle.dia_grammar.specs.Request.{IsRequest}
-use Rattle.dia_grammar.proofs.Tests.{or_true, not_false, not_of_true, none_passes, find-none, none-find, position-none, none-position}
+use Rattle.dia_grammar.proofs.Finding.{or_true, not_false, not_of_true, none_passes, find-none, none-find, position-none, none-position}
 use Rattle.dia_grammar.proofs.Seconds.{single-from_none, none-from_single}
 
 -- ---- no fault of four

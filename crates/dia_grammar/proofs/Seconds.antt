@@ -8,7 +8,7 @@ use Rattle.std.proofs.lemmas.List.Sums.{sum_by-append, sum_by-cons}
 use Rattle.dia_avp.specs.declared.avp.RawAvp.{RawAvp}
 use Rattle.dia_grammar.specs.Grammar.{is_of, is_among, has_avp, is_second, second_behind, second_of}
 use Rattle.dia_grammar.specs.Request.{IsSecondAt}
-use Rattle.dia_grammar.proofs.Tests.{not_true, or_first, or_second, and_first, and_second}
+use Rattle.dia_grammar.proofs.Finding.{not_true, or_first, or_second, and_first, and_second}
 
 -- ---- a step
 

@@ -1,6 +1,6 @@
 //! What is asked of a list of AVPs, be it that of a message or of a group.
 
-ghost use Rattle.std.specs.Prelude.{◌≡◌};
+ghost use Rattle.std.specs.Prelude.{◌≡◌, ◌<◌, length, IfSome};
 ghost use Rattle.dia_grammar.specs.Grammar.{has_avp as has_avp_of, is_among as is_one_of, is_known as is_known_avp, is_of as is_of_code, is_mandatory as has_flag_m, is_second as is_second_of, is_standard as has_standard_code, is_unknown_mandatory as is_unknown_with_m, has_row as is_in_dictionary, missing_of, second_of, unknown_of};
 
 use crate::names::SERVICE_CONTEXT_ID;
@@ -66,7 +66,8 @@ fn is_unknown_mandatory(avp: &RawAvp, vendors: &[u32]) -> bool
 /// The place of the first AVP that has the flag M and is not known (RFC 6733, section 7.1.5:
 /// DIAMETER_AVP_UNSUPPORTED).
 pub fn first_unknown(avps: &[RawAvp], vendors: &[u32]) -> Option<usize>
-    ensures { result ≡ unknown_of vendors.now avps.now }
+    ensures place { result ≡ unknown_of vendors.now avps.now }
+    ensures within { IfSome result (λ at. at < length avps.now) }
 {
     avps.iter()
         .position(|avp| is_unknown_mandatory(avp, vendors))
@@ -82,7 +83,8 @@ fn is_second(avp: &RawAvp, before: &[RawAvp], codes: &[u32]) -> bool
 /// The place of the first AVP that is a second one of its code, among these codes (RFC 6733, section
 /// 7.1.5: DIAMETER_AVP_OCCURS_TOO_MANY_TIMES).
 pub fn first_repeated(avps: &[RawAvp], codes: &[u32]) -> Option<usize>
-    ensures { result ≡ second_of codes.now avps.now }
+    ensures place { result ≡ second_of codes.now avps.now }
+    ensures within { IfSome result (λ at. at < length avps.now) }
 {
     for (at, avp) in avps.iter().enumerate() {
         if is_second(avp, &avps[..at], codes) {

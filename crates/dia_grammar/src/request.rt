@@ -1,9 +1,9 @@
 //! The AVPs of a Credit-Control-Request (RFC 8506, section 3.1).
 
-ghost use Rattle.std.specs.Prelude.{◌≡◌};
+ghost use Rattle.std.specs.Prelude.{◌≡◌, IfErr};
 ghost use Rattle.std.specs.List.{list_any};
 ghost use Rattle.std.specs.Result.{result_err};
-ghost use Rattle.dia_grammar.specs.Grammar.{begins_with_session as begins_with_session_id, grammar_fault, is_event_type as is_event_type_of, missing_of, required_in, session_fault as session_fault_of};
+ghost use Rattle.dia_grammar.specs.Grammar.{IsWithin, begins_with_session as begins_with_session_id, grammar_fault, is_event_type as is_event_type_of, missing_of, required_in, session_fault as session_fault_of};
 
 use crate::asking::{first_missing, first_repeated, first_unknown, has_avp, is_of};
 use crate::fault::GrammarFault;
@@ -106,7 +106,8 @@ fn missing_in_request(avps: &[RawAvp]) -> Option<u32>
 ///
 /// No value but that of CC-Request-Type is looked at. It takes no memory.
 pub fn check(avps: &[RawAvp], vendors: &[u32]) -> Result<(), GrammarFault>
-    ensures { result_err result ≡ grammar_fault vendors.now avps.now }
+    ensures fault { result_err result ≡ grammar_fault vendors.now avps.now }
+    ensures within { IfErr result (IsWithin avps.now) }
 {
     if let Some(fault) = session_fault(avps) {
         return Err(fault);
