@@ -1,15 +1,13 @@
 -- AVPs that may stand behind the others.
 use Rattle.std.proofs.Common.{◌≡◌, ℕ, ◌+◌, ◌==◌, Bool, true, false, not, ◌&&◌, ◌||◌, cond, List, [], ◌∷◌, ◌++◌, length, Option, Some, None, refl, ap, sym, ◌∙◌}
-use Rattle.std.specs.Option.{option_map}
-use Rattle.std.specs.List.{list_any, position, position_from}
+use Rattle.std.specs.List.{list_any, position_from}
 use Rattle.std.proofs.lemmas.Iterator.Adapters.{position_from-zero}
 use Rattle.std.proofs.lemmas.List.Folds.{list_any-append}
 use Rattle.byteorder.specs.Endian.{big_number}
 use Rattle.dia_avp.specs.declared.avp.RawAvp.{RawAvp}
-use Rattle.dia_grammar.specs.declared.fault.GrammarFault.{GrammarFault}
-use Rattle.dia_grammar.specs.declared.fault.GrammarFault.TheVariants.{Missing, Twice, UnknownM, FirstNotSessionId}
+use Rattle.dia_grammar.specs.declared.fault.GrammarFault.TheVariants.{Missing, FirstNotSessionId}
 use Rattle.dia_grammar.specs.Codes.{session_id, cc_request_type, requested_action, requested_service_unit, service_identifier}
-use Rattle.dia_grammar.specs.Grammar.{is_of, is_among, is_mandatory, is_known, is_unknown_mandatory, has_row, has_avp, unknown_of, is_second, second_behind, second_of, missing_of, begins_with_session, session_fault, required_codes, single_codes, is_event_type, required_in, grammar_fault}
+use Rattle.dia_grammar.specs.Grammar.{is_of, is_among, is_mandatory, is_known, is_unknown_mandatory, has_row, has_avp, unknown_of, is_second, second_behind, second_of, missing_of, session_fault, required_codes, single_codes, is_event_type, required_in, grammar_fault}
 use Rattle.dia_grammar.specs.Request.{route_record}
 use Rattle.dia_grammar.proofs.Finding.{or_first, or_second}
 use Rattle.dia_grammar.proofs.Requests.{fault-is}

@@ -1,5 +1,5 @@
 -- Which AVPs a Credit-Control-Request has, and which fault comes first where it has others (RFC 8506, section 3.1). An AVP that is named by its code is one of vendor 0. A place in a list of AVPs counts from 0.
-use Rattle.std.specs.Prelude.{ℕ, ◌<◌, List, [], ◌∷◌, ◌++◌, length, find, position, bit_and, Bool, true, false, not, ◌&&◌, ◌||◌, ◌==◌, nat_le, if◌then◌else◌, Option, Some, None, option_map, is_some}
+use Rattle.std.specs.Prelude.{ℕ, ◌<◌, List, [], ◌∷◌, ◌++◌, length, find, position, bit_and, Bool, false, not, ◌&&◌, ◌||◌, ◌==◌, nat_le, if◌then◌else◌, Option, Some, None, option_map, is_some}
 use Rattle.std.specs.List.{list_any}
 use Rattle.byteorder.specs.Endian.{big_number}
 use Rattle.dia_avp.specs.declared.avp.RawAvp.{RawAvp}

@@ -3,14 +3,21 @@
 ghost use Rattle.std.specs.Prelude.{◌≡◌, ◌≤◌, ◌++◌, ◌∷◌, ◌↔◌, ℕ, List, [], None, Some, false, map, count_by, All};
 ghost use Rattle.std.specs.List.{list_any};
 ghost use Rattle.dia_avp.specs.declared.avp.RawAvp.{RawAvp};
+ghost use Rattle.dia_grammar.specs.declared.fault.GrammarFault.{GrammarFault};
 ghost use Rattle.dia_grammar.specs.Grammar.{grammar_fault, is_among, is_event_type, is_of, is_unknown_mandatory, second_of, single_codes};
-ghost use Rattle.dia_grammar.specs.Request.{IsRequest, IsSecondAt, route_record, shape_of};
+ghost use Rattle.dia_grammar.specs.Request.{IsFaultOf, IsRequest, IsSecondAt, route_record, shape_of};
 
 /// AVPs have no fault exactly where they begin with a Session-Id, each of them that has the flag M is
 /// known, none of the single ones stands there twice, each required one is there, and an event has a
 /// Requested-Action.
 pub fn what_a_request_is()
     ensures { (vendors : List ℕ) (avps : List RawAvp) → (grammar_fault vendors avps ≡ None) ↔ IsRequest vendors avps }
+{}
+
+/// A fault is one of the AVPs: what it says to be missing is something that a request has to have and
+/// that is not there, and the AVP at its place is what it says, with none such before it.
+pub fn what_a_fault_is()
+    ensures { (vendors : List ℕ) (avps : List RawAvp) (fault : GrammarFault) → grammar_fault vendors avps ≡ Some fault → IsFaultOf vendors avps fault }
 {}
 
 /// No AVP is a second one of its code exactly where no code stands there twice, and the place of the

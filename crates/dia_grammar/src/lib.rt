@@ -11,8 +11,9 @@
 //!
 //! `specs/Grammar` says what is asked of the AVPs, case by case in the order in which the cases
 //! decide. The functions of `laws` have no body: their contracts are laws of these definitions. They
-//! say without an order what a request is ([`what_a_request_is`], [`what_a_second_one_is`]), and what
-//! leaves it one ([`more_may_follow`], [`route_record_may_follow`], [`values_do_not_count`]).
+//! say what a request is ([`what_a_request_is`]) and what a fault is ([`what_a_fault_is`],
+//! [`what_a_second_one_is`]), and what leaves the answer as it is ([`more_may_follow`],
+//! [`route_record_may_follow`], [`values_do_not_count`]).
 #![tactic(auto)]
 
 mod asking;
@@ -24,8 +25,8 @@ mod request;
 pub use asking::{first_missing, first_repeated, first_unknown, is_known, is_of};
 pub use fault::GrammarFault;
 pub use laws::{
-    more_may_follow, route_record_may_follow, values_do_not_count, what_a_request_is,
-    what_a_second_one_is,
+    more_may_follow, route_record_may_follow, values_do_not_count, what_a_fault_is,
+    what_a_request_is, what_a_second_one_is,
 };
 pub use request::check;
 
