@@ -7,8 +7,8 @@ use Rattle.std.proofs.lemmas.List.Elements.{Contains-append_left, Contains-appen
 use Rattle.dia_avp.specs.declared.avp.RawAvp.{RawAvp}
 use Rattle.dia_grammar.specs.declared.fault.GrammarFault.{GrammarFault}
 use Rattle.dia_grammar.specs.declared.fault.GrammarFault.TheVariants.{Missing, Twice, UnknownM, FirstNotSessionId}
-use Rattle.dia_grammar.specs.Codes.{session_id, requested_action}
-use Rattle.dia_grammar.specs.Grammar.{is_unknown_mandatory, has_avp, unknown_of, second_of, missing_of, begins_with_session, session_fault, required_codes, single_codes, is_event_type, required_in, first_fault, grammar_fault}
+use Rattle.dia_grammar.specs.Codes.{session_id}
+use Rattle.dia_grammar.specs.Grammar.{is_unknown_mandatory, has_avp, unknown_of, second_of, missing_of, begins_with_session, session_fault, single_codes, required_in, first_fault, grammar_fault}
 use Rattle.dia_grammar.specs.Request.{IsUnknownAt, IsFaultOf}
 use Rattle.dia_grammar.proofs.Finding.{none_passes}
 use Rattle.dia_grammar.proofs.Seconds.{second-is}
@@ -59,14 +59,10 @@ missing-is : (codes : List ℕ) (avps : List RawAvp) (code : ℕ) → missing_of
 missing-is [] avps code e = absurd cc
 missing-is (first ∷ codes) avps code e = missing_here codes avps (has_avp first avps) first code (missing_of codes avps) refl e (missing-is codes avps code)
 
-among_all : (event : Bool) (code : ℕ) → Contains (cond event (required_codes ++ requested_action ∷ []) required_codes) code → Contains (session_id ∷ required_codes ++ requested_action ∷ []) code
-among_all true code c = Contains-append_right (session_id ∷ []) (required_codes ++ requested_action ∷ []) code c
-among_all false code c = Contains-append_right (session_id ∷ []) (required_codes ++ requested_action ∷ []) code (Contains-append_left required_codes (requested_action ∷ []) code c)
-
 missing_is_fault : (vendors : List ℕ) (avps : List RawAvp) (code : ℕ) → missing_of (required_in avps) avps ≡ Some code → IsFaultOf vendors avps (Missing code)
 missing_is_fault vendors avps code e =
     let found = missing-is (required_in avps) avps code e in
-    (among_all (list_any is_event_type avps) code found.0, found.1)
+    (Contains-append_right (session_id ∷ []) (required_in avps) code found.0, found.1)
 
 -- ---- Session-Id
 

@@ -5,7 +5,7 @@ use Rattle.dia_avp.specs.declared.avp.RawAvp.{RawAvp}
 use Rattle.dia_grammar.specs.declared.fault.GrammarFault.{GrammarFault}
 use Rattle.dia_grammar.specs.declared.fault.GrammarFault.TheVariants.{Missing, Twice, UnknownM, FirstNotSessionId}
 use Rattle.dia_grammar.specs.Codes.{session_id, requested_action}
-use Rattle.dia_grammar.specs.Grammar.{is_of, is_among, is_mandatory, is_known, is_unknown_mandatory, has_avp, begins_with_session, single_codes, required_codes, is_event_type}
+use Rattle.dia_grammar.specs.Grammar.{is_of, is_among, is_mandatory, is_known, is_unknown_mandatory, has_avp, begins_with_session, single_codes, required_codes, is_event_type, required_in}
 
 -- what a Credit-Control-Request is, where these vendors are listed (RFC 8506, section 3.1)
 pub record IsRequest (vendors : List ℕ) (avps : List RawAvp) : Type 0 where
@@ -38,8 +38,7 @@ pub record IsUnknownAt (vendors : List ℕ) (avps : List RawAvp) (at : ℕ) : Ty
 
 -- what a fault says of the AVPs
 abbrev pub IsFaultOf : List ℕ → List RawAvp → GrammarFault → Type 0
-IsFaultOf vendors avps (Missing code) =
-    Contains (session_id ∷ required_codes ++ requested_action ∷ []) code × (has_avp code avps ≡ false)
+IsFaultOf vendors avps (Missing code) = Contains (session_id ∷ required_in avps) code × (has_avp code avps ≡ false)
 IsFaultOf vendors avps FirstNotSessionId = (has_avp session_id avps ≡ true) × (begins_with_session avps ≡ false)
 IsFaultOf vendors avps (UnknownM at) = IsUnknownAt vendors avps at
 IsFaultOf vendors avps (Twice at) = IsSecondAt single_codes avps at

@@ -14,8 +14,8 @@ pub fn what_a_request_is()
     ensures { (vendors : List ℕ) (avps : List RawAvp) → (grammar_fault vendors avps ≡ None) ↔ IsRequest vendors avps }
 {}
 
-/// A fault is one of the AVPs: what it says to be missing is something that a request has to have and
-/// that is not there, and the AVP at its place is what it says, with none such before it.
+/// What a fault says is so: what is missing is something that this request has to have and that is
+/// not there, and the AVP at its place is what it says, with none such before it.
 pub fn what_a_fault_is()
     ensures { (vendors : List ℕ) (avps : List RawAvp) (fault : GrammarFault) → grammar_fault vendors avps ≡ Some fault → IsFaultOf vendors avps fault }
 {}
@@ -28,12 +28,12 @@ pub fn what_a_second_one_is()
 {}
 
 /// An AVP that is known or lacks the flag M, and is none of the single ones, may stand behind the
-/// others.
+/// others: the answer stays as it is.
 pub fn more_may_follow()
     ensures { (vendors : List ℕ) (avps : List RawAvp) (avp : RawAvp) → is_unknown_mandatory vendors avp ≡ false → is_among single_codes avp ≡ false → grammar_fault vendors (avps ++ avp ∷ []) ≡ grammar_fault vendors avps }
 {}
 
-/// A relay may append its Route-Record (RFC 6733, section 6.1.9).
+/// A relay may append its Route-Record (RFC 6733, section 6.1.9): the answer stays as it is.
 pub fn route_record_may_follow()
     ensures { (vendors : List ℕ) (avps : List RawAvp) (flags : ℕ) (value : List ℕ) → grammar_fault vendors (avps ++ route_record flags value ∷ []) ≡ grammar_fault vendors avps }
 {}
