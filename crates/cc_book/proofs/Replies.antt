@@ -24,18 +24,24 @@ use Rattle.cc_book.proofs.Postings.{free_after-is}
 le_test : (a b : ℤ) → a ≤ℤ b → int_le a b ≡ true
 le_test a b h = grind (arith, ints)
 
--- a debit that is free
-pub reply_to-granted : (terms : Terms) (history : List Entry) (request : CcRequest) (account total : ℕ) → is_debiting request.kind request.action ≡ true → Some account ≡ account_of terms.accounts request.subscriptions
-    → Some total ≡ total_of terms.tariffs request.services → pos total ≤ℤ balance_of terms history account → reply_to terms history request ≡ granted_all terms.tariffs request.services
+-- the reply to a debit of a known account and a total, by whether it is free
+reply_to-rated : (terms : Terms) (history : List Entry) (request : CcRequest) (account total : ℕ) → is_debiting request.kind request.action ≡ true → Some account ≡ account_of terms.accounts request.subscriptions
+    → Some total ≡ total_of terms.tariffs request.services → reply_to terms history request ≡ cond (int_le (pos total) (balance_of terms history account)) (granted_all terms.tariffs request.services) (code_alone CreditLimitReached)
 unfolding reply_to
-reply_to-granted terms history request account total debiting is_account is_total free =
+reply_to-rated terms history request account total debiting is_account is_total =
     let before : List Posting = postings_of terms history in
     let granted : CcReply = granted_all terms.tariffs request.services in
     ap (λ (b : Bool). cond b (debiting_reply terms before request.services (account_of terms.accounts request.subscriptions)) (code_alone UnableToComply)) debiting
     ∙ ap (λ (a : Option ℕ). debiting_reply terms before request.services a) (sym is_account)
     ∙ ap (λ (t : Option ℕ). reply_by_total terms.tariffs request.services (free_after terms before account) t) (sym is_total)
     ∙ ap (λ (z : ℤ). cond (int_le (pos total) z) granted (code_alone CreditLimitReached)) (free_after-is terms history account)
-    ∙ ap (λ (b : Bool). cond b granted (code_alone CreditLimitReached)) (le_test (pos total) (balance_of terms history account) free)
+
+-- a debit that is free
+pub reply_to-granted : (terms : Terms) (history : List Entry) (request : CcRequest) (account total : ℕ) → is_debiting request.kind request.action ≡ true → Some account ≡ account_of terms.accounts request.subscriptions
+    → Some total ≡ total_of terms.tariffs request.services → pos total ≤ℤ balance_of terms history account → reply_to terms history request ≡ granted_all terms.tariffs request.services
+reply_to-granted terms history request account total debiting is_account is_total free =
+    reply_to-rated terms history request account total debiting is_account is_total
+    ∙ ap (λ (b : Bool). cond b (granted_all terms.tariffs request.services) (code_alone CreditLimitReached)) (le_test (pos total) (balance_of terms history account) free)
 
 above_test : (a b : ℤ) → b <ℤ a → int_le a b ≡ false
 above_test a b h = grind (arith, ints)
@@ -43,15 +49,9 @@ above_test a b h = grind (arith, ints)
 -- a debit of more than is free
 pub reply_to-refused : (terms : Terms) (history : List Entry) (request : CcRequest) (account total : ℕ) → is_debiting request.kind request.action ≡ true → Some account ≡ account_of terms.accounts request.subscriptions
     → Some total ≡ total_of terms.tariffs request.services → balance_of terms history account <ℤ pos total → reply_to terms history request ≡ code_alone CreditLimitReached
-unfolding reply_to
 reply_to-refused terms history request account total debiting is_account is_total above =
-    let before : List Posting = postings_of terms history in
-    let granted : CcReply = granted_all terms.tariffs request.services in
-    ap (λ (b : Bool). cond b (debiting_reply terms before request.services (account_of terms.accounts request.subscriptions)) (code_alone UnableToComply)) debiting
-    ∙ ap (λ (a : Option ℕ). debiting_reply terms before request.services a) (sym is_account)
-    ∙ ap (λ (t : Option ℕ). reply_by_total terms.tariffs request.services (free_after terms before account) t) (sym is_total)
-    ∙ ap (λ (z : ℤ). cond (int_le (pos total) z) granted (code_alone CreditLimitReached)) (free_after-is terms history account)
-    ∙ ap (λ (b : Bool). cond b granted (code_alone CreditLimitReached)) (above_test (pos total) (balance_of terms history account) above)
+    reply_to-rated terms history request account total debiting is_account is_total
+    ∙ ap (λ (b : Bool). cond b (granted_all terms.tariffs request.services) (code_alone CreditLimitReached)) (above_test (pos total) (balance_of terms history account) above)
 
 answered : CcReply → ℕ → Bool → Result Answered BookRefusal
 answered reply place fresh = Ok (record { reply = reply; place = place; fresh = fresh })

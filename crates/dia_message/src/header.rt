@@ -88,8 +88,7 @@ fn flags_of(header: &Header) -> u8
 }
 
 /// The octets of a header with this Message Length, which counts header and body. The reserved flag
-/// bits are 0. Of the length and of the Command Code the low
-/// 24 bits are written.
+/// bits are 0. Of the length and of the Command Code the low 24 bits are written.
 pub fn write_header(header: &Header, length: u32) -> [u8; 20]
     ensures { result ≡ header_octets header.now length }
 {

@@ -8,6 +8,7 @@ pub mod Report
 pub mod Run
 pub mod Schedule
 pub mod Site
+pub mod Status
 pub mod Words
 pub mod World
 pub mod Writing

@@ -38,8 +38,12 @@ pub enum ReplayFault {
 }
 
 impl ReplayFault {
+    ghost use Rattle.farm_cli.specs.Status.{status_of};
+
     /// The exit status: 1 for a stream, 3 for a refused schedule, 4 for want of memory.
-    pub fn status(&self) -> u8 {
+    pub fn status(&self) -> u8
+        ensures { result ≡ status_of self.now }
+    {
         match self {
             ReplayFault::Read => 1,
             ReplayFault::Write => 1,

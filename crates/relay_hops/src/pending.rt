@@ -142,8 +142,8 @@ impl Pending {
     }
 
     /// A pending request goes out again, on a connection that may be the same one, under an
-    /// identifier that is free there, the same one if it is, and with T set. Where none is pending under the key nothing
-    /// changes. It takes no memory.
+    /// identifier that is free there, the same one if it is, and with T set. Where none is pending
+    /// under the key nothing changes. It takes no memory.
     pub fn move_to(&mut self, conn: ConnId, hop: Hop, to: ConnId) -> Option<Hop>
         ensures variant { is_some result ≡ is_some (held_at self.old.rows conn hop) }
         ensures free { IfSome result (λ fresh. held_at self.old.rows to fresh ≡ None) }
@@ -201,25 +201,8 @@ fn renumbered(request: Message, hop: Hop) -> Message
 #[cfg(test)]
 mod tests {
     use super::*;
-    use dia_avp::Octets;
-    use dia_message::Header;
+    use crate::tests::request;
     use std::test::Fail;
-
-    fn request(alloc: Global, end: u32) -> Result<Message, Fail> {
-        Ok(Message {
-            header: Header {
-                request: true,
-                proxiable: true,
-                error: false,
-                resent: false,
-                command: 272,
-                application: 4,
-                hop: 7,
-                end,
-            },
-            body: Octets::copy_of(alloc, b"abcd")?,
-        })
-    }
 
     #[test]
     fn one_identifier_on_two_connections(rt: HostRuntime) -> Result<(), Fail> {

@@ -5,7 +5,8 @@ use dia_message::{Header, Message};
 use std::alloc::Global;
 use std::test::Fail;
 
-fn request(alloc: Global, end: u32) -> Result<Message, Fail> {
+/// A request with this End-to-End Identifier.
+pub(crate) fn request(alloc: Global, end: u32) -> Result<Message, Fail> {
     Ok(Message {
         header: Header {
             request: true,

@@ -12,6 +12,93 @@ const C1: NodeNo = NodeNo(4);
 
 const C2: NodeNo = NodeNo(5);
 
+/// Texts that are no schedule, each with what is printed for it.
+const REFUSED: [(&[u8], &str); 29] = [
+    (
+        b"lose c1.example f1.example 0",
+        "schedule: line 1: unknown word",
+    ),
+    (
+        b"cut c1.example f1.example",
+        "schedule: line 1: unknown word",
+    ),
+    (b"restart f1.example", "schedule: line 1: unknown word"),
+    (b"refuse f1.example 0", "schedule: line 1: unknown word"),
+    (b"sweep 1", "schedule: line 1: unknown word"),
+    (
+        b"Up c1.example f1.example",
+        "schedule: line 1: unknown word",
+    ),
+    (b"\n\n#\n  \n", "schedule: line 4: unknown word"),
+    (b"up", "schedule: line 1: wrong count"),
+    (b"up nobody", "schedule: line 1: wrong count"),
+    (
+        b"up c1.example f1.example 0",
+        "schedule: line 1: wrong count",
+    ),
+    (
+        b"send c1.example f1.example",
+        "schedule: line 1: wrong count",
+    ),
+    (
+        b"deliver c1.example f1.example",
+        "schedule: line 1: wrong count",
+    ),
+    (
+        b"up c1.example f1.example\npick f1.example",
+        "schedule: line 2: wrong count",
+    ),
+    (b"charge f1.example 0", "schedule: line 1: wrong count"),
+    (b"emit f1.example", "schedule: line 1: wrong count"),
+    (
+        b"up c1.example f3.example",
+        "schedule: line 1: unknown name",
+    ),
+    (
+        b"up c1.example r1.example",
+        "schedule: line 1: unknown name",
+    ),
+    (
+        b"send c1.example nobody 0",
+        "schedule: line 1: unknown name",
+    ),
+    (b"pick nobody x", "schedule: line 1: unknown name"),
+    (
+        b"deliver c1.example f1.example -1",
+        "schedule: line 1: bad number",
+    ),
+    (b"pick f1.example +1", "schedule: line 1: bad number"),
+    (
+        b"charge f1.example 0 18446744073709551616",
+        "schedule: line 1: bad number",
+    ),
+    (b"emit f1.example 0\r", "schedule: line 1: bad number"),
+    (
+        b"send c1.example f1.example 010",
+        "schedule: line 1: bad hex",
+    ),
+    (
+        b"send c1.example f1.example 0g",
+        "schedule: line 1: bad hex",
+    ),
+    (
+        b"send c1.example f1.example 01",
+        "schedule: line 1: bad message",
+    ),
+    (
+        b"send c1.example f1.example 0100001880000118000000000000000100000002",
+        "schedule: line 1: bad message",
+    ),
+    (
+        b"send c1.example f1.example 0200001480000118000000000000000100000002",
+        "schedule: line 1: bad message",
+    ),
+    (
+        b"send c1.example f1.example 010000168000011800000000000000010000000200",
+        "schedule: line 1: bad message",
+    ),
+];
+
 /// What is printed for a text that is no schedule.
 fn refused(
     rt: &impl Abort,
@@ -26,92 +113,7 @@ fn refused(
 #[test]
 fn each_fault(rt: HostRuntime) -> Result<(), Fail> {
     let site = row_site(rt.alloc())?;
-    let table: [(&[u8], &str); 29] = [
-        (
-            b"lose c1.example f1.example 0",
-            "schedule: line 1: unknown word",
-        ),
-        (
-            b"cut c1.example f1.example",
-            "schedule: line 1: unknown word",
-        ),
-        (b"restart f1.example", "schedule: line 1: unknown word"),
-        (b"refuse f1.example 0", "schedule: line 1: unknown word"),
-        (b"sweep 1", "schedule: line 1: unknown word"),
-        (
-            b"Up c1.example f1.example",
-            "schedule: line 1: unknown word",
-        ),
-        (b"\n\n#\n  \n", "schedule: line 4: unknown word"),
-        (b"up", "schedule: line 1: wrong count"),
-        (b"up nobody", "schedule: line 1: wrong count"),
-        (
-            b"up c1.example f1.example 0",
-            "schedule: line 1: wrong count",
-        ),
-        (
-            b"send c1.example f1.example",
-            "schedule: line 1: wrong count",
-        ),
-        (
-            b"deliver c1.example f1.example",
-            "schedule: line 1: wrong count",
-        ),
-        (
-            b"up c1.example f1.example\npick f1.example",
-            "schedule: line 2: wrong count",
-        ),
-        (b"charge f1.example 0", "schedule: line 1: wrong count"),
-        (b"emit f1.example", "schedule: line 1: wrong count"),
-        (
-            b"up c1.example f3.example",
-            "schedule: line 1: unknown name",
-        ),
-        (
-            b"up c1.example r1.example",
-            "schedule: line 1: unknown name",
-        ),
-        (
-            b"send c1.example nobody 0",
-            "schedule: line 1: unknown name",
-        ),
-        (b"pick nobody x", "schedule: line 1: unknown name"),
-        (
-            b"deliver c1.example f1.example -1",
-            "schedule: line 1: bad number",
-        ),
-        (b"pick f1.example +1", "schedule: line 1: bad number"),
-        (
-            b"charge f1.example 0 18446744073709551616",
-            "schedule: line 1: bad number",
-        ),
-        (b"emit f1.example 0\r", "schedule: line 1: bad number"),
-        (
-            b"send c1.example f1.example 010",
-            "schedule: line 1: bad hex",
-        ),
-        (
-            b"send c1.example f1.example 0g",
-            "schedule: line 1: bad hex",
-        ),
-        (
-            b"send c1.example f1.example 01",
-            "schedule: line 1: bad message",
-        ),
-        (
-            b"send c1.example f1.example 0100001880000118000000000000000100000002",
-            "schedule: line 1: bad message",
-        ),
-        (
-            b"send c1.example f1.example 0200001480000118000000000000000100000002",
-            "schedule: line 1: bad message",
-        ),
-        (
-            b"send c1.example f1.example 010000168000011800000000000000010000000200",
-            "schedule: line 1: bad message",
-        ),
-    ];
-    for (text, want) in table {
+    for (text, want) in REFUSED {
         let printed = refused(&rt, rt.alloc(), &site, text)?;
         assert_eq!(rt; printed.as_str(), want);
     }

@@ -1,7 +1,7 @@
 //! Connections, and what is in flight on them.
 
 ghost use Rattle.std.specs.Prelude.{◌≡◌, ◌<◌, ◌∷◌, [], length, None, IsNone, IfSome, IfNone, OnOk, OnErr, OnSome, slice_get, remove, slice_index_or, slice_set};
-ghost use Rattle.std.specs.List.{find, position};
+ghost use Rattle.std.specs.List.{find};
 ghost use Rattle.farm_cli.specs.Lists.{IsFirst};
 ghost use Rattle.farm_cli.specs.World.{is_between, is_conn, in_flight as in_flight_of, with_in_flight, with_message, posted_one, posted};
 ghost use Rattle.farm_cli.specs.FarmStep.{taken_from, Takes};
@@ -17,24 +17,12 @@ fn is_between(line: &Line, a: NodeNo, b: NodeNo) -> bool
     (line.one == a && line.other == b) || (line.one == b && line.other == a)
 }
 
-fn position_between(lines: &[Line], a: NodeNo, b: NodeNo) -> Option<usize>
-    ensures { result ≡ position (is_between a b) lines.now }
-{
-    lines.iter().position(|line| is_between(line, a, b))
-}
-
-fn position_of(lines: &[Line], conn: ConnId) -> Option<usize>
-    ensures { result ≡ position (is_conn conn) lines.now }
-{
-    lines.iter().position(|line| line.conn.0 == conn.0)
-}
-
 /// The place of the connection between two nodes.
 pub fn place_between(lines: &[Line], a: NodeNo, b: NodeNo) -> Option<usize>
     ensures found { IfSome result (IsFirst (is_between a b) lines.now) }
     ensures none { IfNone result (find (is_between a b) lines.now ≡ None) }
 {
-    position_between(lines, a, b)
+    lines.iter().position(|line| is_between(line, a, b))
 }
 
 /// The place of a connection by its number.
@@ -42,7 +30,7 @@ fn place_of(lines: &[Line], conn: ConnId) -> Option<usize>
     ensures found { IfSome result (IsFirst (is_conn conn) lines.now) }
     ensures none { IfNone result (find (is_conn conn) lines.now ≡ None) }
 {
-    position_of(lines, conn)
+    lines.iter().position(|line| line.conn.0 == conn.0)
 }
 
 impl Line {

@@ -1,7 +1,7 @@
 //! What the site says of nodes, and where the farm keeps its fronts.
 
 ghost use Rattle.std.specs.Prelude.{◌≡◌, IfSome, IfNone, OnOk, None};
-ghost use Rattle.std.specs.List.{find, position};
+ghost use Rattle.std.specs.List.{find};
 ghost use Rattle.farm_cli.specs.Lists.{IsFirst};
 ghost use Rattle.farm_cli.specs.World.{joins as joins_of, is_linked as is_linked_in, is_client as is_client_of, is_relay as is_relay_of, kind_at as kind_of, is_front_at};
 ghost use Rattle.farm_cli.specs.FarmStep.{learnt};
@@ -35,30 +35,14 @@ fn kind_at(site: &Site, node: NodeNo) -> Option<NodeKind>
 pub fn is_client(site: &Site, node: NodeNo) -> bool
     ensures { result ≡ is_client_of site.now node }
 {
-    match kind_at(site, node) {
-        Some(NodeKind::Client) => true,
-        Some(NodeKind::Front) => false,
-        Some(NodeKind::Relay) => false,
-        None => false,
-    }
+    matches!(kind_at(site, node), Some(NodeKind::Client))
 }
 
 /// Whether a node of the site is a relay.
 pub fn is_relay(site: &Site, node: NodeNo) -> bool
     ensures { result ≡ is_relay_of site.now node }
 {
-    match kind_at(site, node) {
-        Some(NodeKind::Relay) => true,
-        Some(NodeKind::Front) => false,
-        Some(NodeKind::Client) => false,
-        None => false,
-    }
-}
-
-fn position_of_front(fronts: &[FrontPart], node: NodeNo) -> Option<usize>
-    ensures { result ≡ position (is_front_at node) fronts.now }
-{
-    fronts.iter().position(|part| part.node.0 == node.0)
+    matches!(kind_at(site, node), Some(NodeKind::Relay))
 }
 
 /// The place of the front that is this node.
@@ -66,7 +50,7 @@ pub fn place_of_front(fronts: &[FrontPart], node: NodeNo) -> Option<usize>
     ensures found { IfSome result (IsFirst (is_front_at node) fronts.now) }
     ensures none { IfNone result (find (is_front_at node) fronts.now ≡ None) }
 {
-    position_of_front(fronts, node)
+    fronts.iter().position(|part| part.node.0 == node.0)
 }
 
 /// A node learns of a connection. A client keeps none.

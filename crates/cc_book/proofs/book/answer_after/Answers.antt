@@ -1,4 +1,4 @@
-use Rattle.std.proofs.Common.{◌≡◌, ◌<◌, ◌≤◌, length, refl, arith, rules}
+use Rattle.std.proofs.Common.{◌<◌, ◌≤◌, length, refl, arith, rules}
 use Rattle.cc_book.specs.Taking.{Ledger}
 use Rattle.cc_book.proofs.Replies.{answer_of-kept, answer_of-full, answer_of-fresh}
 use Rattle.cc_book.proofs.book.answer_after.Goals as goal

@@ -1,9 +1,13 @@
+use Rattle.std.proofs.Common.{◌≡◌, rules, tests}
+use Rattle.std.specs.List.{position}
+use Rattle.std.proofs.lemmas.Iterator.{YieldsList-from_slice}
+use Rattle.std.proofs.lemmas.Iterator.Search.{position_from_yields_List}
 use Rattle.farm_cli.specs.World.{is_conn}
 use Rattle.farm_cli.proofs.ListLemmas.{found_first, found_none}
 use Rattle.farm_cli.proofs.world.lines.place_of.Goals as goal
 
-pub returns-clause-found : goal.returns-clause-found
-returns-clause-found c = found_first (is_conn c.args.conn) c.args.lines.now c.position_of.result c.position_of.ensures
-
-pub returns-clause-none : goal.returns-clause-none
-returns-clause-none c = found_none (is_conn c.args.conn) c.args.lines.now c.position_of.result c.position_of.ensures
+pub returns : goal.returns
+returns c =
+    let at : c.position.result ≡ position (is_conn c.args.conn) c.args.lines.now =
+    position_from_yields_List (is_conn c.args.conn) _ _ c.position.result c.position.ensures.ran (YieldsList-from_slice _ c.iter.ensures.rest) (λ x b q k. search (rules, tests)) in
+    record { found = found_first (is_conn c.args.conn) c.args.lines.now c.position.result at; none = found_none (is_conn c.args.conn) c.args.lines.now c.position.result at }
