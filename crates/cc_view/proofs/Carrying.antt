@@ -44,6 +44,23 @@ too_much xs i avp room h e kept carried over =
     let whole : carried_len (take (i + 1) xs) ≤ carried_len xs = carried_len-take-le xs (i + 1) in
     sym (lt-ltb 49152 (carried_len xs) (omega arith))
 
+-- an AVP that is carried is counted
+pub padded_len-carried : (xs : List RawAvp) (i : ℕ) (avp : RawAvp) → i < length xs → avp ≡ get_or xs i avp → carries_too_much xs ≡ false → is_carried avp ≡ true → padded_len avp ≤ 49152
+padded_len-carried xs i avp h e few carried =
+    let here : added_by avp ≡ padded_len avp = added (is_carried avp) avp carried in
+    let more : carried_len (take (i + 1) xs) ≡ carried_len (take i xs) + added_by avp = carried_len-take xs i avp h e in
+    let whole : carried_len (take (i + 1) xs) ≤ carried_len xs = carried_len-take-le xs (i + 1) in
+    let most : carried_len xs ≤ 49152 = ltb-false 49152 (carried_len xs) few in
+    omega arith
+
+-- a Proxy-Info is carried
+pub proxy_is_carried : (avp : RawAvp) → is_of proxy_info avp ≡ true → is_carried avp ≡ true
+proxy_is_carried avp e = either (is_of session_id avp) (is_of proxy_info avp) e
+  where
+    either : (a b : Bool) → b ≡ true → (a || b) ≡ true
+    either true b e = refl
+    either false b e = e
+
 carried_len-cons : (x : RawAvp) (xs : List RawAvp) → carried_len (x ∷ xs) ≡ added_by x + carried_len xs
 carried_len-cons x xs = carried_len-append (x ∷ []) xs
 

@@ -30,6 +30,10 @@ two_added d0 d1 d2 a b e0 e1 e2 = e2 ∙ ap (λ (x : List RawAvp). x ++ b) (one_
 pub three_added : (d0 d1 d2 d3 a b c : List RawAvp) → d0 ≡ [] → d1 ≡ d0 ++ a → d2 ≡ d1 ++ b → d3 ≡ d2 ++ c → d3 ≡ (a ++ b) ++ c
 three_added d0 d1 d2 d3 a b c e0 e1 e2 e3 = e3 ∙ ap (λ (x : List RawAvp). x ++ c) (two_added d0 d1 d2 a b e0 e1 e2)
 
+pub five_added : (d0 d1 d2 d3 d4 d5 a b c d e : List RawAvp) → d0 ≡ [] → d1 ≡ d0 ++ a → d2 ≡ d1 ++ b → d3 ≡ d2 ++ c → d4 ≡ d3 ++ d → d5 ≡ d4 ++ e → d5 ≡ a ++ b ++ c ++ d ++ e
+five_added d0 d1 d2 d3 d4 d5 a b c d e e0 e1 e2 e3 e4 e5 =
+    e5 ∙ ap (λ (x : List RawAvp). x ++ e) (e4 ∙ ap (λ (x : List RawAvp). x ++ d) (three_added d0 d1 d2 d3 a b c e0 e1 e2 e3))
+
 pub six_added : (d0 d1 d2 d3 d4 d5 d6 a b c d e f : List RawAvp) → d0 ≡ [] → d1 ≡ d0 ++ a → d2 ≡ d1 ++ b → d3 ≡ d2 ++ c → d4 ≡ d3 ++ d → d5 ≡ d4 ++ e → d6 ≡ d5 ++ f
     → d6 ≡ a ++ b ++ c ++ d ++ e ++ f
 six_added d0 d1 d2 d3 d4 d5 d6 a b c d e f e0 e1 e2 e3 e4 e5 e6 =

@@ -13,5 +13,5 @@ unfolding view_of split_of split_from plain_debit_of is_utf8 chars encode
 debit_viewed = refl
 
 pub debit_answered : answer_to front_name realm_name debit_message debit_request debit_reply ≡ answer_message
-unfolding answer_to
+unfolding answer_to split_of split_from
 debit_answered = refl

@@ -1,24 +1,18 @@
--- The Session-Id of a refusal, by cases.
-use Rattle.std.proofs.Common.{◌≡◌, List, [], Bool, true, false, cond, Option, option_map, Result, Ok, Err, find, ap, ◌∙◌}
+-- What an answer may carry back from, by cases.
+use Rattle.std.proofs.Common.{◌≡◌, List, [], Bool, cond, Option, option_map, Result, Ok, Err, ap, ◌∙◌}
 use Rattle.std.specs.Prelude.{option_to_list}
 use Rattle.dia_avp.specs.declared.avp.RawAvp.{RawAvp}
 use Rattle.dia_avp.specs.declared.fault.AvpFault.{AvpFault}
-use Rattle.cc_view.specs.Answer.{carried_session}
-use Rattle.cc_view.specs.Carried.{is_of, carries_too_much}
+use Rattle.cc_view.specs.Carried.{carriable, carries_too_much}
 use Rattle.cc_view.specs.Codes.{session_id}
 use Rattle.cc_view.specs.Writing.{octets_avp}
 
--- what stands where the octets may be carried
+-- what is written for the Session-Id that is found
 abbrev pub session_found : Option RawAvp → List RawAvp
 session_found found = option_to_list (option_map (λ avp. octets_avp session_id avp.value) found)
 
-pub carried_session-fault : (s : Result (List RawAvp) AvpFault) (fault : AvpFault) → s ≡ Err fault → carried_session s ≡ []
-carried_session-fault s fault e = ap carried_session e
+pub carriable-fault : (s : Result (List RawAvp) AvpFault) (fault : AvpFault) → s ≡ Err fault → carriable s ≡ []
+carriable-fault s fault e = ap carriable e
 
-pub carried_session-much : (s : Result (List RawAvp) AvpFault) (avps : List RawAvp) → s ≡ Ok avps → carries_too_much avps ≡ true → carried_session s ≡ []
-carried_session-much s avps e much = ap carried_session e ∙ ap (λ (b : Bool). cond b [] (session_found (find (is_of session_id) avps))) much
-
-pub carried_session-few : (s : Result (List RawAvp) AvpFault) (avps : List RawAvp) (found : Option RawAvp) → s ≡ Ok avps → carries_too_much avps ≡ false
-    → find (is_of session_id) avps ≡ found → carried_session s ≡ session_found found
-carried_session-few s avps found e few is =
-    ap carried_session e ∙ ap (λ (b : Bool). cond b [] (session_found (find (is_of session_id) avps))) few ∙ ap session_found is
+pub carriable-by : (s : Result (List RawAvp) AvpFault) (avps : List RawAvp) (b : Bool) → s ≡ Ok avps → carries_too_much avps ≡ b → carriable s ≡ cond b [] avps
+carriable-by s avps b e much = ap carriable e ∙ ap (λ (x : Bool). cond x [] avps) much

@@ -1,5 +1,5 @@
 -- Spellings of lists of AVPs.
-use Rattle.std.proofs.Common.{◌≡◌, ◌+◌, List, ◌++◌}
+use Rattle.std.proofs.Common.{◌≡◌, List, ◌++◌}
 use Rattle.std.proofs.lemmas.Grind.{flat_map-append}
 use Rattle.dia_avp.specs.declared.avp.RawAvp.{RawAvp}
 use Rattle.dia_avp.specs.AvpList.{written}

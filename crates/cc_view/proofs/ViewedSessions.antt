@@ -14,7 +14,8 @@ use Rattle.cc_view.specs.Answer.{session_part}
 use Rattle.cc_view.specs.Carried.{is_of, carries_too_much}
 use Rattle.cc_view.specs.Codes.{session_id, origin_host, origin_realm, destination_realm, cc_request_number}
 use Rattle.cc_view.specs.PlainDebit.{is_text, names_parties, is_debit, debit_from, u32_at, subscription_of, service_of, plain_debit_of}
-use Rattle.cc_view.specs.RequestView.{refused, content_or_refusal, view_of_avps, view_of}
+use Rattle.cc_view.specs.Refusing.{refused}
+use Rattle.cc_view.specs.RequestView.{content_or_refusal, view_of_avps, view_of}
 use Rattle.cc_view.specs.Writing.{octets_avp}
 use Rattle.cc_view.proofs.Carrying.{length-carried}
 

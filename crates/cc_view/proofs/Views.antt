@@ -12,7 +12,8 @@ use Rattle.cc_view.specs.declared.reading.ViewError.TheVariants.{Refused, OutOfM
 use Rattle.cc_view.specs.declared.request.CcRequest.{CcRequest}
 use Rattle.cc_view.specs.Carried.{carries_too_much}
 use Rattle.cc_view.specs.PlainDebit.{plain_debit_of}
-use Rattle.cc_view.specs.RequestView.{refused, content_or_refusal, view_of_avps, view_of, IsView}
+use Rattle.cc_view.specs.Refusing.{refused}
+use Rattle.cc_view.specs.RequestView.{content_or_refusal, view_of_avps, view_of, IsView}
 use Rattle.cc_view.specs.Finding.{Finds, FindsAll}
 
 abbrev view_by : Bool → Bool → Result (List RawAvp) AvpFault → Result CcRequest Refusal

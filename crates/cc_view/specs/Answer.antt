@@ -1,8 +1,7 @@
 -- What is answered to a Credit-Control-Request (RFC 8506, section 3.2), and to a request that is refused.
-use Rattle.std.specs.Prelude.{ℕ, List, [], ◌∷◌, ◌++◌, map, filter, find, length, Bool, true, false, not, min, nat_le, ◌==◌, if◌then◌else◌, Option, Some, None, option_map, option_to_list, Result, Ok, Err}
+use Rattle.std.specs.Prelude.{ℕ, List, [], ◌∷◌, ◌++◌, map, filter, find, length, Bool, true, false, not, min, nat_le, ◌==◌, if◌then◌else◌, Option, Some, None, option_map, option_to_list}
 use Rattle.dia_base.specs.declared.number.Code.{Code}
 use Rattle.dia_avp.specs.declared.avp.RawAvp.{RawAvp}
-use Rattle.dia_avp.specs.declared.fault.AvpFault.{AvpFault}
 use Rattle.dia_avp.specs.AvpReading.{split_of}
 use Rattle.dia_message.specs.declared.header.Header.{Header}
 use Rattle.dia_message.specs.declared.message.Message.{Message}
@@ -11,11 +10,13 @@ use Rattle.cc_view.specs.declared.code.ResultCode.TheVariants.{Success}
 use Rattle.cc_view.specs.declared.reply.CcReply.{CcReply}
 use Rattle.cc_view.specs.declared.reply.Cost.{Cost}
 use Rattle.cc_view.specs.declared.reply.ServiceReply.{ServiceReply}
+use Rattle.cc_view.specs.declared.refusal.Refusal.{Refusal}
 use Rattle.cc_view.specs.declared.request.CcRequest.{CcRequest}
 use Rattle.cc_view.specs.declared.request.RequestKind.{RequestKind}
 use Rattle.cc_view.specs.declared.request.RequestKind.TheVariants.{Initial}
-use Rattle.cc_view.specs.Carried.{carries_too_much, is_of}
+use Rattle.cc_view.specs.Carried.{carriable, session_in, proxies_in}
 use Rattle.cc_view.specs.Codes.{credit_control_application, auth_application_id, session_id, origin_host, origin_realm, result_code, cc_request_number, cc_request_type, cc_session_failover, cc_time, check_balance_result, cost_information, currency_code, exponent, final_unit_action, final_unit_indication, granted_service_unit, multiple_services, rating_group, service_identifier, unit_value, value_digits, validity_time}
+use Rattle.cc_view.specs.FailedAvp.{failed_part}
 use Rattle.cc_view.specs.RequestNumber.{kind_number}
 use Rattle.cc_view.specs.ResultNumber.{number_of}
 use Rattle.cc_view.specs.Writing.{octets_avp, u32_avp, u64_avp, i32_avp, i64_avp, group_avp, spelled}
@@ -115,33 +116,31 @@ units_part reply =
     ++ optional_u32 check_balance_result reply.check
     ++ bare_validity_part (bare_in reply.services)
 
-abbrev pub answer_avps : List ℕ → List ℕ → CcRequest → CcReply → List RawAvp
-answer_avps front realm request reply = command_part front realm request reply.code ++ units_part reply
+abbrev pub answer_avps : List ℕ → List ℕ → Message → CcRequest → CcReply → List RawAvp
+answer_avps front realm message request reply =
+    command_part front realm request reply.code ++ units_part reply ++ proxies_in (carriable (split_of message.body))
 
 -- the answer of a front of this realm to a message that asks this request, with this reply
 unfoldable pub answer_to : List ℕ → List ℕ → Message → CcRequest → CcReply → Message
 answer_to front realm message request reply = record {
   header = answer_header false message.header;
-  body = spelled (answer_avps front realm request reply);
+  body = spelled (answer_avps front realm message request reply);
 }
 
 -- ---- refusals
 
--- the first Session-Id, where the body splits and an answer may carry it
-abbrev pub carried_session : Result (List RawAvp) AvpFault → List RawAvp
-carried_session (Ok avps) =
-    if carries_too_much avps then []
-    else option_to_list (option_map (λ avp. octets_avp session_id avp.value) (find (is_of session_id) avps))
-carried_session (Err fault) = []
-
-abbrev pub refusal_avps : List ℕ → List ℕ → Message → ResultCode → List RawAvp
-refusal_avps node realm message code =
-    carried_session (split_of message.body) ++ origin_part node realm ++ u32_avp result_code (number_of code) ∷ []
+abbrev pub refusal_avps : List ℕ → List ℕ → Message → Refusal → List RawAvp
+refusal_avps node realm message refusal =
+    session_in (carriable (split_of message.body))
+    ++ origin_part node realm
+    ++ u32_avp result_code (number_of refusal.code) ∷ []
+    ++ failed_part refusal.failed
+    ++ proxies_in (carriable (split_of message.body))
 
 -- The refusal of a message by a node of this realm. E is set, since it does not keep to the grammar
 -- of the command's answer (RFC 6733, section 7.2).
-unfoldable pub refusal_of : List ℕ → List ℕ → Message → ResultCode → Message
-refusal_of node realm message code = record {
+unfoldable pub refusal_of : List ℕ → List ℕ → Message → Refusal → Message
+refusal_of node realm message refusal = record {
   header = answer_header true message.header;
-  body = spelled (refusal_avps node realm message code);
+  body = spelled (refusal_avps node realm message refusal);
 }

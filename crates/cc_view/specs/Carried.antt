@@ -1,8 +1,10 @@
--- What an answer carries back of its request: Session-Id and each Proxy-Info.
-use Rattle.std.specs.Prelude.{ℕ, ◌+◌, List, sum_by, filter, Bool, ◌&&◌, ◌||◌, ◌==◌, nat_lt}
+-- What an answer carries back of its request: Session-Id and each Proxy-Info (RFC 6733, section 6.2).
+use Rattle.std.specs.Prelude.{ℕ, ◌+◌, List, [], sum_by, filter, find, Bool, ◌&&◌, ◌||◌, ◌==◌, if◌then◌else◌, nat_lt, option_map, option_to_list, Result, Ok, Err}
 use Rattle.dia_avp.specs.declared.avp.RawAvp.{RawAvp}
+use Rattle.dia_avp.specs.declared.fault.AvpFault.{AvpFault}
 use Rattle.dia_avp.specs.AvpList.{length_of, padding_of}
 use Rattle.cc_view.specs.Codes.{session_id, proxy_info}
+use Rattle.cc_view.specs.Writing.{octets_avp}
 
 -- an AVP of vendor 0 with this code
 abbrev pub is_of : ℕ → RawAvp → Bool
@@ -22,3 +24,17 @@ carried_len avps = sum_by padded_len (filter is_carried avps)
 -- they take more than an answer may carry
 abbrev pub carries_too_much : List RawAvp → Bool
 carries_too_much avps = nat_lt 49152 (carried_len avps)
+
+-- The AVPs of a body that an answer may carry back from: none where the body does not split, or
+-- where too much would be carried.
+abbrev pub carriable : Result (List RawAvp) AvpFault → List RawAvp
+carriable (Ok avps) = if carries_too_much avps then [] else avps
+carriable (Err fault) = []
+
+-- the first Session-Id, which is written with the flag M alone
+abbrev pub session_in : List RawAvp → List RawAvp
+session_in avps = option_to_list (option_map (λ avp. octets_avp session_id avp.value) (find (is_of session_id) avps))
+
+-- each Proxy-Info, as it was received
+abbrev pub proxies_in : List RawAvp → List RawAvp
+proxies_in avps = filter (is_of proxy_info) avps

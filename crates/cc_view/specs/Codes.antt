@@ -24,6 +24,9 @@ result_code = 268
 abbrev pub destination_realm : ℕ
 destination_realm = 283
 
+abbrev pub failed_avp : ℕ
+failed_avp = 279
+
 abbrev pub proxy_info : ℕ
 proxy_info = 284
 

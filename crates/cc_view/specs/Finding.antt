@@ -4,7 +4,7 @@ use Rattle.std.specs.Global.{Vec}
 use Rattle.cc_view.specs.declared.code.ResultCode.TheVariants.{UnableToComply}
 use Rattle.cc_view.specs.declared.reading.ViewError.{ViewError}
 use Rattle.cc_view.specs.declared.reading.ViewError.TheVariants.{Refused, OutOfMemory}
-use Rattle.cc_view.specs.RequestView.{refused}
+use Rattle.cc_view.specs.Refusing.{refused}
 
 -- the value that is found, if it is there, unless memory ran out
 abbrev pub Finds : {T : Type 0} → Option T → Result T ViewError → Type 0

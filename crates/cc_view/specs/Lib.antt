@@ -1,10 +1,12 @@
 pub mod Answer
 pub mod Carried
 pub mod Codes
+pub mod FailedAvp
 pub mod Finding
 pub mod FirstDebit
 pub mod PlainDebit
 pub mod Readdressing
+pub mod Refusing
 pub mod RequestNumber
 pub mod RequestView
 pub mod ResultNumber

@@ -1,5 +1,5 @@
 -- A plain debit: the Credit-Control-Request of one direct debit (RFC 8506, sections 3.1, 6.3).
-use Rattle.std.specs.Prelude.{ℕ, List, [], ◌∷◌, length, Bool, true, false, ◌&&◌, ◌==◌, if◌then◌else◌, Option, Some, None}
+use Rattle.std.specs.Prelude.{ℕ, List, [], ◌∷◌, length, Bool, false, ◌&&◌, ◌==◌, if◌then◌else◌, Option, Some, None}
 use Rattle.std.specs.Result.{result_ok}
 use Rattle.std.specs.Str.{is_utf8}
 use Rattle.byteorder.specs.Endian.{big_number}

@@ -1,6 +1,5 @@
 -- Messages that differ in identifiers and in the flag T alone (RFC 6733, section 3).
 use Rattle.std.specs.Prelude.{ℕ, Bool}
-use Rattle.dia_message.specs.declared.header.Header.{Header}
 use Rattle.dia_message.specs.declared.message.Message.{Message}
 
 -- the message with these identifiers

@@ -1,10 +1,9 @@
 -- What a credit-control server reads in a request (RFC 8506, section 3.1).
-use Rattle.std.specs.Prelude.{◌≡◌, ℕ, List, Bool, not, ◌==◌, if◌then◌else◌, Option, Some, None, Result, Ok, Err}
+use Rattle.std.specs.Prelude.{◌≡◌, ℕ, List, not, ◌==◌, if◌then◌else◌, Option, Some, None, Result, Ok, Err}
 use Rattle.dia_avp.specs.declared.avp.RawAvp.{RawAvp}
 use Rattle.dia_avp.specs.declared.fault.AvpFault.{AvpFault}
 use Rattle.dia_avp.specs.AvpReading.{split_of}
 use Rattle.dia_message.specs.declared.message.Message.{Message}
-use Rattle.cc_view.specs.declared.code.ResultCode.{ResultCode}
 use Rattle.cc_view.specs.declared.code.ResultCode.TheVariants.{ApplicationUnsupported, CommandUnsupported, InvalidAvpLength, UnableToComply}
 use Rattle.cc_view.specs.declared.refusal.Refusal.{Refusal}
 use Rattle.cc_view.specs.declared.reading.ViewError.{ViewError}
@@ -13,10 +12,7 @@ use Rattle.cc_view.specs.declared.request.CcRequest.{CcRequest}
 use Rattle.cc_view.specs.Carried.{carries_too_much}
 use Rattle.cc_view.specs.Codes.{credit_control, credit_control_application}
 use Rattle.cc_view.specs.PlainDebit.{plain_debit_of}
-
--- a refusal that names no AVP
-abbrev pub refused : ResultCode → Refusal
-refused code = record { code = code; failed = None }
+use Rattle.cc_view.specs.Refusing.{refused}
 
 -- the content, if the AVPs have one
 abbrev pub content_or_refusal : Option CcRequest → Result CcRequest Refusal

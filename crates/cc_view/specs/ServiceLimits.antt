@@ -1,5 +1,5 @@
 -- The limits of a request's services.
-use Rattle.std.specs.Prelude.{ℕ, ◌<◌, ◌≤◌, ◌^◌, List, length, All}
+use Rattle.std.specs.Prelude.{◌<◌, ◌≤◌, ◌^◌, List, length, All}
 use Rattle.cc_view.specs.declared.request.Service.{Service}
 
 -- each sum of used units is below 2 ^ 78

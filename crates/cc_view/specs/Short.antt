@@ -1,5 +1,5 @@
 -- AVPs that are short enough to be written.
-use Rattle.std.specs.Prelude.{ℕ, ◌<◌, ◌^◌}
+use Rattle.std.specs.Prelude.{◌<◌, ◌^◌}
 use Rattle.dia_avp.specs.declared.avp.RawAvp.{RawAvp}
 use Rattle.dia_avp.specs.AvpList.{length_of}
 

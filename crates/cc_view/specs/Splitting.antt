@@ -1,5 +1,5 @@
 -- Octets that may be no list of AVPs.
-use Rattle.std.specs.Prelude.{List, Option, Some, None, Result, Ok, Err, alloc_error}
+use Rattle.std.specs.Prelude.{Option, Some, None, Result, Ok, Err, alloc_error}
 use Rattle.std.specs.Global.{Vec}
 use Rattle.std.specs.declared.alloc.AllocError.{AllocError}
 use Rattle.dia_avp.specs.declared.avp.RawAvp.{RawAvp}

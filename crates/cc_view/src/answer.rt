@@ -3,6 +3,7 @@
 ghost use Rattle.std.specs.Prelude.{◌≡◌, ◌++◌, IfOk, OnOk, false};
 ghost use Rattle.cc_view.specs.Answer.{answer_header as header_of, answer_to, command_part, failover_part, session_part};
 
+use crate::carried::{carriable, push_proxies};
 use crate::code::ResultCode;
 use crate::draft::Draft;
 use crate::names::{
@@ -34,9 +35,11 @@ pub fn answer_bytes<W: Wire>(
 ) -> Result<Message, AllocError>
     ensures { IfOk result (λ answer. answer ≡ answer_to front.now realm.now message.now request.now reply.now) }
 {
+    let carried = carriable::<W>(alloc, &message.body)?;
     let mut draft = Draft::new(alloc);
     push_command(&mut draft, front, realm, request, reply.code)?;
     push_units::<W>(alloc, &mut draft, reply)?;
+    push_proxies(&mut draft, &carried)?;
     Ok(Message {
         header: answer_header(&message.header, false),
         body: draft.spell::<W>()?,

@@ -1,19 +1,68 @@
 //! What an answer carries back of its request (RFC 6733, section 6.2): Session-Id and each Proxy-Info.
 
-ghost use Rattle.std.specs.Prelude.{◌≡◌, ◌≤◌, ◌<◌, ◌-◌, ◌^◌, ◌+◌};
-ghost use Rattle.std.specs.Option.{SomeIff};
+ghost use Rattle.std.specs.Prelude.{◌≡◌, ◌≤◌, ◌<◌, ◌-◌, ◌^◌, ◌+◌, ◌++◌, false, find, IfOk, OnOk};
+ghost use Rattle.std.specs.Option.{SomeIff, option_copied};
 ghost use Rattle.dia_avp.specs.AvpList.{header_len as header_len_of, padding_of};
-ghost use Rattle.cc_view.specs.Carried.{carries_too_much as is_too_much, is_carried as is_carried_avp, padded_len};
+ghost use Rattle.dia_avp.specs.AvpReading.{split_of};
+ghost use Rattle.cc_view.specs.Carried.{carriable as carriable_of, carries_too_much as is_too_much, is_carried as is_carried_avp, is_of as is_of_code, padded_len, proxies_in, session_in};
 
+use crate::draft::Draft;
 use crate::matching::is_of;
 use crate::names::{PROXY_INFO, SESSION_ID};
-use dia_avp::RawAvp;
+use crate::splitting::readable;
+use dia_avp::{Octets, RawAvp, Wire};
+use std::alloc::{AllocError, Global};
 
 /// The most octets that these AVPs may take together, with padding.
 const CARRIED_LIMIT: usize = 49_152;
 
 /// The flag V: a Vendor-ID follows the length.
 const VENDOR_FLAG: u8 = 0x80;
+
+/// The AVPs of a body that an answer may carry back from: none where the body does not split, or
+/// where too much would be carried.
+pub(crate) fn carriable<W: Wire>(alloc: Global, body: &Octets) -> Result<Vec<RawAvp>, AllocError>
+    ensures value { IfOk result (λ avps. avps.items ≡ carriable_of (split_of body.now)) }
+    ensures few { IfOk result (λ avps. is_too_much avps.items ≡ false) }
+{
+    let Some(avps) = readable(W::split(alloc, body))? else {
+        return Ok(Vec::new(alloc));
+    };
+    if carries_too_much(&avps) {
+        return Ok(Vec::new(alloc));
+    }
+    Ok(avps)
+}
+
+/// Adds the first Session-Id of these AVPs.
+pub(crate) fn push_session(draft: &mut Draft, avps: &[RawAvp]) -> Result<(), AllocError>
+    requires { is_too_much avps.now ≡ false }
+    ensures { OnOk result (draft.new ≡ draft.old ++ session_in avps.now) }
+{
+    match first_session(avps) {
+        Some(session) => draft.push_octets(SESSION_ID, session.value.as_slice()),
+        None => Ok(()),
+    }
+}
+
+fn first_session(avps: &[RawAvp]) -> Option<&RawAvp>
+    ensures { option_copied result ≡ find (is_of_code SESSION_ID) avps.now }
+{
+    avps.iter().find(|avp| is_of(avp, SESSION_ID))
+}
+
+/// Adds each Proxy-Info of these AVPs, in order.
+pub(crate) fn push_proxies(draft: &mut Draft, avps: &[RawAvp]) -> Result<(), AllocError>
+    requires { is_too_much avps.now ≡ false }
+    ensures { OnOk result (draft.new ≡ draft.old ++ proxies_in avps.now) }
+{
+    for avp in avps {
+        if is_of(avp, PROXY_INFO) {
+            draft.push_copy(avp)?;
+        }
+    }
+    Ok(())
+}
 
 /// Whether these AVPs take more octets than an answer may carry.
 pub(crate) fn carries_too_much(avps: &[RawAvp]) -> bool
@@ -49,7 +98,7 @@ fn room_behind(room: usize, avp: &RawAvp) -> Option<usize>
     room.checked_sub(padded(header_len(avp.flags) + value))
 }
 
-fn header_len(flags: u8) -> usize
+pub(crate) fn header_len(flags: u8) -> usize
     ensures value { result ≡ header_len_of flags }
     ensures most { result ≤ 12 }
 {

@@ -5,7 +5,7 @@ ghost use Rattle.std.specs.Prelude.{◌≡◌, ◌≤◌, IfOk};
 ghost use Rattle.cc_view.specs.PlainDebit.{debit_from, is_debit as is_debit_of, members_of, names_parties as are_parties, octets_asked as octets_asked_in, plain_debit_of, service_of as service_in, subscription_of as subscription_in, u32_at as u32_in};
 ghost use Rattle.cc_view.specs.ServiceLimits.{HasSmallSums};
 ghost use Rattle.cc_view.specs.Finding.{Finds, FindsAll};
-ghost use Rattle.cc_view.specs.RequestView.{refused as refused_for};
+ghost use Rattle.cc_view.specs.Refusing.{refused as refused_for};
 
 use crate::code::ResultCode;
 use crate::matching::{holds, is_of, is_text, is_u32, u32_at, u64_at};

@@ -3,6 +3,7 @@
 ghost use Rattle.std.specs.Prelude.{◌≡◌, ◌≤◌, [], ◌∷◌, ◌++◌, IfOk, OnOk, length};
 ghost use Rattle.cc_view.specs.Writing.{octets_avp, u32_avp, u64_avp, i32_avp, i64_avp, group_avp, spelled};
 ghost use Rattle.cc_view.specs.Answer.{optional_u32, origin_part};
+ghost use Rattle.cc_view.specs.Short.{IsShort};
 
 use crate::names::{ORIGIN_HOST, ORIGIN_REALM};
 use byteorder::{BigEndian, ByteOrder};
@@ -63,6 +64,15 @@ impl Draft {
     {
         let value = Octets::copy_of(self.alloc, octets)?;
         self.push(code, value)
+    }
+
+    /// Adds an AVP as it was received.
+    pub(crate) fn push_copy(&mut self, avp: &RawAvp) -> Result<(), AllocError>
+        requires { IsShort avp.now }
+        ensures { OnOk result (self.new ≡ self.old ++ avp.now ∷ []) }
+    {
+        self.avps.push(avp.clone()?)?;
+        Ok(())
     }
 
     /// Adds an Unsigned32.

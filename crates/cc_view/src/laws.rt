@@ -8,7 +8,7 @@ ghost use Rattle.cc_view.specs.FirstDebit.{answer_message, debit_message, debit_
 ghost use Rattle.cc_view.specs.Readdressing.{sent_again, with_identifiers};
 ghost use Rattle.cc_view.specs.RequestView.{view_of};
 ghost use Rattle.cc_view.specs.Writing.{octets_avp};
-ghost use Rattle.cc_view.specs.declared.code.ResultCode.{ResultCode};
+ghost use Rattle.cc_view.specs.declared.refusal.Refusal.{Refusal};
 ghost use Rattle.cc_view.specs.declared.reply.CcReply.{CcReply};
 ghost use Rattle.cc_view.specs.declared.request.CcRequest.{CcRequest};
 
@@ -25,8 +25,8 @@ pub fn answer_without_identifiers()
 
 /// The same for a refusal.
 pub fn refusal_without_identifiers()
-    ensures { (node realm : List ℕ) (message : Message) (code : ResultCode) (hop end : ℕ) (resent : Bool) →
-        refusal_of node realm (sent_again hop end resent message) code ≡ with_identifiers hop end (refusal_of node realm message code) }
+    ensures { (node realm : List ℕ) (message : Message) (refusal : Refusal) (hop end : ℕ) (resent : Bool) →
+        refusal_of node realm (sent_again hop end resent message) refusal ≡ with_identifiers hop end (refusal_of node realm message refusal) }
 {}
 
 /// The answer to what was viewed begins with its Session-Id, which is never too long to be written.

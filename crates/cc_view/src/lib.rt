@@ -6,6 +6,7 @@ mod carried;
 mod code;
 mod debit;
 mod draft;
+mod failed;
 mod laws;
 mod matching;
 mod names;

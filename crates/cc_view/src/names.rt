@@ -15,6 +15,8 @@ pub(crate) const ORIGIN_HOST: u32 = 264;
 
 pub(crate) const RESULT_CODE: u32 = 268;
 
+pub(crate) const FAILED_AVP: u32 = 279;
+
 pub(crate) const DESTINATION_REALM: u32 = 283;
 
 pub(crate) const PROXY_INFO: u32 = 284;

@@ -1,7 +1,8 @@
 //! What is read in a request (RFC 8506, section 3.1).
 
 ghost use Rattle.std.specs.Prelude.{◌≡◌};
-ghost use Rattle.cc_view.specs.RequestView.{IsView, refused as refused_for, view_of};
+ghost use Rattle.cc_view.specs.Refusing.{refused as refused_for};
+ghost use Rattle.cc_view.specs.RequestView.{IsView, view_of};
 ghost use Rattle.cc_view.specs.declared.reading.ViewError.TheVariants.{OutOfMemory};
 
 use crate::carried::carries_too_much;

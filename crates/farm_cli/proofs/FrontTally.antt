@@ -8,6 +8,7 @@ use Rattle.dia_base.specs.declared.number.NodeNo.{NodeNo}
 use Rattle.dia_message.specs.declared.message.Message.{Message}
 use Rattle.cc_view.specs.declared.code.ResultCode.TheVariants.{TooBusy}
 use Rattle.cc_view.specs.Answer.{answer_to, refusal_of}
+use Rattle.cc_view.specs.Refusing.{refused}
 use Rattle.cc_book.specs.Taking.{Ledger}
 use Rattle.front_core.specs.declared.worker.Job.{Job}
 use Rattle.front_core.specs.declared.worker.Worker.{Worker}
@@ -56,9 +57,9 @@ module _ (conn : ConnId) (hop end : ℕ) where
   Items items = sum_by (of_item conn hop end) items
 
   arrival_by : (front : FrontState) (c : ConnId) (message : Message) (requests room : Bool)
-      → Tally (cond requests (cond room (queued front c message) front) front) + Items (cond requests (cond room [] ((c, refusal_of front.name front.realm message TooBusy) ∷ [])) []) ≤ Tally front + cond requests (Counts c message) 0
+      → Tally (cond requests (cond room (queued front c message) front) front) + Items (cond requests (cond room [] ((c, refusal_of front.name front.realm message (refused TooBusy)) ∷ [])) []) ≤ Tally front + cond requests (Counts c message) 0
   arrival_by front c message true true = omega (arith, queued-is conn hop end front c message)
-  arrival_by front c message true false = omega (arith, of_refusal c front.name front.realm message TooBusy)
+  arrival_by front c message true false = omega (arith, of_refusal c front.name front.realm message (refused TooBusy))
   arrival_by front c message false room = omega arith
 
   pub arrival-le : (front : FrontState) (c : ConnId) (message : Message) → Tally (after_arrival front c message) + Items (sent_at_arrival front c message) ≤ Tally front + cond message.header.request (Counts c message) 0

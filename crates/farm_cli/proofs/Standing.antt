@@ -81,7 +81,7 @@ pub answer_is_no_error : (site : Site) (sent : Sent) (book : Ledger) (conn : Con
 answer_is_no_error site sent book conn answer a = answer_flags a.name site.realm a.message answer a.answered.request a.answered.reply a.answered.written
 
 pub refusal_is_error : (site : Site) (steps : List Step) (sent : Sent) (conn : ConnId) (answer : Message) → RefusesRequest site steps sent conn answer → (answer.header.request ≡ false) × (answer.header.error ≡ true)
-refusal_is_error site steps sent conn answer r = refusal_flags r.name site.realm r.message answer r.refusal.code r.written
+refusal_is_error site steps sent conn answer r = refusal_flags r.name site.realm r.message answer r.refusal r.written
 
 pub due_is_no_request : (site : Site) (steps : List Step) (sent : Sent) (book : Ledger) (conn : ConnId) (answer : Message) → IsDue site steps sent book conn answer → answer.header.request ≡ false
 due_is_no_request site steps sent book conn answer (inl a) = (answer_is_no_error site sent book conn answer a).0

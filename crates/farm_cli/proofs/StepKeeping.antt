@@ -198,7 +198,7 @@ module _ (site : Site) (past : List Step) where
     moment = w;
     passed = passed;
     cause = at_arrival from node place lines front r.refusal taken at r.cause;
-    written = r.written ∙ ap (λ (realm : List ℕ). refusal_of front.name realm message r.refusal.code) s.of_realm;
+    written = r.written ∙ ap (λ (realm : List ℕ). refusal_of front.name realm message r.refusal) s.of_realm;
   })
 
   -- the lines without a message that was in flight
@@ -344,7 +344,7 @@ module _ (site : Site) (past : List Step) where
     moment = w;
     passed = passed;
     cause = at_charge node worker front r.refusal at holds r.cause;
-    written = r.written ∙ ap (λ (realm : List ℕ). refusal_of front.name realm message r.refusal.code) s.of_realm;
+    written = r.written ∙ ap (λ (realm : List ℕ). refusal_of front.name realm message r.refusal) s.of_realm;
   })
 
   charge_case_keeps : (w : WorldState) (node : NodeNo) (worker : ℕ) (moment : Moment) (front : FrontState) (conn : ConnId) (message answer : Message) (book : Ledger) → IsPassed site past w → front_at node w.fronts ≡ Some front

@@ -58,7 +58,7 @@ pub record RefusesRequest (site : Site) (steps : List Step) (sent : Sent) (conn 
   pub moment : WorldState
   pub passed : IsPassed site steps moment
   pub cause : HasCause moment conn message name refusal
-  pub written : answer ≡ refusal_of name site.realm message refusal.code
+  pub written : answer ≡ refusal_of name site.realm message refusal
 
 -- what a client received, by the flag E (RFC 6733, section 3)
 pub record IsRightAnswer (site : Site) (steps : List Step) (sent : Sent) (book : Ledger) (conn : ConnId) (answer : Message) : Type 0 where

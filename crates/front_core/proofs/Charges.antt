@@ -11,7 +11,8 @@ use Rattle.cc_view.specs.declared.refusal.Refusal.{Refusal}
 use Rattle.cc_view.specs.declared.reply.CcReply.{CcReply}
 use Rattle.cc_view.specs.declared.request.CcRequest.{CcRequest}
 use Rattle.cc_view.specs.Answer.{refusal_of}
-use Rattle.cc_view.specs.RequestView.{view_of, refused}
+use Rattle.cc_view.specs.Refusing.{refused}
+use Rattle.cc_view.specs.RequestView.{view_of}
 use Rattle.cc_book.specs.declared.book.Answered.{Answered}
 use Rattle.cc_book.specs.declared.book.BookRefusal.{BookRefusal}
 use Rattle.cc_book.specs.declared.book.BookRefusal.TheVariants.{Full}
@@ -86,11 +87,11 @@ abbrev IsRefusedThere : FrontState → ConnId → Message → ConnId × Message 
 IsRefusedThere front conn message item = (item.0 ≡ conn) × IsRefusedAtArrival front message item.1
 
 by_queue : (front : FrontState) (conn : ConnId) (message : Message) (requests room : Bool) → message.header.request ≡ requests → ltb (length front.queue) front.queue_limit ≡ room
-    → All (IsRefusedThere front conn message) (cond requests (cond room [] ((conn, refusal_of front.name front.realm message TooBusy) ∷ [])) [])
+    → All (IsRefusedThere front conn message) (cond requests (cond room [] ((conn, refusal_of front.name front.realm message (refused TooBusy)) ∷ [])) [])
 by_queue front conn message true true r e = All-nil (IsRefusedThere front conn message)
 by_queue front conn message true false r e =
     let full : front.queue_limit ≤ length front.queue = ltb-false _ _ e in
-    All-cons (IsRefusedThere front conn message) (conn, refusal_of front.name front.realm message TooBusy) [] (refl, record { refusal = refused TooBusy; cause = queue_full r full; written = refl }) (All-nil (IsRefusedThere front conn message))
+    All-cons (IsRefusedThere front conn message) (conn, refusal_of front.name front.realm message (refused TooBusy)) [] (refl, record { refusal = refused TooBusy; cause = queue_full r full; written = refl }) (All-nil (IsRefusedThere front conn message))
 by_queue front conn message false room r e = All-nil (IsRefusedThere front conn message)
 
 pub arrival_refused : (front : FrontState) (conn : ConnId) (message : Message) → All (λ item. (item.0 ≡ conn) × IsRefusedAtArrival front message item.1) (sent_at_arrival front conn message)

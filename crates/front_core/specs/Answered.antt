@@ -24,9 +24,9 @@ pub record IsAnswered (name realm vendors : List ℕ) (ledger : Ledger) (message
 pub record IsRefusedAtCharge (name realm vendors : List ℕ) (ledger : Ledger) (message answer : Message) : Type 0 where
   pub refusal : Refusal
   pub cause : ChargeCause vendors ledger message refusal
-  pub written : answer ≡ refusal_of name realm message refusal.code
+  pub written : answer ≡ refusal_of name realm message refusal
 
 pub record IsRefusedAtArrival (front : FrontState) (message answer : Message) : Type 0 where
   pub refusal : Refusal
   pub cause : ArrivalCause front message refusal
-  pub written : answer ≡ refusal_of front.name front.realm message refusal.code
+  pub written : answer ≡ refusal_of front.name front.realm message refusal

@@ -4,7 +4,8 @@ use Rattle.dia_message.specs.declared.message.Message.{Message}
 use Rattle.cc_view.specs.declared.code.ResultCode.TheVariants.{TooBusy}
 use Rattle.cc_view.specs.declared.refusal.Refusal.{Refusal}
 use Rattle.cc_view.specs.declared.request.CcRequest.{CcRequest}
-use Rattle.cc_view.specs.RequestView.{view_of, refused}
+use Rattle.cc_view.specs.Refusing.{refused}
+use Rattle.cc_view.specs.RequestView.{view_of}
 use Rattle.cc_book.specs.AccountMachine.{kept_reply}
 use Rattle.cc_book.specs.Duplicate.{key_of}
 use Rattle.cc_book.specs.Taking.{Ledger}

@@ -8,6 +8,7 @@ use Rattle.dia_base.specs.declared.number.Moment.{Moment}
 use Rattle.cc_view.specs.declared.refusal.Refusal.{Refusal}
 use Rattle.cc_view.specs.declared.request.CcRequest.{CcRequest}
 use Rattle.cc_view.specs.Answer.{answer_to, refusal_of}
+use Rattle.cc_view.specs.Refusing.{refused}
 use Rattle.cc_view.specs.RequestView.{view_of}
 use Rattle.cc_book.specs.declared.book.Answered.{Answered}
 use Rattle.cc_book.specs.declared.book.BookRefusal.{BookRefusal}
@@ -38,7 +39,7 @@ after_arrival front conn message = if message.header.request then (if nat_lt (le
 abbrev pub sent_at_arrival : FrontState → ConnId → Message → Sent
 sent_at_arrival front conn message =
     if message.header.request then
-    (if nat_lt (length front.queue) front.queue_limit then [] else (conn, refusal_of front.name front.realm message TooBusy) ∷ [])
+    (if nat_lt (length front.queue) front.queue_limit then [] else (conn, refusal_of front.name front.realm message (refused TooBusy)) ∷ [])
     else []
 
 -- ---- a worker picks: the first job goes to an idle worker, if both are there
@@ -72,7 +73,7 @@ after_emit front worker = emitted_by front worker (slice_get front.workers worke
 -- the answer of a front of this name and realm to a request, by what the book answers
 abbrev pub answer_by : List ℕ → List ℕ → Message → CcRequest → Result Answered BookRefusal → Message
 answer_by name realm message request (Ok answered) = answer_to name realm message request answered.reply
-answer_by name realm message request (Err refusal) = refusal_of name realm message TooBusy
+answer_by name realm message request (Err refusal) = refusal_of name realm message (refused TooBusy)
 
 -- the book after a request
 abbrev pub after_take : Ledger → Moment → CcRequest → Ledger
@@ -81,7 +82,7 @@ after_take ledger moment request = if is_fresh (answer_of ledger request) then w
 -- A request is charged in the book. A message that is refused by its view is answered without the book.
 abbrev pub answer_in : List ℕ → List ℕ → Ledger → Message → Result CcRequest Refusal → Message
 answer_in name realm ledger message (Ok request) = answer_by name realm message request (answer_of ledger request)
-answer_in name realm ledger message (Err refusal) = refusal_of name realm message refusal.code
+answer_in name realm ledger message (Err refusal) = refusal_of name realm message refusal
 
 abbrev pub book_after : Ledger → Moment → Result CcRequest Refusal → Ledger
 book_after ledger moment (Ok request) = after_take ledger moment request

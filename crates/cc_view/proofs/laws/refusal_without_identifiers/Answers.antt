@@ -4,4 +4,4 @@ use Rattle.cc_view.proofs.laws.refusal_without_identifiers.Goals as goal
 
 pub returns : goal.returns
 unfolding refusal_of
-returns c = λ node realm message code hop end resent. refl
+returns c = λ node realm message refusal hop end resent. refl

@@ -1,0 +1,139 @@
+//! What is refused, and how.
+
+use super::*;
+
+// Result-Codes: DIAMETER_APPLICATION_UNSUPPORTED, DIAMETER_COMMAND_UNSUPPORTED, DIAMETER_AVP_UNSUPPORTED,
+// DIAMETER_UNABLE_TO_COMPLY and DIAMETER_INVALID_AVP_LENGTH.
+const APPLICATION_UNSUPPORTED: &str = "0000010c4000000c00000bbf";
+
+const COMMAND_UNSUPPORTED: &str = "0000010c4000000c00000bb9";
+
+const AVP_UNSUPPORTED: &str = "0000010c4000000c00001389";
+
+const UNABLE_TO_COMPLY: &str = "0000010c4000000c00001394";
+
+const INVALID_AVP_LENGTH: &str = "0000010c4000000c00001396";
+
+/// Whether the message is refused with these octets.
+fn is_refused(alloc: Global, message: &Message, expected: &[&str]) -> Result<bool, Fail> {
+    let answer = refused(alloc, message)?;
+    let expected = octets_of(alloc, expected)?;
+    Ok(answer.as_slice() == expected.as_slice())
+}
+
+#[test]
+fn other_headers(rt: HostRuntime) -> Result<(), Fail> {
+    let alloc = rt.alloc();
+    let head = "0100005860000110000000030000000700000064";
+    let other = message(alloc, header(3, 272), &[SESSION, FRONT, MIDDLE, BACK])?;
+    let expected = [head, SESSION, ORIGIN, APPLICATION_UNSUPPORTED];
+    assert!(rt; is_refused(alloc, &other, &expected)?);
+    let head = "010000586000010f000000040000000700000064";
+    let other = message(alloc, header(4, 271), &[SESSION, FRONT, MIDDLE, BACK])?;
+    let expected = [head, SESSION, ORIGIN, COMMAND_UNSUPPORTED];
+    assert!(rt; is_refused(alloc, &other, &expected)?);
+    Ok(())
+}
+
+// A body that is cut in its last AVP.
+#[test]
+fn broken_bodies(rt: HostRuntime) -> Result<(), Fail> {
+    let alloc = rt.alloc();
+    let cut = "000001bb40000028000001c24000000c00000000000001bc4000001434393137";
+    let message = message(alloc, header(4, 272), &[SESSION, FRONT, MIDDLE, cut])?;
+    let head = "0100004860000110000000040000000700000064";
+    assert!(rt; is_refused(alloc, &message, &[head, ORIGIN, INVALID_AVP_LENGTH])?);
+    Ok(())
+}
+
+// CC-Request-Number before CC-Request-Type, and one AVP more.
+const SWAPPED: &str = "0000019f4000000c00000000000001a04000000c00000004000001b44000000c00000000";
+
+const TIMESTAMP: &str = "000000374000000ce0000000";
+
+#[test]
+fn no_plain_debits(rt: HostRuntime) -> Result<(), Fail> {
+    let alloc = rt.alloc();
+    let head = "0100005860000110000000040000000700000064";
+    let expected = [head, SESSION, ORIGIN, UNABLE_TO_COMPLY];
+    let swapped = message(alloc, header(4, 272), &[SESSION, FRONT, SWAPPED, BACK])?;
+    assert!(rt; is_refused(alloc, &swapped, &expected)?);
+    let more = [SESSION, FRONT, MIDDLE, BACK, TIMESTAMP];
+    let more = message(alloc, header(4, 272), &more)?;
+    assert!(rt; is_refused(alloc, &more, &expected)?);
+    Ok(())
+}
+
+// A Session-Id with a value of this many letters, in front of the rest of the debit.
+fn long_session(alloc: Global, head: &str, letters: usize, behind: &str) -> Result<Message, Fail> {
+    let mut body = octets_of(alloc, &[head])?;
+    for _ in 0..letters {
+        body.push(b'a')?;
+    }
+    body.extend_from_slice(&octets_of(alloc, &[behind])?)?;
+    body.extend_from_slice(&octets_of(alloc, &[FRONT, MIDDLE, BACK])?)?;
+    Ok(Message {
+        header: header(4, 272),
+        body: Octets::from_vec(body),
+    })
+}
+
+#[test]
+fn long_sessions(rt: HostRuntime) -> Result<(), Fail> {
+    let alloc = rt.alloc();
+    let head = "0100004860000110000000040000000700000064";
+    let expected = [head, ORIGIN, UNABLE_TO_COMPLY];
+    // 49,153 octets with the header
+    let message = long_session(alloc, "000001074000c001", 49_145, "000000")?;
+    assert!(rt; is_refused(alloc, &message, &expected)?);
+    // 49,152 octets are read
+    let message = long_session(alloc, "000001074000c000", 49_144, "")?;
+    let request = request_of::<PlainWire>(alloc, &message, &[])?;
+    assert_eq!(rt; request.session.as_slice().len(), 49_144);
+    // and with two Proxy-Infos they are too many
+    let message = long_session(alloc, "000001074000c000", 49_144, PROXIES)?;
+    assert!(rt; is_refused(alloc, &message, &expected)?);
+    Ok(())
+}
+
+/// A refusal with an AVP of code 9999 and a value of this many octets.
+fn unsupported(alloc: Global, octets: usize) -> Result<Refusal, Fail> {
+    let mut value = Vec::new(alloc);
+    for _ in 0..octets {
+        value.push(1)?;
+    }
+    Ok(Refusal {
+        code: ResultCode::AvpUnsupported,
+        failed: Some(RawAvp {
+            code: 9999,
+            flags: 0x40,
+            vendor: 0,
+            value: Octets::from_vec(value),
+        }),
+    })
+}
+
+// Failed-AVP stands before the Proxy-Infos.
+#[test]
+fn failed_avps(rt: HostRuntime) -> Result<(), Fail> {
+    let alloc = rt.alloc();
+    let sent = [SESSION, FRONT, PROXIES, MIDDLE, BACK];
+    let message = message(alloc, header(4, 272), &sent)?;
+    let answer = refusal_octets(alloc, &message, &unsupported(alloc, 3)?)?;
+    let expected = [
+        "0100008860000110000000040000000700000064",
+        SESSION,
+        ORIGIN,
+        AVP_UNSUPPORTED,
+        "00000117400000140000270f4000000b01010100",
+        PROXIES_WRITTEN,
+    ];
+    let expected = octets_of(alloc, &expected)?;
+    assert_eq!(rt; answer.as_slice(), expected.as_slice());
+    // 8,192 octets are written, 8,193 are not
+    let long = refusal_octets(alloc, &message, &unsupported(alloc, 8184)?)?;
+    assert_eq!(rt; long.len(), 116 + 8200);
+    let longer = refusal_octets(alloc, &message, &unsupported(alloc, 8185)?)?;
+    assert_eq!(rt; longer.len(), 116);
+    Ok(())
+}
