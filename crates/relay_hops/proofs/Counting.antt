@@ -58,3 +58,12 @@ none_behind false n x rest e f = let none = f e in omega arith
 pub count_none : {X : Type 0} (p : X → Bool) (xs : List X) → find p xs ≡ None → count_by p xs ≡ 0
 count_none p [] e = refl
 count_none p (x ∷ xs) e = count-cons p x xs ∙ none_behind (p x) (count_by p xs) x (find p xs) e (count_none p xs)
+
+any_front : {X : Type 0} (b c : Bool) (x : X) (rest : Option X) → (b || c) ≡ true → cond b (Some x) rest ≡ None → (c ≡ true → rest ≡ None → ⊥) → ⊥
+any_front true c x rest e f more = absurd cc
+any_front false c x rest e f more = more e f
+
+-- where one passes, one is found
+pub any_found : {X : Type 0} (p : X → Bool) (xs : List X) → list_any p xs ≡ true → find p xs ≡ None → ⊥
+any_found p [] e f = absurd cc
+any_found p (x ∷ xs) e f = any_front (p x) (list_any p xs) x (find p xs) e f (any_found p xs)

@@ -1,5 +1,5 @@
 -- What is held after a change, key by key.
-use Rattle.std.proofs.Common.{◌≡◌, ℕ, ◌&&◌, ◌||◌, ◌==◌, Bool, true, false, cond, is_some, List, [], ◌∷◌, ◌++◌, map, Option, Some, None, option_map, refl, ap, sym, ◌∙◌, arith}
+use Rattle.std.proofs.Common.{◌≡◌, ℕ, ◌+◌, ◌-◌, ◌%◌, ◌^◌, ◌<◌, ◌&&◌, ◌||◌, ◌==◌, Bool, true, false, cond, is_some, List, [], ◌∷◌, ◌++◌, map, Option, Some, None, option_map, refl, ap, sym, subst, ◌∙◌, arith}
 use Rattle.std.specs.Option.{option_or}
 use Rattle.std.specs.List.{find, filter, count_by, list_any}
 use Rattle.std.proofs.lemmas.List.Folds.{find-append}
@@ -8,7 +8,7 @@ use Rattle.dia_base.specs.declared.number.ConnId.{ConnId}
 use Rattle.relay_hops.specs.declared.row.Held.{Held}
 use Rattle.relay_hops.specs.declared.row.Row.{Row}
 use Rattle.relay_hops.specs.PendingTable.{hop_of, is_sent_on, has_key, IsMap, held_at, hops_on, IsWith, IsMoved, without_origin, orphaned}
-use Rattle.relay_hops.proofs.Counting.{one, count-cons, count_none, none_counted}
+use Rattle.relay_hops.proofs.Counting.{one, count-cons, count_none, none_counted, any_found}
 
 abbrev held : Option Row → Option Held
 held o = option_map (λ row. row.held) o
@@ -66,3 +66,14 @@ count-free rows conn hop e = count_none (has_key conn hop) rows (no_row (find (h
 
 pub free-counted : (rows : List Row) (conn : ConnId) (hop : ℕ) → count_by (has_key conn hop) rows ≡ 0 → held_at rows conn hop ≡ None
 free-counted rows conn hop e = ap held (none_counted (has_key conn hop) rows e)
+
+used_held : (rows : List Row) (conn : ConnId) (hop : ℕ) → list_any (has_key conn hop) rows ≡ true → held_at rows conn hop ≡ None → ⊥
+used_held rows conn hop used free = any_found (has_key conn hop) rows used (no_row (find (has_key conn hop) rows) free)
+
+-- the first free identifier from one on that is free is that one
+pub first-free : (rows : List Row) (conn : ConnId) (start hop : ℕ) → start < 2 ^ 32 → hop < 2 ^ 32 → ((k : ℕ) → k < (hop + 2 ^ 32 - start) % 2 ^ 32 → list_any (has_key conn ((start + k) % 2 ^ 32)) rows ≡ true)
+    → held_at rows conn start ≡ None → hop ≡ start
+first-free rows conn start hop low small first free =
+    let same : (start + 0) % 2 ^ 32 ≡ start = omega arith in
+    let never : 0 < (hop + 2 ^ 32 - start) % 2 ^ 32 → ⊥ = λ lt. used_held rows conn start (subst (λ (n : ℕ). list_any (has_key conn n) rows ≡ true) same (first 0 lt)) free in
+    omega (arith, never)

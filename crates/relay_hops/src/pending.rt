@@ -147,6 +147,8 @@ impl Pending {
     pub fn move_to(&mut self, conn: ConnId, hop: Hop, to: ConnId) -> Option<Hop>
         ensures variant { is_some result ≡ is_some (held_at self.old.rows conn hop) }
         ensures free { IfSome result (λ fresh. held_at self.old.rows to fresh ≡ None) }
+        // The identifier is kept where it is free on the new connection.
+        ensures same { IfSome result (λ fresh. held_at self.old.rows to hop ≡ None → fresh ≡ hop) }
         ensures moved { IfSome result (λ fresh. IfSome (held_at self.old.rows conn hop) (λ held. IsMoved (record { conn = conn; held = held }) (resent to fresh (record { conn = conn; held = held })) self.old.rows self.new.rows)) }
         ensures none { IfNone result (self.new ≡ self.old) }
         ensures limit { self.new.limit ≡ self.old.limit }

@@ -5,6 +5,7 @@ use Rattle.relay_hops.specs.declared.row.Row.{Row}
 use Rattle.relay_hops.specs.PendingTable.{PendingTable, has_key, IsMap, IsMoved, resent}
 use Rattle.relay_hops.proofs.Counting.{none_any}
 use Rattle.relay_hops.proofs.Rows.{IsPlace, place, no_place, held-found, held-none, moved, IsMap-moved}
+use Rattle.relay_hops.proofs.LookUps.{first-free}
 use Rattle.relay_hops.proofs.pending.Pending.move_to.Goals as goal
 
 pub returns-in_err-at-clause-variant : goal.returns-in_err-at-clause-variant
@@ -46,6 +47,11 @@ returns-clause-variant c = rw (← c.self.view_is) (sym (ap is_some (held-found 
 
 pub returns-clause-free : goal.returns-clause-free
 returns-clause-free c = rw (← c.self.view_is) (held-none c.self.inside.rows.items c.args.to c.free_hop-fresh.result (unused c))
+
+pub returns-clause-same : goal.returns-clause-same
+returns-clause-same c =
+    rw (← c.self.view_is)
+    (λ free. first-free c.self.inside.rows.items c.args.to c.args.hop c.free_hop-fresh.result (search rules) (search rules) (rw c.deref.ensures.value at c.free_hop-fresh.ensures.first) free)
 
 pub returns-clause-moved : goal.returns-clause-moved
 returns-clause-moved c = rw (← c.self.view_is, held-found c.self.inside.rows.items c.args.conn c.args.hop (row c) (at c).found) (goes c)
