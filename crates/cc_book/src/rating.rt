@@ -1,6 +1,6 @@
 //! Rating: what units cost (RFC 8506, section 5.2.2).
 
-ghost use Rattle.std.specs.Prelude.{◌≡◌, ◌≤◌, ◌<◌, ◌*◌, ◌^◌, ◌++◌, ◌∷◌, IfOk, IfSome, IsTrue, IsOkUnless, MatchOption, is_some, nat_le};
+ghost use Rattle.std.specs.Prelude.{◌≡◌, ◌≤◌, ◌<◌, ◌*◌, ◌^◌, ◌++◌, ◌∷◌, IfOk, IfSome, IsTrue, IsOk, MatchOption, is_some, nat_le};
 ghost use Rattle.std.specs.Option.{option_copied};
 ghost use Rattle.std.specs.List.{find, list_any};
 ghost use Rattle.cc_book.specs.Rating.{cost_of, asked_of, count_of, rates as rates_it};
@@ -160,10 +160,10 @@ impl Model for Tariffs {
 impl Tariffs {
     /// The tariffs of the vector. The first tariff at fault is refused, by the first fault that it has: OutOfRange
     /// where a number is out of its range or it has neither group nor identifier, then Twice where it has both or
-    /// an earlier one has its key.
+    /// an earlier one has its key. It takes no memory.
     pub fn new(_alloc: Global, tariffs: Vec<Tariff>) -> Result<Self, TariffFault>
         ensures value { IfOk result (λ made. made ≡ tariffs.items) }
-        ensures fault { MatchOption (fault_of tariffs.items) (IsOkUnless result TariffFault.OutOfMemory) (λ f. result ≡ Err f) }
+        ensures fault { MatchOption (fault_of tariffs.items) (IsOk result) (λ f. result ≡ Err f) }
     {
         match first_fault(&tariffs) {
             Some(fault) => Err(fault),

@@ -1,5 +1,5 @@
 -- Each event of a front keeps what stands of it.
-use Rattle.std.proofs.Common.{◌≡◌, ℕ, Bool, true, false, cond, ltb, List, [], ◌∷◌, ◌++◌, length, Option, Some, None, Ok, refl, subst}
+use Rattle.std.proofs.Common.{◌≡◌, ℕ, ◌+◌, ◌≤◌, arith, Bool, true, false, cond, ltb, List, [], ◌∷◌, ◌++◌, length, length-append, Option, Some, None, Ok, refl, subst}
 use Rattle.std.specs.Prelude.{All, slice_get}
 use Rattle.std.proofs.lemmas.List.Elements.{All-nil, All-cons, All-push, All-head, All-tail, All-set}
 use Rattle.dia_base.specs.declared.number.ConnId.{ConnId}
@@ -19,7 +19,7 @@ use Rattle.front_core.specs.FrontStep.{Sent as Out, connected, queued, after_arr
 use Rattle.front_core.proofs.Charges.{answered-stays}
 use Rattle.farm_cli.specs.declared.site.Site.{Site}
 use Rattle.farm_cli.specs.declared.step.Step.{Step}
-use Rattle.farm_cli.specs.Promise.{WasSent, IsFromClient}
+use Rattle.farm_cli.specs.Promise.{WasAsked, IsFromClient}
 use Rattle.farm_cli.specs.World.{Sent}
 use Rattle.farm_cli.proofs.Keeping.{some_is}
 use Rattle.farm_cli.proofs.Members.{All-read}
@@ -30,7 +30,7 @@ module _ (site : Site) (steps : List Step) (sent : Sent) (book : Ledger) where
   Front-stands = FrontStands site steps sent book
 
   abbrev JobStands : Job → Type 0
-  JobStands job = WasSent sent job.conn job.request
+  JobStands job = WasAsked sent job.conn job.request
 
   with_worker_stands : (front : FrontState) (worker : ℕ) (held : Worker) → WorkerStands site steps sent book held → Front-stands front → Front-stands (with_worker front worker held)
   with_worker_stands front worker held h s = record {
@@ -52,20 +52,20 @@ module _ (site : Site) (steps : List Step) (sent : Sent) (book : Ledger) where
 
   -- ---- a message arrives
 
-  arrival_by : (front : FrontState) (conn : ConnId) (message : Message) (requests room : Bool) → message.header.request ≡ requests → (message.header.request ≡ true → WasSent sent conn message) → Front-stands front
+  arrival_by : (front : FrontState) (conn : ConnId) (message : Message) (requests room : Bool) → message.header.request ≡ requests → (message.header.request ≡ true → WasAsked sent conn message) → Front-stands front
       → Front-stands (cond requests (cond room (queued front conn message) front) front)
-  arrival_by front conn message true true e was_sent s = record {
+  arrival_by front conn message true true e asked s = record {
     is_front = s.is_front;
     of_realm = s.of_realm;
     knows = s.knows;
-    waiting = All-push JobStands front.queue (record { conn = conn; request = message }) s.waiting (was_sent e);
+    waiting = All-push JobStands front.queue (record { conn = conn; request = message }) s.waiting (asked e);
     working = s.working;
   }
-  arrival_by front conn message true false e was_sent s = s
-  arrival_by front conn message false room e was_sent s = s
+  arrival_by front conn message true false e asked s = s
+  arrival_by front conn message false room e asked s = s
 
-  pub arrival_stands : (front : FrontState) (conn : ConnId) (message : Message) → (message.header.request ≡ true → WasSent sent conn message) → Front-stands front → Front-stands (after_arrival front conn message)
-  arrival_stands front conn message was_sent s = arrival_by front conn message message.header.request (ltb (length front.queue) front.queue_limit) refl was_sent s
+  pub arrival_stands : (front : FrontState) (conn : ConnId) (message : Message) → (message.header.request ≡ true → WasAsked sent conn message) → Front-stands front → Front-stands (after_arrival front conn message)
+  arrival_stands front conn message asked s = arrival_by front conn message message.header.request (ltb (length front.queue) front.queue_limit) refl asked s
 
   -- ---- a worker picks
 
@@ -133,7 +133,7 @@ pub charge_grows : (site : Site) (steps : List Step) (sent : Sent) (name realm v
 charge_grows site steps sent name realm vendors ledger book moment message answer (refuses refusal view) = same_book site steps sent ledger
 charge_grows site steps sent name realm vendors ledger book moment message answer (repeats request reply view kept) = same_book site steps sent ledger
 charge_grows site steps sent name realm vendors ledger book moment message answer (has_no_room request view new full) = same_book site steps sent ledger
-charge_grows site steps sent name realm vendors ledger book moment message answer (takes request view new) = record {
+charge_grows site steps sent name realm vendors ledger book moment message answer (takes request view new room) = record {
   passed = λ w p. p;
   was_sent = λ conn m s. s;
   answered = λ front m a. answered-stays front site.realm site.vendors ledger moment request m a;
@@ -144,14 +144,20 @@ pub record BookStands (site : Site) (sent : Sent) (before book : Ledger) : Type 
   pub legal : IsLegal book.history
   pub taken : All (IsFromClient site sent) book.history
   pub terms : book.terms ≡ before.terms
+  pub limit : book.limit ≡ before.limit
+  pub within : length book.history ≤ book.limit
 
 pub charge_stands : (site : Site) (sent : Sent) (name realm vendors : List ℕ) (ledger book : Ledger) (moment : Moment) (conn : ConnId) (message answer : Message) → IsCharge name realm vendors ledger moment message answer book
-    → vendors ≡ site.vendors → WasSent sent conn message → IsLegal ledger.history → All (IsFromClient site sent) ledger.history → BookStands site sent ledger book
-charge_stands site sent name realm vendors ledger book moment conn message answer (refuses refusal view) knows was_sent legal taken = record { legal = legal; taken = taken; terms = refl }
-charge_stands site sent name realm vendors ledger book moment conn message answer (repeats request reply view kept) knows was_sent legal taken = record { legal = legal; taken = taken; terms = refl }
-charge_stands site sent name realm vendors ledger book moment conn message answer (has_no_room request view new full) knows was_sent legal taken = record { legal = legal; taken = taken; terms = refl }
-charge_stands site sent name realm vendors ledger book moment conn message answer (takes request view new) knows was_sent legal taken = record {
+    → vendors ≡ site.vendors → WasAsked sent conn message → IsLegal ledger.history → length ledger.history ≤ ledger.limit → All (IsFromClient site sent) ledger.history → BookStands site sent ledger book
+charge_stands site sent name realm vendors ledger book moment conn message answer (refuses refusal view) knows asked legal within taken = record { legal = legal; taken = taken; terms = refl; limit = refl; within = within }
+charge_stands site sent name realm vendors ledger book moment conn message answer (repeats request reply view kept) knows asked legal within taken = record { legal = legal; taken = taken; terms = refl; limit = refl; within = within }
+charge_stands site sent name realm vendors ledger book moment conn message answer (has_no_room request view new full) knows asked legal within taken = record { legal = legal; taken = taken; terms = refl; limit = refl; within = within }
+charge_stands site sent name realm vendors ledger book moment conn message answer (takes request view new room) knows asked legal within taken =
+    let grown : length (ledger.history ++ Take moment request ∷ []) ≤ ledger.limit = omega (arith, room, length-append ledger.history (Take moment request ∷ [])) in
+    record {
   legal = IsLegal-push ledger.history moment request legal (new-without_reply ledger.terms ledger.history _ new);
-  taken = All-push (IsFromClient site sent) ledger.history (Take moment request) taken (conn, message, was_sent, subst (λ (vs : List ℕ). view_of vs message ≡ Ok request) knows view);
+  taken = All-push (IsFromClient site sent) ledger.history (Take moment request) taken (conn, message, asked, subst (λ (vs : List ℕ). view_of vs message ≡ Ok request) knows view);
   terms = refl;
+  limit = refl;
+  within = grown;
 }

@@ -42,7 +42,7 @@ module _ (conn : ConnId) (hop end : ℕ) where
   charge-is c name realm vendors ledger book moment message answer (refuses refusal view) = of_refusal c name realm message _
   charge-is c name realm vendors ledger book moment message answer (repeats request reply view kept) = of_answer c name realm message request reply
   charge-is c name realm vendors ledger book moment message answer (has_no_room request view new full) = of_refusal c name realm message _
-  charge-is c name realm vendors ledger book moment message answer (takes request view new) = of_answer c name realm message request _
+  charge-is c name realm vendors ledger book moment message answer (takes request view new room) = of_answer c name realm message request _
 
   -- ---- events
 

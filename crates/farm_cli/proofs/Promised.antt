@@ -1,5 +1,5 @@
 -- Every run keeps what is promised.
-use Rattle.std.proofs.Common.{inl, inr, ◌≡◌, ℕ, ◌+◌, List, [], ◌∷◌, ◌++◌, replicate, refl, sym, subst, ap, ◌∙◌, arith, append_assoc}
+use Rattle.std.proofs.Common.{inl, inr, ◌≡◌, ℕ, ◌+◌, ◌≤◌, List, [], ◌∷◌, ◌++◌, length, replicate, refl, sym, subst, ap, ◌∙◌, arith, append_assoc}
 use Rattle.std.specs.Prelude.{All, Contains}
 use Rattle.std.specs.List.{sum_by}
 use Rattle.std.proofs.lemmas.List.{append-nil}
@@ -80,6 +80,8 @@ start_stands site = record {
   legal = (KeepsLimits-empty 0).legal;
   taken = All-nil _;
   terms = refl;
+  limit = refl;
+  within = omega arith;
 }
 
 -- ---- a run goes on
@@ -110,6 +112,8 @@ Stands-longer site past step w s =
       legal = s.legal;
       taken = s.taken;
       terms = s.terms;
+      limit = s.limit;
+      within = s.within;
     }
 
 -- what stands after some steps stands after more
@@ -145,6 +149,7 @@ promise_kept site steps trace runnable t =
       received = All-weaker (λ (item : ConnId × Message). IsDue site steps w.sent w.book item.0 item.1) (λ (item : ConnId × Message). IsRightAnswer site steps w.sent w.book item.0 item.1)
           (λ (item : ConnId × Message). rightly site steps w.sent w.book item.0 item.1) w.received s.at_clients;
       legal = s.legal;
+      within = subst (λ (limit : ℕ). length w.book.history ≤ limit) s.limit s.within;
       taken = s.taken;
       terms = s.terms;
     })

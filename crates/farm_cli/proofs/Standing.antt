@@ -1,5 +1,5 @@
 -- What stands of the farm between two steps of a run, and that it stands when the run goes on.
-use Rattle.std.proofs.Common.{inl, inr, ◌≡◌, ℕ, ◌-◌, ◌≤◌, Bool, true, false, List, Some, ap}
+use Rattle.std.proofs.Common.{inl, inr, ◌≡◌, ℕ, ◌-◌, ◌≤◌, Bool, true, false, List, length, Some, ap}
 use Rattle.std.specs.Prelude.{◌&&◌, ◌⊎◌, All, slice_get}
 use Rattle.std.proofs.lemmas.List.Elements.{All-weaker}
 use Rattle.dia_base.specs.declared.number.ConnId.{ConnId}
@@ -19,7 +19,7 @@ use Rattle.farm_cli.specs.declared.site.Site.{Site}
 use Rattle.farm_cli.specs.declared.step.Step.{Step}
 use Rattle.farm_cli.specs.declared.world.parts.FrontPart.{FrontPart}
 use Rattle.farm_cli.specs.declared.world.parts.Line.{Line}
-use Rattle.farm_cli.specs.Promise.{IsFront, IsPassed, WasSent, AnswersRequest, RefusesRequest, IsFromClient, HasOneClient, requests_with}
+use Rattle.farm_cli.specs.Promise.{IsFront, IsPassed, WasSent, WasAsked, AnswersRequest, RefusesRequest, IsFromClient, HasOneClient, requests_with}
 use Rattle.farm_cli.specs.Run.{opened}
 use Rattle.farm_cli.specs.World.{Sent, WorldState, is_client}
 use Rattle.farm_cli.proofs.Tally.{pending}
@@ -46,14 +46,14 @@ pub record LineStands (site : Site) (steps : List Step) (sent : Sent) (book : Le
 
 abbrev pub WorkerStands : Site → List Step → Sent → Ledger → Worker → Type 0
 WorkerStands site steps sent book Idle = Unit {0}
-WorkerStands site steps sent book (Picked conn message) = WasSent sent conn message
+WorkerStands site steps sent book (Picked conn message) = WasAsked sent conn message
 WorkerStands site steps sent book (Done conn answer) = IsDue site steps sent book conn answer
 
 pub record FrontStands (site : Site) (steps : List Step) (sent : Sent) (book : Ledger) (front : FrontState) : Type 0 where
   pub is_front : IsFront site front.name
   pub of_realm : front.realm ≡ site.realm
   pub knows : front.vendors ≡ site.vendors
-  pub waiting : All (λ job. WasSent sent job.conn job.request) front.queue
+  pub waiting : All (λ job. WasAsked sent job.conn job.request) front.queue
   pub working : All (WorkerStands site steps sent book) front.workers
 
 pub record Stands (site : Site) (steps : List Step) (w : WorldState) : Type 0 where
@@ -66,6 +66,8 @@ pub record Stands (site : Site) (steps : List Step) (w : WorldState) : Type 0 wh
   pub legal : IsLegal w.book.history
   pub taken : All (IsFromClient site w.sent) w.book.history
   pub terms : w.book.terms ≡ (opened site).terms
+  pub limit : w.book.limit ≡ site.limit
+  pub within : length w.book.history ≤ w.book.limit
 
 -- ---- the flags of answers and refusals
 
@@ -95,19 +97,22 @@ pub record Grows (site : Site) (steps steps' : List Step) (sent sent' : Sent) (b
   pub answered : (name : List ℕ) (message answer : Message) → IsAnswered name site.realm site.vendors book message answer → IsAnswered name site.realm site.vendors book' message answer
 
 module _ (site : Site) (steps steps' : List Step) (sent sent' : Sent) (book book' : Ledger) (g : Grows site steps steps' sent sent' book book') where
+  asked_grows : (conn : ConnId) (message : Message) → WasAsked sent conn message → WasAsked sent' conn message
+  asked_grows conn message a = (g.was_sent conn message a.0, a.1)
+
   pub IsDue-grows : (conn : ConnId) (answer : Message) → IsDue site steps sent book conn answer → IsDue site steps' sent' book' conn answer
   IsDue-grows conn answer (inl a) = inl (record {
     name = a.name;
     front = a.front;
     message = a.message;
-    was_sent = g.was_sent conn a.message a.was_sent;
+    asked = asked_grows conn a.message a.asked;
     answered = g.answered a.name a.message answer a.answered;
   })
   IsDue-grows conn answer (inr r) = inr (record {
     name = r.name;
     front = r.front;
     message = r.message;
-    was_sent = g.was_sent conn r.message r.was_sent;
+    asked = asked_grows conn r.message r.asked;
     refusal = r.refusal;
     moment = r.moment;
     passed = g.passed r.moment r.passed;
@@ -122,7 +127,7 @@ module _ (site : Site) (steps steps' : List Step) (sent sent' : Sent) (book book
 
   pub WorkerStands-grows : (worker : Worker) → WorkerStands site steps sent book worker → WorkerStands site steps' sent' book' worker
   WorkerStands-grows Idle s = tt
-  WorkerStands-grows (Picked conn message) s = g.was_sent conn message s
+  WorkerStands-grows (Picked conn message) s = asked_grows conn message s
   WorkerStands-grows (Done conn answer) s = IsDue-grows conn answer s
 
   pub FrontStands-grows : (front : FrontState) → FrontStands site steps sent book front → FrontStands site steps' sent' book' front
@@ -130,7 +135,7 @@ module _ (site : Site) (steps steps' : List Step) (sent sent' : Sent) (book book
     is_front = s.is_front;
     of_realm = s.of_realm;
     knows = s.knows;
-    waiting = All-weaker (λ (job : Job). WasSent sent job.conn job.request) (λ (job : Job). WasSent sent' job.conn job.request) (λ (job : Job). g.was_sent job.conn job.request) front.queue s.waiting;
+    waiting = All-weaker (λ (job : Job). WasAsked sent job.conn job.request) (λ (job : Job). WasAsked sent' job.conn job.request) (λ (job : Job). asked_grows job.conn job.request) front.queue s.waiting;
     working = All-weaker (WorkerStands site steps sent book) (WorkerStands site steps' sent' book') WorkerStands-grows front.workers s.working;
   }
 
@@ -141,8 +146,8 @@ module _ (site : Site) (steps steps' : List Step) (sent sent' : Sent) (book book
   received_grow items all = All-weaker (λ (item : ConnId × Message). IsDue site steps sent book item.0 item.1) (λ (item : ConnId × Message). IsDue site steps' sent' book' item.0 item.1) (λ (item : ConnId × Message). IsDue-grows item.0 item.1) items all
 
   IsFromClient-grows : (entry : Entry) → IsFromClient site sent entry → IsFromClient site sent' entry
-  IsFromClient-grows (Take moment request) s = (s.0, s.1, g.was_sent s.0 s.1 s.2, s.3)
-  IsFromClient-grows (Sweep moment) s = tt
+  IsFromClient-grows (Take moment request) s = (s.0, s.1, asked_grows s.0 s.1 s.2, s.3)
+  IsFromClient-grows (Sweep moment) s = absurd s
 
   pub taken_grow : (history : List Entry) → All (IsFromClient site sent) history → All (IsFromClient site sent') history
   taken_grow history all = All-weaker (IsFromClient site sent) (IsFromClient site sent') IsFromClient-grows history all

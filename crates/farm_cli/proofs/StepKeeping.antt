@@ -27,7 +27,7 @@ use Rattle.farm_cli.specs.declared.world.parts.FrontPart.{FrontPart}
 use Rattle.farm_cli.specs.declared.world.parts.Line.{Line}
 use Rattle.farm_cli.specs.Cause.{at_arrival, at_charge}
 use Rattle.farm_cli.specs.FarmStep.{next_conn, learnt_by, learnt, joined, can_rise, raised, sent_on, sent_by, arrived_at_front, Taken, taken_from, delivered_to, delivered, picked_at, picks_at, emitted_at, emits_at, charged_at, charges_at, after_step, Outcome, FarmStep}
-use Rattle.farm_cli.specs.Promise.{IsPassed, WasSent, HasOneClient, is_with}
+use Rattle.farm_cli.specs.Promise.{IsPassed, WasSent, WasAsked, HasOneClient, is_with}
 use Rattle.farm_cli.specs.Run.{IsRunnable}
 use Rattle.farm_cli.specs.World.{Sent, WorldState, is_client, is_linked, is_relay, is_between, is_front_at, with_front, front_of, front_at}
 use Rattle.farm_cli.proofs.FrontKeeping.{same_book, connected_stands, arrival_stands, pick_stands, emit_stands, done_stands, charge_grows, charge_stands}
@@ -120,6 +120,8 @@ module _ (site : Site) (past : List Step) where
         legal = s.legal;
         taken = s.taken;
         terms = s.terms;
+        limit = s.limit;
+        within = s.within;
       }
 
   raised_if : (w next : WorldState) (a b : NodeNo) (rises : Bool) → IsRunnable site → can_rise site w a b ≡ rises → cond rises (Some (joined w a b)) None ≡ Some next → Standing w → Standing next
@@ -158,6 +160,8 @@ module _ (site : Site) (past : List Step) where
         legal = s.legal;
         taken = taken_grow site past past w.sent sent w.book w.book g w.book.history s.taken;
         terms = s.terms;
+        limit = s.limit;
+        within = s.within;
       })
 
   sent_by_if : (w next : WorldState) (client to : NodeNo) (message : Message) (b : Bool) → is_client site client ≡ b → cond b (sent_on w client to message (find (is_between client to) w.lines)) None ≡ Some next → Standing w → Standing next
@@ -177,23 +181,23 @@ module _ (site : Site) (past : List Step) where
   client_weight conn hop end c true message e = absurd cc
   client_weight conn hop end c false message e = refl
 
-  no_request : (sent : Sent) (book : Ledger) (conn : ConnId) (message : Message) → message.header.request ≡ true → IsDue site past sent book conn message → WasSent sent conn message
+  no_request : (sent : Sent) (book : Ledger) (conn : ConnId) (message : Message) → message.header.request ≡ true → IsDue site past sent book conn message → WasAsked sent conn message
   no_request sent book conn message e due = let other = due_is_no_request site past sent book conn message due in absurd cc
 
-  flight_of_request : (sent : Sent) (book : Ledger) (conn : ConnId) (b : Bool) (message : Message) → Flies site past sent book conn b message → message.header.request ≡ true → WasSent sent conn message
-  flight_of_request sent book conn true message (inl was_sent) e = was_sent
+  flight_of_request : (sent : Sent) (book : Ledger) (conn : ConnId) (b : Bool) (message : Message) → Flies site past sent book conn b message → message.header.request ≡ true → WasAsked sent conn message
+  flight_of_request sent book conn true message (inl was_sent) e = (was_sent, e)
   flight_of_request sent book conn true message (inr due) e = no_request sent book conn message e due
   flight_of_request sent book conn false message due e = no_request sent book conn message e due
 
   -- what a front sends at an arrival is due
   arrival_due : (w : WorldState) (from node : NodeNo) (place : ℕ) (conn : ConnId) (message : Message) (lines : List Line) (front : FrontState) (refusing : Message) → IsPassed site past w
       → taken_from w.lines from node place ≡ Some (record { conn = conn; message = message; lines = lines }) → front_at node w.fronts ≡ Some front → FrontStands site past w.sent w.book front
-      → (message.header.request ≡ true → WasSent w.sent conn message) → IsRefusedAtArrival front message refusing → IsDue site past w.sent w.book conn refusing
-  arrival_due w from node place conn message lines front refusing passed taken at s was_sent r = inr (record {
+      → (message.header.request ≡ true → WasAsked w.sent conn message) → IsRefusedAtArrival front message refusing → IsDue site past w.sent w.book conn refusing
+  arrival_due w from node place conn message lines front refusing passed taken at s asked r = inr (record {
     name = front.name;
     front = s.is_front;
     message = message;
-    was_sent = was_sent (requests front message r.refusal r.cause);
+    asked = asked (requests front message r.refusal r.cause);
     refusal = r.refusal;
     moment = w;
     passed = passed;
@@ -206,9 +210,9 @@ module _ (site : Site) (past : List Step) where
   Left w lines conn by_client message = (c : ConnId) (hop end : ℕ) → sum_by (on_line c hop end site) lines + flying c hop end conn by_client message ≡ sum_by (on_line c hop end site) w.lines
 
   front_gets : (w : WorldState) (from node : NodeNo) (place : ℕ) (conn : ConnId) (message : Message) (lines : List Line) (found : Option FrontState) → IsPassed site past w
-      → taken_from w.lines from node place ≡ Some (record { conn = conn; message = message; lines = lines }) → front_at node w.fronts ≡ found → (message.header.request ≡ true → WasSent w.sent conn message)
+      → taken_from w.lines from node place ≡ Some (record { conn = conn; message = message; lines = lines }) → front_at node w.fronts ≡ found → (message.header.request ≡ true → WasAsked w.sent conn message)
       → All (LineStands site past w.sent w.book w.ends) lines → (by_client : Bool) → Left w lines conn by_client message → Standing w → Standing (arrived_at_front (record w { lines = lines }) node conn message found)
-  front_gets w from node place conn message lines None passed taken at was_sent left by_client tally s = record {
+  front_gets w from node place conn message lines None passed taken at asked left by_client tally s = record {
     on_lines = left;
     at_fronts = s.at_fronts;
     at_clients = s.at_clients;
@@ -218,15 +222,17 @@ module _ (site : Site) (past : List Step) where
     legal = s.legal;
     taken = s.taken;
     terms = s.terms;
+    limit = s.limit;
+    within = s.within;
   }
-  front_gets w from node place conn message lines (Some front) passed taken at was_sent left by_client tally s =
+  front_gets w from node place conn message lines (Some front) passed taken at asked left by_client tally s =
       let f = at_front w.sent w.book node w.fronts front at s.at_fronts in
       let dues = All-weaker (λ (item : ConnId × Message). (item.0 ≡ conn) × IsRefusedAtArrival front message item.1) (λ (item : ConnId × Message). IsDue site past w.sent w.book item.0 item.1)
-      (λ (item : ConnId × Message) r. subst (λ (c : ConnId). IsDue site past w.sent w.book c item.1) (sym r.0) (arrival_due w from node place conn message lines front item.1 passed taken at f was_sent r.1))
+      (λ (item : ConnId × Message) r. subst (λ (c : ConnId). IsDue site past w.sent w.book c item.1) (sym r.0) (arrival_due w from node place conn message lines front item.1 passed taken at f asked r.1))
       (sent_at_arrival front conn message) (arrival_refused front conn message) in
       record {
         on_lines = posted_stands site past w.sent w.book w.ends node lines (sent_at_arrival front conn message) dues left;
-        at_fronts = with_front_stands w.sent w.book node w.fronts (after_arrival front conn message) (arrival_stands site past w.sent w.book front conn message was_sent f) s.at_fronts;
+        at_fronts = with_front_stands w.sent w.book node w.fronts (after_arrival front conn message) (arrival_stands site past w.sent w.book front conn message asked f) s.at_fronts;
         at_clients = s.at_clients;
         senders = s.senders;
         receivers = s.receivers;
@@ -241,6 +247,8 @@ module _ (site : Site) (past : List Step) where
         legal = s.legal;
         taken = s.taken;
         terms = s.terms;
+        limit = s.limit;
+        within = s.within;
       }
 
   arrival_if : (w : WorldState) (from to : NodeNo) (place : ℕ) (taken : Taken) (b : Bool) → IsPassed site past w → taken_from w.lines from to place ≡ Some taken → is_client site to ≡ b → Standing w
@@ -261,6 +269,8 @@ module _ (site : Site) (past : List Step) where
         legal = s.legal;
         taken = s.taken;
         terms = s.terms;
+        limit = s.limit;
+        within = s.within;
       }
   arrival_if w from to place taken false passed e is s =
       let t = taken_stands site past w.sent w.book w.ends from to place w.lines taken e s.on_lines in
@@ -291,6 +301,8 @@ module _ (site : Site) (past : List Step) where
     legal = s.legal;
     taken = s.taken;
     terms = s.terms;
+    limit = s.limit;
+    within = s.within;
   })
 
   pub pick_keeps : (w next : WorldState) (node : NodeNo) (worker : ℕ) (found : Option FrontState) → front_at node w.fronts ≡ found → picks_at w node worker found ≡ Some next → Standing w → Standing next
@@ -318,6 +330,8 @@ module _ (site : Site) (past : List Step) where
         legal = s.legal;
         taken = s.taken;
         terms = s.terms;
+        limit = s.limit;
+        within = s.within;
       })
 
   pub emit_keeps : (w next : WorldState) (node : NodeNo) (worker : ℕ) (found : Option FrontState) → front_at node w.fronts ≡ found → emits_at w node worker found ≡ Some next → Standing w → Standing next
@@ -327,19 +341,19 @@ module _ (site : Site) (past : List Step) where
   -- ---- charge
 
   charge_due : (w : WorldState) (node : NodeNo) (worker : ℕ) (front : FrontState) (conn : ConnId) (message answer : Message) (book : Ledger) → IsPassed site past w → front_at node w.fronts ≡ Some front → slice_get front.workers worker ≡ Some (Picked conn message)
-      → FrontStands site past w.sent w.book front → WasSent w.sent conn message → IsAnswered front.name front.realm front.vendors book message answer ⊎ IsRefusedAtCharge front.name front.realm front.vendors w.book message answer → IsDue site past w.sent book conn answer
-  charge_due w node worker front conn message answer book passed at holds s was_sent (inl a) = inl (record {
+      → FrontStands site past w.sent w.book front → WasAsked w.sent conn message → IsAnswered front.name front.realm front.vendors book message answer ⊎ IsRefusedAtCharge front.name front.realm front.vendors w.book message answer → IsDue site past w.sent book conn answer
+  charge_due w node worker front conn message answer book passed at holds s was_asked (inl a) = inl (record {
     name = front.name;
     front = s.is_front;
     message = message;
-    was_sent = was_sent;
+    asked = was_asked;
     answered = subst (λ (vs : List ℕ). IsAnswered front.name site.realm vs book message answer) s.knows (subst (λ (realm : List ℕ). IsAnswered front.name realm front.vendors book message answer) s.of_realm a);
   })
-  charge_due w node worker front conn message answer book passed at holds s was_sent (inr r) = inr (record {
+  charge_due w node worker front conn message answer book passed at holds s was_asked (inr r) = inr (record {
     name = front.name;
     front = s.is_front;
     message = message;
-    was_sent = was_sent;
+    asked = was_asked;
     refusal = r.refusal;
     moment = w;
     passed = passed;
@@ -352,10 +366,10 @@ module _ (site : Site) (past : List Step) where
       → Standing (record w { fronts = with_front node (with_worker front worker (Done conn answer)) w.fronts; book = book })
   charge_case_keeps w node worker moment front conn message answer book passed at holds cases s =
       let f = at_front w.sent w.book node w.fronts front at s.at_fronts in
-      let was_sent : WasSent w.sent conn message = All-read (WorkerStands site past w.sent w.book) front.workers worker (Picked conn message) holds f.working in
+      let was_asked : WasAsked w.sent conn message = All-read (WorkerStands site past w.sent w.book) front.workers worker (Picked conn message) holds f.working in
       let g = charge_grows site past w.sent front.name front.realm front.vendors w.book book moment message answer cases in
-      let b = charge_stands site w.sent front.name front.realm front.vendors w.book book moment conn message answer cases f.knows was_sent s.legal s.taken in
-      let due = charge_due w node worker front conn message answer book passed at holds f was_sent (answered_or_refused front.name front.realm front.vendors w.book book moment message answer s.legal cases) in
+      let b = charge_stands site w.sent front.name front.realm front.vendors w.book book moment conn message answer cases f.knows was_asked s.legal s.within s.taken in
+      let due = charge_due w node worker front conn message answer book passed at holds f was_asked (answered_or_refused front.name front.realm front.vendors w.book book moment message answer s.legal cases) in
       record {
         on_lines = lines_grow site past past w.sent w.sent w.book book w.ends w.ends g (same_ends w.ends) w.lines s.on_lines;
         at_fronts = with_front_stands w.sent book node w.fronts (with_worker front worker (Done conn answer)) (done_stands site past w.sent book front worker conn answer due (FrontStands-grows site past past w.sent w.sent w.book book g front f)) (fronts_grow site past past w.sent w.sent w.book book g w.fronts s.at_fronts);
@@ -371,6 +385,8 @@ module _ (site : Site) (past : List Step) where
         legal = b.legal;
         taken = b.taken;
         terms = b.terms ∙ s.terms;
+        limit = b.limit ∙ s.limit;
+        within = b.within;
       }
 
   charged_by_keeps : (w next : WorldState) (node : NodeNo) (worker : ℕ) (moment : Moment) (front : FrontState) (held : Option Worker) → IsPassed site past w → front_at node w.fronts ≡ Some front → slice_get front.workers worker ≡ held

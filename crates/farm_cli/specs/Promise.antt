@@ -1,5 +1,5 @@
 -- What is promised of every run: who is answered what, and what the book stands on.
-use Rattle.std.specs.Prelude.{◌≡◌, ℕ, ◌-◌, ◌≤◌, Bool, true, false, ◌&&◌, ◌||◌, ◌==◌, List, ◌++◌, All, Contains, Some, Ok, slice_get, count_by}
+use Rattle.std.specs.Prelude.{◌≡◌, ℕ, ◌-◌, ◌≤◌, Bool, true, false, ◌&&◌, ◌||◌, ◌==◌, List, ◌++◌, All, Contains, length, Some, Ok, slice_get, count_by}
 use Rattle.dia_base.specs.declared.number.ConnId.{ConnId}
 use Rattle.dia_base.specs.declared.number.NodeNo.{NodeNo}
 use Rattle.dia_message.specs.declared.message.Message.{Message}
@@ -40,12 +40,16 @@ pub record IsPassed (site : Site) (steps : List Step) (w : WorldState) : Type 0 
 abbrev pub WasSent : Sent → ConnId → Message → Type 0
 WasSent sent conn message = Contains sent (conn, message)
 
+-- the message is a request: it has the flag R (RFC 6733, section 3)
+abbrev pub WasAsked : Sent → ConnId → Message → Type 0
+WasAsked sent conn message = WasSent sent conn message × (message.header.request ≡ true)
+
 -- the answer of a front, with the book's reply, to a request that a client sent on the connection
 pub record AnswersRequest (site : Site) (sent : Sent) (book : Ledger) (conn : ConnId) (answer : Message) : Type 0 where
   pub name : List ℕ
   pub front : IsFront site name
   pub message : Message
-  pub was_sent : WasSent sent conn message
+  pub asked : WasAsked sent conn message
   pub answered : IsAnswered name site.realm site.vendors book message answer
 
 -- a front's refusal of a request that a client sent on the connection, with a cause that the farm showed in the run
@@ -53,7 +57,7 @@ pub record RefusesRequest (site : Site) (steps : List Step) (sent : Sent) (conn 
   pub name : List ℕ
   pub front : IsFront site name
   pub message : Message
-  pub was_sent : WasSent sent conn message
+  pub asked : WasAsked sent conn message
   pub refusal : Refusal
   pub moment : WorldState
   pub passed : IsPassed site steps moment
@@ -65,10 +69,10 @@ pub record IsRightAnswer (site : Site) (steps : List Step) (sent : Sent) (book :
   pub answered : answer.header.error ≡ false → AnswersRequest site sent book conn answer
   pub refused : answer.header.error ≡ true → RefusesRequest site steps sent conn answer
 
--- an entry of the history takes what is read in a message that a client sent
+-- an entry of the history takes what is read in a request that a client sent; there are no sweeps yet
 abbrev pub IsFromClient : Site → Sent → Entry → Type 0
-IsFromClient site sent (Take moment request) = (conn : ConnId) × (message : Message) × WasSent sent conn message × (view_of site.vendors message ≡ Ok request)
-IsFromClient site sent (Sweep moment) = Unit {0}
+IsFromClient site sent (Take moment request) = (conn : ConnId) × (message : Message) × WasAsked sent conn message × (view_of site.vendors message ≡ Ok request)
+IsFromClient site sent (Sweep moment) = ⊥
 
 -- The connection was made between a client and a node that is none, so it has one client. Connections are
 -- numbered from 1.
@@ -100,5 +104,6 @@ pub record KeepsPromise (site : Site) (steps : List Step) (trace : Trace) : Type
   pub received : All (λ item. IsRightAnswer site steps trace.sent trace.book item.0 item.1) trace.received
   pub not_more : (conn : ConnId) (hop end : ℕ) → answers_with trace.received conn hop end ≤ requests_with trace.sent conn hop end
   pub legal : IsLegal trace.book.history
+  pub within : length trace.book.history ≤ site.limit
   pub taken : All (IsFromClient site trace.sent) trace.book.history
   pub terms : trace.book.terms ≡ (opened site).terms

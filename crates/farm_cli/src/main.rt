@@ -1,6 +1,13 @@
 //! The farm as a program: it replays a schedule from standard input over the row site.
 #![tactic(auto)]
 
+ghost use Rattle.std.specs.Prelude.{◌≡◌, ◌≢◌, ℕ, List, OnOk, IfErr, IfSome, Err};
+ghost use Rattle.std.specs.Io.KnownBytes.{Keeps, Appends};
+ghost use Rattle.farm_cli.specs.declared.script.fault.ScriptFault.{ScriptFault};
+ghost use Rattle.farm_cli.specs.Replay.{Replays, IsRefused};
+ghost use Rattle.farm_cli.specs.Site.{the_row_site};
+ghost use Rattle.farm_cli.specs.Writing.{BeginsWriting};
+
 mod output;
 mod replay;
 mod report;
@@ -14,17 +21,31 @@ use replay::{ReplayFault, replay_io};
 use site::row_site;
 use std::alloc::Global;
 use std::io;
+use std::io::{Read, Write};
 use std::process::ExitCode;
 
-fn replay_row_site(rt: &(impl Input + Print), alloc: Global) -> Result<(), ReplayFault> {
+/// The replay of a schedule over the row site.
+fn replay_row_site<R: Read, W: Write>(
+    alloc: Global,
+    reader: &mut R,
+    writer: &mut W,
+) -> Result<(), ReplayFault>
+    ensures ok { OnOk result (IfSome (R.remaining reader.old) (λ octets.
+        (printed : List ℕ) × Replays the_row_site octets printed × Appends (W.contents writer.old) (W.contents writer.new) printed)) }
+    ensures script { (fault : ScriptFault) → result ≡ Err (ReplayFault.Script fault) →
+        IfSome (R.remaining reader.old) (λ octets. IsRefused the_row_site octets fault) }
+    ensures nothing { IfErr result (λ fault. fault ≢ ReplayFault.Write → Keeps (W.contents writer.old) (W.contents writer.new)) }
+    ensures write { result ≡ Err ReplayFault.Write → IfSome (R.remaining reader.old) (λ octets.
+        (printed : List ℕ) × Replays the_row_site octets printed × BeginsWriting (W.contents writer.old) (W.contents writer.new) printed) }
+{
     let Ok(site) = row_site(alloc) else {
         return Err(ReplayFault::OutOfMemory);
     };
-    replay_io::<PlainWire, _, _>(alloc, &site, &mut rt.reader(), &mut io::writer(rt))
+    replay_io::<PlainWire, _, _>(alloc, &site, reader, writer)
 }
 
 fn main(rt: HostRuntime) -> ExitCode {
-    match replay_row_site(&rt, rt.alloc()) {
+    match replay_row_site(rt.alloc(), &mut rt.reader(), &mut io::writer(&rt)) {
         Ok(()) => ExitCode::SUCCESS,
         Err(fault) => {
             let _ = rt.eprintln(fault);

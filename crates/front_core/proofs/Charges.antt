@@ -1,7 +1,7 @@
 -- The cases of a charge, and what its answer stands on.
 use Rattle.std.proofs.Common.{◌≡◌, ℕ, ◌≤◌, Bool, true, false, cond, leb, ltb, List, [], ◌∷◌, length, Option, Some, None, Result, Ok, Err, inl, inr, refl}
 use Rattle.std.specs.Prelude.{◌⊎◌, All, unwrap_or}
-use Rattle.std.proofs.lemmas.Bool.{leb-true, ltb-false}
+use Rattle.std.proofs.lemmas.Bool.{leb-true, leb-false, ltb-false}
 use Rattle.std.proofs.lemmas.List.Elements.{All-nil, All-cons}
 use Rattle.dia_base.specs.declared.number.ConnId.{ConnId}
 use Rattle.dia_base.specs.declared.number.Moment.{Moment}
@@ -37,7 +37,7 @@ by_room : (name realm vendors : List ℕ) (ledger : Ledger) (moment : Moment) (m
     → leb ledger.limit (length ledger.history) ≡ b
     → ChargesBy name realm vendors ledger moment message request (cond b (Err (Full ledger.limit)) (Ok (record { reply = reply_to ledger.terms ledger.history request; place = length ledger.history; fresh = true })))
 by_room name realm vendors ledger moment message request true view new e = has_no_room request view new (leb-true _ _ e)
-by_room name realm vendors ledger moment message request false view new e = takes request view new
+by_room name realm vendors ledger moment message request false view new e = takes request view new (leb-false _ _ e)
 
 by_kept : (name realm vendors : List ℕ) (ledger : Ledger) (moment : Moment) (message : Message) (request : CcRequest) (place : ℕ) (kept : Option CcReply) → view_of vendors message ≡ Ok request
     → kept_reply ledger.terms ledger.history (key_of request) ≡ kept → ChargesBy name realm vendors ledger moment message request (answer_kept ledger request place kept)
@@ -61,7 +61,7 @@ pub answered_or_refused : (name realm vendors : List ℕ) (ledger book : Ledger)
 answered_or_refused name realm vendors ledger book moment message answer legal (refuses refusal view) = inr (record { refusal = refusal; cause = by_view refusal view; written = refl })
 answered_or_refused name realm vendors ledger book moment message answer legal (repeats request reply view kept) = inl (record { request = request; view = view; reply = reply; kept = kept; written = refl })
 answered_or_refused name realm vendors ledger book moment message answer legal (has_no_room request view new full) = inr (record { refusal = refused TooBusy; cause = book_full request view new full; written = refl })
-answered_or_refused name realm vendors ledger book moment message answer legal (takes request view new) =
+answered_or_refused name realm vendors ledger book moment message answer legal (takes request view new room) =
     let is_new = new-without_reply ledger.terms ledger.history (key_of request) new in
     inl (record {
       request = request;

@@ -1,5 +1,5 @@
 -- What a charge does: one of four cases.
-use Rattle.std.specs.Prelude.{◌≡◌, ℕ, ◌≤◌, List, length, Some, None, Ok, Err}
+use Rattle.std.specs.Prelude.{◌≡◌, ℕ, ◌≤◌, ◌<◌, List, length, Some, None, Ok, Err}
 use Rattle.dia_base.specs.declared.number.Moment.{Moment}
 use Rattle.dia_message.specs.declared.message.Message.{Message}
 use Rattle.cc_view.specs.declared.code.ResultCode.TheVariants.{TooBusy}
@@ -27,4 +27,5 @@ pub data IsCharge (name realm vendors : List ℕ) (ledger : Ledger) (moment : Mo
       → ledger.limit ≤ length ledger.history → IsCharge name realm vendors ledger moment message (refusal_of name realm message (refused TooBusy)) ledger
   takes :
       (request : CcRequest) → view_of vendors message ≡ Ok request → kept_reply ledger.terms ledger.history (key_of request) ≡ None
+      → length ledger.history < ledger.limit
       → IsCharge name realm vendors ledger moment message (answer_to name realm message request (reply_to ledger.terms ledger.history request)) (with_take ledger moment request)

@@ -1,6 +1,6 @@
 //! A whole run of the farm.
 
-ghost use Rattle.std.specs.Prelude.{◌≡◌, ◌≤◌, IfOk, IfErr, IfSome, take};
+ghost use Rattle.std.specs.Prelude.{◌≡◌, ◌≤◌, ◌<◌, IfOk, IfErr, MatchOption, length, take};
 ghost use Rattle.farm_cli.specs.FarmStep.{skips as skips_of};
 ghost use Rattle.farm_cli.specs.Promise.{KeepsPromise};
 ghost use Rattle.farm_cli.specs.Run.{IsRunnable, IsTrace, trace_of as told_of};
@@ -62,8 +62,8 @@ pub fn run<W: Wire>(alloc: Global, site: &Site, steps: &[Step]) -> Result<Trace,
     requires { IsRunnable site.now }
     ensures trace { IfOk result (IsTrace site.now steps.now) }
     ensures promise { IfOk result (KeepsPromise site.now steps.now) }
-    ensures err { IfErr result (λ error. IfSome error.trace (λ trace.
-        IsTrace site.now (take error.step steps.now) trace × KeepsPromise site.now (take error.step steps.now) trace)) }
+    ensures err { IfErr result (λ error. MatchOption error.trace (error.step ≡ 0) (λ trace.
+        (error.step < length steps.now) × IsTrace site.now (take error.step steps.now) trace × KeepsPromise site.now (take error.step steps.now) trace)) }
 {
     let Ok(mut world) = World::open(alloc, site) else {
         return Err(RunError {

@@ -27,7 +27,7 @@ returns-in_default-step-clause-err g c =
     let steps = take c.loop-place.place c.args.steps.now in
     let is_trace : IsTrace site steps c.trace_of.result =
     trace_before site steps c.loop-place.skipped c.loop-place.world c.step.new.self c.trace_of.result c.loop-place.invariant.0 c.in_default-step.ensures.err c.trace_of.ensures in
-    (is_trace, promise_kept site steps c.trace_of.result c.requires is_trace)
+    (omega arith, is_trace, promise_kept site steps c.trace_of.result c.requires is_trace)
 
 pub returns-clause-promise : goal.returns-clause-promise
 returns-clause-promise g c =
