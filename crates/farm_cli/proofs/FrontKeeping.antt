@@ -1,5 +1,5 @@
 -- Each event of a front keeps what stands of it.
-use Rattle.std.proofs.Common.{◌≡◌, ℕ, ◌+◌, ◌≤◌, arith, Bool, true, false, cond, ltb, List, [], ◌∷◌, ◌++◌, length, length-append, Option, Some, None, Ok, refl, subst}
+use Rattle.std.proofs.Common.{◌≡◌, ℕ, ◌≤◌, arith, Bool, true, false, cond, ltb, List, [], ◌∷◌, ◌++◌, length, length-append, Option, Some, None, Ok, refl, subst}
 use Rattle.std.specs.Prelude.{All, slice_get}
 use Rattle.std.proofs.lemmas.List.Elements.{All-nil, All-cons, All-push, All-head, All-tail, All-set}
 use Rattle.dia_base.specs.declared.number.ConnId.{ConnId}
@@ -155,9 +155,9 @@ charge_stands site sent name realm vendors ledger book moment conn message answe
 charge_stands site sent name realm vendors ledger book moment conn message answer (takes request view new room) knows asked legal within taken =
     let grown : length (ledger.history ++ Take moment request ∷ []) ≤ ledger.limit = omega (arith, room, length-append ledger.history (Take moment request ∷ [])) in
     record {
-  legal = IsLegal-push ledger.history moment request legal (new-without_reply ledger.terms ledger.history _ new);
-  taken = All-push (IsFromClient site sent) ledger.history (Take moment request) taken (conn, message, asked, subst (λ (vs : List ℕ). view_of vs message ≡ Ok request) knows view);
-  terms = refl;
-  limit = refl;
-  within = grown;
-}
+      legal = IsLegal-push ledger.history moment request legal (new-without_reply ledger.terms ledger.history _ new);
+      taken = All-push (IsFromClient site sent) ledger.history (Take moment request) taken (conn, message, asked, subst (λ (vs : List ℕ). view_of vs message ≡ Ok request) knows view);
+      terms = refl;
+      limit = refl;
+      within = grown;
+    }

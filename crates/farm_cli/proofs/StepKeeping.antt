@@ -27,7 +27,7 @@ use Rattle.farm_cli.specs.declared.world.parts.FrontPart.{FrontPart}
 use Rattle.farm_cli.specs.declared.world.parts.Line.{Line}
 use Rattle.farm_cli.specs.Cause.{at_arrival, at_charge}
 use Rattle.farm_cli.specs.FarmStep.{next_conn, learnt_by, learnt, joined, can_rise, raised, sent_on, sent_by, arrived_at_front, Taken, taken_from, delivered_to, delivered, picked_at, picks_at, emitted_at, emits_at, charged_at, charges_at, after_step, Outcome, FarmStep}
-use Rattle.farm_cli.specs.Promise.{IsPassed, WasSent, WasAsked, HasOneClient, is_with}
+use Rattle.farm_cli.specs.Promise.{IsPassed, WasAsked, HasOneClient, is_with}
 use Rattle.farm_cli.specs.Run.{IsRunnable}
 use Rattle.farm_cli.specs.World.{Sent, WorldState, is_client, is_linked, is_relay, is_between, is_front_at, with_front, front_of, front_at}
 use Rattle.farm_cli.proofs.FrontKeeping.{same_book, connected_stands, arrival_stands, pick_stands, emit_stands, done_stands, charge_grows, charge_stands}
