@@ -284,13 +284,24 @@ impl Model {
     }
 
     fn charge(&mut self, turn: Turn) -> Result<Reply, AllocError> {
-        let number = turn.number;
-        if let Some(kept) = self.kept.iter().find(|kept| kept.number == number) {
-            return Ok(kept.reply);
+        if let Some(reply) = self.kept_reply(turn.number) {
+            return Ok(reply);
         }
         let reply = self.debit(turn);
-        self.kept.push(Kept { number, reply })?;
+        self.kept.push(Kept {
+            number: turn.number,
+            reply,
+        })?;
         Ok(reply)
+    }
+
+    fn kept_reply(&self, number: usize) -> Option<Reply> {
+        for kept in &self.kept {
+            if kept.number == number {
+                return Some(kept.reply);
+            }
+        }
+        None
     }
 
     fn debit(&mut self, turn: Turn) -> Reply {
