@@ -1,0 +1,6 @@
+pub mod Finding
+pub mod Seconds
+pub mod Requests
+pub mod Faults
+pub mod Following
+pub mod Shapes

@@ -1,0 +1,7 @@
+use Rattle.std.proofs.Common.{refl}
+use Rattle.dia_grammar.specs.Request.{route_record}
+use Rattle.dia_grammar.proofs.Following.{fault-follows, record-known}
+use Rattle.dia_grammar.proofs.laws.route_record_may_follow.Goals as goal
+
+pub returns : goal.returns
+returns c = λ vendors avps flags value. fault-follows vendors avps (route_record flags value) (record-known vendors flags value) refl

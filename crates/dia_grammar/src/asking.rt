@@ -1,0 +1,102 @@
+//! What is asked of a list of AVPs, be it that of a message or of a group.
+
+ghost use Rattle.std.specs.Prelude.{◌≡◌, ◌<◌, length, IfSome};
+ghost use Rattle.dia_grammar.specs.Grammar.{has_avp as has_avp_of, is_among as is_one_of, is_known as is_known_avp, is_of as is_of_code, is_mandatory as has_flag_m, is_second as is_second_of, is_standard as has_standard_code, is_unknown_mandatory as is_unknown_with_m, has_row as is_in_dictionary, missing_of, second_of, unknown_of};
+
+use crate::names::SERVICE_CONTEXT_ID;
+use dia_avp::RawAvp;
+use dia_base::Code;
+use dia_dict::row_of;
+
+/// The flag M: who does not know the AVP refuses the message (RFC 6733, section 4.1).
+const MANDATORY: u8 = 0x40;
+
+/// Whether the AVP has this code and vendor 0.
+pub fn is_of(avp: &RawAvp, code: u32) -> bool
+    ensures { result ≡ is_of_code code avp.now }
+{
+    avp.vendor == 0 && avp.code == code
+}
+
+fn is_among(avp: &RawAvp, codes: &[u32]) -> bool
+    ensures { result ≡ is_one_of codes.now avp.now }
+{
+    codes.iter().any(|code| is_of(avp, *code))
+}
+
+pub(crate) fn has_avp(avps: &[RawAvp], code: u32) -> bool
+    ensures { result ≡ has_avp_of code avps.now }
+{
+    avps.iter().any(|avp| is_of(avp, code))
+}
+
+fn is_mandatory(avp: &RawAvp) -> bool
+    ensures { result ≡ has_flag_m avp.now }
+{
+    avp.flags & MANDATORY != 0
+}
+
+fn has_row(avp: &RawAvp) -> bool
+    ensures { result ≡ is_in_dictionary avp.now.code avp.now.vendor }
+{
+    row_of(Code(avp.code), avp.vendor).is_some()
+}
+
+/// Whether it has one of the codes 1 to 461 of vendor 0.
+fn is_standard(avp: &RawAvp) -> bool
+    ensures { result ≡ has_standard_code avp.now.code avp.now.vendor }
+{
+    avp.vendor == 0 && 1 <= avp.code && avp.code <= SERVICE_CONTEXT_ID
+}
+
+/// Whether the AVP is known: the dictionary has a row for it, or its vendor is 0 and its code one of
+/// 1 to 461, or its vendor is listed.
+pub fn is_known(avp: &RawAvp, vendors: &[u32]) -> bool
+    ensures { result ≡ is_known_avp vendors.now avp.now }
+{
+    has_row(avp) || is_standard(avp) || vendors.contains(&avp.vendor)
+}
+
+fn is_unknown_mandatory(avp: &RawAvp, vendors: &[u32]) -> bool
+    ensures { result ≡ is_unknown_with_m vendors.now avp.now }
+{
+    is_mandatory(avp) && !is_known(avp, vendors)
+}
+
+/// The place of the first AVP that has the flag M and is not known (RFC 6733, section 7.1.5:
+/// DIAMETER_AVP_UNSUPPORTED).
+pub fn first_unknown(avps: &[RawAvp], vendors: &[u32]) -> Option<usize>
+    ensures place { result ≡ unknown_of vendors.now avps.now }
+    ensures within { IfSome result (λ at. at < length avps.now) }
+{
+    avps.iter()
+        .position(|avp| is_unknown_mandatory(avp, vendors))
+}
+
+/// Whether it has one of the codes, and an AVP before it has the same.
+fn is_second(avp: &RawAvp, before: &[RawAvp], codes: &[u32]) -> bool
+    ensures { result ≡ is_second_of codes.now before.now avp.now }
+{
+    is_among(avp, codes) && has_avp(before, avp.code)
+}
+
+/// The place of the first AVP that is a second one of its code, among these codes (RFC 6733, section
+/// 7.1.5: DIAMETER_AVP_OCCURS_TOO_MANY_TIMES).
+pub fn first_repeated(avps: &[RawAvp], codes: &[u32]) -> Option<usize>
+    ensures place { result ≡ second_of codes.now avps.now }
+    ensures within { IfSome result (λ at. at < length avps.now) }
+{
+    for (at, avp) in avps.iter().enumerate() {
+        if is_second(avp, &avps[..at], codes) {
+            return Some(at);
+        }
+    }
+    None
+}
+
+/// The first of these codes that no AVP has (RFC 6733, section 7.1.5: DIAMETER_MISSING_AVP).
+pub fn first_missing(avps: &[RawAvp], codes: &[u32]) -> Option<u32>
+    ensures { result ≡ missing_of codes.now avps.now }
+{
+    codes.iter().copied().find(|code| !has_avp(avps, *code))
+}

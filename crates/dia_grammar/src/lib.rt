@@ -1,0 +1,34 @@
+//! Which AVPs a Credit-Control-Request may and must have (RFC 8506, section 3.1; RFC 6733, section
+//! 4.1), whatever most of their values are.
+//!
+//! - [`check`]: the first fault of a request's AVPs, as a [`GrammarFault`] with its code or place.
+//! - [`is_of`], [`is_known`], [`first_unknown`], [`first_repeated`], [`first_missing`]: the same
+//!   questions of any list of AVPs, for groups.
+//! - [`names`]: the codes of the AVPs that are named here.
+//!
+//! An AVP that is named by its code is one of vendor 0. A place is one in the list of AVPs, counted
+//! from 0. No call takes memory.
+//!
+//! `specs/Grammar` says what is asked of the AVPs, case by case in the order in which the cases
+//! decide. The functions of `laws` have no body: their contracts are laws of these definitions. They
+//! say what a request is ([`what_a_request_is`]) and what a fault is ([`what_a_fault_is`],
+//! [`what_a_second_one_is`]), and what leaves the answer as it is ([`more_may_follow`],
+//! [`route_record_may_follow`], [`values_do_not_count`]).
+#![tactic(auto)]
+
+mod asking;
+mod fault;
+mod laws;
+pub mod names;
+mod request;
+
+pub use asking::{first_missing, first_repeated, first_unknown, is_known, is_of};
+pub use fault::GrammarFault;
+pub use laws::{
+    more_may_follow, route_record_may_follow, values_do_not_count, what_a_fault_is,
+    what_a_request_is, what_a_second_one_is,
+};
+pub use request::check;
+
+#[cfg(test)]
+mod tests;
