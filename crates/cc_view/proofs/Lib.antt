@@ -2,6 +2,7 @@ mod Carrying
 mod Debits
 mod Drafts
 mod Examples
+mod Findings
 mod Messages
 mod Sessions
 mod Spelling

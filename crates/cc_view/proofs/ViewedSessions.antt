@@ -3,10 +3,9 @@ use Rattle.std.proofs.Common.{◌≡◌, ℕ, ◌+◌, ◌≤◌, List, [], ◌�
 use Rattle.std.specs.Str.{is_utf8}
 use Rattle.std.proofs.lemmas.Bool.{le-leb}
 use Rattle.dia_avp.specs.declared.avp.RawAvp.{RawAvp}
-use Rattle.dia_avp.specs.declared.fault.AvpFault.{AvpFault}
-use Rattle.dia_avp.specs.AvpReading.{split_of}
 use Rattle.dia_message.specs.declared.message.Message.{Message}
 use Rattle.cc_view.specs.declared.code.ResultCode.TheVariants.{ApplicationUnsupported, CommandUnsupported, UnableToComply}
+use Rattle.cc_view.specs.declared.refusal.Refusal.{Refusal}
 use Rattle.cc_view.specs.declared.request.CcRequest.{CcRequest}
 use Rattle.cc_view.specs.declared.request.Service.{Service}
 use Rattle.cc_view.specs.declared.request.Subscription.{Subscription}
@@ -14,8 +13,8 @@ use Rattle.cc_view.specs.Answer.{session_part}
 use Rattle.cc_view.specs.Carried.{is_of, carries_too_much}
 use Rattle.cc_view.specs.Codes.{session_id, origin_host, origin_realm, destination_realm, cc_request_number}
 use Rattle.cc_view.specs.PlainDebit.{is_text, names_parties, is_debit, debit_from, u32_at, subscription_of, service_of, plain_debit_of}
-use Rattle.cc_view.specs.Refusing.{refused}
-use Rattle.cc_view.specs.RequestView.{content_or_refusal, view_of_avps, view_of}
+use Rattle.cc_view.specs.Refusing.{refused, grammar_refusal, listed_in, unless_refused}
+use Rattle.cc_view.specs.RequestView.{content_or_refusal, view_of_list, view_of}
 use Rattle.cc_view.specs.Writing.{octets_avp}
 use Rattle.cc_view.proofs.Carrying.{length-carried}
 
@@ -61,28 +60,30 @@ plain_session (a ∷ b ∷ c ∷ d ∷ e ∷ f ∷ g ∷ h ∷ i ∷ j ∷ k ∷
     }
 plain_session _ request is = absurd cc
 
-few_and_plain : (much : Bool) (found : Option CcRequest) (request : CcRequest) → cond much (Err (refused UnableToComply)) (content_or_refusal found) ≡ Ok request → (much ≡ false) × (found ≡ Some request)
-few_and_plain true found request e = absurd cc
-few_and_plain false (Some content) request e = let same : content ≡ request = cc in (refl, cc)
-few_and_plain false None request e = absurd cc
+few_and_plain : (much : Bool) (refusal : Option Refusal) (found : Option CcRequest) (request : CcRequest)
+    → cond much (Err (refused UnableToComply)) (unless_refused refusal (content_or_refusal found)) ≡ Ok request → (much ≡ false) × (found ≡ Some request)
+few_and_plain true refusal found request e = absurd cc
+few_and_plain false (Some given) found request e = absurd cc
+few_and_plain false None (Some content) request e = let same : content ≡ request = cc in (refl, cc)
+few_and_plain false None None request e = absurd cc
 
-short_session : (s : Result (List RawAvp) AvpFault) (request : CcRequest) → view_of_avps s ≡ Ok request → 8 + length request.session ≤ 49152
-short_session (Err fault) request e = absurd cc
-short_session (Ok avps) request e =
-    let parts = few_and_plain (carries_too_much avps) (plain_debit_of avps) request e in
+short_session : (vendors : List ℕ) (s : Result (List RawAvp) Refusal) (request : CcRequest) → view_of_list vendors s ≡ Ok request → 8 + length request.session ≤ 49152
+short_session vendors (Err refusal) request e = absurd cc
+short_session vendors (Ok avps) request e =
+    let parts = few_and_plain (carries_too_much avps) (grammar_refusal vendors avps) (plain_debit_of avps) request e in
     let found = plain_session avps request parts.1 in
     let short : 8 + length found.avp.value ≤ 49152 = length-carried avps found.avp parts.0 found.first in
     omega (arith, ap (λ (x : List ℕ). length x) found.value)
 
-viewed : (application command : Bool) (s : Result (List RawAvp) AvpFault) (request : CcRequest)
-    → cond (not application) (Err (refused ApplicationUnsupported)) (cond (not command) (Err (refused CommandUnsupported)) (view_of_avps s)) ≡ Ok request → view_of_avps s ≡ Ok request
-viewed true true s request e = e
-viewed true false s request e = absurd cc
-viewed false command s request e = absurd cc
+viewed : (vendors : List ℕ) (application command : Bool) (s : Result (List RawAvp) Refusal) (request : CcRequest)
+    → cond (not application) (Err (refused ApplicationUnsupported)) (cond (not command) (Err (refused CommandUnsupported)) (view_of_list vendors s)) ≡ Ok request → view_of_list vendors s ≡ Ok request
+viewed vendors true true s request e = e
+viewed vendors true false s request e = absurd cc
+viewed vendors false command s request e = absurd cc
 
 -- the Session-Id of what was viewed is written
 pub session_part-viewed : (vendors : List ℕ) (m : Message) (request : CcRequest) → view_of vendors m ≡ Ok request → session_part request.session ≡ octets_avp session_id request.session ∷ []
 unfolding view_of
 session_part-viewed vendors m request e =
-    let short : 8 + length request.session ≤ 49152 = short_session (split_of m.body) request (viewed (eqb m.header.application 4) (eqb m.header.command 272) (split_of m.body) request e) in
+    let short : 8 + length request.session ≤ 49152 = short_session vendors (listed_in m.body) request (viewed vendors (eqb m.header.application 4) (eqb m.header.command 272) (listed_in m.body) request e) in
     ap (λ (b : Bool). cond b (octets_avp session_id request.session ∷ []) []) (le-leb (length request.session) 49144 (omega arith))

@@ -2,7 +2,7 @@
 
 ghost use Rattle.std.specs.Prelude.{◌≡◌, ◌≤◌, ◌<◌, ◌-◌, ◌^◌, ◌+◌, ◌++◌, false, find, IfOk, OnOk};
 ghost use Rattle.std.specs.Option.{SomeIff, option_copied};
-ghost use Rattle.dia_avp.specs.AvpList.{header_len as header_len_of, padding_of};
+ghost use Rattle.dia_avp.specs.AvpList.{has_vendor as has_vendor_of, header_len as header_len_of, padding_of};
 ghost use Rattle.dia_avp.specs.AvpReading.{split_of};
 ghost use Rattle.cc_view.specs.Carried.{carriable as carriable_of, carries_too_much as is_too_much, is_carried as is_carried_avp, is_of as is_of_code, padded_len, proxies_in, session_in};
 
@@ -102,7 +102,14 @@ pub(crate) fn header_len(flags: u8) -> usize
     ensures value { result ≡ header_len_of flags }
     ensures most { result ≤ 12 }
 {
-    if flags & VENDOR_FLAG != 0 { 12 } else { 8 }
+    if has_vendor(flags) { 12 } else { 8 }
+}
+
+/// Whether a Vendor-ID follows the length.
+pub(crate) fn has_vendor(flags: u8) -> bool
+    ensures { result ≡ has_vendor_of flags }
+{
+    flags & VENDOR_FLAG != 0
 }
 
 /// The length with its padding, up to the next multiple of 4.

@@ -15,7 +15,8 @@ use crate::names::{
     REQUESTED_SERVICE_UNIT, SERVICE_CONTEXT_ID, SESSION_ID, SUBSCRIPTION_ID, SUBSCRIPTION_ID_DATA,
     SUBSCRIPTION_ID_TYPE,
 };
-use crate::reading::{ViewError, refused};
+use crate::reading::ViewError;
+use crate::refusing::refused;
 use crate::request::{CcRequest, RequestKind, RequestedAction, Service, Services, Subscription};
 use crate::splitting::readable;
 use dia_avp::{RawAvp, Wire};

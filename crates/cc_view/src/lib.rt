@@ -2,6 +2,7 @@
 #![tactic(auto)]
 
 mod answer;
+mod broken;
 mod carried;
 mod code;
 mod debit;
@@ -12,6 +13,7 @@ mod matching;
 mod names;
 mod reading;
 mod refusal;
+mod refusing;
 mod reply;
 mod request;
 mod splitting;
