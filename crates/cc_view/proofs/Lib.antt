@@ -1,5 +1,5 @@
 mod Carrying
-mod Debits
+mod Checks
 mod Drafts
 mod Examples
 mod Findings
@@ -7,6 +7,5 @@ mod Messages
 mod Sessions
 mod Spelling
 mod Splits
-mod Texts
 mod ViewedSessions
 mod Views

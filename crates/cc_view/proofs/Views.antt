@@ -1,5 +1,5 @@
 -- The view of a message, case by case.
-use Rattle.std.proofs.Common.{◌≡◌, ℕ, List, Bool, true, false, not, cond, eqb, eq-eqb, Option, None, Result, Ok, Err, refl, sym, ap, subst, ◌∙◌}
+use Rattle.std.proofs.Common.{◌≡◌, ℕ, List, Bool, true, false, not, cond, eqb, eq-eqb, Option, Result, Ok, Err, sym, ap, subst, ◌∙◌}
 use Rattle.std.proofs.lemmas.Bool.{ne_eqb}
 use Rattle.dia_avp.specs.declared.avp.RawAvp.{RawAvp}
 use Rattle.dia_message.specs.declared.message.Message.{Message}
@@ -9,10 +9,10 @@ use Rattle.cc_view.specs.declared.reading.ViewError.{ViewError}
 use Rattle.cc_view.specs.declared.reading.ViewError.TheVariants.{Refused, OutOfMemory}
 use Rattle.cc_view.specs.declared.request.CcRequest.{CcRequest}
 use Rattle.cc_view.specs.Carried.{carries_too_much}
-use Rattle.cc_view.specs.Finding.{Finds, FindsAll, GivesAll, Passes}
-use Rattle.cc_view.specs.PlainDebit.{plain_debit_of}
-use Rattle.cc_view.specs.Refusing.{refused, grammar_refusal, listed_in, unless_refused}
-use Rattle.cc_view.specs.RequestView.{content_or_refusal, view_of_avps, view_of_list, view_of, IsView}
+use Rattle.cc_view.specs.Content.{content_of}
+use Rattle.cc_view.specs.Finding.{Gives, GivesAll, Passes}
+use Rattle.cc_view.specs.Refusing.{refused, listed_in, unless_refused}
+use Rattle.cc_view.specs.RequestView.{request_refusal, view_of_avps, view_of_list, view_of, IsView}
 
 abbrev view_by : List ℕ → Bool → Bool → Result (List RawAvp) Refusal → Result CcRequest Refusal
 view_by vendors application command s = cond (not application) (Err (refused ApplicationUnsupported)) (cond (not command) (Err (refused CommandUnsupported)) (view_of_list vendors s))
@@ -35,17 +35,14 @@ view_of-list vendors m s a c e =
     ∙ ap (view_of_list vendors) e
 
 abbrev view_in : List RawAvp → Bool → Option Refusal → Result CcRequest Refusal
-view_in avps much refusal = cond much (Err (refused UnableToComply)) (unless_refused refusal (content_or_refusal (plain_debit_of avps)))
+view_in avps much refusal = cond much (Err (refused UnableToComply)) (unless_refused refusal (content_of avps))
 
 pub view_of_avps-much : (vendors : List ℕ) (avps : List RawAvp) → carries_too_much avps ≡ true → view_of_avps vendors avps ≡ Err (refused UnableToComply)
-view_of_avps-much vendors avps much = ap (λ (b : Bool). view_in avps b (grammar_refusal vendors avps)) much
+view_of_avps-much vendors avps much = ap (λ (b : Bool). view_in avps b (request_refusal vendors avps)) much
 
-pub view_of_avps-few : (vendors : List ℕ) (avps : List RawAvp) (refusal : Option Refusal) → carries_too_much avps ≡ false → grammar_refusal vendors avps ≡ refusal
-    → view_of_avps vendors avps ≡ unless_refused refusal (content_or_refusal (plain_debit_of avps))
-view_of_avps-few vendors avps refusal few e = ap (λ (b : Bool). view_in avps b (grammar_refusal vendors avps)) few ∙ ap (view_in avps false) e
-
-fault : Refusal → Result CcRequest Refusal
-fault refusal = Err refusal
+pub view_of_avps-few : (vendors : List ℕ) (avps : List RawAvp) (refusal : Option Refusal) → carries_too_much avps ≡ false → request_refusal vendors avps ≡ refusal
+    → view_of_avps vendors avps ≡ unless_refused refusal (content_of avps)
+view_of_avps-few vendors avps refusal few e = ap (λ (b : Bool). view_in avps b (request_refusal vendors avps)) few ∙ ap (view_in avps false) e
 
 -- a refusal that the view has
 pub IsView-refused : (view : Result CcRequest Refusal) (e : ViewError) (refusal : Refusal) → e ≡ Refused refusal → view ≡ Err refusal → IsView view (Err e)
@@ -61,16 +58,8 @@ pub IsView-tested : (view : Result CcRequest Refusal) (refusal : Option Refusal)
 IsView-tested view refusal content (Refused given) is h = is ∙ ap (λ (x : Option Refusal). unless_refused x content) h
 IsView-tested view refusal content OutOfMemory is h = tt
 
--- what a plain debit says is the view
-pub IsView-found : (view : Result CcRequest Refusal) (avps : List RawAvp) (r : Result CcRequest ViewError) → view ≡ content_or_refusal (plain_debit_of avps) → Finds (plain_debit_of avps) r → IsView view r
-unfolding fault
-IsView-found view avps (Ok request) is h = is ∙ ap content_or_refusal h
-IsView-found view avps (Err (Refused refusal)) is h = is ∙ ap content_or_refusal h.0 ∙ sym (ap fault h.1)
-IsView-found view avps (Err OutOfMemory) is h = tt
-
--- no plain debit
-pub Finds-none : {T : Type 0} (o : Option T) (e : ViewError) → e ≡ Refused (refused UnableToComply) → o ≡ None → Finds o (Err e)
-Finds-none o e is none = subst (λ (x : ViewError). Finds o (Err x)) (sym is) (none, refl)
-
-pub FindsAll-none : {T : Type 0} (o : Option (List T)) (e : ViewError) → e ≡ Refused (refused UnableToComply) → o ≡ None → FindsAll o (Err e)
-FindsAll-none o e is none = subst (λ (x : ViewError). FindsAll o (Err x)) (sym is) (none, refl)
+-- the content of AVPs that are not refused is the view
+pub IsView-content : (view found : Result CcRequest Refusal) (r : Result CcRequest ViewError) → view ≡ found → Gives found r → IsView view r
+IsView-content view found (Ok request) is h = is ∙ h
+IsView-content view found (Err (Refused refusal)) is h = is ∙ h
+IsView-content view found (Err OutOfMemory) is h = tt

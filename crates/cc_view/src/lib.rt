@@ -4,11 +4,14 @@
 mod answer;
 mod broken;
 mod carried;
+mod checking;
 mod code;
-mod debit;
+mod content;
+mod counts;
 mod draft;
 mod failed;
 mod laws;
+mod limits;
 mod matching;
 mod names;
 mod reading;
