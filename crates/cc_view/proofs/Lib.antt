@@ -1,11 +1,11 @@
 mod Carrying
-mod Debits
+mod Checks
 mod Drafts
 mod Examples
+mod Findings
 mod Messages
 mod Sessions
 mod Spelling
 mod Splits
-mod Texts
 mod ViewedSessions
 mod Views

@@ -1,9 +1,7 @@
 -- The view of a message, case by case.
-use Rattle.std.proofs.Common.{◌≡◌, ℕ, List, Bool, true, false, not, cond, eqb, eq-eqb, Option, Some, None, Result, Ok, Err, refl, sym, ap, subst, ◌∙◌}
+use Rattle.std.proofs.Common.{◌≡◌, ℕ, List, Bool, true, false, not, cond, eqb, eq-eqb, Option, Result, Ok, Err, sym, ap, subst, ◌∙◌}
 use Rattle.std.proofs.lemmas.Bool.{ne_eqb}
 use Rattle.dia_avp.specs.declared.avp.RawAvp.{RawAvp}
-use Rattle.dia_avp.specs.declared.fault.AvpFault.{AvpFault}
-use Rattle.dia_avp.specs.AvpReading.{split_of}
 use Rattle.dia_message.specs.declared.message.Message.{Message}
 use Rattle.cc_view.specs.declared.code.ResultCode.TheVariants.{ApplicationUnsupported, CommandUnsupported, UnableToComply}
 use Rattle.cc_view.specs.declared.refusal.Refusal.{Refusal}
@@ -11,58 +9,57 @@ use Rattle.cc_view.specs.declared.reading.ViewError.{ViewError}
 use Rattle.cc_view.specs.declared.reading.ViewError.TheVariants.{Refused, OutOfMemory}
 use Rattle.cc_view.specs.declared.request.CcRequest.{CcRequest}
 use Rattle.cc_view.specs.Carried.{carries_too_much}
-use Rattle.cc_view.specs.PlainDebit.{plain_debit_of}
-use Rattle.cc_view.specs.Refusing.{refused}
-use Rattle.cc_view.specs.RequestView.{content_or_refusal, view_of_avps, view_of, IsView}
-use Rattle.cc_view.specs.Finding.{Finds, FindsAll}
+use Rattle.cc_view.specs.Content.{content_of}
+use Rattle.cc_view.specs.Finding.{Gives, GivesAll, Passes}
+use Rattle.cc_view.specs.Refusing.{refused, listed_in, unless_refused}
+use Rattle.cc_view.specs.RequestView.{request_refusal, view_of_avps, view_of_list, view_of, IsView}
 
-abbrev view_by : Bool → Bool → Result (List RawAvp) AvpFault → Result CcRequest Refusal
-view_by application command s = cond (not application) (Err (refused ApplicationUnsupported)) (cond (not command) (Err (refused CommandUnsupported)) (view_of_avps s))
+abbrev view_by : List ℕ → Bool → Bool → Result (List RawAvp) Refusal → Result CcRequest Refusal
+view_by vendors application command s = cond (not application) (Err (refused ApplicationUnsupported)) (cond (not command) (Err (refused CommandUnsupported)) (view_of_list vendors s))
 
 pub view_of-application : (vendors : List ℕ) (m : Message) → (m.header.application ≡ 4 → ⊥) → view_of vendors m ≡ Err (refused ApplicationUnsupported)
 unfolding view_of
-view_of-application vendors m h = ap (λ (b : Bool). view_by b (eqb m.header.command 272) (split_of m.body)) (ne_eqb m.header.application 4 h)
+view_of-application vendors m h = ap (λ (b : Bool). view_by vendors b (eqb m.header.command 272) (listed_in m.body)) (ne_eqb m.header.application 4 h)
 
 pub view_of-command : (vendors : List ℕ) (m : Message) → m.header.application ≡ 4 → (m.header.command ≡ 272 → ⊥) → view_of vendors m ≡ Err (refused CommandUnsupported)
 unfolding view_of
 view_of-command vendors m a h =
-    ap (λ (b : Bool). view_by b (eqb m.header.command 272) (split_of m.body)) (eq-eqb m.header.application 4 a)
-    ∙ ap (λ (b : Bool). view_by true b (split_of m.body)) (ne_eqb m.header.command 272 h)
+    ap (λ (b : Bool). view_by vendors b (eqb m.header.command 272) (listed_in m.body)) (eq-eqb m.header.application 4 a)
+    ∙ ap (λ (b : Bool). view_by vendors true b (listed_in m.body)) (ne_eqb m.header.command 272 h)
 
-pub view_of-split : (vendors : List ℕ) (m : Message) (s : Result (List RawAvp) AvpFault) → m.header.application ≡ 4 → m.header.command ≡ 272 → split_of m.body ≡ s → view_of vendors m ≡ view_of_avps s
+pub view_of-list : (vendors : List ℕ) (m : Message) (s : Result (List RawAvp) Refusal) → m.header.application ≡ 4 → m.header.command ≡ 272 → listed_in m.body ≡ s → view_of vendors m ≡ view_of_list vendors s
 unfolding view_of
-view_of-split vendors m s a c e =
-    ap (λ (b : Bool). view_by b (eqb m.header.command 272) (split_of m.body)) (eq-eqb m.header.application 4 a)
-    ∙ ap (λ (b : Bool). view_by true b (split_of m.body)) (eq-eqb m.header.command 272 c)
-    ∙ ap view_of_avps e
+view_of-list vendors m s a c e =
+    ap (λ (b : Bool). view_by vendors b (eqb m.header.command 272) (listed_in m.body)) (eq-eqb m.header.application 4 a)
+    ∙ ap (λ (b : Bool). view_by vendors true b (listed_in m.body)) (eq-eqb m.header.command 272 c)
+    ∙ ap (view_of_list vendors) e
 
-abbrev view_in : List RawAvp → Bool → Result CcRequest Refusal
-view_in avps much = cond much (Err (refused UnableToComply)) (content_or_refusal (plain_debit_of avps))
+abbrev view_in : List RawAvp → Bool → Option Refusal → Result CcRequest Refusal
+view_in avps much refusal = cond much (Err (refused UnableToComply)) (unless_refused refusal (content_of avps))
 
-pub view_of_avps-much : (avps : List RawAvp) → carries_too_much avps ≡ true → view_of_avps (Ok avps) ≡ Err (refused UnableToComply)
-view_of_avps-much avps much = ap (view_in avps) much
+pub view_of_avps-much : (vendors : List ℕ) (avps : List RawAvp) → carries_too_much avps ≡ true → view_of_avps vendors avps ≡ Err (refused UnableToComply)
+view_of_avps-much vendors avps much = ap (λ (b : Bool). view_in avps b (request_refusal vendors avps)) much
 
-view_of_avps-few : (avps : List RawAvp) (o : Option CcRequest) → carries_too_much avps ≡ false → plain_debit_of avps ≡ o → view_of_avps (Ok avps) ≡ content_or_refusal o
-view_of_avps-few avps o few e = ap (view_in avps) few ∙ ap content_or_refusal e
+pub view_of_avps-few : (vendors : List ℕ) (avps : List RawAvp) (refusal : Option Refusal) → carries_too_much avps ≡ false → request_refusal vendors avps ≡ refusal
+    → view_of_avps vendors avps ≡ unless_refused refusal (content_of avps)
+view_of_avps-few vendors avps refusal few e = ap (λ (b : Bool). view_in avps b (request_refusal vendors avps)) few ∙ ap (view_in avps false) e
 
 -- a refusal that the view has
 pub IsView-refused : (view : Result CcRequest Refusal) (e : ViewError) (refusal : Refusal) → e ≡ Refused refusal → view ≡ Err refusal → IsView view (Err e)
 IsView-refused view e refusal is h = subst (λ (x : ViewError). IsView view (Err x)) (sym is) h
 
-fault : Refusal → Result CcRequest Refusal
-fault refusal = Err refusal
+-- octets that are no list of AVPs
+pub IsView-unlisted : (vendors : List ℕ) (view : Result CcRequest Refusal) (found : Result (List RawAvp) Refusal) (e : ViewError) → view ≡ view_of_list vendors found → GivesAll found (Err e) → IsView view (Err e)
+IsView-unlisted vendors view found (Refused refusal) is h = is ∙ ap (view_of_list vendors) h
+IsView-unlisted vendors view found OutOfMemory is h = tt
 
--- what a plain debit says is the view
-pub IsView-found : (view : Result CcRequest Refusal) (avps : List RawAvp) (r : Result CcRequest ViewError) → view ≡ view_of_avps (Ok avps) → carries_too_much avps ≡ false
-    → Finds (plain_debit_of avps) r → IsView view r
-unfolding fault
-IsView-found view avps (Ok request) is few h = is ∙ view_of_avps-few avps (Some request) few h
-IsView-found view avps (Err (Refused refusal)) is few h = is ∙ view_of_avps-few avps None few h.0 ∙ sym (ap fault h.1)
-IsView-found view avps (Err OutOfMemory) is few h = tt
+-- AVPs that a test refuses
+pub IsView-tested : (view : Result CcRequest Refusal) (refusal : Option Refusal) (content : Result CcRequest Refusal) (e : ViewError) → view ≡ unless_refused refusal content → Passes refusal (Err e) → IsView view (Err e)
+IsView-tested view refusal content (Refused given) is h = is ∙ ap (λ (x : Option Refusal). unless_refused x content) h
+IsView-tested view refusal content OutOfMemory is h = tt
 
--- no plain debit
-pub Finds-none : {T : Type 0} (o : Option T) (e : ViewError) → e ≡ Refused (refused UnableToComply) → o ≡ None → Finds o (Err e)
-Finds-none o e is none = subst (λ (x : ViewError). Finds o (Err x)) (sym is) (none, refl)
-
-pub FindsAll-none : {T : Type 0} (o : Option (List T)) (e : ViewError) → e ≡ Refused (refused UnableToComply) → o ≡ None → FindsAll o (Err e)
-FindsAll-none o e is none = subst (λ (x : ViewError). FindsAll o (Err x)) (sym is) (none, refl)
+-- the content of AVPs that are not refused is the view
+pub IsView-content : (view found : Result CcRequest Refusal) (r : Result CcRequest ViewError) → view ≡ found → Gives found r → IsView view r
+IsView-content view found (Ok request) is h = is ∙ h
+IsView-content view found (Err (Refused refusal)) is h = is ∙ h
+IsView-content view found (Err OutOfMemory) is h = tt

@@ -39,6 +39,9 @@ cc_request_number = 415
 abbrev pub cc_request_type : ℕ
 cc_request_type = 416
 
+abbrev pub cc_service_specific_units : ℕ
+cc_service_specific_units = 417
+
 abbrev pub cc_session_failover : ℕ
 cc_session_failover = 418
 
@@ -86,6 +89,9 @@ subscription_id_data = 444
 
 abbrev pub unit_value : ℕ
 unit_value = 445
+
+abbrev pub used_service_unit : ℕ
+used_service_unit = 446
 
 abbrev pub value_digits : ℕ
 value_digits = 447

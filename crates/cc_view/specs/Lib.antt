@@ -1,10 +1,11 @@
 pub mod Answer
 pub mod Carried
+pub mod Checking
 pub mod Codes
+pub mod Content
 pub mod FailedAvp
 pub mod Finding
 pub mod FirstDebit
-pub mod PlainDebit
 pub mod Readdressing
 pub mod Refusing
 pub mod RequestNumber
@@ -13,4 +14,5 @@ pub mod ResultNumber
 pub mod ServiceLimits
 pub mod Short
 pub mod Splitting
+pub mod Units
 pub mod Writing

@@ -1,29 +1,32 @@
 -- What a credit-control server reads in a request (RFC 8506, section 3.1).
-use Rattle.std.specs.Prelude.{◌≡◌, ℕ, List, not, ◌==◌, if◌then◌else◌, Option, Some, None, Result, Ok, Err}
+use Rattle.std.specs.Prelude.{◌≡◌, ℕ, List, not, ◌==◌, if◌then◌else◌, Option, Result, Ok, Err}
+use Rattle.std.specs.Option.{option_or}
 use Rattle.dia_avp.specs.declared.avp.RawAvp.{RawAvp}
-use Rattle.dia_avp.specs.declared.fault.AvpFault.{AvpFault}
-use Rattle.dia_avp.specs.AvpReading.{split_of}
 use Rattle.dia_message.specs.declared.message.Message.{Message}
-use Rattle.cc_view.specs.declared.code.ResultCode.TheVariants.{ApplicationUnsupported, CommandUnsupported, InvalidAvpLength, UnableToComply}
+use Rattle.cc_view.specs.declared.code.ResultCode.TheVariants.{ApplicationUnsupported, CommandUnsupported, UnableToComply}
 use Rattle.cc_view.specs.declared.refusal.Refusal.{Refusal}
 use Rattle.cc_view.specs.declared.reading.ViewError.{ViewError}
 use Rattle.cc_view.specs.declared.reading.ViewError.TheVariants.{Refused, OutOfMemory}
 use Rattle.cc_view.specs.declared.request.CcRequest.{CcRequest}
 use Rattle.cc_view.specs.Carried.{carries_too_much}
+use Rattle.cc_view.specs.Checking.{command_values, groups_refusal, values_refusal}
 use Rattle.cc_view.specs.Codes.{credit_control, credit_control_application}
-use Rattle.cc_view.specs.PlainDebit.{plain_debit_of}
-use Rattle.cc_view.specs.Refusing.{refused}
+use Rattle.cc_view.specs.Content.{content_of}
+use Rattle.cc_view.specs.Refusing.{refused, grammar_refusal, listed_in, unless_refused}
 
--- the content, if the AVPs have one
-abbrev pub content_or_refusal : Option CcRequest → Result CcRequest Refusal
-content_or_refusal (Some request) = Ok request
-content_or_refusal None = Err (refused UnableToComply)
+-- Why the AVPs of a request are refused: for the grammar, then for a value, then for a group.
+abbrev pub request_refusal : List ℕ → List RawAvp → Option Refusal
+request_refusal vendors avps =
+    option_or (grammar_refusal vendors avps) (option_or (values_refusal command_values avps) (groups_refusal vendors avps))
 
-abbrev pub view_of_avps : Result (List RawAvp) AvpFault → Result CcRequest Refusal
-view_of_avps (Err fault) = Err (refused InvalidAvpLength)
-view_of_avps (Ok avps) =
+abbrev pub view_of_avps : List ℕ → List RawAvp → Result CcRequest Refusal
+view_of_avps vendors avps =
     if carries_too_much avps then Err (refused UnableToComply)
-    else content_or_refusal (plain_debit_of avps)
+    else unless_refused (request_refusal vendors avps) (content_of avps)
+
+abbrev pub view_of_list : List ℕ → Result (List RawAvp) Refusal → Result CcRequest Refusal
+view_of_list vendors (Ok avps) = view_of_avps vendors avps
+view_of_list vendors (Err refusal) = Err refusal
 
 -- What is read in a message by a server that knows AVPs of these vendors: the first case that
 -- applies. Of the header only the Application-ID and the Command Code are read.
@@ -31,7 +34,7 @@ unfoldable pub view_of : List ℕ → Message → Result CcRequest Refusal
 view_of vendors message =
     if not (message.header.application == credit_control_application) then Err (refused ApplicationUnsupported)
     else if not (message.header.command == credit_control) then Err (refused CommandUnsupported)
-    else view_of_avps (split_of message.body)
+    else view_of_list vendors (listed_in message.body)
 
 -- a call answered with this view, unless memory ran out
 abbrev pub IsView : Result CcRequest Refusal → Result CcRequest ViewError → Type 0

@@ -1,13 +1,13 @@
 //! What an answer carries back of its request (RFC 6733, section 6.2): Session-Id and each Proxy-Info.
 
-ghost use Rattle.std.specs.Prelude.{◌≡◌, ◌≤◌, ◌<◌, ◌-◌, ◌^◌, ◌+◌, ◌++◌, false, find, IfOk, OnOk};
-ghost use Rattle.std.specs.Option.{SomeIff, option_copied};
-ghost use Rattle.dia_avp.specs.AvpList.{header_len as header_len_of, padding_of};
+ghost use Rattle.std.specs.Prelude.{◌≡◌, ◌≤◌, ◌<◌, ◌-◌, ◌^◌, ◌+◌, ◌++◌, false, IfOk, OnOk};
+ghost use Rattle.std.specs.Option.{SomeIff};
+ghost use Rattle.dia_avp.specs.AvpList.{has_vendor as has_vendor_of, header_len as header_len_of, padding_of};
 ghost use Rattle.dia_avp.specs.AvpReading.{split_of};
-ghost use Rattle.cc_view.specs.Carried.{carriable as carriable_of, carries_too_much as is_too_much, is_carried as is_carried_avp, is_of as is_of_code, padded_len, proxies_in, session_in};
+ghost use Rattle.cc_view.specs.Carried.{carriable as carriable_of, carries_too_much as is_too_much, is_carried as is_carried_avp, padded_len, proxies_in, session_in};
 
 use crate::draft::Draft;
-use crate::matching::is_of;
+use crate::matching::{first_of, is_of};
 use crate::names::{PROXY_INFO, SESSION_ID};
 use crate::splitting::readable;
 use dia_avp::{Octets, RawAvp, Wire};
@@ -39,16 +39,10 @@ pub(crate) fn push_session(draft: &mut Draft, avps: &[RawAvp]) -> Result<(), All
     requires { is_too_much avps.now ≡ false }
     ensures { OnOk result (draft.new ≡ draft.old ++ session_in avps.now) }
 {
-    match first_session(avps) {
+    match first_of(avps, SESSION_ID) {
         Some(session) => draft.push_octets(SESSION_ID, session.value.as_slice()),
         None => Ok(()),
     }
-}
-
-fn first_session(avps: &[RawAvp]) -> Option<&RawAvp>
-    ensures { option_copied result ≡ find (is_of_code SESSION_ID) avps.now }
-{
-    avps.iter().find(|avp| is_of(avp, SESSION_ID))
 }
 
 /// Adds each Proxy-Info of these AVPs, in order.
@@ -102,7 +96,14 @@ pub(crate) fn header_len(flags: u8) -> usize
     ensures value { result ≡ header_len_of flags }
     ensures most { result ≤ 12 }
 {
-    if flags & VENDOR_FLAG != 0 { 12 } else { 8 }
+    if has_vendor(flags) { 12 } else { 8 }
+}
+
+/// Whether a Vendor-ID follows the length.
+pub(crate) fn has_vendor(flags: u8) -> bool
+    ensures { result ≡ has_vendor_of flags }
+{
+    flags & VENDOR_FLAG != 0
 }
 
 /// The length with its padding, up to the next multiple of 4.

@@ -2,16 +2,21 @@
 #![tactic(auto)]
 
 mod answer;
+mod broken;
 mod carried;
+mod checking;
 mod code;
-mod debit;
+mod content;
+mod counts;
 mod draft;
 mod failed;
 mod laws;
+mod limits;
 mod matching;
 mod names;
 mod reading;
 mod refusal;
+mod refusing;
 mod reply;
 mod request;
 mod splitting;

@@ -27,6 +27,8 @@ pub(crate) const CC_REQUEST_NUMBER: u32 = 415;
 
 pub(crate) const CC_REQUEST_TYPE: u32 = 416;
 
+pub(crate) const CC_SERVICE_SPECIFIC_UNITS: u32 = 417;
+
 pub(crate) const CC_SESSION_FAILOVER: u32 = 418;
 
 pub(crate) const CC_TIME: u32 = 420;
@@ -58,6 +60,8 @@ pub(crate) const SUBSCRIPTION_ID: u32 = 443;
 pub(crate) const SUBSCRIPTION_ID_DATA: u32 = 444;
 
 pub(crate) const UNIT_VALUE: u32 = 445;
+
+pub(crate) const USED_SERVICE_UNIT: u32 = 446;
 
 pub(crate) const VALUE_DIGITS: u32 = 447;
 

@@ -1,18 +1,19 @@
 //! What is read in a request (RFC 8506, section 3.1).
 
 ghost use Rattle.std.specs.Prelude.{◌≡◌};
-ghost use Rattle.cc_view.specs.Refusing.{refused as refused_for};
-ghost use Rattle.cc_view.specs.RequestView.{IsView, view_of};
+ghost use Rattle.cc_view.specs.Finding.{Passes};
+ghost use Rattle.cc_view.specs.RequestView.{IsView, request_refusal, view_of};
 ghost use Rattle.cc_view.specs.declared.reading.ViewError.TheVariants.{OutOfMemory};
 
 use crate::carried::carries_too_much;
+use crate::checking::{COMMAND_VALUES, check_groups, check_values};
 use crate::code::ResultCode;
-use crate::debit::plain_debit;
+use crate::content::content_of;
 use crate::names::{CREDIT_CONTROL, CREDIT_CONTROL_APPLICATION};
 use crate::refusal::Refusal;
+use crate::refusing::{check_grammar, listed, refused};
 use crate::request::CcRequest;
-use crate::splitting::readable;
-use dia_avp::Wire;
+use dia_avp::{RawAvp, Wire};
 use dia_message::Message;
 use std::alloc::{AllocError, AllocFailed, Global};
 use thiserror::Error;
@@ -42,13 +43,6 @@ impl<T: Drop> From<AllocFailed<T>> for ViewError {
     }
 }
 
-/// A refusal that names no AVP.
-pub(crate) fn refused(code: ResultCode) -> ViewError
-    ensures { result ≡ ViewError.Refused (refused_for code) }
-{
-    ViewError::Refused(Refusal { code, failed: None })
-}
-
 /// What a message asks of a server that knows AVPs of these vendors, or why it is refused. Of the
 /// header only the Application-ID and the Command Code are read.
 pub fn request_of<W: Wire>(
@@ -64,11 +58,20 @@ pub fn request_of<W: Wire>(
     if message.header.command != CREDIT_CONTROL {
         return Err(refused(ResultCode::CommandUnsupported));
     }
-    let Some(avps) = readable(W::split(alloc, &message.body))? else {
-        return Err(refused(ResultCode::InvalidAvpLength));
-    };
+    let split = W::split(alloc, &message.body);
+    let avps = listed(alloc, message.body.as_slice(), split)?;
     if carries_too_much(&avps) {
         return Err(refused(ResultCode::UnableToComply));
     }
-    plain_debit::<W>(alloc, &avps)
+    check_request::<W>(alloc, vendors, &avps)?;
+    content_of::<W>(alloc, &avps)
+}
+
+/// Refuses AVPs that are none of a request: for the grammar, then for a value, then for a group.
+fn check_request<W: Wire>(alloc: Global, vendors: &[u32], avps: &[RawAvp]) -> Result<(), ViewError>
+    ensures { Passes (request_refusal vendors.now avps.now) result }
+{
+    check_grammar(alloc, vendors, avps)?;
+    check_values(alloc, &COMMAND_VALUES, avps)?;
+    check_groups::<W>(alloc, vendors, avps)
 }

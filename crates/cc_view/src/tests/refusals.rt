@@ -2,13 +2,18 @@
 
 use super::*;
 
-// Result-Codes: DIAMETER_APPLICATION_UNSUPPORTED, DIAMETER_COMMAND_UNSUPPORTED, DIAMETER_AVP_UNSUPPORTED,
-// DIAMETER_UNABLE_TO_COMPLY and DIAMETER_INVALID_AVP_LENGTH.
+// Result-Code by its value's name.
 const APPLICATION_UNSUPPORTED: &str = "0000010c4000000c00000bbf";
 
 const COMMAND_UNSUPPORTED: &str = "0000010c4000000c00000bb9";
 
 const AVP_UNSUPPORTED: &str = "0000010c4000000c00001389";
+
+const INVALID_AVP_VALUE: &str = "0000010c4000000c0000138c";
+
+const MISSING_AVP: &str = "0000010c4000000c0000138d";
+
+const AVP_OCCURS_TOO_MANY_TIMES: &str = "0000010c4000000c00001391";
 
 const UNABLE_TO_COMPLY: &str = "0000010c4000000c00001394";
 
@@ -35,32 +40,233 @@ fn other_headers(rt: HostRuntime) -> Result<(), Fail> {
     Ok(())
 }
 
-// A body that is cut in its last AVP.
+// Bodies that are no list of AVPs: what stands in place of the last two AVPs of the debit, and the
+// Failed-AVP. The last AVP is cut; it says the length 12 and has V; it says 16 and its Vendor-ID is
+// cut off; half a header.
+const BROKEN: [[&str; 3]; 4] = [
+    [
+        "0100005860000110000000040000000700000064",
+        "000001bb40000028000001c24000000c00000000000001bc4000001434393137",
+        "0000011740000010000001bb40000008",
+    ],
+    [
+        "0100005c60000110000000040000000700000064",
+        "0000019fc0000008000028af",
+        "00000117400000140000019fc000000c000028af",
+    ],
+    [
+        "0100006060000110000000040000000700000064",
+        "0000019fc0000010",
+        "00000117400000180000019fc00000100000000000000000",
+    ],
+    ["0100004860000110000000040000000700000064", "0000019f", ""],
+];
+
 #[test]
 fn broken_bodies(rt: HostRuntime) -> Result<(), Fail> {
     let alloc = rt.alloc();
-    let cut = "000001bb40000028000001c24000000c00000000000001bc4000001434393137";
-    let message = message(alloc, header(4, 272), &[SESSION, FRONT, MIDDLE, cut])?;
-    let head = "0100004860000110000000040000000700000064";
-    assert!(rt; is_refused(alloc, &message, &[head, ORIGIN, INVALID_AVP_LENGTH])?);
+    for (i, [head, end, failed]) in BROKEN.iter().enumerate() {
+        let message = message(alloc, header(4, 272), &[SESSION, FRONT, MIDDLE, *end])?;
+        let expected = [*head, ORIGIN, INVALID_AVP_LENGTH, *failed];
+        assert!(rt; is_refused(alloc, &message, &expected)?, "row {i}");
+    }
     Ok(())
 }
 
-// CC-Request-Number before CC-Request-Type, and one AVP more.
-const SWAPPED: &str = "0000019f4000000c00000000000001a04000000c00000004000001b44000000c00000000";
-
-const TIMESTAMP: &str = "000000374000000ce0000000";
+// Requests that break the grammar: what stands behind the Session-Id of the debit, Result-Code and
+// Failed-AVP of the refusal. An AVP 9999 with M, the same of vendor 999 before a second
+// CC-Request-Number, no CC-Request-Number, no Requested-Action, and two CC-Request-Numbers.
+const UNGRAMMATICAL: [[&str; 5]; 5] = [
+    [
+        "0100006c60000110000000040000000700000064",
+        MIDDLE,
+        "0000270f4000000c00000001",
+        AVP_UNSUPPORTED,
+        "00000117400000140000270f4000000c00000001",
+    ],
+    [
+        "0100007060000110000000040000000700000064",
+        MIDDLE,
+        "0000019f4000000c000000000000270fc0000010000003e700000001",
+        AVP_UNSUPPORTED,
+        "00000117400000180000270fc0000010000003e700000001",
+    ],
+    [
+        "0100006c60000110000000040000000700000064",
+        "000001a04000000c00000004000001b44000000c00000000",
+        "",
+        MISSING_AVP,
+        "00000117400000140000019f4000000c00000000",
+    ],
+    [
+        "0100006c60000110000000040000000700000064",
+        "000001a04000000c000000040000019f4000000c00000000",
+        "",
+        MISSING_AVP,
+        "0000011740000014000001b44000000c00000000",
+    ],
+    [
+        "0100006c60000110000000040000000700000064",
+        MIDDLE,
+        NUMBER,
+        AVP_OCCURS_TOO_MANY_TIMES,
+        "00000117400000140000019f4000000c00000000",
+    ],
+];
 
 #[test]
-fn no_plain_debits(rt: HostRuntime) -> Result<(), Fail> {
+fn ungrammatical_requests(rt: HostRuntime) -> Result<(), Fail> {
     let alloc = rt.alloc();
+    for (i, [head, middle, end, code, failed]) in UNGRAMMATICAL.iter().enumerate() {
+        let message = message(
+            alloc,
+            header(4, 272),
+            &[SESSION, FRONT, *middle, BACK, *end],
+        )?;
+        let expected = [*head, SESSION, ORIGIN, *code, *failed];
+        assert!(rt; is_refused(alloc, &message, &expected)?, "row {i}");
+    }
+    Ok(())
+}
+
+// Without a Session-Id, and with a Session-Id that is not the first AVP.
+#[test]
+fn session_first(rt: HostRuntime) -> Result<(), Fail> {
+    let alloc = rt.alloc();
+    let without = message(alloc, header(4, 272), &[FRONT, MIDDLE, BACK])?;
     let head = "0100005860000110000000040000000700000064";
+    let failed = "00000117400000100000010740000008";
+    assert!(rt; is_refused(alloc, &without, &[head, ORIGIN, MISSING_AVP, failed])?);
+    let second = message(alloc, header(4, 272), &[FRONT, SESSION, MIDDLE, BACK])?;
     let expected = [head, SESSION, ORIGIN, UNABLE_TO_COMPLY];
-    let swapped = message(alloc, header(4, 272), &[SESSION, FRONT, SWAPPED, BACK])?;
-    assert!(rt; is_refused(alloc, &swapped, &expected)?);
-    let more = [SESSION, FRONT, MIDDLE, BACK, TIMESTAMP];
-    let more = message(alloc, header(4, 272), &more)?;
-    assert!(rt; is_refused(alloc, &more, &expected)?);
+    assert!(rt; is_refused(alloc, &second, &expected)?);
+    Ok(())
+}
+
+// An unknown AVP of 8,193 octets is not copied.
+#[test]
+fn long_unknown_avps(rt: HostRuntime) -> Result<(), Fail> {
+    let alloc = rt.alloc();
+    let mut body = octets_of(alloc, &[SESSION, FRONT, MIDDLE, BACK, "0000270f40002001"])?;
+    for _ in 0..8185 {
+        body.push(1)?;
+    }
+    let long = Message {
+        header: header(4, 272),
+        body: Octets::from_vec(body),
+    };
+    let head = "0100006860000110000000040000000700000064";
+    let failed = "00000117400000100000270f40000008";
+    let expected = [head, SESSION, ORIGIN, AVP_UNSUPPORTED, failed];
+    assert!(rt; is_refused(alloc, &long, &expected)?);
+    Ok(())
+}
+
+// Values and groups that are refused: what stands in place of the groups of the debit, Result-Code and
+// Failed-AVP.
+const BAD_GROUPS: [[&str; 4]; 9] = [
+    // Rating-Group says 16 octets where the group ends after 12
+    [
+        "0100006c60000110000000040000000700000064",
+        "000001c84000002c000001b540000018000001a5400000100000000000000c80000001b0400000100000000a",
+        INVALID_AVP_LENGTH,
+        "0000011740000014000001b04000000c00000000",
+    ],
+    // an unknown AVP with M in Subscription-Id
+    [
+        "0100006c60000110000000040000000700000064",
+        "000001bb40000034000001c24000000c00000000000001bc400000143439313730303030303030310000270f4000000c00000001",
+        AVP_UNSUPPORTED,
+        "00000117400000140000270f4000000c00000001",
+    ],
+    // a second Subscription-Id-Type
+    [
+        "0100006c60000110000000040000000700000064",
+        "000001bb40000020000001c24000000c00000000000001c24000000c00000001",
+        AVP_OCCURS_TOO_MANY_TIMES,
+        "0000011740000014000001c24000000c00000001",
+    ],
+    // no Subscription-Id-Data
+    [
+        "0100006860000110000000040000000700000064",
+        "000001bb40000014000001c24000000c00000000",
+        MISSING_AVP,
+        "0000011740000010000001bc40000008",
+    ],
+    // neither of both
+    [
+        "0100006c60000110000000040000000700000064",
+        "000001bb40000008",
+        MISSING_AVP,
+        "0000011740000014000001c24000000c00000000",
+    ],
+    // Subscription-Id-Data that is no text
+    [
+        "0100006c60000110000000040000000700000064",
+        "000001bb40000020000001c24000000c00000000000001bc40000009ff000000",
+        INVALID_AVP_VALUE,
+        "0000011740000014000001bc40000009ff000000",
+    ],
+    // CC-Total-Octets of 4 octets in an inner group
+    [
+        "0100007060000110000000040000000700000064",
+        "000001c840000028000001b540000014000001a54000000c00000001000001b04000000c0000000a",
+        INVALID_AVP_LENGTH,
+        "0000011740000018000001a5400000100000000000000000",
+    ],
+    // a second CC-Time in Used-Service-Unit
+    [
+        "0100006c60000110000000040000000700000064",
+        "000001c840000028000001be40000020000001a44000000c00000005000001a44000000c00000006",
+        AVP_OCCURS_TOO_MANY_TIMES,
+        "0000011740000014000001a44000000c00000006",
+    ],
+    // a bad Rating-Group behind an inner group with an unknown AVP
+    [
+        "0100006c60000110000000040000000700000064",
+        "000001c840000028000001b5400000140000270f4000000c00000001000001b04000000b0a0a0a00",
+        INVALID_AVP_LENGTH,
+        "0000011740000014000001b04000000c00000000",
+    ],
+];
+
+#[test]
+fn bad_groups(rt: HostRuntime) -> Result<(), Fail> {
+    let alloc = rt.alloc();
+    for (i, [head, groups, code, failed]) in BAD_GROUPS.iter().enumerate() {
+        let message = message(alloc, header(4, 272), &[SESSION, FRONT, MIDDLE, *groups])?;
+        let expected = [*head, SESSION, ORIGIN, *code, *failed];
+        assert!(rt; is_refused(alloc, &message, &expected)?, "row {i}");
+    }
+    Ok(())
+}
+
+// CC-Request-Type 5, before a group that is refused.
+#[test]
+fn bad_values(rt: HostRuntime) -> Result<(), Fail> {
+    let alloc = rt.alloc();
+    let middle = "000001a04000000c000000050000019f4000000c00000000000001b44000000c00000000";
+    let sent = [SESSION, FRONT, middle, BACK, "000001bb40000008"];
+    let message = message(alloc, header(4, 272), &sent)?;
+    let head = "0100006c60000110000000040000000700000064";
+    let failed = "0000011740000014000001a04000000c00000005";
+    let expected = [head, SESSION, ORIGIN, INVALID_AVP_VALUE, failed];
+    assert!(rt; is_refused(alloc, &message, &expected)?);
+    Ok(())
+}
+
+// Two services of one name.
+#[test]
+fn services_of_one_name(rt: HostRuntime) -> Result<(), Fail> {
+    let alloc = rt.alloc();
+    let again = "000001c840000014000001b04000000c0000000a";
+    let message = message(
+        alloc,
+        header(4, 272),
+        &[SESSION, FRONT, MIDDLE, BACK, again],
+    )?;
+    let head = "0100005860000110000000040000000700000064";
+    assert!(rt; is_refused(alloc, &message, &[head, SESSION, ORIGIN, UNABLE_TO_COMPLY])?);
     Ok(())
 }
 

@@ -1,10 +1,12 @@
-use Rattle.std.proofs.Common.{List, Ok, Err, sym, ap, subst, ◌∙◌}
+use Rattle.std.proofs.Common.{ℕ, List, Ok, Err, None, refl, sym, ap, subst, ◌∙◌}
+use Rattle.std.proofs.lemmas.Result.{err_from_is_err_and}
 use Rattle.dia_avp.specs.declared.avp.RawAvp.{RawAvp}
 use Rattle.cc_view.specs.Carried.{carries_too_much}
-use Rattle.cc_view.specs.PlainDebit.{plain_debit_of}
-use Rattle.cc_view.specs.Finding.{Finds}
-use Rattle.cc_view.proofs.Splits.{split-readable, split-unreadable}
-use Rattle.cc_view.proofs.Views.{view_of-application, view_of-command, view_of-split, view_of_avps-much, IsView-refused, IsView-found}
+use Rattle.cc_view.specs.Finding.{Gives, GivesAll, Passes}
+use Rattle.cc_view.specs.Content.{content_of}
+use Rattle.cc_view.specs.Refusing.{listed_in}
+use Rattle.cc_view.specs.RequestView.{request_refusal}
+use Rattle.cc_view.proofs.Views.{view_of-application, view_of-command, view_of-list, view_of_avps-much, view_of_avps-few, IsView-refused, IsView-unlisted, IsView-tested, IsView-content}
 use Rattle.cc_view.proofs.reading.request_of.Goals as goal
 
 pub returns-then-message-ne-CREDIT_CONTROL_APPLICATION : goal.returns-then-message-ne-CREDIT_CONTROL_APPLICATION
@@ -16,22 +18,39 @@ returns-then-message-ne-CREDIT_CONTROL g c =
     IsView-refused _ _ _ c.refused-then-message-ne-CREDIT_CONTROL.ensures
     (view_of-command c.args.vendors.now c.args.message.now c.if-message-ne-CREDIT_CONTROL_APPLICATION.false c.if-message-ne-CREDIT_CONTROL.true)
 
-pub returns-in_default : goal.returns-in_default
-returns-in_default g c =
-    let fault = split-unreadable c.args.message.now.body c.split.result c.split.ensures cc in
-    IsView-refused _ _ _ c.refused-in_default.ensures
-    (view_of-split c.args.vendors.now c.args.message.now (Err fault.0) c.if-message-ne-CREDIT_CONTROL_APPLICATION.false c.if-message-ne-CREDIT_CONTROL.false fault.1)
+pub returns-in_err-avps : goal.returns-in_err-avps
+returns-in_err-avps g c =
+    let p = err_from_is_err_and c.from_residual.result c.from_residual.ensures.1 in
+    let given : GivesAll (listed_in c.args.message.now.body) (Err c.in_err-avps.field-0.0) =
+    subst (λ (x : List ℕ). GivesAll (listed_in x) (Err c.in_err-avps.field-0.0)) c.as_slice.ensures c.in_err-avps.ensures in
+    let list = view_of-list c.args.vendors.now c.args.message.now (listed_in c.args.message.now.body) c.if-message-ne-CREDIT_CONTROL_APPLICATION.false c.if-message-ne-CREDIT_CONTROL.false refl in
+    rw (p.1, p.2) (IsView-unlisted c.args.vendors.now _ _ _ list given)
 
 pub returns-then-carries_too_much : goal.returns-then-carries_too_much
 returns-then-carries_too_much g c =
-    let split = split-readable c.args.message.now.body c.split.result c.in-Some.avps c.split.ensures cc in
+    let list = view_of-list c.args.vendors.now c.args.message.now (Ok c.in_ok-avps.avps.items) c.if-message-ne-CREDIT_CONTROL_APPLICATION.false c.if-message-ne-CREDIT_CONTROL.false
+    (ap listed_in (sym c.as_slice.ensures) ∙ c.in_ok-avps.ensures) in
     IsView-refused _ _ _ c.refused-then-carries_too_much.ensures
-    (view_of-split c.args.vendors.now c.args.message.now (Ok c.in-Some.avps.items) c.if-message-ne-CREDIT_CONTROL_APPLICATION.false c.if-message-ne-CREDIT_CONTROL.false split
-    ∙ view_of_avps-much c.in-Some.avps.items (ap carries_too_much (sym c.deref.ensures.value) ∙ sym c.if-carries_too_much.ensures))
+    (list ∙ view_of_avps-much c.args.vendors.now c.in_ok-avps.avps.items (ap carries_too_much (sym c.deref.ensures.value) ∙ sym c.if-carries_too_much.ensures))
+
+pub returns-in_err-check_request : goal.returns-in_err-check_request
+returns-in_err-check_request g c =
+    let items = c.in_ok-avps.avps.items in
+    let p = err_from_is_err_and c.from_residual-in_err-check_request.result c.from_residual-in_err-check_request.ensures.1 in
+    let list = view_of-list c.args.vendors.now c.args.message.now (Ok items) c.if-message-ne-CREDIT_CONTROL_APPLICATION.false c.if-message-ne-CREDIT_CONTROL.false
+    (ap listed_in (sym c.as_slice.ensures) ∙ c.in_ok-avps.ensures) in
+    let few = ap carries_too_much (sym c.deref.ensures.value) ∙ sym c.if-carries_too_much.ensures in
+    let given : Passes (request_refusal c.args.vendors.now items) (Err c.in_err-check_request.field-0.0) =
+    subst (λ (x : List RawAvp). Passes (request_refusal c.args.vendors.now x) (Err c.in_err-check_request.field-0.0)) c.deref-2.ensures.value c.in_err-check_request.ensures in
+    rw (p.1, p.2) (IsView-tested _ (request_refusal c.args.vendors.now items) (content_of items) _
+    (list ∙ view_of_avps-few c.args.vendors.now items (request_refusal c.args.vendors.now items) few refl) given)
 
 pub returns : goal.returns
 returns g c =
-    let split = split-readable c.args.message.now.body c.split.result c.in-Some.avps c.split.ensures cc in
-    let whole = view_of-split c.args.vendors.now c.args.message.now (Ok c.in-Some.avps.items) c.if-message-ne-CREDIT_CONTROL_APPLICATION.false c.if-message-ne-CREDIT_CONTROL.false split in
-    IsView-found _ c.in-Some.avps.items c.plain_debit.result whole (ap carries_too_much (sym c.deref.ensures.value) ∙ sym c.if-carries_too_much.ensures)
-    (subst (λ (x : List RawAvp). Finds (plain_debit_of x) c.plain_debit.result) c.deref-2.ensures.value c.plain_debit.ensures)
+    let items = c.in_ok-avps.avps.items in
+    let list = view_of-list c.args.vendors.now c.args.message.now (Ok items) c.if-message-ne-CREDIT_CONTROL_APPLICATION.false c.if-message-ne-CREDIT_CONTROL.false
+    (ap listed_in (sym c.as_slice.ensures) ∙ c.in_ok-avps.ensures) in
+    let few = ap carries_too_much (sym c.deref.ensures.value) ∙ sym c.if-carries_too_much.ensures in
+    let passed = ap (request_refusal c.args.vendors.now) (sym c.deref-2.ensures.value) ∙ c.in_ok-check_request.ensures in
+    IsView-content _ (content_of items) c.content_of.result (list ∙ view_of_avps-few c.args.vendors.now items None few passed)
+    (subst (λ (x : List RawAvp). Gives (content_of x) c.content_of.result) c.deref-3.ensures.value c.content_of.ensures)

@@ -1,0 +1,60 @@
+//! The limits of a request's services.
+
+ghost use Rattle.std.specs.Prelude.{◌≡◌};
+ghost use Rattle.std.specs.List.{list_all, list_any};
+ghost use Rattle.cc_view.specs.Content.{are_within_limits as are_within, has_small_sums as has_small, have_names_of_their_own as have_own_names, same_name as same_name_of};
+
+use crate::request::Service;
+
+/// How many services a request may have.
+const SERVICES_LIMIT: usize = 32;
+
+/// What no sum of used units reaches.
+const SUM_LIMIT: u128 = 0x4000_0000_0000_0000_0000;
+
+/// Whether these are at most 32 services with names of their own and sums below 2^78.
+pub(crate) fn are_within_limits(services: &[Service]) -> bool
+    ensures { result ≡ are_within services.now }
+{
+    services.len() <= SERVICES_LIMIT
+        && have_names_of_their_own(services)
+        && have_small_sums(services)
+}
+
+fn have_small_sums(services: &[Service]) -> bool
+    ensures { result ≡ list_all has_small services.now }
+{
+    services.iter().all(|service| has_small_sums(service))
+}
+
+fn has_small_sums(service: &Service) -> bool
+    ensures { result ≡ has_small service.now }
+{
+    service.used.iter().all(|sum| *sum < SUM_LIMIT)
+}
+
+fn have_names_of_their_own(services: &[Service]) -> bool
+    ensures { result ≡ have_own_names services.now }
+{
+    let mut rest = services;
+    while let [service, others @ ..] = rest {
+        if is_named(others, service) {
+            return false;
+        }
+        rest = others;
+    }
+    true
+}
+
+/// Whether one of these has the name of the service.
+fn is_named(services: &[Service], service: &Service) -> bool
+    ensures { result ≡ list_any (same_name_of service.now) services.now }
+{
+    services.iter().any(|other| same_name(service, other))
+}
+
+fn same_name(a: &Service, b: &Service) -> bool
+    ensures { result ≡ same_name_of a.now b.now }
+{
+    a.group == b.group && a.ident == b.ident
+}
