@@ -4,7 +4,7 @@ use Rattle.std.specs.Prelude.{option_to_list}
 use Rattle.dia_avp.specs.declared.avp.RawAvp.{RawAvp}
 use Rattle.dia_avp.specs.declared.fault.AvpFault.{AvpFault}
 use Rattle.cc_view.specs.Carried.{carriable, carries_too_much}
-use Rattle.cc_view.specs.Codes.{session_id}
+use Rattle.dia_grammar.specs.Codes.{session_id}
 use Rattle.cc_view.specs.Writing.{octets_avp}
 
 -- what is written for the Session-Id that is found

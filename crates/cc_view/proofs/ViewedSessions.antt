@@ -7,8 +7,9 @@ use Rattle.cc_view.specs.declared.code.ResultCode.TheVariants.{ApplicationUnsupp
 use Rattle.cc_view.specs.declared.refusal.Refusal.{Refusal}
 use Rattle.cc_view.specs.declared.request.CcRequest.{CcRequest}
 use Rattle.cc_view.specs.Answer.{session_part}
-use Rattle.cc_view.specs.Carried.{is_of, carries_too_much}
-use Rattle.cc_view.specs.Codes.{session_id}
+use Rattle.dia_grammar.specs.Grammar.{is_of}
+use Rattle.cc_view.specs.Carried.{carries_too_much}
+use Rattle.dia_grammar.specs.Codes.{session_id}
 use Rattle.cc_view.specs.Content.{are_within_limits, content_of, octets_in, request_in, services_in}
 use Rattle.cc_view.specs.Refusing.{refused, listed_in, unless_refused}
 use Rattle.cc_view.specs.RequestView.{request_refusal, view_of_list, view_of}

@@ -15,7 +15,8 @@ use Rattle.cc_view.specs.declared.request.CcRequest.{CcRequest}
 use Rattle.cc_view.specs.declared.request.RequestKind.{RequestKind}
 use Rattle.cc_view.specs.declared.request.RequestKind.TheVariants.{Initial}
 use Rattle.cc_view.specs.Carried.{carriable, session_in, proxies_in}
-use Rattle.cc_view.specs.Codes.{credit_control_application, auth_application_id, session_id, origin_host, origin_realm, result_code, cc_request_number, cc_request_type, cc_session_failover, cc_time, check_balance_result, cost_information, currency_code, exponent, final_unit_action, final_unit_indication, granted_service_unit, multiple_services, rating_group, service_identifier, unit_value, value_digits, validity_time}
+use Rattle.dia_grammar.specs.Codes.{auth_application_id, session_id, origin_host, origin_realm, cc_request_number, cc_request_type, service_identifier}
+use Rattle.cc_view.specs.Codes.{credit_control_application, result_code, cc_session_failover, cc_time, check_balance_result, cost_information, currency_code, exponent, final_unit_action, final_unit_indication, granted_service_unit, multiple_services, rating_group, unit_value, value_digits, validity_time}
 use Rattle.cc_view.specs.FailedAvp.{failed_part}
 use Rattle.cc_view.specs.RequestNumber.{kind_number}
 use Rattle.cc_view.specs.ResultNumber.{number_of}

@@ -3,12 +3,10 @@ use Rattle.std.specs.Prelude.{ℕ, ◌+◌, List, [], sum_by, filter, find, Bool
 use Rattle.dia_avp.specs.declared.avp.RawAvp.{RawAvp}
 use Rattle.dia_avp.specs.declared.fault.AvpFault.{AvpFault}
 use Rattle.dia_avp.specs.AvpList.{length_of, padding_of}
-use Rattle.cc_view.specs.Codes.{session_id, proxy_info}
+use Rattle.dia_grammar.specs.Codes.{session_id}
+use Rattle.cc_view.specs.Codes.{proxy_info}
+use Rattle.dia_grammar.specs.Grammar.{is_of}
 use Rattle.cc_view.specs.Writing.{octets_avp}
-
--- an AVP of vendor 0 with this code
-abbrev pub is_of : ℕ → RawAvp → Bool
-is_of code avp = avp.vendor == 0 && avp.code == code
 
 abbrev pub is_carried : RawAvp → Bool
 is_carried avp = is_of session_id avp || is_of proxy_info avp

@@ -6,11 +6,11 @@ use Rattle.dia_avp.specs.declared.avp.RawAvp.{RawAvp}
 use Rattle.dia_dict.specs.declared.fault.DictFault.{DictFault}
 use Rattle.dia_dict.specs.declared.fault.DictFault.TheVariants.{BadLength, BadUtf8, BadEnumerated}
 use Rattle.dia_dict.specs.Reading.{reading_of}
-use Rattle.dia_grammar.specs.Grammar.{is_among, missing_of, second_of, unknown_of}
+use Rattle.dia_grammar.specs.Grammar.{is_among, is_of, missing_of, second_of, unknown_of}
 use Rattle.cc_view.specs.declared.code.ResultCode.TheVariants.{AvpUnsupported, AvpOccursTooManyTimes, InvalidAvpLength, InvalidAvpValue}
 use Rattle.cc_view.specs.declared.refusal.Refusal.{Refusal}
-use Rattle.cc_view.specs.Carried.{is_of}
-use Rattle.cc_view.specs.Codes.{session_id, cc_request_number, cc_request_type, cc_service_specific_units, cc_time, cc_total_octets, multiple_services, rating_group, requested_action, requested_service_unit, service_identifier, subscription_id, subscription_id_data, subscription_id_type, used_service_unit}
+use Rattle.dia_grammar.specs.Codes.{session_id, cc_request_number, cc_request_type, requested_action, requested_service_unit, service_identifier}
+use Rattle.cc_view.specs.Codes.{cc_service_specific_units, cc_time, cc_total_octets, multiple_services, rating_group, subscription_id, subscription_id_data, subscription_id_type, used_service_unit}
 use Rattle.cc_view.specs.FailedAvp.{least_form}
 use Rattle.cc_view.specs.Refusing.{listed_in, refused_at, refused_for, refused_without}
 

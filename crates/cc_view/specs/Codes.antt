@@ -9,35 +9,14 @@ credit_control = 272
 abbrev pub credit_control_application : ℕ
 credit_control_application = 4
 
-abbrev pub auth_application_id : ℕ
-auth_application_id = 258
-
-abbrev pub session_id : ℕ
-session_id = 263
-
-abbrev pub origin_host : ℕ
-origin_host = 264
-
 abbrev pub result_code : ℕ
 result_code = 268
-
-abbrev pub destination_realm : ℕ
-destination_realm = 283
 
 abbrev pub failed_avp : ℕ
 failed_avp = 279
 
 abbrev pub proxy_info : ℕ
 proxy_info = 284
-
-abbrev pub origin_realm : ℕ
-origin_realm = 296
-
-abbrev pub cc_request_number : ℕ
-cc_request_number = 415
-
-abbrev pub cc_request_type : ℕ
-cc_request_type = 416
 
 abbrev pub cc_service_specific_units : ℕ
 cc_service_specific_units = 417
@@ -72,15 +51,6 @@ granted_service_unit = 431
 abbrev pub rating_group : ℕ
 rating_group = 432
 
-abbrev pub requested_action : ℕ
-requested_action = 436
-
-abbrev pub requested_service_unit : ℕ
-requested_service_unit = 437
-
-abbrev pub service_identifier : ℕ
-service_identifier = 439
-
 abbrev pub subscription_id : ℕ
 subscription_id = 443
 
@@ -107,6 +77,3 @@ subscription_id_type = 450
 
 abbrev pub multiple_services : ℕ
 multiple_services = 456
-
-abbrev pub service_context_id : ℕ
-service_context_id = 461

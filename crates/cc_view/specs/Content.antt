@@ -12,8 +12,9 @@ use Rattle.cc_view.specs.declared.request.RequestKind.{RequestKind}
 use Rattle.cc_view.specs.declared.request.RequestKind.TheVariants.{Initial, Update, Termination, Event}
 use Rattle.cc_view.specs.declared.request.RequestedAction.{RequestedAction}
 use Rattle.cc_view.specs.declared.request.RequestedAction.TheVariants.{DirectDebiting, RefundAccount, CheckBalance, PriceEnquiry}
-use Rattle.cc_view.specs.Carried.{is_of}
-use Rattle.cc_view.specs.Codes.{cc_request_number, cc_request_type, multiple_services, rating_group, requested_action, requested_service_unit, service_identifier, session_id, subscription_id, subscription_id_data, subscription_id_type, used_service_unit}
+use Rattle.dia_grammar.specs.Grammar.{is_of}
+use Rattle.dia_grammar.specs.Codes.{cc_request_number, cc_request_type, requested_action, requested_service_unit, service_identifier, session_id}
+use Rattle.cc_view.specs.Codes.{multiple_services, rating_group, subscription_id, subscription_id_data, subscription_id_type, used_service_unit}
 use Rattle.cc_view.specs.Refusing.{refused}
 use Rattle.cc_view.specs.Units.{asked_in, members_of, u32_in, used_in}
 

@@ -6,8 +6,9 @@ use Rattle.std.specs.Result.{result_ok}
 use Rattle.byteorder.specs.Endian.{big_number}
 use Rattle.dia_avp.specs.declared.avp.RawAvp.{RawAvp}
 use Rattle.dia_avp.specs.AvpReading.{split_of}
-use Rattle.cc_view.specs.Carried.{is_of}
-use Rattle.cc_view.specs.Codes.{cc_service_specific_units, cc_time, cc_total_octets, requested_service_unit, used_service_unit}
+use Rattle.dia_grammar.specs.Grammar.{is_of}
+use Rattle.dia_grammar.specs.Codes.{requested_service_unit}
+use Rattle.cc_view.specs.Codes.{cc_service_specific_units, cc_time, cc_total_octets, used_service_unit}
 
 -- the number that a value of 4 octets is, and of 8
 abbrev pub u32_value : RawAvp → Option ℕ

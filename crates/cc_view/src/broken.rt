@@ -5,9 +5,9 @@ ghost use Rattle.std.specs.Prelude.{◌≡◌, drop, slice_index, IfOk};
 ghost use Rattle.dia_avp.specs.AvpList.{flags_in};
 ghost use Rattle.cc_view.specs.FailedAvp.{broken_in as broken_of, least_form as least_form_of, vendor_at as vendor_of};
 
-use crate::carried::has_vendor;
 use crate::failed::least_form;
 use byteorder::{BigEndian, ByteOrder};
+use dia_avp::layout::has_vendor;
 use dia_avp::{AvpFault, RawAvp};
 use std::alloc::{AllocError, Global};
 

@@ -2,22 +2,20 @@
 
 ghost use Rattle.std.specs.Prelude.{◌≡◌, ◌≤◌, ◌<◌, ◌-◌, ◌^◌, ◌+◌, ◌++◌, false, IfOk, OnOk};
 ghost use Rattle.std.specs.Option.{SomeIff};
-ghost use Rattle.dia_avp.specs.AvpList.{has_vendor as has_vendor_of, header_len as header_len_of, padding_of};
 ghost use Rattle.dia_avp.specs.AvpReading.{split_of};
 ghost use Rattle.cc_view.specs.Carried.{carriable as carriable_of, carries_too_much as is_too_much, is_carried as is_carried_avp, padded_len, proxies_in, session_in};
 
 use crate::draft::Draft;
-use crate::matching::{first_of, is_of};
+use crate::matching::first_of;
 use crate::names::{PROXY_INFO, SESSION_ID};
 use crate::splitting::readable;
+use dia_avp::layout::{header_len, padding_of};
 use dia_avp::{Octets, RawAvp, Wire};
+use dia_grammar::is_of;
 use std::alloc::{AllocError, Global};
 
 /// The most octets that these AVPs may take together, with padding.
 const CARRIED_LIMIT: usize = 49_152;
-
-/// The flag V: a Vendor-ID follows the length.
-const VENDOR_FLAG: u8 = 0x80;
 
 /// The AVPs of a body that an answer may carry back from: none where the body does not split, or
 /// where too much would be carried.
@@ -89,27 +87,6 @@ fn room_behind(room: usize, avp: &RawAvp) -> Option<usize>
     if value > room {
         return None;
     }
-    room.checked_sub(padded(header_len(avp.flags) + value))
-}
-
-pub(crate) fn header_len(flags: u8) -> usize
-    ensures value { result ≡ header_len_of flags }
-    ensures most { result ≤ 12 }
-{
-    if has_vendor(flags) { 12 } else { 8 }
-}
-
-/// Whether a Vendor-ID follows the length.
-pub(crate) fn has_vendor(flags: u8) -> bool
-    ensures { result ≡ has_vendor_of flags }
-{
-    flags & VENDOR_FLAG != 0
-}
-
-/// The length with its padding, up to the next multiple of 4.
-fn padded(len: usize) -> usize
-    requires { len < 2 ^ 32 }
-    ensures { result ≡ len + padding_of len }
-{
-    len + (4 - len % 4) % 4
+    let len = header_len(avp.flags) + value;
+    room.checked_sub(len + padding_of(len))
 }

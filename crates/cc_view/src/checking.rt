@@ -2,15 +2,12 @@
 
 ghost use Rattle.std.specs.Prelude.{◌≡◌, ◌≤◌, option_map};
 ghost use Rattle.std.specs.Option.{option_and_then};
-ghost use Rattle.dia_grammar.specs.Grammar.{is_among as is_one_of};
-ghost use Rattle.cc_view.specs.Checking.{group_refusal, groups_refusal, inner_group_refusal, inner_refusal, is_units as is_units_of, members_refusal, service_refusal, subscription_refusal, units_refusal, value_refusal, value_refusal_among, values_refusal};
+ghost use Rattle.cc_view.specs.Checking.{group_refusal, groups_refusal, inner_group_refusal, inner_refusal, is_units as is_units_of, members_refusal, refused_fault, refused_length as refused_length_of, service_refusal, subscription_refusal, units_refusal, value_refusal, value_refusal_among, values_refusal};
 ghost use Rattle.cc_view.specs.Finding.{IsRefusal, Passes};
-ghost use Rattle.cc_view.specs.Checking.{refused_fault, refused_length as refused_length_of};
 ghost use Rattle.cc_view.specs.Refusing.{refused_at, refused_without as refused_without_of};
 
 use crate::code::ResultCode;
 use crate::failed::least_form;
-use crate::matching::is_of;
 use crate::names::{
     CC_REQUEST_NUMBER, CC_REQUEST_TYPE, CC_SERVICE_SPECIFIC_UNITS, CC_TIME, CC_TOTAL_OCTETS,
     MULTIPLE_SERVICES, RATING_GROUP, REQUESTED_ACTION, REQUESTED_SERVICE_UNIT, SERVICE_IDENTIFIER,
@@ -21,7 +18,7 @@ use crate::refusal::Refusal;
 use crate::refusing::{listed, refuse_at, refused_for, refused_without};
 use dia_avp::{RawAvp, Wire};
 use dia_dict::{DictFault, typed};
-use dia_grammar::{first_missing, first_repeated, first_unknown};
+use dia_grammar::{first_missing, first_repeated, first_unknown, is_among, is_of};
 use std::alloc::Global;
 
 /// Whose values are looked at in the command.
@@ -66,17 +63,11 @@ pub(crate) fn check_values(alloc: Global, codes: &[u32], avps: &[RawAvp]) -> Res
 fn check_value_among(alloc: Global, codes: &[u32], avp: &RawAvp) -> Result<(), ViewError>
     ensures { Passes (value_refusal_among codes.now avp.now) result }
 {
-    if is_among(codes, avp) {
+    if is_among(avp, codes) {
         check_value(alloc, avp)
     } else {
         Ok(())
     }
-}
-
-fn is_among(codes: &[u32], avp: &RawAvp) -> bool
-    ensures { result ≡ is_one_of codes.now avp.now }
-{
-    codes.iter().any(|code| is_of(avp, *code))
 }
 
 fn check_value(alloc: Global, avp: &RawAvp) -> Result<(), ViewError>

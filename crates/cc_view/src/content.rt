@@ -2,8 +2,9 @@
 
 ghost use Rattle.std.specs.Prelude.{◌≡◌, true, filter, map, option_map, None, IfOk};
 ghost use Rattle.std.specs.List.{list_any};
-ghost use Rattle.cc_view.specs.Carried.{is_of as is_of_code};
-ghost use Rattle.cc_view.specs.Codes.{multiple_services, requested_action, subscription_id};
+ghost use Rattle.dia_grammar.specs.Grammar.{is_of as is_of_code};
+ghost use Rattle.dia_grammar.specs.Codes.{requested_action};
+ghost use Rattle.cc_view.specs.Codes.{multiple_services, subscription_id};
 ghost use Rattle.cc_view.specs.Content.{action_by as action_of, content_of as content_in, is_own as is_own_avp, kind_by as kind_of_number, octets_in as octets_of_code, own_services_in as own_services_of, service_in as service_of_avps, service_of as service_in_group, services_in as services_of, subscription_of as subscription_in};
 ghost use Rattle.cc_view.specs.Finding.{Gives};
 ghost use Rattle.cc_view.specs.Units.{u32_in as u32_of_code};
@@ -11,7 +12,7 @@ ghost use Rattle.cc_view.specs.Units.{u32_in as u32_of_code};
 use crate::code::ResultCode;
 use crate::counts::{asked_in, members_of, u32_in, used_in};
 use crate::limits::are_within_limits;
-use crate::matching::{first_of, is_of};
+use crate::matching::first_of;
 use crate::names::{
     CC_REQUEST_NUMBER, CC_REQUEST_TYPE, MULTIPLE_SERVICES, RATING_GROUP, REQUESTED_ACTION,
     REQUESTED_SERVICE_UNIT, SERVICE_IDENTIFIER, SESSION_ID, SUBSCRIPTION_ID, SUBSCRIPTION_ID_DATA,
@@ -22,6 +23,7 @@ use crate::refusing::refused;
 use crate::request::{CcRequest, RequestKind, RequestedAction, Service, Services, Subscription};
 use dia_avp::{Octets, RawAvp, Wire};
 use dia_base::Listing;
+use dia_grammar::is_of;
 use std::alloc::{AllocError, Global};
 
 /// The content of a request whose AVPs have been checked, unless its services pass a limit.

@@ -5,12 +5,13 @@ ghost use Rattle.std.specs.Prelude.{◌≡◌, ◌≤◌, IfOk};
 ghost use Rattle.cc_view.specs.Codes.{cc_time};
 ghost use Rattle.cc_view.specs.Units.{asked_in as asked_of, counts_of as counts_in, members_of as members_in, u32_in as u32_of_code, u64_in as u64_of_code, used_in as used_of};
 
-use crate::matching::{first_of, is_of};
+use crate::matching::first_of;
 use crate::names::{
     CC_SERVICE_SPECIFIC_UNITS, CC_TIME, CC_TOTAL_OCTETS, REQUESTED_SERVICE_UNIT, USED_SERVICE_UNIT,
 };
 use crate::splitting::readable;
 use dia_avp::{RawAvp, Wire, u32_of, u64_of};
+use dia_grammar::is_of;
 use std::alloc::{AllocError, Global};
 
 /// The number of 4 octets in the first AVP of this code.

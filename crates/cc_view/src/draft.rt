@@ -7,13 +7,11 @@ ghost use Rattle.cc_view.specs.Short.{IsShort};
 
 use crate::names::{ORIGIN_HOST, ORIGIN_REALM};
 use byteorder::{BigEndian, ByteOrder};
+use dia_avp::layout::MANDATORY;
 use dia_avp::{Octets, RawAvp, Wire};
 use dia_base::Identity;
 use std::alloc::{AllocError, Global};
 use std::marker::Model;
-
-/// The flag M, which all AVPs that are written here have.
-const MANDATORY: u8 = 0x40;
 
 /// AVPs in the order in which they are written, with the flag M and vendor 0.
 #[derive(Drop)]

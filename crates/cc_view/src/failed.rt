@@ -3,9 +3,9 @@
 ghost use Rattle.std.specs.Prelude.{◌≡◌, ◌≤◌, ◌++◌, IfOk, OnOk};
 ghost use Rattle.cc_view.specs.FailedAvp.{copied as copied_of, failed_part, fixed_len as fixed_len_of, is_copied as is_copied_avp, kind_at as kind_by_row, least_form as least_form_of, least_len as least_len_of};
 
-use crate::carried::header_len;
 use crate::draft::Draft;
 use crate::names::FAILED_AVP;
+use dia_avp::layout::header_len;
 use dia_avp::{Octets, RawAvp, Wire};
 use dia_base::Code;
 use dia_dict::{Kind, kind_of};

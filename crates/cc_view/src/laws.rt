@@ -3,7 +3,7 @@
 ghost use Rattle.std.specs.Prelude.{◌≡◌, ℕ, List, Bool, [], ◌∷◌, Result, Ok};
 ghost use Rattle.dia_message.specs.declared.message.Message.{Message};
 ghost use Rattle.cc_view.specs.Answer.{answer_to, refusal_of, session_part};
-ghost use Rattle.cc_view.specs.Codes.{session_id};
+ghost use Rattle.dia_grammar.specs.Codes.{session_id};
 ghost use Rattle.cc_view.specs.FirstDebit.{answer_message, debit_message, debit_reply, debit_request, front_name, realm_name};
 ghost use Rattle.cc_view.specs.Readdressing.{sent_again, with_identifiers};
 ghost use Rattle.cc_view.specs.RequestView.{view_of};

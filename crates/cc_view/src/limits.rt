@@ -10,7 +10,7 @@ use crate::request::Service;
 const SERVICES_LIMIT: usize = 32;
 
 /// What no sum of used units reaches.
-const SUM_LIMIT: u128 = 0x4000_0000_0000_0000_0000;
+const SUM_LIMIT: u128 = 1 << 78;
 
 /// Whether these are at most 32 services with names of their own and sums below 2^78.
 pub(crate) fn are_within_limits(services: &[Service]) -> bool

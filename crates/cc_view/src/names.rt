@@ -1,31 +1,22 @@
 //! The numbers of commands and AVPs that are read or written here (RFC 6733, section 4.5; RFC 8506,
 //! section 8).
 
+pub(crate) use dia_grammar::names::{
+    AUTH_APPLICATION_ID, CC_REQUEST_NUMBER, CC_REQUEST_TYPE, ORIGIN_HOST, ORIGIN_REALM,
+    REQUESTED_ACTION, REQUESTED_SERVICE_UNIT, SERVICE_IDENTIFIER, SESSION_ID,
+};
+
 /// The Command Code of Credit-Control.
 pub(crate) const CREDIT_CONTROL: u32 = 272;
 
 /// The Application-ID of Credit-Control.
 pub(crate) const CREDIT_CONTROL_APPLICATION: u32 = 4;
 
-pub(crate) const AUTH_APPLICATION_ID: u32 = 258;
-
-pub(crate) const SESSION_ID: u32 = 263;
-
-pub(crate) const ORIGIN_HOST: u32 = 264;
-
 pub(crate) const RESULT_CODE: u32 = 268;
 
 pub(crate) const FAILED_AVP: u32 = 279;
 
-pub(crate) const DESTINATION_REALM: u32 = 283;
-
 pub(crate) const PROXY_INFO: u32 = 284;
-
-pub(crate) const ORIGIN_REALM: u32 = 296;
-
-pub(crate) const CC_REQUEST_NUMBER: u32 = 415;
-
-pub(crate) const CC_REQUEST_TYPE: u32 = 416;
 
 pub(crate) const CC_SERVICE_SPECIFIC_UNITS: u32 = 417;
 
@@ -49,12 +40,6 @@ pub(crate) const GRANTED_SERVICE_UNIT: u32 = 431;
 
 pub(crate) const RATING_GROUP: u32 = 432;
 
-pub(crate) const REQUESTED_ACTION: u32 = 436;
-
-pub(crate) const REQUESTED_SERVICE_UNIT: u32 = 437;
-
-pub(crate) const SERVICE_IDENTIFIER: u32 = 439;
-
 pub(crate) const SUBSCRIPTION_ID: u32 = 443;
 
 pub(crate) const SUBSCRIPTION_ID_DATA: u32 = 444;
@@ -72,5 +57,3 @@ pub(crate) const FINAL_UNIT_ACTION: u32 = 449;
 pub(crate) const SUBSCRIPTION_ID_TYPE: u32 = 450;
 
 pub(crate) const MULTIPLE_SERVICES: u32 = 456;
-
-pub(crate) const SERVICE_CONTEXT_ID: u32 = 461;

@@ -11,12 +11,10 @@ use crate::code::ResultCode;
 use crate::failed::{copied, least_form};
 use crate::reading::ViewError;
 use crate::refusal::Refusal;
+use dia_avp::layout::MANDATORY;
 use dia_avp::{AvpFault, RawAvp};
 use dia_grammar::{GrammarFault, check};
 use std::alloc::Global;
-
-/// The flag M.
-const MANDATORY: u8 = 0x40;
 
 /// A refusal that names no AVP.
 pub(crate) fn refused(code: ResultCode) -> ViewError

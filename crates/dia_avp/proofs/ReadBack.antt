@@ -35,7 +35,8 @@ zeros avp = replicate (padding_of (length_of avp)) 0
 same_octets : (avp : RawAvp) (rest : List ℕ) → written avp ++ rest ≡ fixed avp ++ (vendor_of avp ++ (avp.value ++ (zeros avp ++ rest)))
 same_octets avp rest = ap (λ (t : List ℕ). fixed avp ++ t) (regroup (vendor_of avp) avp.value (zeros avp) rest)
 
-length_spelling : (avp : RawAvp) → length (written avp) ≡ length_of avp + padding_of (length_of avp)
+-- the octets that a written AVP takes
+pub length_spelling : (avp : RawAvp) → length (written avp) ≡ length_of avp + padding_of (length_of avp)
 length_spelling avp =
     let a = length-append (vendor_of avp ++ avp.value) (zeros avp) in
     let b = length-append (vendor_of avp) avp.value in

@@ -4,6 +4,7 @@
 //!   read as and how an AVP is written, for any body; [`PlainWire`] is the plain one, with copies.
 //! - [`RawAvp`]: an AVP whose value is not looked at. [`u32_of`], [`u64_of`], [`i32_of`] and
 //!   [`i64_of`] read a value as a number. [`Octets`] are octets that contracts see as a list.
+//! - [`layout`]: the flags, the lengths of header and padding.
 //! - [`AvpFault`]: why octets are no list of AVPs, with the place of the first fault.
 //!
 //! `specs/AvpList` says which octets spell which list, as a relation on whole texts: the padding of
@@ -22,6 +23,7 @@
 mod avp;
 mod fault;
 mod laws;
+pub mod layout;
 mod number;
 mod octets;
 mod plain;

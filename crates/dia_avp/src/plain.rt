@@ -2,38 +2,15 @@
 
 ghost use Rattle.std.specs.Prelude.{◌≡◌, ◌≤◌, ◌<◌, ◌^◌, ◌∷◌, ◌++◌, IfOk, OnOk, OnErr, IsOkUnless, MatchOption};
 ghost use Rattle.byteorder.specs.Endian.{big_bytes};
-ghost use Rattle.dia_avp.specs.AvpList.{Reads, Answers, BeginsWith, fault_at, has_vendor as vendor_flag, header_len as header_len_of, padding_of as padding_len, length_of, written};
+ghost use Rattle.dia_avp.specs.AvpList.{Reads, Answers, BeginsWith, fault_at, length_of, written};
 
 use crate::avp::RawAvp;
 use crate::fault::AvpFault;
+use crate::layout::{has_vendor, header_len, padding_of};
 use crate::octets::Octets;
 use crate::wire::{DEPTH_LIMIT, Wire};
 use byteorder::{BigEndian, ByteOrder};
 use std::alloc::Global;
-
-/// The flag V: a Vendor-ID follows the length.
-const VENDOR_FLAG: u8 = 0x80;
-
-fn has_vendor(flags: u8) -> bool
-    ensures { result ≡ vendor_flag flags }
-{
-    flags & VENDOR_FLAG != 0
-}
-
-fn header_len(flags: u8) -> usize
-    ensures value { result ≡ header_len_of flags }
-    ensures least { 8 ≤ result }
-    ensures most { result ≤ 12 }
-{
-    if has_vendor(flags) { 12 } else { 8 }
-}
-
-fn padding_of(len: usize) -> usize
-    ensures value { result ≡ padding_len len }
-    ensures most { result < 4 }
-{
-    (4 - len % 4) % 4
-}
 
 /// The AVP that the octets begin with, and what stands behind its padding.
 fn front_of<'a>(alloc: Global, at: usize, octets: &'a [u8]) -> Result<(RawAvp, &'a [u8]), AvpFault>

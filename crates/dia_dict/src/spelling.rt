@@ -11,9 +11,7 @@ use crate::fault::DictFault;
 use crate::row::Kind;
 use crate::value::Typed;
 use byteorder::{BigEndian, ByteOrder};
-
-/// The flag M: who does not know the AVP refuses the message (RFC 6733, section 4.1).
-const MANDATORY: u8 = 0x40;
+use dia_avp::layout::MANDATORY;
 
 /// The code of Product-Name, which never has M (RFC 6733, section 4.5).
 const PRODUCT_NAME: u32 = 269;

@@ -5,11 +5,9 @@ ghost use Rattle.dia_grammar.specs.Grammar.{has_avp as has_avp_of, is_among as i
 
 use crate::names::SERVICE_CONTEXT_ID;
 use dia_avp::RawAvp;
+use dia_avp::layout::MANDATORY;
 use dia_base::Code;
 use dia_dict::row_of;
-
-/// The flag M: who does not know the AVP refuses the message (RFC 6733, section 4.1).
-const MANDATORY: u8 = 0x40;
 
 /// Whether the AVP has this code and vendor 0.
 pub fn is_of(avp: &RawAvp, code: u32) -> bool
@@ -18,7 +16,8 @@ pub fn is_of(avp: &RawAvp, code: u32) -> bool
     avp.vendor == 0 && avp.code == code
 }
 
-fn is_among(avp: &RawAvp, codes: &[u32]) -> bool
+/// Whether the AVP has one of these codes and vendor 0.
+pub fn is_among(avp: &RawAvp, codes: &[u32]) -> bool
     ensures { result ≡ is_one_of codes.now avp.now }
 {
     codes.iter().any(|code| is_of(avp, *code))

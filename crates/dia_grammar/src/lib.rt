@@ -2,8 +2,8 @@
 //! 4.1), whatever most of their values are.
 //!
 //! - [`check`]: the first fault of a request's AVPs, as a [`GrammarFault`] with its code or place.
-//! - [`is_of`], [`is_known`], [`first_unknown`], [`first_repeated`], [`first_missing`]: the same
-//!   questions of any list of AVPs, for groups.
+//! - [`is_of`], [`is_among`], [`is_known`], [`first_unknown`], [`first_repeated`], [`first_missing`]:
+//!   the same questions of any AVP or list of AVPs, for groups.
 //! - [`names`]: the codes of the AVPs that are named here.
 //!
 //! An AVP that is named by its code is one of vendor 0. A place is one in the list of AVPs, counted
@@ -22,7 +22,7 @@ mod laws;
 pub mod names;
 mod request;
 
-pub use asking::{first_missing, first_repeated, first_unknown, is_known, is_of};
+pub use asking::{first_missing, first_repeated, first_unknown, is_among, is_known, is_of};
 pub use fault::GrammarFault;
 pub use laws::{
     more_may_follow, route_record_may_follow, values_do_not_count, what_a_fault_is,

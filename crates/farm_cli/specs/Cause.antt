@@ -7,6 +7,7 @@ use Rattle.cc_view.specs.declared.refusal.Refusal.{Refusal}
 use Rattle.front_core.specs.declared.worker.Worker.TheVariants.{Picked}
 use Rattle.front_core.specs.FrontState.{FrontState}
 use Rattle.front_core.specs.Cause.{ArrivalCause, ChargeCause}
+use Rattle.farm_cli.specs.declared.world.parts.Line.{Line}
 use Rattle.farm_cli.specs.World.{WorldState, front_at}
 use Rattle.farm_cli.specs.FarmStep.{taken_from}
 
@@ -14,7 +15,7 @@ use Rattle.farm_cli.specs.FarmStep.{taken_from}
 -- finds no place, or one of its workers holds it. Causes of relays come later.
 pub data HasCause (w : WorldState) (conn : ConnId) (message : Message) : List ℕ → Refusal → Type 0 where
   at_arrival :
-      (from node : NodeNo) (place : ℕ) (lines : List _) (front : FrontState) (refusal : Refusal)
+      (from node : NodeNo) (place : ℕ) (lines : List Line) (front : FrontState) (refusal : Refusal)
       → taken_from w.lines from node place ≡ Some (record { conn = conn; message = message; lines = lines })
       → front_at node w.fronts ≡ Some front → ArrivalCause front message refusal → HasCause w conn message front.name refusal
   at_charge :

@@ -3,15 +3,13 @@
 ghost use Rattle.std.specs.Prelude.{◌≡◌, IfOk};
 ghost use Rattle.relay_routes.specs.Routing.{names_node, is_record_of, record_of};
 
+use dia_avp::layout::MANDATORY;
 use dia_avp::{Octets, RawAvp};
 use dia_base::Identity;
 use std::alloc::{AllocError, Global};
 
 /// The code of Route-Record.
 const ROUTE_RECORD: u32 = 282;
-
-/// The flags of an AVP that a relay writes: M alone.
-const MANDATORY: u8 = 0x40;
 
 fn is_record(avp: &RawAvp, node: &Identity) -> bool
     ensures { result ≡ is_record_of node.now avp.now }

@@ -1,5 +1,5 @@
 use Rattle.std.proofs.Common.{ℕ, List, [], ◌∷◌, length, sym, ap, ◌∙◌, arith}
-use Rattle.cc_view.specs.Codes.{session_id}
+use Rattle.dia_grammar.specs.Codes.{session_id}
 use Rattle.cc_view.specs.Writing.{octets_avp}
 use Rattle.cc_view.proofs.Carrying.{length-carried}
 use Rattle.cc_view.proofs.Drafts.{OnOk-onto, nothing_added}

@@ -1,5 +1,5 @@
 use Rattle.std.proofs.Common.{◌≡◌, filter, map, take}
-use Rattle.cc_view.specs.Carried.{is_of}
+use Rattle.dia_grammar.specs.Grammar.{is_of}
 use Rattle.cc_view.specs.Codes.{subscription_id}
 use Rattle.cc_view.specs.Content.{subscription_of}
 use Rattle.cc_view.proofs.content.subscriptions_in.Given as goal

@@ -1,6 +1,7 @@
 use Rattle.std.proofs.Common.{[], ◌∷◌, ap, arith}
 use Rattle.cc_view.specs.Answer.{granted_part, optional_u32, final_part}
-use Rattle.cc_view.specs.Codes.{service_identifier, rating_group, validity_time, result_code}
+use Rattle.dia_grammar.specs.Codes.{service_identifier}
+use Rattle.cc_view.specs.Codes.{rating_group, validity_time, result_code}
 use Rattle.cc_view.specs.Writing.{u32_avp}
 use Rattle.cc_view.proofs.Drafts.{six_added, spelled_len, spelled_len-service, spelled_len-granted, spelled_len-optional, spelled_len-u32, spelled_len-final}
 use Rattle.cc_view.proofs.units.push_service.Goals as goal
