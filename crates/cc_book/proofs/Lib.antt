@@ -1,6 +1,7 @@
+mod Paying
 pub mod Costs
-pub mod Keys
 pub mod Faults
+pub mod Keys
 pub mod Looking
 pub mod Postings
 pub mod Replies

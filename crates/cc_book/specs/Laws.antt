@@ -1,8 +1,11 @@
 -- Sums that the laws of the book speak of.
-use Rattle.std.specs.Prelude.{◌≡◌, ℕ, zero, suc, ◌+◌, ◌*◌, ◌<◌, ◌≤◌, List, [], ◌∷◌, ℤ, pos, ◌+ℤ◌}
+use Rattle.std.specs.Prelude.{◌≡◌, ℕ, zero, suc, ◌+◌, ◌*◌, ◌<◌, ◌≤◌, List, [], ◌∷◌, ℤ, pos, ◌+ℤ◌, find, sum_by, unwrap_or}
+use Rattle.std.specs.Option.{option_and_then, option_map}
+use Rattle.cc_view.specs.declared.reply.CcReply.{CcReply}
+use Rattle.cc_view.specs.declared.reply.ServiceReply.{ServiceReply}
 use Rattle.cc_book.specs.declared.rating.Tariff.{Tariff}
 use Rattle.cc_book.specs.Posting.{Posting}
-use Rattle.cc_book.specs.Rating.{cost_of}
+use Rattle.cc_book.specs.Rating.{cost_of, rates}
 
 -- the sum of amounts of the accounts below a place
 abbrev pub total_below : ℕ → (ℕ → ℤ) → ℤ
@@ -20,3 +23,12 @@ pub record CostsFewestBlocks (tariff : Tariff) (units : ℕ) : Type 0 where
   pub cost : cost_of tariff units ≡ blocks * tariff.price
   pub enough : units ≤ blocks * tariff.block
   pub fewest : blocks * tariff.block < units + tariff.block
+
+-- what the units cost that a reply grants to a service
+abbrev pub granted_cost : List Tariff → ServiceReply → ℕ
+granted_cost tariffs service =
+    unwrap_or (option_and_then (λ tariff. option_map (cost_of tariff) service.granted) (find (rates service.name.group service.name.ident) tariffs)) 0
+
+-- what all units cost that a reply grants
+abbrev pub cost_of_reply : List Tariff → CcReply → ℕ
+cost_of_reply tariffs reply = sum_by (granted_cost tariffs) reply.services

@@ -1,19 +1,23 @@
 //! Laws of the account book, in the words of a reader who knows none of its code.
 
-ghost use Rattle.std.specs.Prelude.{◌≡◌, ◌≢◌, ℕ, ◌<◌, List, [], ◌∷◌, ◌++◌, length, Some, if◌then◌else◌, pos, ◌-ℤ◌};
+ghost use Rattle.std.specs.Prelude.{◌≡◌, ◌≢◌, ℕ, ◌<◌, List, [], ◌∷◌, ◌++◌, length, Some, true, if◌then◌else◌, pos, ◌-ℤ◌, ◌≤ℤ◌};
 ghost use Rattle.dia_base.specs.declared.number.Moment.{Moment};
+ghost use Rattle.cc_view.specs.Fitting.{Fits};
+ghost use Rattle.cc_view.specs.ServiceLimits.{WithinLimits};
+ghost use Rattle.cc_view.specs.declared.code.ResultCode.TheVariants.{Success};
 ghost use Rattle.cc_view.specs.declared.reply.CcReply.{CcReply};
 ghost use Rattle.cc_view.specs.declared.request.CcRequest.{CcRequest};
 ghost use Rattle.cc_book.specs.declared.entry.Entry.{Entry};
 ghost use Rattle.cc_book.specs.declared.entry.Entry.TheVariants.{Take, Sweep};
 ghost use Rattle.cc_book.specs.declared.rating.Tariff.{Tariff};
 ghost use Rattle.cc_book.specs.declared.terms.Terms.{Terms};
-ghost use Rattle.cc_book.specs.AccountMachine.{account_of, opening_at, postings_of, reply_to, kept_reply};
+ghost use Rattle.cc_book.specs.AccountMachine.{account_of, is_debiting, opening_at, postings_of, reply_to, kept_reply};
 ghost use Rattle.cc_book.specs.Balance.{debit_of, balance_of};
 ghost use Rattle.cc_book.specs.Duplicate.{Key, key_of};
 ghost use Rattle.cc_book.specs.History.{IsLegal};
-ghost use Rattle.cc_book.specs.Laws.{total_below, debits_of, CostsFewestBlocks};
+ghost use Rattle.cc_book.specs.Laws.{total_below, debits_of, cost_of_reply, CostsFewestBlocks};
 ghost use Rattle.cc_book.specs.Posting.{is_account};
+ghost use Rattle.cc_book.specs.Tariffs.{AreInRange};
 
 /// Units cost the price for each of the fewest blocks that hold them.
 pub fn cost_is_of_fewest_blocks()
@@ -53,4 +57,19 @@ pub fn openings_less_debits_are_balances()
     ensures { (terms : Terms) (history : List Entry) →
         total_below (length terms.accounts) (λ account. balance_of terms history account)
         ≡ total_below (length terms.accounts) (λ account. opening_at terms.accounts account) -ℤ debits_of (postings_of terms history) }
+{}
+
+/// A request debits what the units cost that its reply grants, by the tariffs of its services: nothing
+/// where nothing is granted. A direct debit that succeeds takes no more than its account has.
+pub fn debits_pay_for_what_is_granted()
+    ensures paid { (terms : Terms) (history : List Entry) (request : CcRequest) → debit_of terms history request ≡ pos (cost_of_reply terms.tariffs (reply_to terms history request)) }
+    ensures covered { (terms : Terms) (history : List Entry) (request : CcRequest) (account : ℕ) →
+        is_debiting request.kind request.action ≡ true → account_of terms.accounts request.subscriptions ≡ Some account →
+        (reply_to terms history request).code ≡ Success → debit_of terms history request ≤ℤ balance_of terms history account }
+{}
+
+/// A reply has no more services than its request, and its units have codes that fit an AVP: so each
+/// answer is a message (RFC 6733, section 3).
+pub fn replies_fit()
+    ensures { (terms : Terms) (history : List Entry) (request : CcRequest) → AreInRange terms.tariffs → WithinLimits request.services → Fits (reply_to terms history request) }
 {}

@@ -3,9 +3,15 @@ mod Checks
 mod Drafts
 mod Examples
 mod Findings
+mod Fitting
+mod FittingMessages
+mod FittingUnits
 mod Messages
 mod Sessions
+mod Shortness
 mod Spelling
+mod Places
 mod Splits
+mod Unread
 mod ViewedSessions
 mod Views

@@ -2,6 +2,8 @@
 use Rattle.std.proofs.Common.{◌≡◌, ℕ, ◌+◌, ◌≤◌, List, [], ◌∷◌, length, Bool, true, false, not, cond, eqb, Option, Some, None, Result, Ok, Err, find, refl, ap, arith, lit≤}
 use Rattle.std.proofs.lemmas.Bool.{le-leb}
 use Rattle.dia_avp.specs.declared.avp.RawAvp.{RawAvp}
+use Rattle.dia_avp.specs.declared.fault.AvpFault.{AvpFault}
+use Rattle.dia_avp.specs.AvpReading.{split_of}
 use Rattle.dia_message.specs.declared.message.Message.{Message}
 use Rattle.cc_view.specs.declared.code.ResultCode.TheVariants.{ApplicationUnsupported, CommandUnsupported, UnableToComply}
 use Rattle.cc_view.specs.declared.refusal.Refusal.{Refusal}
@@ -11,7 +13,7 @@ use Rattle.dia_grammar.specs.Grammar.{is_of}
 use Rattle.cc_view.specs.Carried.{carries_too_much}
 use Rattle.dia_grammar.specs.Codes.{session_id}
 use Rattle.cc_view.specs.Content.{are_within_limits, content_of, octets_in, request_in, services_in}
-use Rattle.cc_view.specs.Refusing.{refused, listed_in, unless_refused}
+use Rattle.cc_view.specs.Refusing.{refused, listed_by, listed_in, unless_refused}
 use Rattle.cc_view.specs.RequestView.{request_refusal, view_of_list, view_of}
 use Rattle.cc_view.specs.Writing.{octets_avp}
 use Rattle.cc_view.proofs.Carrying.{length-carried}
@@ -53,3 +55,17 @@ unfolding view_of
 session_part-viewed vendors m request e =
     let short : 8 + length request.session ≤ 49152 = short_session vendors (listed_in m.body) request (viewed vendors (eqb m.header.application 4) (eqb m.header.command 272) (listed_in m.body) request e) in
     ap (λ (b : Bool). cond b (octets_avp session_id request.session ∷ []) []) (le-leb (length request.session) 49144 (omega arith))
+
+listed_avps : (vendors : List ℕ) (body : List ℕ) (request : CcRequest) (s : Result (List RawAvp) AvpFault) → split_of body ≡ s → view_of_list vendors (listed_by body s) ≡ Ok request
+    → (avps : List RawAvp) × (split_of body ≡ Ok avps) × (carries_too_much avps ≡ false) × (request_in avps ≡ request)
+listed_avps vendors body request (Err fault) is e = absurd cc
+listed_avps vendors body request (Ok avps) is e =
+    let parts = unrefused (carries_too_much avps) (request_refusal vendors avps) (content_of avps) request e in
+    (avps, is, parts.0, within (are_within_limits (services_in avps)) (request_in avps) request parts.1)
+
+-- what was viewed is the content of AVPs that may all be carried
+pub viewed_avps : (vendors : List ℕ) (m : Message) (request : CcRequest) → view_of vendors m ≡ Ok request
+    → (avps : List RawAvp) × (split_of m.body ≡ Ok avps) × (carries_too_much avps ≡ false) × (request_in avps ≡ request)
+unfolding view_of
+viewed_avps vendors m request e =
+    listed_avps vendors m.body request (split_of m.body) refl (viewed vendors (eqb m.header.application 4) (eqb m.header.command 272) (listed_in m.body) request e)

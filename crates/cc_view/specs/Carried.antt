@@ -1,5 +1,5 @@
 -- What an answer carries back of its request: Session-Id and each Proxy-Info (RFC 6733, section 6.2).
-use Rattle.std.specs.Prelude.{ℕ, ◌+◌, List, [], sum_by, filter, find, Bool, ◌&&◌, ◌||◌, ◌==◌, if◌then◌else◌, nat_lt, option_map, option_to_list, Result, Ok, Err}
+use Rattle.std.specs.Prelude.{ℕ, ◌+◌, List, [], sum_by, filter, find, Bool, ◌||◌, if◌then◌else◌, nat_lt, option_map, option_to_list, Result, Ok, Err}
 use Rattle.dia_avp.specs.declared.avp.RawAvp.{RawAvp}
 use Rattle.dia_avp.specs.declared.fault.AvpFault.{AvpFault}
 use Rattle.dia_avp.specs.AvpList.{length_of, padding_of}

@@ -9,14 +9,23 @@ credit_control = 272
 abbrev pub credit_control_application : ℕ
 credit_control_application = 4
 
+abbrev pub event_timestamp : ℕ
+event_timestamp = 55
+
 abbrev pub result_code : ℕ
 result_code = 268
 
 abbrev pub failed_avp : ℕ
 failed_avp = 279
 
+abbrev pub route_record : ℕ
+route_record = 282
+
 abbrev pub proxy_info : ℕ
 proxy_info = 284
+
+abbrev pub destination_host : ℕ
+destination_host = 293
 
 abbrev pub cc_service_specific_units : ℕ
 cc_service_specific_units = 417

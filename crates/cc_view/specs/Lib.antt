@@ -5,6 +5,7 @@ pub mod Codes
 pub mod Content
 pub mod FailedAvp
 pub mod Finding
+pub mod Fitting
 pub mod FirstDebit
 pub mod Readdressing
 pub mod Refusing
@@ -15,4 +16,5 @@ pub mod ServiceLimits
 pub mod Short
 pub mod Splitting
 pub mod Units
+pub mod Unread
 pub mod Writing

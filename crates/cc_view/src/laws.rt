@@ -1,12 +1,17 @@
 //! Laws of views and answers.
 
-ghost use Rattle.std.specs.Prelude.{◌≡◌, ℕ, List, Bool, [], ◌∷◌, Result, Ok};
+ghost use Rattle.std.specs.Prelude.{◌≡◌, ◌≤◌, ℕ, List, Bool, [], ◌∷◌, IfSome, Result, Ok, Err};
+ghost use Rattle.dia_base.specs.Identity.{IsIdentity};
+ghost use Rattle.dia_avp.specs.AvpList.{AreOctets, length_of};
+ghost use Rattle.dia_message.specs.Header.{HasOctets};
 ghost use Rattle.dia_message.specs.declared.message.Message.{Message};
-ghost use Rattle.cc_view.specs.Answer.{answer_to, refusal_of, session_part};
+ghost use Rattle.cc_view.specs.Answer.{answer_avps, answer_to, refusal_avps, refusal_of, session_part};
 ghost use Rattle.dia_grammar.specs.Codes.{session_id};
 ghost use Rattle.cc_view.specs.FirstDebit.{answer_message, debit_message, debit_reply, debit_request, front_name, realm_name};
+ghost use Rattle.cc_view.specs.Fitting.{Fits, IsReadBack};
 ghost use Rattle.cc_view.specs.Readdressing.{sent_again, with_identifiers};
 ghost use Rattle.cc_view.specs.RequestView.{view_of};
+ghost use Rattle.cc_view.specs.Unread.{DifferUnread};
 ghost use Rattle.cc_view.specs.Writing.{octets_avp};
 ghost use Rattle.cc_view.specs.declared.refusal.Refusal.{Refusal};
 ghost use Rattle.cc_view.specs.declared.reply.CcReply.{CcReply};
@@ -15,6 +20,13 @@ ghost use Rattle.cc_view.specs.declared.request.CcRequest.{CcRequest};
 /// The view reads neither identifier of the header, nor the flag T.
 pub fn view_without_identifiers()
     ensures { (vendors : List ℕ) (message : Message) (hop end : ℕ) (resent : Bool) → view_of vendors (sent_again hop end resent message) ≡ view_of vendors message }
+{}
+
+/// Nor does it read Route-Record, Proxy-Info, Destination-Host or Event-Timestamp: where one of them is
+/// added, dropped or changed behind the first AVP, the view is the same, be it a request or a refusal.
+/// The octets of Proxy-Info count for the limit on what is carried.
+pub fn view_without_unread_avps()
+    ensures { (vendors : List ℕ) (message other : Message) → DifferUnread message other → view_of vendors message ≡ view_of vendors other }
 {}
 
 /// The answer to a message that is sent again differs in its identifiers alone.
@@ -32,6 +44,27 @@ pub fn refusal_without_identifiers()
 /// The answer to what was viewed begins with its Session-Id, which is never too long to be written.
 pub fn session_is_written()
     ensures { (vendors : List ℕ) (message : Message) (request : CcRequest) → view_of vendors message ≡ Ok request → session_part request.session ≡ octets_avp session_id request.session ∷ [] }
+{}
+
+/// An answer to what was viewed is a message, and its octets spell the AVPs that are meant. It takes no
+/// more than 65,536 octets: 49,160 at most for Session-Id and Proxy-Info, 100 for each of at most 32
+/// services, and some hundreds for the names and the rest.
+pub fn answers_are_read_back()
+    ensures { (vendors : List ℕ) (front realm : List ℕ) (message : Message) (request : CcRequest) (reply : CcReply) →
+        IsIdentity front → IsIdentity realm → HasOctets message.header → AreOctets message.body → view_of vendors message ≡ Ok request → Fits reply →
+        IsReadBack (answer_to front realm message request reply) (answer_avps front realm message request reply) }
+{}
+
+/// The same of a refusal, of whatever message. Failed-AVP takes at most 8,200 octets.
+pub fn refusals_are_read_back()
+    ensures { (node realm : List ℕ) (message : Message) (refusal : Refusal) →
+        IsIdentity node → IsIdentity realm → HasOctets message.header → AreOctets message.body →
+        IsReadBack (refusal_of node realm message refusal) (refusal_avps node realm message refusal) }
+{}
+
+/// The AVP that a view names as the one at fault takes at most 8,192 octets: Failed-AVP always holds it.
+pub fn failed_avps_are_short()
+    ensures { (vendors : List ℕ) (message : Message) (refusal : Refusal) → view_of vendors message ≡ Err refusal → IfSome refusal.failed (λ avp. length_of avp ≤ 8192) }
 {}
 
 /// The worked example: the direct debit of 3200 octets, and its answer.

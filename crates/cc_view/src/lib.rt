@@ -25,8 +25,9 @@ mod units;
 pub use answer::answer_bytes;
 pub use code::ResultCode;
 pub use laws::{
-    answer_without_identifiers, first_debit, refusal_without_identifiers, session_is_written,
-    view_without_identifiers,
+    answer_without_identifiers, answers_are_read_back, failed_avps_are_short, first_debit,
+    refusal_without_identifiers, refusals_are_read_back, session_is_written,
+    view_without_identifiers, view_without_unread_avps,
 };
 pub use reading::{ViewError, request_of};
 pub use refusal::{Refusal, refusal_bytes};

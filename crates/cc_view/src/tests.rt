@@ -6,6 +6,7 @@ use std::alloc::Global;
 use std::test::Fail;
 
 mod answers;
+mod groups;
 mod refusals;
 mod requests;
 
@@ -85,4 +86,28 @@ fn refused(alloc: Global, message: &Message) -> Result<Vec<u8>, Fail> {
         Err(ViewError::Refused(refusal)) => refusal_octets(alloc, message, &refusal),
         _ => Ok(Vec::new(alloc)),
     }
+}
+
+// Result-Code by its value's name.
+const APPLICATION_UNSUPPORTED: &str = "0000010c4000000c00000bbf";
+
+const COMMAND_UNSUPPORTED: &str = "0000010c4000000c00000bb9";
+
+const AVP_UNSUPPORTED: &str = "0000010c4000000c00001389";
+
+const INVALID_AVP_VALUE: &str = "0000010c4000000c0000138c";
+
+const MISSING_AVP: &str = "0000010c4000000c0000138d";
+
+const AVP_OCCURS_TOO_MANY_TIMES: &str = "0000010c4000000c00001391";
+
+const UNABLE_TO_COMPLY: &str = "0000010c4000000c00001394";
+
+const INVALID_AVP_LENGTH: &str = "0000010c4000000c00001396";
+
+/// Whether the message is refused with these octets.
+fn is_refused(alloc: Global, message: &Message, expected: &[&str]) -> Result<bool, Fail> {
+    let answer = refused(alloc, message)?;
+    let expected = octets_of(alloc, expected)?;
+    Ok(answer.as_slice() == expected.as_slice())
 }

@@ -2,30 +2,6 @@
 
 use super::*;
 
-// Result-Code by its value's name.
-const APPLICATION_UNSUPPORTED: &str = "0000010c4000000c00000bbf";
-
-const COMMAND_UNSUPPORTED: &str = "0000010c4000000c00000bb9";
-
-const AVP_UNSUPPORTED: &str = "0000010c4000000c00001389";
-
-const INVALID_AVP_VALUE: &str = "0000010c4000000c0000138c";
-
-const MISSING_AVP: &str = "0000010c4000000c0000138d";
-
-const AVP_OCCURS_TOO_MANY_TIMES: &str = "0000010c4000000c00001391";
-
-const UNABLE_TO_COMPLY: &str = "0000010c4000000c00001394";
-
-const INVALID_AVP_LENGTH: &str = "0000010c4000000c00001396";
-
-/// Whether the message is refused with these octets.
-fn is_refused(alloc: Global, message: &Message, expected: &[&str]) -> Result<bool, Fail> {
-    let answer = refused(alloc, message)?;
-    let expected = octets_of(alloc, expected)?;
-    Ok(answer.as_slice() == expected.as_slice())
-}
-
 #[test]
 fn other_headers(rt: HostRuntime) -> Result<(), Fail> {
     let alloc = rt.alloc();
@@ -162,95 +138,81 @@ fn long_unknown_avps(rt: HostRuntime) -> Result<(), Fail> {
     Ok(())
 }
 
-// Values and groups that are refused: what stands in place of the groups of the debit, Result-Code and
-// Failed-AVP.
-const BAD_GROUPS: [[&str; 4]; 9] = [
-    // Rating-Group says 16 octets where the group ends after 12
+// Values of the command that are refused, before a group that is: what stands in place of type, number
+// and action of the debit, Result-Code and Failed-AVP.
+const BAD_VALUES: [[&str; 4]; 7] = [
+    // CC-Request-Type of 8 octets
     [
         "0100006c60000110000000040000000700000064",
-        "000001c84000002c000001b540000018000001a5400000100000000000000c80000001b0400000100000000a",
+        "000001a04000001000000000000000040000019f4000000c00000000000001b44000000c00000000",
         INVALID_AVP_LENGTH,
-        "0000011740000014000001b04000000c00000000",
+        "0000011740000014000001a04000000c00000000",
     ],
-    // an unknown AVP with M in Subscription-Id
+    // CC-Request-Type 5
     [
         "0100006c60000110000000040000000700000064",
-        "000001bb40000034000001c24000000c00000000000001bc400000143439313730303030303030310000270f4000000c00000001",
-        AVP_UNSUPPORTED,
-        "00000117400000140000270f4000000c00000001",
-    ],
-    // a second Subscription-Id-Type
-    [
-        "0100006c60000110000000040000000700000064",
-        "000001bb40000020000001c24000000c00000000000001c24000000c00000001",
-        AVP_OCCURS_TOO_MANY_TIMES,
-        "0000011740000014000001c24000000c00000001",
-    ],
-    // no Subscription-Id-Data
-    [
-        "0100006860000110000000040000000700000064",
-        "000001bb40000014000001c24000000c00000000",
-        MISSING_AVP,
-        "0000011740000010000001bc40000008",
-    ],
-    // neither of both
-    [
-        "0100006c60000110000000040000000700000064",
-        "000001bb40000008",
-        MISSING_AVP,
-        "0000011740000014000001c24000000c00000000",
-    ],
-    // Subscription-Id-Data that is no text
-    [
-        "0100006c60000110000000040000000700000064",
-        "000001bb40000020000001c24000000c00000000000001bc40000009ff000000",
+        "000001a04000000c000000050000019f4000000c00000000000001b44000000c00000000",
         INVALID_AVP_VALUE,
-        "0000011740000014000001bc40000009ff000000",
+        "0000011740000014000001a04000000c00000005",
     ],
-    // CC-Total-Octets of 4 octets in an inner group
-    [
-        "0100007060000110000000040000000700000064",
-        "000001c840000028000001b540000014000001a54000000c00000001000001b04000000c0000000a",
-        INVALID_AVP_LENGTH,
-        "0000011740000018000001a5400000100000000000000000",
-    ],
-    // a second CC-Time in Used-Service-Unit
+    // CC-Request-Type 0
     [
         "0100006c60000110000000040000000700000064",
-        "000001c840000028000001be40000020000001a44000000c00000005000001a44000000c00000006",
-        AVP_OCCURS_TOO_MANY_TIMES,
-        "0000011740000014000001a44000000c00000006",
+        "000001a04000000c000000000000019f4000000c00000000000001b44000000c00000000",
+        INVALID_AVP_VALUE,
+        "0000011740000014000001a04000000c00000000",
     ],
-    // a bad Rating-Group behind an inner group with an unknown AVP
+    // CC-Request-Number of 3 octets
     [
         "0100006c60000110000000040000000700000064",
-        "000001c840000028000001b5400000140000270f4000000c00000001000001b04000000b0a0a0a00",
+        "000001a04000000c000000040000019f4000000b00000000000001b44000000c00000000",
         INVALID_AVP_LENGTH,
-        "0000011740000014000001b04000000c00000000",
+        "00000117400000140000019f4000000c00000000",
+    ],
+    // Requested-Action of no octets
+    [
+        "0100006c60000110000000040000000700000064",
+        "000001a04000000c000000040000019f4000000c00000000000001b440000008",
+        INVALID_AVP_LENGTH,
+        "0000011740000014000001b44000000c00000000",
+    ],
+    // Requested-Action 4
+    [
+        "0100006c60000110000000040000000700000064",
+        "000001a04000000c000000040000019f4000000c00000000000001b44000000c00000004",
+        INVALID_AVP_VALUE,
+        "0000011740000014000001b44000000c00000004",
+    ],
+    // Service-Identifier of 2 octets
+    [
+        "0100006c60000110000000040000000700000064",
+        "000001a04000000c000000040000019f4000000c00000000000001b44000000c00000000000001b74000000a00010000",
+        INVALID_AVP_LENGTH,
+        "0000011740000014000001b74000000c00000000",
     ],
 ];
 
 #[test]
-fn bad_groups(rt: HostRuntime) -> Result<(), Fail> {
+fn bad_values(rt: HostRuntime) -> Result<(), Fail> {
     let alloc = rt.alloc();
-    for (i, [head, groups, code, failed]) in BAD_GROUPS.iter().enumerate() {
-        let message = message(alloc, header(4, 272), &[SESSION, FRONT, MIDDLE, *groups])?;
+    for (i, [head, middle, code, failed]) in BAD_VALUES.iter().enumerate() {
+        let sent = [SESSION, FRONT, *middle, BACK, "000001bb40000008"];
+        let message = message(alloc, header(4, 272), &sent)?;
         let expected = [*head, SESSION, ORIGIN, *code, *failed];
         assert!(rt; is_refused(alloc, &message, &expected)?, "row {i}");
     }
     Ok(())
 }
 
-// CC-Request-Type 5, before a group that is refused.
+// A Session-Id that is no text is carried back as it is, and is the AVP at fault.
 #[test]
-fn bad_values(rt: HostRuntime) -> Result<(), Fail> {
+fn sessions_that_are_no_text(rt: HostRuntime) -> Result<(), Fail> {
     let alloc = rt.alloc();
-    let middle = "000001a04000000c000000050000019f4000000c00000000000001b44000000c00000000";
-    let sent = [SESSION, FRONT, middle, BACK, "000001bb40000008"];
-    let message = message(alloc, header(4, 272), &sent)?;
-    let head = "0100006c60000110000000040000000700000064";
-    let failed = "0000011740000014000001a04000000c00000005";
-    let expected = [head, SESSION, ORIGIN, INVALID_AVP_VALUE, failed];
+    let session = "0000010740000009ff000000";
+    let message = message(alloc, header(4, 272), &[session, FRONT, MIDDLE, BACK])?;
+    let head = "0100006860000110000000040000000700000064";
+    let failed = "00000117400000140000010740000009ff000000";
+    let expected = [head, session, ORIGIN, INVALID_AVP_VALUE, failed];
     assert!(rt; is_refused(alloc, &message, &expected)?);
     Ok(())
 }

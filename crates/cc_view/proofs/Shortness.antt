@@ -1,0 +1,215 @@
+-- The AVP that a refusal names takes at most 8,192 octets.
+use Rattle.std.proofs.Common.{◌≡◌, ℕ, ◌≤◌, List, [], ◌∷◌, Bool, true, false, not, cond, eqb, Option, Some, None, option_map, Result, Ok, Err, refl, subst, arith, lit≤}
+use Rattle.std.specs.Prelude.{IfErr, IfSome}
+use Rattle.std.specs.List.{slice_get}
+use Rattle.std.specs.Option.{option_and_then, option_or}
+use Rattle.std.specs.Result.{result_err}
+use Rattle.std.proofs.lemmas.Bool.{leb-true}
+use Rattle.std.proofs.lemmas.List.{length-replicate}
+use Rattle.dia_avp.specs.declared.avp.RawAvp.{RawAvp}
+use Rattle.dia_avp.specs.declared.fault.AvpFault.{AvpFault}
+use Rattle.dia_avp.specs.declared.fault.AvpFault.TheVariants.{ShortHeader, LengthTooSmall, Overrun, TooLong, TooDeep, OutOfMemory}
+use Rattle.dia_avp.specs.AvpList.{has_vendor, length_of}
+use Rattle.dia_avp.specs.AvpReading.{split_of}
+use Rattle.dia_dict.specs.declared.fault.DictFault.{DictFault}
+use Rattle.dia_dict.specs.declared.fault.DictFault.TheVariants as dict
+use Rattle.dia_dict.specs.declared.row.Kind.{Kind}
+use Rattle.dia_dict.specs.declared.row.Kind.TheVariants.{Unsigned32, Unsigned64, Integer32, Integer64, Time, Enumerated, Utf8String, DiameterIdentity, OctetString, Address, Grouped}
+use Rattle.dia_dict.specs.Reading.{reading_of}
+use Rattle.dia_message.specs.declared.message.Message.{Message}
+use Rattle.dia_grammar.specs.declared.fault.GrammarFault.{GrammarFault}
+use Rattle.dia_grammar.specs.declared.fault.GrammarFault.TheVariants.{Missing, Twice, UnknownM, FirstNotSessionId}
+use Rattle.dia_grammar.specs.Grammar.{grammar_fault, is_among, is_of, missing_of, second_of, unknown_of}
+use Rattle.cc_view.specs.declared.code.ResultCode.{ResultCode}
+use Rattle.cc_view.specs.declared.code.ResultCode.TheVariants.{ApplicationUnsupported, AvpOccursTooManyTimes, AvpUnsupported, CommandUnsupported, UnableToComply}
+use Rattle.cc_view.specs.declared.refusal.Refusal.{Refusal}
+use Rattle.cc_view.specs.declared.request.CcRequest.{CcRequest}
+use Rattle.cc_view.specs.Carried.{carries_too_much}
+use Rattle.cc_view.specs.Checking.{command_values, count_codes, first_refusal, group_refusal, group_values, groups_refusal, inner_group_refusal, inner_refusal, is_units, members_refusal, refused_fault, service_codes, service_members_refusal, service_refusal, subscription_codes, subscription_refusal, tested_in, units_refusal, value_refusal, value_refusal_among, values_refusal}
+use Rattle.cc_view.specs.Codes.{multiple_services, subscription_id}
+use Rattle.cc_view.specs.Content.{are_within_limits, content_of, request_in, services_in}
+use Rattle.cc_view.specs.FailedAvp.{copied, fixed_len, is_copied, kind_at, least_form, least_len}
+use Rattle.cc_view.specs.Refusing.{grammar_refusal, listed_by, listed_in, refused, refused_at, refused_by, refused_for, refused_octets, refused_without, unless_refused}
+use Rattle.cc_view.specs.RequestView.{request_refusal, view_of, view_of_list}
+
+abbrev IsShortIn : Refusal → Type 0
+IsShortIn refusal = IfSome refusal.failed (λ avp. length_of avp ≤ 8192)
+
+abbrev Short : Option Refusal → Type 0
+Short refusal = IfSome refusal IsShortIn
+
+-- ---- one AVP
+
+fixed_least : (kind : Kind) → fixed_len kind ≤ 8
+fixed_least Unsigned32 = lit≤ tt
+fixed_least Unsigned64 = lit≤ tt
+fixed_least Integer32 = lit≤ tt
+fixed_least Integer64 = lit≤ tt
+fixed_least Time = lit≤ tt
+fixed_least Enumerated = lit≤ tt
+fixed_least Utf8String = lit≤ tt
+fixed_least DiameterIdentity = lit≤ tt
+fixed_least OctetString = lit≤ tt
+fixed_least Address = lit≤ tt
+fixed_least Grouped = lit≤ tt
+
+least_least : (kind : Option Kind) → least_len kind ≤ 8
+least_least (Some kind) = fixed_least kind
+least_least None = lit≤ tt
+
+header_most : (vendor : Bool) → cond vendor 12 8 ≤ 12
+header_most true = lit≤ tt
+header_most false = lit≤ tt
+
+short-least : (code flags vendor : ℕ) → length_of (least_form code flags vendor) ≤ 8192
+short-least code flags vendor =
+    omega (arith, header_most (has_vendor flags), least_least (kind_at code vendor), length-replicate {A = ℕ} (least_len (kind_at code vendor)) 0)
+
+short-copied : (avp : RawAvp) → length_of (copied avp) ≤ 8192
+short-copied avp = by_length (is_copied avp) refl
+  where
+    by_length : (short : Bool) → is_copied avp ≡ short → length_of (cond short avp (least_form avp.code avp.flags avp.vendor)) ≤ 8192
+    by_length true is = leb-true (length_of avp) 8192 is
+    by_length false is = short-least avp.code avp.flags avp.vendor
+
+-- ---- one refusal
+
+short-octets : (octets : List ℕ) (fault : AvpFault) → IsShortIn (refused_octets octets fault)
+short-octets octets (ShortHeader at) = tt
+short-octets octets (LengthTooSmall at code) = short-least code _ _
+short-octets octets (Overrun at code) = short-least code _ _
+short-octets octets TooLong = tt
+short-octets octets TooDeep = tt
+short-octets octets OutOfMemory = tt
+
+short-at : (code : ResultCode) (avps : List RawAvp) (at : ℕ) → Short (refused_at code avps at)
+short-at code avps at = by_place (slice_get avps at)
+  where
+    by_place : (found : Option RawAvp) → Short (option_map (refused_for code) found)
+    by_place (Some avp) = short-copied avp
+    by_place None = tt
+
+short-fault : (avp : RawAvp) (fault : DictFault) → Short (refused_fault avp fault)
+short-fault avp (dict.BadLength code) = short-least avp.code avp.flags avp.vendor
+short-fault avp (dict.BadUtf8 code) = short-copied avp
+short-fault avp (dict.BadEnumerated code) = short-copied avp
+short-fault avp (dict.NoRow code) = tt
+short-fault avp dict.OutOfMemory = tt
+
+-- ---- one test and then another
+
+short-then : {X : Type 0} (test : X → Option Refusal) → ((x : X) → Short (test x)) → (found : Option X) → Short (option_and_then test found)
+short-then test each (Some x) = each x
+short-then test each None = tt
+
+short-or : (a b : Option Refusal) → Short a → Short b → Short (option_or a b)
+short-or (Some refusal) b p q = p
+short-or None b p q = q
+
+short-if : (b : Bool) (x y : Option Refusal) → Short x → Short y → Short (cond b x y)
+short-if true x y p q = p
+short-if false x y p q = q
+
+short-first : (test : RawAvp → Option Refusal) → ((avp : RawAvp) → Short (test avp)) → (avps : List RawAvp) → Short (first_refusal test avps)
+short-first test each [] = tt
+short-first test each (avp ∷ avps) = short-or (test avp) (first_refusal test avps) (each avp) (short-first test each avps)
+
+short-missing : (code : Option ℕ) → Short (option_map refused_without code)
+short-missing (Some code) = short-least code 64 0
+short-missing None = tt
+
+-- ---- values and groups
+
+short-value : (avp : RawAvp) → Short (value_refusal avp)
+unfolding value_refusal
+short-value avp = short-then (refused_fault avp) (short-fault avp) (result_err (reading_of avp))
+
+short-values : (codes : List ℕ) (avps : List RawAvp) → Short (values_refusal codes avps)
+short-values codes avps = short-first (value_refusal_among codes) (λ avp. short-if (is_among codes avp) (value_refusal avp) None (short-value avp) tt) avps
+
+short-members : (vendors single required : List ℕ) (avps : List RawAvp) → Short (members_refusal vendors single required avps)
+short-members vendors single required avps =
+    let unknown = option_and_then (refused_at AvpUnsupported avps) (unknown_of vendors avps) in
+    let second = option_and_then (refused_at AvpOccursTooManyTimes avps) (second_of single avps) in
+    let missing = option_map refused_without (missing_of required avps) in
+    let values = values_refusal group_values avps in
+    short-or unknown (option_or second (option_or missing values)) (short-then (refused_at AvpUnsupported avps) (short-at AvpUnsupported avps) (unknown_of vendors avps))
+    (short-or second (option_or missing values) (short-then (refused_at AvpOccursTooManyTimes avps) (short-at AvpOccursTooManyTimes avps) (second_of single avps))
+    (short-or missing values (short-missing (missing_of required avps)) (short-values group_values avps)))
+
+short-tested : (test : List RawAvp → Option Refusal) → ((avps : List RawAvp) → Short (test avps)) → (octets : List ℕ) (s : Result (List RawAvp) AvpFault) → Short (tested_in test (listed_by octets s))
+short-tested test each octets (Ok avps) = each avps
+short-tested test each octets (Err fault) = short-octets octets fault
+
+short-subscription : (vendors : List ℕ) (avp : RawAvp) → Short (subscription_refusal vendors avp)
+unfolding subscription_refusal
+short-subscription vendors avp = short-tested (members_refusal vendors subscription_codes subscription_codes) (short-members vendors subscription_codes subscription_codes) avp.value (split_of avp.value)
+
+short-units : (vendors : List ℕ) (avp : RawAvp) → Short (units_refusal vendors avp)
+unfolding units_refusal
+short-units vendors avp = short-tested (members_refusal vendors count_codes []) (short-members vendors count_codes []) avp.value (split_of avp.value)
+
+short-inner : (vendors : List ℕ) (avps : List RawAvp) → Short (inner_refusal vendors avps)
+short-inner vendors avps = short-first (inner_group_refusal vendors) (λ avp. short-if (is_units avp) (units_refusal vendors avp) None (short-units vendors avp) tt) avps
+
+short-service : (vendors : List ℕ) (avp : RawAvp) → Short (service_refusal vendors avp)
+unfolding service_refusal
+short-service vendors avp =
+    short-tested (service_members_refusal vendors)
+    (λ avps. short-or (members_refusal vendors service_codes [] avps) (inner_refusal vendors avps) (short-members vendors service_codes [] avps) (short-inner vendors avps))
+    avp.value (split_of avp.value)
+
+short-group : (vendors : List ℕ) (avp : RawAvp) → Short (group_refusal vendors avp)
+short-group vendors avp =
+    let service = cond (is_of multiple_services avp) (service_refusal vendors avp) None in
+    let units = cond (is_units avp) (units_refusal vendors avp) service in
+    short-if (is_of subscription_id avp) (subscription_refusal vendors avp) units (short-subscription vendors avp)
+    (short-if (is_units avp) (units_refusal vendors avp) service (short-units vendors avp)
+    (short-if (is_of multiple_services avp) (service_refusal vendors avp) None (short-service vendors avp) tt))
+
+-- ---- a request
+
+short-by : (avps : List RawAvp) (fault : GrammarFault) → Short (refused_by avps fault)
+short-by avps (Missing code) = short-least code 64 0
+short-by avps FirstNotSessionId = tt
+short-by avps (UnknownM at) = short-at AvpUnsupported avps at
+short-by avps (Twice at) = short-at AvpOccursTooManyTimes avps at
+
+short-request : (vendors : List ℕ) (avps : List RawAvp) → Short (request_refusal vendors avps)
+short-request vendors avps =
+    let values = values_refusal command_values avps in
+    let groups = groups_refusal vendors avps in
+    short-or (grammar_refusal vendors avps) (option_or values groups) (short-then (refused_by avps) (short-by avps) (grammar_fault vendors avps))
+    (short-or values groups (short-values command_values avps) (short-first (group_refusal vendors) (short-group vendors) avps))
+
+-- ---- the view
+
+abbrev ShortErr : Result CcRequest Refusal → Type 0
+ShortErr view = IfErr view IsShortIn
+
+short-content : (within : Bool) (request : CcRequest) → ShortErr (cond within (Ok request) (Err (refused UnableToComply)))
+short-content true request = tt
+short-content false request = tt
+
+short-avps : (much : Bool) (refusal : Option Refusal) (content : Result CcRequest Refusal) → Short refusal → ShortErr content → ShortErr (cond much (Err (refused UnableToComply)) (unless_refused refusal content))
+short-avps true refusal content p q = tt
+short-avps false (Some refusal) content p q = p
+short-avps false None content p q = q
+
+short-list : (vendors octets : List ℕ) (s : Result (List RawAvp) AvpFault) → ShortErr (view_of_list vendors (listed_by octets s))
+short-list vendors octets (Err fault) = short-octets octets fault
+short-list vendors octets (Ok avps) =
+    short-avps (carries_too_much avps) (request_refusal vendors avps) (content_of avps) (short-request vendors avps) (short-content (are_within_limits (services_in avps)) (request_in avps))
+
+short-header : (application command : Bool) (view : Result CcRequest Refusal) → ShortErr view → ShortErr (cond (not application) (Err (refused ApplicationUnsupported)) (cond (not command) (Err (refused CommandUnsupported)) view))
+short-header true true view p = p
+short-header true false view p = tt
+short-header false command view p = tt
+
+short-view : (vendors : List ℕ) (message : Message) → ShortErr (view_of vendors message)
+unfolding view_of
+short-view vendors message =
+    short-header (eqb message.header.application 4) (eqb message.header.command 272) (view_of_list vendors (listed_in message.body)) (short-list vendors message.body (split_of message.body))
+
+pub failed-short : (vendors : List ℕ) (message : Message) (refusal : Refusal) → view_of vendors message ≡ Err refusal → IfSome refusal.failed (λ avp. length_of avp ≤ 8192)
+failed-short vendors message refusal e = subst ShortErr e (short-view vendors message)
