@@ -1,4 +1,5 @@
 mod Paying
+mod Tariffs
 pub mod Costs
 pub mod Faults
 pub mod Keys

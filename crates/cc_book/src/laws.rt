@@ -1,6 +1,6 @@
 //! Laws of the account book, in the words of a reader who knows none of its code.
 
-ghost use Rattle.std.specs.Prelude.{◌≡◌, ◌≢◌, ℕ, ◌<◌, List, [], ◌∷◌, ◌++◌, length, Some, true, if◌then◌else◌, pos, ◌-ℤ◌, ◌≤ℤ◌};
+ghost use Rattle.std.specs.Prelude.{◌≡◌, ◌≢◌, ℕ, ◌<◌, List, [], ◌∷◌, ◌++◌, ◌↔◌, length, None, Some, true, if◌then◌else◌, pos, ◌-ℤ◌, ◌≤ℤ◌};
 ghost use Rattle.dia_base.specs.declared.number.Moment.{Moment};
 ghost use Rattle.cc_view.specs.Fitting.{Fits};
 ghost use Rattle.cc_view.specs.ServiceLimits.{WithinLimits};
@@ -15,9 +15,9 @@ ghost use Rattle.cc_book.specs.AccountMachine.{account_of, is_debiting, opening_
 ghost use Rattle.cc_book.specs.Balance.{debit_of, balance_of};
 ghost use Rattle.cc_book.specs.Duplicate.{Key, key_of};
 ghost use Rattle.cc_book.specs.History.{IsLegal};
-ghost use Rattle.cc_book.specs.Laws.{total_below, debits_of, cost_of_reply, CostsFewestBlocks};
+ghost use Rattle.cc_book.specs.Laws.{total_below, debits_of, cost_of_reply, AreTariffs, CostsFewestBlocks};
 ghost use Rattle.cc_book.specs.Posting.{is_account};
-ghost use Rattle.cc_book.specs.Tariffs.{AreInRange};
+ghost use Rattle.cc_book.specs.Tariffs.{fault_of, AreInRange};
 
 /// Units cost the price for each of the fewest blocks that hold them.
 pub fn cost_is_of_fewest_blocks()
@@ -72,4 +72,10 @@ pub fn debits_pay_for_what_is_granted()
 /// answer is a message (RFC 6733, section 3).
 pub fn replies_fit()
     ensures { (terms : Terms) (history : List Entry) (request : CcRequest) → AreInRange terms.tariffs → WithinLimits request.services → Fits (reply_to terms history request) }
+{}
+
+/// Tariffs have no fault exactly where each is in its ranges and is for a group or for an identifier, and
+/// no service is rated by two of them.
+pub fn what_tariffs_are()
+    ensures { (tariffs : List Tariff) → (fault_of tariffs ≡ None) ↔ AreTariffs tariffs }
 {}

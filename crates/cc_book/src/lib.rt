@@ -16,7 +16,7 @@ pub use entry::Entry;
 pub use laws::{
     balances_move_by_debits, cost_is_of_fewest_blocks, debits_pay_for_what_is_granted,
     kept_reply_is_the_first, kept_reply_stays, keys_are_distinct,
-    openings_less_debits_are_balances, replies_fit,
+    openings_less_debits_are_balances, replies_fit, what_tariffs_are,
 };
 
 #[cfg(test)]

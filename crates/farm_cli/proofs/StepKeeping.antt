@@ -17,7 +17,7 @@ use Rattle.front_core.specs.declared.worker.Worker.TheVariants.{Idle, Picked, Do
 use Rattle.front_core.specs.Answered.{IsAnswered, IsRefusedAtArrival, IsRefusedAtCharge}
 use Rattle.front_core.specs.Cause.{ArrivalCause, queue_full}
 use Rattle.front_core.specs.ChargeCases.{IsCharge}
-use Rattle.front_core.specs.FrontState.{FrontState}
+use Rattle.front_core.specs.FrontState.{FrontState, is_among}
 use Rattle.front_core.specs.FrontStep.{Sent as Out, connected, after_arrival, sent_at_arrival, with_worker, after_pick, after_emit, answer_in, book_after, charged_by}
 use Rattle.front_core.proofs.Charges.{charge_case, answered_or_refused, arrival_refused}
 use Rattle.farm_cli.specs.declared.site.Site.{Site}
@@ -26,7 +26,7 @@ use Rattle.farm_cli.specs.declared.step.Step.TheVariants.{Up, Send, Deliver, Pic
 use Rattle.farm_cli.specs.declared.world.parts.FrontPart.{FrontPart}
 use Rattle.farm_cli.specs.declared.world.parts.Line.{Line}
 use Rattle.farm_cli.specs.Cause.{at_arrival, at_charge}
-use Rattle.farm_cli.specs.FarmStep.{next_conn, learnt_by, learnt, joined, can_rise, raised, sent_on, sent_by, arrived_at_front, Taken, taken_from, delivered_to, delivered, picked_at, picks_at, emitted_at, emits_at, charged_at, charges_at, after_step, Outcome, FarmStep}
+use Rattle.farm_cli.specs.FarmStep.{next_conn, learnt_by, learnt, joined, can_rise, raised, sent_on, sent_by, arrived_at_front, heard_by, Taken, taken_from, delivered_to, delivered, picked_at, picks_at, emitted_at, emits_at, charged_at, charges_at, after_step, Outcome, FarmStep}
 use Rattle.farm_cli.specs.Promise.{IsPassed, WasAsked, HasOneClient, is_with}
 use Rattle.farm_cli.specs.Run.{IsRunnable}
 use Rattle.farm_cli.specs.World.{Sent, WorldState, is_client, is_linked, is_relay, is_between, is_front_at, with_front, front_of, front_at}
@@ -209,10 +209,9 @@ module _ (site : Site) (past : List Step) where
   abbrev Left : WorldState → List Line → ConnId → Bool → Message → Type 0
   Left w lines conn by_client message = (c : ConnId) (hop end : ℕ) → sum_by (on_line c hop end site) lines + flying c hop end conn by_client message ≡ sum_by (on_line c hop end site) w.lines
 
-  front_gets : (w : WorldState) (from node : NodeNo) (place : ℕ) (conn : ConnId) (message : Message) (lines : List Line) (found : Option FrontState) → IsPassed site past w
-      → taken_from w.lines from node place ≡ Some (record { conn = conn; message = message; lines = lines }) → front_at node w.fronts ≡ found → (message.header.request ≡ true → WasAsked w.sent conn message)
-      → All (LineStands site past w.sent w.book w.ends) lines → (by_client : Bool) → Left w lines conn by_client message → Standing w → Standing (arrived_at_front (record w { lines = lines }) node conn message found)
-  front_gets w from node place conn message lines None passed taken at asked left by_client tally s = record {
+  -- the lines without the message, which is lost
+  lost_keeps : (w : WorldState) (conn : ConnId) (message : Message) (lines : List Line) → All (LineStands site past w.sent w.book w.ends) lines → (by_client : Bool) → Left w lines conn by_client message → Standing w → Standing (record w { lines = lines })
+  lost_keeps w conn message lines left by_client tally s = record {
     on_lines = left;
     at_fronts = s.at_fronts;
     at_clients = s.at_clients;
@@ -225,7 +224,11 @@ module _ (site : Site) (past : List Step) where
     limit = s.limit;
     within = s.within;
   }
-  front_gets w from node place conn message lines (Some front) passed taken at asked left by_client tally s =
+
+  front_hears : (w : WorldState) (from node : NodeNo) (place : ℕ) (conn : ConnId) (message : Message) (lines : List Line) (front : FrontState) → IsPassed site past w
+      → taken_from w.lines from node place ≡ Some (record { conn = conn; message = message; lines = lines }) → front_at node w.fronts ≡ Some front → (message.header.request ≡ true → WasAsked w.sent conn message)
+      → All (LineStands site past w.sent w.book w.ends) lines → (by_client : Bool) → Left w lines conn by_client message → Standing w → Standing (heard_by (record w { lines = lines }) node conn message front)
+  front_hears w from node place conn message lines front passed taken at asked left by_client tally s =
       let f = at_front w.sent w.book node w.fronts front at s.at_fronts in
       let dues = All-weaker (λ (item : ConnId × Message). (item.0 ≡ conn) × IsRefusedAtArrival front message item.1) (λ (item : ConnId × Message). IsDue site past w.sent w.book item.0 item.1)
       (λ (item : ConnId × Message) r. subst (λ (c : ConnId). IsDue site past w.sent w.book c item.1) (sym r.0) (arrival_due w from node place conn message lines front item.1 passed taken at f asked r.1))
@@ -250,6 +253,19 @@ module _ (site : Site) (past : List Step) where
         limit = s.limit;
         within = s.within;
       }
+
+  known_or_lost : (w : WorldState) (node : NodeNo) (conn : ConnId) (message : Message) (lines : List Line) (front : FrontState) (known : Bool) → Standing (heard_by (record w { lines = lines }) node conn message front) → Standing (record w { lines = lines })
+      → Standing (cond known (heard_by (record w { lines = lines }) node conn message front) (record w { lines = lines }))
+  known_or_lost w node conn message lines front true hears lost = hears
+  known_or_lost w node conn message lines front false hears lost = lost
+
+  front_gets : (w : WorldState) (from node : NodeNo) (place : ℕ) (conn : ConnId) (message : Message) (lines : List Line) (found : Option FrontState) → IsPassed site past w
+      → taken_from w.lines from node place ≡ Some (record { conn = conn; message = message; lines = lines }) → front_at node w.fronts ≡ found → (message.header.request ≡ true → WasAsked w.sent conn message)
+      → All (LineStands site past w.sent w.book w.ends) lines → (by_client : Bool) → Left w lines conn by_client message → Standing w → Standing (arrived_at_front (record w { lines = lines }) node conn message found)
+  front_gets w from node place conn message lines None passed taken at asked left by_client tally s = lost_keeps w conn message lines left by_client tally s
+  front_gets w from node place conn message lines (Some front) passed taken at asked left by_client tally s =
+      known_or_lost w node conn message lines front (is_among front.connections conn)
+      (front_hears w from node place conn message lines front passed taken at asked left by_client tally s) (lost_keeps w conn message lines left by_client tally s)
 
   arrival_if : (w : WorldState) (from to : NodeNo) (place : ℕ) (taken : Taken) (b : Bool) → IsPassed site past w → taken_from w.lines from to place ≡ Some taken → is_client site to ≡ b → Standing w
       → Standing (cond b (record w { lines = taken.lines; received = w.received ++ (taken.conn, taken.message) ∷ [] }) (arrived_at_front (record w { lines = taken.lines }) to taken.conn taken.message (front_at to w.fronts)))

@@ -1,6 +1,6 @@
 -- What a step leaves, where a front of the farm was changed in its place.
 use Rattle.std.proofs.Common.{◌≡◌, ℕ, Bool, true, false, cond, List, [], ◌∷◌, ◌++◌, get_or, Option, Some, None, refl, sym, subst, ap, ◌∙◌}
-use Rattle.std.specs.Prelude.{slice_set}
+use Rattle.std.specs.Prelude.{slice_set, IsOkUnless, MatchBool, Result, Ok, Err}
 use Rattle.std.proofs.lemmas.List.{set-get_or}
 use Rattle.dia_base.specs.declared.number.ConnId.{ConnId}
 use Rattle.dia_base.specs.declared.number.Moment.{Moment}
@@ -8,14 +8,16 @@ use Rattle.dia_base.specs.declared.number.NodeNo.{NodeNo}
 use Rattle.cc_book.specs.Taking.{Ledger}
 use Rattle.dia_message.specs.declared.message.Message.{Message}
 use Rattle.dia_message.specs.declared.message.Out.{Out}
-use Rattle.front_core.specs.FrontState.{FrontState}
+use Rattle.front_core.specs.declared.error.FrontError.{FrontError}
+use Rattle.front_core.specs.declared.error.FrontError.TheVariants.{OutOfMemory, UnknownConn}
+use Rattle.front_core.specs.FrontState.{FrontState, is_among}
 use Rattle.front_core.specs.FrontStep.{after_arrival, sent_at_arrival, after_pick, after_charge, after_emit, Picks, Charges, Emits}
 use Rattle.farm_cli.specs.declared.site.Site.{Site}
 use Rattle.farm_cli.specs.declared.world.parts.Line.{Line}
 use Rattle.farm_cli.specs.declared.world.parts.FrontPart.{FrontPart}
 use Rattle.farm_cli.specs.Lists.{IsFirst}
 use Rattle.farm_cli.specs.World.{Sent, WorldState, is_client, posted, is_front_at, with_front, front_at}
-use Rattle.farm_cli.specs.FarmStep.{Outcome, arrived, arrived_at_front, picks_at, picked_at, emits_at, emitted_at, charges_at, charged_at}
+use Rattle.farm_cli.specs.FarmStep.{Outcome, arrived, arrived_at_front, heard_by, picks_at, picked_at, emits_at, emitted_at, charges_at, charged_at}
 use Rattle.farm_cli.proofs.FrontLemmas.{front_found, front_changed}
 
 -- the front of the part at a place, changed
@@ -32,16 +34,44 @@ same_fronts w place part front read same =
     ap (fronts_with w place part) same ∙ ap (slice_set w.fronts place) read ∙ set-get_or w.fronts place part
 
 pub arrive_turn : (site : Site) (w : WorldState) (node : NodeNo) (conn : ConnId) (message : Message) (place : ℕ) (part : FrontPart) (front : FrontState) (lines : List Line) (sent : Sent) → is_client site node ≡ false
-    → IsFirst (is_front_at node) w.fronts place → part ≡ get_or w.fronts place part
+    → IsFirst (is_front_at node) w.fronts place → part ≡ get_or w.fronts place part → is_among part.front.connections conn ≡ true
     → front ≡ after_arrival part.front conn message → sent ≡ sent_at_arrival part.front conn message → lines ≡ posted node w.lines sent
     → with_parts w lines (fronts_with w place part front) ≡ arrived site w node conn message
-arrive_turn site w node conn message place part front lines sent is first read front_is sent_is lines_is =
+arrive_turn site w node conn message place part front lines sent is first read known front_is sent_is lines_is =
     ap (λ (ls : List Line). with_parts w ls (fronts_with w place part front)) (lines_is ∙ ap (posted node w.lines) sent_is)
     ∙ ap (with_parts w (posted node w.lines (sent_at_arrival part.front conn message))) (ap (fronts_with w place part) front_is ∙ front_changed node w.fronts place part (after_arrival part.front conn message) first read)
     ∙ sym (
     ap (λ (b : Bool). cond b (record w { received = w.received ++ (conn, message) ∷ [] }) (arrived_at_front w node conn message (front_at node w.fronts))) is
     ∙ ap (arrived_at_front w node conn message) (front_found node w.fronts place part first read)
+    ∙ ap (λ (b : Bool). cond b (heard_by w node conn message part.front) w) known
     )
+
+-- on a connection that the front does not know
+pub lost_turn : (site : Site) (w : WorldState) (node : NodeNo) (conn : ConnId) (message : Message) (place : ℕ) (part : FrontPart) (front : FrontState) → is_client site node ≡ false
+    → IsFirst (is_front_at node) w.fronts place → part ≡ get_or w.fronts place part → is_among part.front.connections conn ≡ false
+    → front ≡ part.front → with_parts w w.lines (fronts_with w place part front) ≡ arrived site w node conn message
+lost_turn site w node conn message place part front is first read unknown same =
+    ap (with_parts w w.lines) (same_fronts w place part front read same)
+    ∙ sym (
+    ap (λ (b : Bool). cond b (record w { received = w.received ++ (conn, message) ∷ [] }) (arrived_at_front w node conn message (front_at node w.fronts))) is
+    ∙ ap (arrived_at_front w node conn message) (front_found node w.fronts place part first read)
+    ∙ ap (λ (b : Bool). cond b (heard_by w node conn message part.front) w) unknown
+    )
+
+-- which connections a front knows, by what it answers
+abbrev ok_of : Out → Result Out FrontError
+ok_of out = Ok out
+
+abbrev err_of : FrontError → Result Out FrontError
+err_of e = Err e
+
+pub known_where_ok : (b : Bool) (out : Out) (conn : ConnId) → MatchBool b (IsOkUnless (ok_of out) OutOfMemory) (ok_of out ≡ err_of (UnknownConn conn)) → b ≡ true
+known_where_ok true out conn h = refl
+known_where_ok false out conn h = absurd cc
+
+pub unknown_where_err : (b : Bool) (e : FrontError) (conn other : ConnId) → e ≡ UnknownConn other → MatchBool b (IsOkUnless (err_of e) OutOfMemory) (err_of e ≡ err_of (UnknownConn conn)) → b ≡ false
+unknown_where_err false e conn other is h = refl
+unknown_where_err true e conn other is h = absurd cc
 
 pub pick_turn : (w : WorldState) (node : NodeNo) (worker place : ℕ) (part : FrontPart) (applied : Bool) (front : FrontState) → IsFirst (is_front_at node) w.fronts place → part ≡ get_or w.fronts place part
     → Picks (after_pick part.front worker) applied part.front front → Outcome (picks_at w node worker (front_at node w.fronts)) applied w (with_parts w w.lines (fronts_with w place part front))

@@ -6,7 +6,7 @@ use Rattle.dia_base.specs.declared.number.NodeNo.{NodeNo}
 use Rattle.dia_base.specs.declared.number.Moment.{Moment}
 use Rattle.dia_message.specs.declared.message.Message.{Message}
 use Rattle.cc_book.specs.Taking.{Ledger}
-use Rattle.front_core.specs.FrontState.{FrontState}
+use Rattle.front_core.specs.FrontState.{FrontState, is_among}
 use Rattle.front_core.specs.FrontStep.{connected, after_arrival, sent_at_arrival, after_pick, after_charge, after_emit}
 use Rattle.farm_cli.specs.declared.site.Site.{Site}
 use Rattle.farm_cli.specs.declared.step.Step.{Step}
@@ -58,12 +58,16 @@ sent_by site w client to message = if is_client site client then sent_on w clien
 -- ---- deliver: a message leaves its list, and the other node gets it
 
 -- what a front sends joins the lists' ends
-abbrev pub arrived_at_front : WorldState → NodeNo → ConnId → Message → Option FrontState → WorldState
-arrived_at_front w node conn message None = w
-arrived_at_front w node conn message (Some front) = record w {
+abbrev pub heard_by : WorldState → NodeNo → ConnId → Message → FrontState → WorldState
+heard_by w node conn message front = record w {
   lines = posted node w.lines (sent_at_arrival front conn message);
   fronts = with_front node (after_arrival front conn message) w.fronts;
 }
+
+-- a message on a connection that the front does not know is lost
+abbrev pub arrived_at_front : WorldState → NodeNo → ConnId → Message → Option FrontState → WorldState
+arrived_at_front w node conn message None = w
+arrived_at_front w node conn message (Some front) = if is_among front.connections conn then heard_by w node conn message front else w
 
 abbrev pub arrived : Site → WorldState → NodeNo → ConnId → Message → WorldState
 arrived site w node conn message =

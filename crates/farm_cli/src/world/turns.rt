@@ -13,6 +13,7 @@ use crate::world::parts::{Line, World};
 use dia_avp::Wire;
 use dia_base::{ConnId, Listing, Moment, NodeNo};
 use dia_message::Message;
+use front_core::FrontError;
 use std::alloc::{AllocError, Global};
 
 fn fresh_line(alloc: Global, conn: ConnId, one: NodeNo, other: NodeNo) -> Line
@@ -107,7 +108,8 @@ impl World {
             .on_message::<W>(alloc, conn, message)
         {
             Ok(out) => post(&mut self.lines, node, out),
-            Err(_) => Err(AllocError),
+            Err(FrontError::UnknownConn { .. }) => Ok(()),
+            Err(FrontError::OutOfMemory) => Err(AllocError),
         }
     }
 
