@@ -4,6 +4,7 @@ use Rattle.std.specs.Prelude.{All, slice_get}
 use Rattle.std.proofs.lemmas.List.Elements.{All-nil, All-cons, All-push, All-head, All-tail, All-set}
 use Rattle.dia_base.specs.declared.number.ConnId.{ConnId}
 use Rattle.dia_base.specs.declared.number.Moment.{Moment}
+use Rattle.dia_base.specs.declared.number.NodeNo.{NodeNo}
 use Rattle.dia_message.specs.declared.message.Message.{Message}
 use Rattle.cc_view.specs.RequestView.{view_of}
 use Rattle.cc_book.specs.declared.entry.Entry.TheVariants.{Take}
@@ -19,26 +20,26 @@ use Rattle.front_core.specs.FrontStep.{Sent as Out, connected, queued, after_arr
 use Rattle.front_core.proofs.Charges.{answered-stays}
 use Rattle.farm_cli.specs.declared.site.Site.{Site}
 use Rattle.farm_cli.specs.declared.step.Step.{Step}
-use Rattle.farm_cli.specs.Promise.{WasAsked, IsFromClient}
+use Rattle.farm_cli.specs.Promise.{Ends, IsEndOf, WasAsked, IsFromClient}
 use Rattle.farm_cli.specs.World.{Sent}
 use Rattle.farm_cli.proofs.Keeping.{some_is}
 use Rattle.farm_cli.proofs.Members.{All-read}
-use Rattle.farm_cli.proofs.Standing.{IsDue, WorkerStands, FrontStands, Grows}
+use Rattle.farm_cli.proofs.Standing.{IsDue, JobStands, WorkerStands, FrontStands, Grows}
 
-module _ (site : Site) (steps : List Step) (sent : Sent) (book : Ledger) where
+module _ (site : Site) (steps : List Step) (ends : Ends) (sent : Sent) (book : Ledger) (node : NodeNo) where
   abbrev Front-stands : FrontState → Type 0
-  Front-stands = FrontStands site steps sent book
+  Front-stands = FrontStands site steps ends sent book node
 
-  abbrev JobStands : Job → Type 0
-  JobStands job = WasAsked sent job.conn job.request
+  abbrev Job-stands : Job → Type 0
+  Job-stands = JobStands ends sent node
 
-  with_worker_stands : (front : FrontState) (worker : ℕ) (held : Worker) → WorkerStands site steps sent book held → Front-stands front → Front-stands (with_worker front worker held)
+  with_worker_stands : (front : FrontState) (worker : ℕ) (held : Worker) → WorkerStands site steps ends sent book node held → Front-stands front → Front-stands (with_worker front worker held)
   with_worker_stands front worker held h s = record {
     is_front = s.is_front;
     of_realm = s.of_realm;
     knows = s.knows;
     waiting = s.waiting;
-    working = All-set (WorkerStands site steps sent book) front.workers worker held h s.working;
+    working = All-set (WorkerStands site steps ends sent book node) front.workers worker held h s.working;
   }
 
   -- ---- a connection comes up
@@ -52,31 +53,31 @@ module _ (site : Site) (steps : List Step) (sent : Sent) (book : Ledger) where
 
   -- ---- a message arrives
 
-  arrival_by : (front : FrontState) (conn : ConnId) (message : Message) (requests room : Bool) → message.header.request ≡ requests → (message.header.request ≡ true → WasAsked sent conn message) → Front-stands front
+  arrival_by : (front : FrontState) (conn : ConnId) (message : Message) (requests room : Bool) → message.header.request ≡ requests → (message.header.request ≡ true → WasAsked sent conn message) → IsEndOf ends conn node → Front-stands front
       → Front-stands (cond requests (cond room (queued front conn message) front) front)
-  arrival_by front conn message true true e asked s = record {
+  arrival_by front conn message true true e asked at_end s = record {
     is_front = s.is_front;
     of_realm = s.of_realm;
     knows = s.knows;
-    waiting = All-push JobStands front.queue (record { conn = conn; request = message }) s.waiting (asked e);
+    waiting = All-push Job-stands front.queue (record { conn = conn; request = message }) s.waiting (asked e, at_end);
     working = s.working;
   }
-  arrival_by front conn message true false e asked s = s
-  arrival_by front conn message false room e asked s = s
+  arrival_by front conn message true false e asked at_end s = s
+  arrival_by front conn message false room e asked at_end s = s
 
-  pub arrival_stands : (front : FrontState) (conn : ConnId) (message : Message) → (message.header.request ≡ true → WasAsked sent conn message) → Front-stands front → Front-stands (after_arrival front conn message)
-  arrival_stands front conn message asked s = arrival_by front conn message message.header.request (ltb (length front.queue) front.queue_limit) refl asked s
+  pub arrival_stands : (front : FrontState) (conn : ConnId) (message : Message) → (message.header.request ≡ true → WasAsked sent conn message) → IsEndOf ends conn node → Front-stands front → Front-stands (after_arrival front conn message)
+  arrival_stands front conn message asked at_end s = arrival_by front conn message message.header.request (ltb (length front.queue) front.queue_limit) refl asked at_end s
 
   -- ---- a worker picks
 
-  picked_from_stands : (front next : FrontState) (worker : ℕ) (queue : List Job) → All JobStands queue → picked_from front worker queue ≡ Some next → Front-stands front → Front-stands next
+  picked_from_stands : (front next : FrontState) (worker : ℕ) (queue : List Job) → All Job-stands queue → picked_from front worker queue ≡ Some next → Front-stands front → Front-stands next
   picked_from_stands front next worker [] jobs e s = absurd cc
   picked_from_stands front next worker (job ∷ queue) jobs e s =
-      subst Front-stands (some_is e) (with_worker_stands (record front { queue = queue }) worker (Picked job.conn job.request) (All-head JobStands job queue jobs) (record {
+      subst Front-stands (some_is e) (with_worker_stands (record front { queue = queue }) worker (Picked job.conn job.request) (All-head Job-stands job queue jobs) (record {
         is_front = s.is_front;
         of_realm = s.of_realm;
         knows = s.knows;
-        waiting = All-tail JobStands job queue jobs;
+        waiting = All-tail Job-stands job queue jobs;
         working = s.working;
       }))
 
@@ -92,21 +93,21 @@ module _ (site : Site) (steps : List Step) (sent : Sent) (book : Ledger) where
   -- ---- a worker emits
 
   abbrev Due : ConnId × Message → Type 0
-  Due item = IsDue site steps sent book item.0 item.1
+  Due item = IsDue site steps ends sent book item.0 item.1
 
   abbrev pub AllDue : Out → Type 0
-  AllDue items = All (λ item. IsDue site steps sent book item.0 item.1) items
+  AllDue items = All (λ item. IsDue site steps ends sent book item.0 item.1) items
 
-  due_if : (up : Bool) (conn : ConnId) (answer : Message) → IsDue site steps sent book conn answer → AllDue (cond up ((conn, answer) ∷ []) [])
+  due_if : (up : Bool) (conn : ConnId) (answer : Message) → IsDue site steps ends sent book conn answer → AllDue (cond up ((conn, answer) ∷ []) [])
   due_if true conn answer due = All-cons Due (conn, answer) [] due (All-nil Due)
   due_if false conn answer due = All-nil Due
 
-  emitted_as : (front : FrontState) (worker : ℕ) (conn : ConnId) (answer : Message) → IsDue site steps sent book conn answer → Front-stands front
+  emitted_as : (front : FrontState) (worker : ℕ) (conn : ConnId) (answer : Message) → IsDue site steps ends sent book conn answer → Front-stands front
       → Front-stands (with_worker front worker Idle) × AllDue (cond (is_among front.connections conn) ((conn, answer) ∷ []) [])
   emitted_as front worker conn answer due s = (with_worker_stands front worker Idle tt s, due_if (is_among front.connections conn) conn answer due)
 
-  held_stands : (front : FrontState) (worker : ℕ) (held : Worker) → slice_get front.workers worker ≡ Some held → Front-stands front → WorkerStands site steps sent book held
-  held_stands front worker held e s = All-read (WorkerStands site steps sent book) front.workers worker held e s.working
+  held_stands : (front : FrontState) (worker : ℕ) (held : Worker) → slice_get front.workers worker ≡ Some held → Front-stands front → WorkerStands site steps ends sent book node held
+  held_stands front worker held e s = All-read (WorkerStands site steps ends sent book node) front.workers worker held e s.working
 
   emitted_by_stands : (front : FrontState) (worker : ℕ) (turn : FrontState × Out) (held : Option Worker) → slice_get front.workers worker ≡ held → emitted_by front worker held ≡ Some turn → Front-stands front
       → Front-stands turn.0 × AllDue turn.1
@@ -121,20 +122,21 @@ module _ (site : Site) (steps : List Step) (sent : Sent) (book : Ledger) where
 
   -- ---- a worker charges
 
-  pub done_stands : (front : FrontState) (worker : ℕ) (conn : ConnId) (answer : Message) → IsDue site steps sent book conn answer → Front-stands front → Front-stands (with_worker front worker (Done conn answer))
+  pub done_stands : (front : FrontState) (worker : ℕ) (conn : ConnId) (answer : Message) → IsDue site steps ends sent book conn answer → Front-stands front → Front-stands (with_worker front worker (Done conn answer))
   done_stands front worker conn answer due s = with_worker_stands front worker (Done conn answer) due s
 
 -- ---- what a charge does to the book
 
-pub same_book : (site : Site) (steps : List Step) (sent : Sent) (book : Ledger) → Grows site steps steps sent sent book book
-same_book site steps sent book = record { passed = λ w p. p; was_sent = λ conn message s. s; answered = λ name message answer a. a }
+pub same_book : (site : Site) (steps : List Step) (ends : Ends) (sent : Sent) (book : Ledger) → Grows site steps steps ends ends sent sent book book
+same_book site steps ends sent book = record { passed = λ w p. p; made = λ place nodes e. e; was_sent = λ conn message s. s; answered = λ name message answer a. a }
 
-pub charge_grows : (site : Site) (steps : List Step) (sent : Sent) (name realm vendors : List ℕ) (ledger book : Ledger) (moment : Moment) (message answer : Message) → IsCharge name realm vendors ledger moment message answer book → Grows site steps steps sent sent ledger book
-charge_grows site steps sent name realm vendors ledger book moment message answer (refuses refusal view) = same_book site steps sent ledger
-charge_grows site steps sent name realm vendors ledger book moment message answer (repeats request reply view kept) = same_book site steps sent ledger
-charge_grows site steps sent name realm vendors ledger book moment message answer (has_no_room request view new full) = same_book site steps sent ledger
-charge_grows site steps sent name realm vendors ledger book moment message answer (takes request view new room) = record {
+pub charge_grows : (site : Site) (steps : List Step) (ends : Ends) (sent : Sent) (name realm vendors : List ℕ) (ledger book : Ledger) (moment : Moment) (message answer : Message) → IsCharge name realm vendors ledger moment message answer book → Grows site steps steps ends ends sent sent ledger book
+charge_grows site steps ends sent name realm vendors ledger book moment message answer (refuses refusal view) = same_book site steps ends sent ledger
+charge_grows site steps ends sent name realm vendors ledger book moment message answer (repeats request reply view kept) = same_book site steps ends sent ledger
+charge_grows site steps ends sent name realm vendors ledger book moment message answer (has_no_room request view new full) = same_book site steps ends sent ledger
+charge_grows site steps ends sent name realm vendors ledger book moment message answer (takes request view new room) = record {
   passed = λ w p. p;
+  made = λ place nodes e. e;
   was_sent = λ conn m s. s;
   answered = λ front m a. answered-stays front site.realm site.vendors ledger moment request m a;
 }

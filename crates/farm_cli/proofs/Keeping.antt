@@ -14,13 +14,13 @@ use Rattle.farm_cli.specs.declared.step.Step.{Step}
 use Rattle.farm_cli.specs.declared.world.parts.Line.{Line}
 use Rattle.farm_cli.specs.FarmStep.{Taken, taken_at, taken_on, taken_from}
 use Rattle.farm_cli.specs.Lists.{replace_first}
-use Rattle.farm_cli.specs.Promise.{WasSent, HasOneClient, is_with}
+use Rattle.farm_cli.specs.Promise.{Ends, IsEndOf, WasSent, HasOneClient, is_with}
 use Rattle.farm_cli.specs.Run.{joins_clients}
 use Rattle.farm_cli.specs.World.{Sent, is_node, is_client, joins, is_between, is_conn, in_flight, with_message, put_on, posted_one, posted}
 use Rattle.farm_cli.proofs.FrontLemmas.{find-passes, same_node}
 use Rattle.farm_cli.proofs.Tally.{one, sum_by-replaced, flying, on_line, put_sent-is, taken-is}
 use Rattle.farm_cli.proofs.Members.{All-read, All-find, All-replace, All-remove}
-use Rattle.farm_cli.proofs.Standing.{Ends, IsDue, Flies, LineStands}
+use Rattle.farm_cli.proofs.Standing.{IsDue, Flies, LineStands}
 
 same_number : (n : ℕ) → eqb n n ≡ true
 same_number n = search rules
@@ -66,12 +66,12 @@ one_is_none : (a b : Bool) → (a && b) ≡ false → a ≡ true → b ≡ false
 one_is_none true b e is = e
 one_is_none false b e is = absurd cc
 
-module _ (site : Site) (steps : List Step) (sent : Sent) (book : Ledger) (ends : Ends) where
+module _ (site : Site) (steps : List Step) (ends : Ends) (sent : Sent) (book : Ledger) where
   abbrev Line-stands : Line → Type 0
-  Line-stands = LineStands site steps sent book ends
+  Line-stands = LineStands site steps ends sent book
 
   abbrev Flight : ConnId → Bool → Message → Type 0
-  Flight = Flies site steps sent book
+  Flight = Flies site steps ends sent book
 
   -- ---- the client of a line
 
@@ -83,17 +83,32 @@ module _ (site : Site) (steps : List Step) (sent : Sent) (book : Ledger) (ends :
   line_of_client from to line s (in_order one other) is = has_client line s (or_right (is_client site line.one) (is_client site line.other) (subst (λ (n : NodeNo). is_client site n ≡ true) (sym other) is))
   line_of_client from to line s (turned one other) is = has_client line s (or_left (is_client site line.one) (is_client site line.other) (subst (λ (n : NodeNo). is_client site n ≡ true) (sym one) is))
 
+  -- the second of two nodes of a line is an end of its connection
+  end_of : (from to : NodeNo) (line : Line) → Line-stands line → AreEnds from to line → IsEndOf ends line.conn to
+  end_of from to line s (in_order one other) = record {
+    numbered = s.numbered;
+    nodes = (line.one, line.other);
+    made = s.made;
+    joined = or_right (is_node line.one to) (is_node line.other to) (subst (λ (n : NodeNo). is_node line.other n ≡ true) other (same_number line.other.0));
+  }
+  end_of from to line s (turned one other) = record {
+    numbered = s.numbered;
+    nodes = (line.one, line.other);
+    made = s.made;
+    joined = or_left (is_node line.one to) (is_node line.other to) (subst (λ (n : NodeNo). is_node line.one n ≡ true) one (same_number line.one.0));
+  }
+
   pub sender_of : (client to : NodeNo) (lines : List Line) (line : Line) → find (is_between client to) lines ≡ Some line → is_client site client ≡ true → All Line-stands lines → HasOneClient site ends line.conn
   sender_of client to lines line e is all =
       line_of_client to client line (All-find Line-stands (is_between client to) lines line e all) (other_way client to line (are_ends client to line (find-passes (is_between client to) lines line e))) is
 
   -- ---- a message joins a list
 
-  due_flies : (conn : ConnId) (b : Bool) (message : Message) → IsDue site steps sent book conn message → Flight conn b message
+  due_flies : (conn : ConnId) (b : Bool) (message : Message) → IsDue site steps ends sent book conn message → Flight conn b message
   due_flies conn true message due = inr due
   due_flies conn false message due = due
 
-  put_due : (line : Line) (message : Message) (b : Bool) → IsDue site steps sent book line.conn message → Line-stands line
+  put_due : (line : Line) (message : Message) (b : Bool) → IsDue site steps ends sent book line.conn message → Line-stands line
       → Line-stands (cond b (record line { there = cond b line.there line.back ++ message ∷ [] }) (record line { back = cond b line.there line.back ++ message ∷ [] }))
   put_due line message true due s = record {
     numbered = s.numbered;
@@ -110,18 +125,18 @@ module _ (site : Site) (steps : List Step) (sent : Sent) (book : Ledger) (ends :
     comes = All-push (Flight line.conn (is_client site line.other)) line.back message s.comes (due_flies line.conn (is_client site line.other) message due);
   }
 
-  put_on_stands : (from : NodeNo) (conn : ConnId) (message : Message) (lines : List Line) (found : Option Line) → find (is_conn conn) lines ≡ found → IsDue site steps sent book conn message → All Line-stands lines
+  put_on_stands : (from : NodeNo) (conn : ConnId) (message : Message) (lines : List Line) (found : Option Line) → find (is_conn conn) lines ≡ found → IsDue site steps ends sent book conn message → All Line-stands lines
       → All Line-stands (put_on from conn message lines found)
   put_on_stands from conn message lines None e due all = all
   put_on_stands from conn message lines (Some line) e due all =
       let here : line.conn ≡ conn = ap (λ (n : ℕ). record { 0 = n }) (eqb-true line.conn.0 conn.0 (find-passes (is_conn conn) lines line e)) in
-      let due_here = subst (λ (c : ConnId). IsDue site steps sent book c message) (sym here) due in
+      let due_here = subst (λ (c : ConnId). IsDue site steps ends sent book c message) (sym here) due in
       All-replace Line-stands (is_conn conn) (with_message from message line) lines (put_due line message (is_node line.one from) due_here (All-find Line-stands (is_conn conn) lines line e all)) all
 
   abbrev Due : ConnId × Message → Type 0
-  Due item = IsDue site steps sent book item.0 item.1
+  Due item = IsDue site steps ends sent book item.0 item.1
 
-  pub posted_stands : (from : NodeNo) (lines : List Line) (items : Sent) → All (λ item. IsDue site steps sent book item.0 item.1) items → All Line-stands lines → All Line-stands (posted from lines items)
+  pub posted_stands : (from : NodeNo) (lines : List Line) (items : Sent) → All (λ item. IsDue site steps ends sent book item.0 item.1) items → All Line-stands lines → All Line-stands (posted from lines items)
   posted_stands from lines [] dues all = all
   posted_stands from lines (item ∷ items) dues all =
       posted_stands from (posted_one from lines item.0 item.1) items (All-tail Due item items dues)
@@ -185,6 +200,7 @@ module _ (site : Site) (steps : List Step) (sent : Sent) (book : Ledger) (ends :
     pub flew : Flight taken.conn by_client taken.message
     pub other_end : is_client site to ≡ true → by_client ≡ false
     pub of_client : is_client site to ≡ true → HasOneClient site ends taken.conn
+    pub at_end : IsEndOf ends taken.conn to
     pub left : All Line-stands taken.lines
     pub tally : (conn : ConnId) (hop end : ℕ) → sum_by (on_line conn hop end site) taken.lines + flying conn hop end taken.conn by_client taken.message ≡ sum_by (on_line conn hop end site) lines
 
@@ -207,6 +223,7 @@ module _ (site : Site) (steps : List Step) (sent : Sent) (book : Ledger) (ends :
         flew = All-read (Flight line.conn (is_client site line.one)) line.there place message got s.goes;
         other_end = λ is. other_is_none (is_client site line.one) (is_client site line.other) s.apart (subst (λ (n : NodeNo). is_client site n ≡ true) same is);
         of_client = λ is. line_of_client from to line s (are_ends from to line (find-passes (is_between from to) lines line e)) is;
+        at_end = end_of from to line s (are_ends from to line (find-passes (is_between from to) lines line e));
         left = All-replace Line-stands (is_between from to) (record line { there = remove line.there place }) lines (without_stands line place true s) all;
         tally = λ conn hop end. taken-is conn hop end site (is_between from to) lines line place message true e got;
       }
@@ -218,6 +235,7 @@ module _ (site : Site) (steps : List Step) (sent : Sent) (book : Ledger) (ends :
         flew = All-read (Flight line.conn (is_client site line.other)) line.back place message got s.comes;
         other_end = λ is. one_is_none (is_client site line.one) (is_client site line.other) s.apart (subst (λ (n : NodeNo). is_client site n ≡ true) same is);
         of_client = λ is. line_of_client from to line s (are_ends from to line (find-passes (is_between from to) lines line e)) is;
+        at_end = end_of from to line s (are_ends from to line (find-passes (is_between from to) lines line e));
         left = All-replace Line-stands (is_between from to) (record line { back = remove line.back place }) lines (without_stands line place false s) all;
         tally = λ conn hop end. taken-is conn hop end site (is_between from to) lines line place message false e got;
       }

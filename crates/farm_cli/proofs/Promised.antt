@@ -1,11 +1,11 @@
 -- Every run keeps what is promised.
-use Rattle.std.proofs.Common.{inl, inr, ◌≡◌, ℕ, ◌+◌, ◌≤◌, List, [], ◌∷◌, ◌++◌, length, replicate, refl, sym, subst, ap, ◌∙◌, arith, append_assoc}
-use Rattle.std.specs.Prelude.{All, Contains}
+use Rattle.std.proofs.Common.{inl, inr, ◌≡◌, ℕ, ◌+◌, ◌≤◌, List, [], ◌∷◌, ◌++◌, length, length-append, replicate, Some, refl, sym, subst, ap, ◌∙◌, arith, append_assoc}
+use Rattle.std.specs.Prelude.{All, slice_get}
 use Rattle.std.specs.List.{sum_by}
 use Rattle.std.proofs.lemmas.List.{append-nil}
 use Rattle.std.proofs.lemmas.List.Folds.{sum_by-replicate}
 use Rattle.std.proofs.lemmas.List.Sums.{sum_by-append}
-use Rattle.std.proofs.lemmas.List.Elements.{All-nil, All-cons, All-append, All-head, All-tail, All-replicate, All-weaker, All-contains_itself}
+use Rattle.std.proofs.lemmas.List.Elements.{All-nil, All-cons, All-append, All-replicate, All-weaker}
 use Rattle.dia_base.specs.declared.number.ConnId.{ConnId}
 use Rattle.dia_message.specs.declared.message.Message.{Message}
 use Rattle.cc_book.proofs.Keys.{KeepsLimits-empty}
@@ -19,7 +19,7 @@ use Rattle.farm_cli.specs.declared.step.Step.{Step}
 use Rattle.farm_cli.specs.declared.world.parts.FrontPart.{FrontPart}
 use Rattle.farm_cli.specs.declared.world.run.Trace.{Trace}
 use Rattle.farm_cli.specs.FarmStep.{skips, Run}
-use Rattle.farm_cli.specs.Promise.{IsPassed, IsRightAnswer, KeepsPromise}
+use Rattle.farm_cli.specs.Promise.{Ends, IsPassed, IsRightAnswer, KeepsPromise}
 use Rattle.farm_cli.specs.Run.{IsRunnable, fresh_front, front_if, fronts_from, opened, start, IsTrace}
 use Rattle.farm_cli.specs.World.{Sent, WorldState}
 use Rattle.farm_cli.proofs.Running.{Run-push}
@@ -29,29 +29,36 @@ use Rattle.farm_cli.proofs.StepKeeping.{step_keeps}
 
 -- ---- before the first step
 
-module _ (site : Site) (steps : List Step) (sent : Sent) (book : Ledger) where
-  abbrev PartStands : FrontPart → Type 0
-  PartStands part = FrontStands site steps sent book part.front
+behind : (before : List Node) (node : Node) (nodes : List Node) → slice_get (before ++ node ∷ nodes) (length before) ≡ Some node
+behind [] node nodes = refl
+behind (first ∷ before) node nodes = behind before node nodes
 
-  fresh_stands : (node : Node) → Contains site.nodes node → node.kind ≡ Front → FrontStands site steps sent book (fresh_front site node)
-  fresh_stands node among kind = record {
-    is_front = record { node = node; among = among; kind = kind; named = refl };
+module _ (site : Site) (steps : List Step) (ends : Ends) (sent : Sent) (book : Ledger) where
+  abbrev PartStands : FrontPart → Type 0
+  PartStands part = FrontStands site steps ends sent book part.node part.front
+
+  fresh_stands : (place : ℕ) (node : Node) → slice_get site.nodes place ≡ Some node → node.kind ≡ Front → FrontStands site steps ends sent book (record { 0 = place }) (fresh_front site node)
+  fresh_stands place node found kind = record {
+    is_front = record { node = node; found = found; kind = kind; named = refl };
     of_realm = refl;
     knows = refl;
     waiting = All-nil _;
-    working = All-replicate (WorkerStands site steps sent book) site.workers Idle tt;
+    working = All-replicate (WorkerStands site steps ends sent book (record { 0 = place })) site.workers Idle tt;
   }
 
-  front_if_stands : (place : ℕ) (node : Node) (kind : NodeKind) → Contains site.nodes node → node.kind ≡ kind → All PartStands (front_if site place node kind)
-  front_if_stands place node Front among e = All-cons PartStands (record { node = record { 0 = place }; front = fresh_front site node }) [] (fresh_stands node among e) (All-nil PartStands)
+  front_if_stands : (place : ℕ) (node : Node) (kind : NodeKind) → slice_get site.nodes place ≡ Some node → node.kind ≡ kind → All PartStands (front_if site place node kind)
+  front_if_stands place node Front among e = All-cons PartStands (record { node = record { 0 = place }; front = fresh_front site node }) [] (fresh_stands place node among e) (All-nil PartStands)
   front_if_stands place node Relay among e = All-nil PartStands
   front_if_stands place node Client among e = All-nil PartStands
 
-  fronts_from_stand : (place : ℕ) (nodes : List Node) → All (Contains site.nodes) nodes → All PartStands (fronts_from site place nodes)
-  fronts_from_stand place [] all = All-nil PartStands
-  fronts_from_stand place (node ∷ nodes) all =
-      All-append PartStands (front_if site place node node.kind) (fronts_from site (place + 1) nodes) (front_if_stands place node node.kind (All-head (Contains site.nodes) node nodes all) refl)
-      (fronts_from_stand (place + 1) nodes (All-tail (Contains site.nodes) node nodes all))
+  -- the nodes from a place on, behind those before it
+  fronts_from_stand : (before nodes : List Node) → before ++ nodes ≡ site.nodes → All PartStands (fronts_from site (length before) nodes)
+  fronts_from_stand before [] all = All-nil PartStands
+  fronts_from_stand before (node ∷ nodes) all =
+      All-append PartStands (front_if site (length before) node node.kind) (fronts_from site (length before + 1) nodes)
+      (front_if_stands (length before) node node.kind (ap (λ (xs : List Node). slice_get xs (length before)) (sym all) ∙ behind before node nodes) refl)
+      (subst (λ (n : ℕ). All PartStands (fronts_from site n nodes)) (length-append before (node ∷ []))
+      (fronts_from_stand (before ++ node ∷ []) nodes (append_assoc before (node ∷ []) nodes ∙ all)))
 
 -- nothing is asked yet
 idle_tally : (conn : ConnId) (hop end n : ℕ) → sum_by (of_worker conn hop end) (replicate n Idle) ≡ 0
@@ -72,7 +79,7 @@ fronts_from_tally conn hop end site place (node ∷ nodes) =
 start_stands : (site : Site) → Stands site [] (start site)
 start_stands site = record {
   on_lines = All-nil _;
-  at_fronts = fronts_from_stand site [] [] (opened site) 0 site.nodes (All-contains_itself site.nodes);
+  at_fronts = fronts_from_stand site [] [] [] (opened site) [] site.nodes refl;
   at_clients = All-nil _;
   senders = All-nil _;
   receivers = All-nil _;
@@ -86,8 +93,9 @@ start_stands site = record {
 
 -- ---- a run goes on
 
-longer : (site : Site) (past : List Step) (step : Step) (sent : Sent) (book : Ledger) → Grows site past (past ++ step ∷ []) sent sent book book
-longer site past step sent book = record {
+longer : (site : Site) (past : List Step) (step : Step) (ends : Ends) (sent : Sent) (book : Ledger) → Grows site past (past ++ step ∷ []) ends ends sent sent book book
+longer site past step ends sent book = record {
+  made = λ place nodes e. e;
   passed = λ w p. record {
     before = p.before;
     after = p.after ++ step ∷ [];
@@ -101,11 +109,11 @@ longer site past step sent book = record {
 
 Stands-longer : (site : Site) (past : List Step) (step : Step) (w : WorldState) → Stands site past w → Stands site (past ++ step ∷ []) w
 Stands-longer site past step w s =
-    let g = longer site past step w.sent w.book in
+    let g = longer site past step w.ends w.sent w.book in
     record {
-      on_lines = lines_grow site past (past ++ step ∷ []) w.sent w.sent w.book w.book w.ends w.ends g (λ place nodes e. e) w.lines s.on_lines;
-      at_fronts = fronts_grow site past (past ++ step ∷ []) w.sent w.sent w.book w.book g w.fronts s.at_fronts;
-      at_clients = received_grow site past (past ++ step ∷ []) w.sent w.sent w.book w.book g w.received s.at_clients;
+      on_lines = lines_grow site past (past ++ step ∷ []) w.ends w.ends w.sent w.sent w.book w.book g w.lines s.on_lines;
+      at_fronts = fronts_grow site past (past ++ step ∷ []) w.ends w.ends w.sent w.sent w.book w.book g w.fronts s.at_fronts;
+      at_clients = received_grow site past (past ++ step ∷ []) w.ends w.ends w.sent w.sent w.book w.book g w.received s.at_clients;
       senders = s.senders;
       receivers = s.receivers;
       not_more = s.not_more;
@@ -128,13 +136,13 @@ run_keeps site past before w (step ∷ steps) skipped end runnable so_far s run 
 
 -- ---- the promise
 
-rightly : (site : Site) (steps : List Step) (sent : Sent) (book : Ledger) (conn : ConnId) (answer : Message) → IsDue site steps sent book conn answer → IsRightAnswer site steps sent book conn answer
-rightly site steps sent book conn answer (inl a) = record {
+rightly : (site : Site) (steps : List Step) (ends : Ends) (sent : Sent) (book : Ledger) (conn : ConnId) (answer : Message) → IsDue site steps ends sent book conn answer → IsRightAnswer site steps ends sent book conn answer
+rightly site steps ends sent book conn answer (inl a) = record {
   answered = λ clear. a;
-  refused = λ set. let clear = (answer_is_no_error site sent book conn answer a).1 in absurd cc;
+  refused = λ set. let clear = (answer_is_no_error site ends sent book conn answer a).1 in absurd cc;
 }
-rightly site steps sent book conn answer (inr r) = record {
-  answered = λ clear. let set = (refusal_is_error site steps sent conn answer r).1 in absurd cc;
+rightly site steps ends sent book conn answer (inr r) = record {
+  answered = λ clear. let set = (refusal_is_error site steps ends sent conn answer r).1 in absurd cc;
   refused = λ set. r;
 }
 
@@ -146,8 +154,8 @@ promise_kept site steps trace runnable t =
       senders = s.senders;
       receivers = s.receivers;
       not_more = λ conn hop end. let all = s.not_more conn hop end in omega (arith, all);
-      received = All-weaker (λ (item : ConnId × Message). IsDue site steps w.sent w.book item.0 item.1) (λ (item : ConnId × Message). IsRightAnswer site steps w.sent w.book item.0 item.1)
-          (λ (item : ConnId × Message). rightly site steps w.sent w.book item.0 item.1) w.received s.at_clients;
+      received = All-weaker (λ (item : ConnId × Message). IsDue site steps w.ends w.sent w.book item.0 item.1) (λ (item : ConnId × Message). IsRightAnswer site steps w.ends w.sent w.book item.0 item.1)
+          (λ (item : ConnId × Message). rightly site steps w.ends w.sent w.book item.0 item.1) w.received s.at_clients;
       legal = s.legal;
       within = subst (λ (limit : ℕ). length w.book.history ≤ limit) s.limit s.within;
       taken = s.taken;

@@ -19,14 +19,32 @@ use Rattle.farm_cli.specs.declared.world.run.Trace.{Trace}
 use Rattle.farm_cli.specs.Cause.{HasCause}
 use Rattle.farm_cli.specs.FarmStep.{Run}
 use Rattle.farm_cli.specs.Run.{start, opened}
-use Rattle.farm_cli.specs.World.{Sent, WorldState, is_client}
+use Rattle.farm_cli.specs.World.{Sent, WorldState, is_client, is_node}
 
--- the site has a front of this name
-pub record IsFront (site : Site) (name : List ℕ) : Type 0 where
+-- the two nodes of each connection that was made
+abbrev pub Ends : Type 0
+Ends = List (NodeNo × NodeNo)
+
+-- the node is one of the two that the connection joins. Connections are numbered from 1.
+pub record IsEndOf (ends : Ends) (conn : ConnId) (node : NodeNo) : Type 0 where
+  pub numbered : 1 ≤ conn.0
+  pub nodes : NodeNo × NodeNo
+  pub made : slice_get ends (conn.0 - 1) ≡ Some nodes
+  pub joined : (is_node nodes.0 node || is_node nodes.1 node) ≡ true
+
+-- the node is a front of this name
+pub record IsFrontAt (site : Site) (place : NodeNo) (name : List ℕ) : Type 0 where
   pub node : Node
-  pub among : Contains site.nodes node
+  pub found : slice_get site.nodes place.0 ≡ Some node
   pub kind : node.kind ≡ Front
   pub named : node.name ≡ name
+
+-- a front of this name is at an end of the connection. The other end of a connection with a client is that
+-- client.
+pub record IsFrontOn (site : Site) (ends : Ends) (conn : ConnId) (name : List ℕ) : Type 0 where
+  pub place : NodeNo
+  pub at_end : IsEndOf ends conn place
+  pub front : IsFrontAt site place name
 
 -- the first of the steps lead to this state of the farm
 pub record IsPassed (site : Site) (steps : List Step) (w : WorldState) : Type 0 where
@@ -44,18 +62,18 @@ WasSent sent conn message = Contains sent (conn, message)
 abbrev pub WasAsked : Sent → ConnId → Message → Type 0
 WasAsked sent conn message = WasSent sent conn message × (message.header.request ≡ true)
 
--- the answer of a front, with the book's reply, to a request that a client sent on the connection
-pub record AnswersRequest (site : Site) (sent : Sent) (book : Ledger) (conn : ConnId) (answer : Message) : Type 0 where
+-- the answer of the front at an end of the connection, with the book's reply, to a request that a client sent on it
+pub record AnswersRequest (site : Site) (ends : Ends) (sent : Sent) (book : Ledger) (conn : ConnId) (answer : Message) : Type 0 where
   pub name : List ℕ
-  pub front : IsFront site name
+  pub front : IsFrontOn site ends conn name
   pub message : Message
   pub asked : WasAsked sent conn message
   pub answered : IsAnswered name site.realm site.vendors book message answer
 
--- a front's refusal of a request that a client sent on the connection, with a cause that the farm showed in the run
-pub record RefusesRequest (site : Site) (steps : List Step) (sent : Sent) (conn : ConnId) (answer : Message) : Type 0 where
+-- that front's refusal of a request that a client sent on the connection, with a cause that the farm showed in the run
+pub record RefusesRequest (site : Site) (steps : List Step) (ends : Ends) (sent : Sent) (conn : ConnId) (answer : Message) : Type 0 where
   pub name : List ℕ
-  pub front : IsFront site name
+  pub front : IsFrontOn site ends conn name
   pub message : Message
   pub asked : WasAsked sent conn message
   pub refusal : Refusal
@@ -65,9 +83,9 @@ pub record RefusesRequest (site : Site) (steps : List Step) (sent : Sent) (conn 
   pub written : answer ≡ refusal_of name site.realm message refusal
 
 -- what a client received, by the flag E (RFC 6733, section 3)
-pub record IsRightAnswer (site : Site) (steps : List Step) (sent : Sent) (book : Ledger) (conn : ConnId) (answer : Message) : Type 0 where
-  pub answered : answer.header.error ≡ false → AnswersRequest site sent book conn answer
-  pub refused : answer.header.error ≡ true → RefusesRequest site steps sent conn answer
+pub record IsRightAnswer (site : Site) (steps : List Step) (ends : Ends) (sent : Sent) (book : Ledger) (conn : ConnId) (answer : Message) : Type 0 where
+  pub answered : answer.header.error ≡ false → AnswersRequest site ends sent book conn answer
+  pub refused : answer.header.error ≡ true → RefusesRequest site steps ends sent conn answer
 
 -- an entry of the history takes what is read in a request that a client sent; there are no sweeps yet
 abbrev pub IsFromClient : Site → Sent → Entry → Type 0
@@ -76,7 +94,7 @@ IsFromClient site sent (Sweep moment) = ⊥
 
 -- The connection was made between a client and a node that is none, so it has one client. Connections are
 -- numbered from 1.
-pub record HasOneClient (site : Site) (ends : List (NodeNo × NodeNo)) (conn : ConnId) : Type 0 where
+pub record HasOneClient (site : Site) (ends : Ends) (conn : ConnId) : Type 0 where
   pub numbered : 1 ≤ conn.0
   pub nodes : NodeNo × NodeNo
   pub made : slice_get ends (conn.0 - 1) ≡ Some nodes
@@ -101,7 +119,7 @@ answers_with received conn hop end = count_by (is_with conn hop end) received
 pub record KeepsPromise (site : Site) (steps : List Step) (trace : Trace) : Type 0 where
   pub senders : All (λ item. HasOneClient site trace.ends item.0) trace.sent
   pub receivers : All (λ item. HasOneClient site trace.ends item.0) trace.received
-  pub received : All (λ item. IsRightAnswer site steps trace.sent trace.book item.0 item.1) trace.received
+  pub received : All (λ item. IsRightAnswer site steps trace.ends trace.sent trace.book item.0 item.1) trace.received
   pub not_more : (conn : ConnId) (hop end : ℕ) → answers_with trace.received conn hop end ≤ requests_with trace.sent conn hop end
   pub legal : IsLegal trace.book.history
   pub within : length trace.book.history ≤ site.limit
