@@ -42,8 +42,8 @@ abbrev refused : ScriptFault → Result (Vec Step) ScriptFault
 refused fault = Err fault
 
 -- the fault of what was read is that of the whole
-pub refused_for : (site : Site) (text octets : List ℕ) (fault : ScriptFault) → IsCut site text octets → AnswersText (steps_of site text) (refused fault) → IsRefused site octets fault
-refused_for site text octets (Line number OutOfMemory) same e = subst (λ (r : Answer). NoneBefore number r) same e
+pub refused_for : (site : Site) (text octets : List ℕ) (fault : ScriptFault) → IsCut site text octets → AnswersText (length (lines text)) (steps_of site text) (refused fault) → IsRefused site octets fault
+refused_for site text octets (Line number OutOfMemory) same e = subst (λ (r : Answer). NoneBefore number r) same e.0
 refused_for site text octets (Line number UnknownWord) same e = sym same ∙ e
 refused_for site text octets (Line number WrongCount) same e = sym same ∙ e
 refused_for site text octets (Line number UnknownName) same e = sym same ∙ e
@@ -57,7 +57,7 @@ refused_for site text octets TooLong same e = sym same ∙ e
 abbrev pub IsRead : Option (List ℕ) → List ℕ → Type 0
 IsRead stream text = IfSome stream (λ octets. text ≡ take 16777217 octets)
 
-pub script_refused : (site : Site) (stream : Option (List ℕ)) (text given : List ℕ) (found fault : ScriptFault) → IsRead stream text → given ≡ text → AnswersText (steps_of site given) (refused found) → found ≡ fault → IfSome stream (λ octets. IsRefused site octets fault)
+pub script_refused : (site : Site) (stream : Option (List ℕ)) (text given : List ℕ) (found fault : ScriptFault) → IsRead stream text → given ≡ text → AnswersText (length (lines given)) (steps_of site given) (refused found) → found ≡ fault → IfSome stream (λ octets. IsRefused site octets fault)
 script_refused site None text given found fault read same e is = tt
 script_refused site (Some octets) text given found fault read same e is =
     subst (λ (f : ScriptFault). IsRefused site octets f) is

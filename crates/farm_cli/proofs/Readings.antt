@@ -23,17 +23,17 @@ pub record Continues (site : Site) (spelled : Result (List Step) ScriptFault) (s
 none_before-less : (number : ℕ) (spelled : Result (List Step) ScriptFault) → NoneBefore (number + 1) spelled → NoneBefore number spelled
 none_before-less number (Ok steps) h = tt
 none_before-less number (Err (Line first fault)) h = omega arith
-none_before-less number (Err TooLong) h = tt
+none_before-less number (Err TooLong) h = h
 
 none_before-first : (number : ℕ) (step : Step) (others : Result (List Step) ScriptFault) → NoneBefore number others → NoneBefore number (with_first step others)
 none_before-first number step (Ok steps) h = tt
 none_before-first number step (Err (Line first fault)) h = h
-none_before-first number step (Err TooLong) h = tt
+none_before-first number step (Err TooLong) h = h
 
 none_before-behind : (number : ℕ) (steps : List Step) (others : Result (List Step) ScriptFault) → NoneBefore number others → NoneBefore number (behind steps others)
 none_before-behind number steps (Ok others) h = tt
 none_before-behind number steps (Err (Line first fault)) h = h
-none_before-behind number steps (Err TooLong) h = tt
+none_before-behind number steps (Err TooLong) h = h
 
 none_before-line : (number : ℕ) (reading : Result Step LineFault) (readings : List (Result Step ScriptFault))
     → NoneBefore number (all_of readings) → NoneBefore number (all_of (at_line number reading ∷ readings))

@@ -114,13 +114,15 @@ readings_from site before number lines = map (reading_of site) (enumerate_from b
 abbrev pub steps_of : Site → List ℕ → Result (List Step) ScriptFault
 steps_of site text = if nat_lt 16777216 (length text) then Err TooLong else all_of (readings_from site 0 1 (lines text))
 
--- no line before this one has a fault
+-- the text is not too long, and no line before this one has a fault
 abbrev pub NoneBefore : ℕ → Result (List Step) ScriptFault → Type 0
+NoneBefore number (Ok steps) = Unit {0}
 NoneBefore number (Err (Line first fault)) = number ≤ first
-NoneBefore number spelled = Unit {0}
+NoneBefore number (Err TooLong) = ⊥
 
--- a call answered with what the text spells, unless memory ran out at a line before which none has a fault
-abbrev pub AnswersText : Result (List Step) ScriptFault → Result (Vec Step) ScriptFault → Type 0
-AnswersText spelled (Ok steps) = spelled ≡ Ok steps.items
-AnswersText spelled (Err (Line number OutOfMemory)) = NoneBefore number spelled
-AnswersText spelled (Err fault) = spelled ≡ Err fault
+-- a call answered with what a text of so many lines spells, unless memory ran out at one of them before which
+-- none has a fault
+abbrev pub AnswersText : ℕ → Result (List Step) ScriptFault → Result (Vec Step) ScriptFault → Type 0
+AnswersText count spelled (Ok steps) = spelled ≡ Ok steps.items
+AnswersText count spelled (Err (Line number OutOfMemory)) = NoneBefore number spelled × (1 ≤ number) × (number ≤ count)
+AnswersText count spelled (Err fault) = spelled ≡ Err fault

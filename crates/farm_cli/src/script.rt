@@ -1,6 +1,7 @@
 //! Schedules: a text, one step on a line.
 
-ghost use Rattle.std.specs.Prelude.{◌≡◌};
+ghost use Rattle.std.specs.Prelude.{◌≡◌, length};
+ghost use Rattle.std.specs.Str.Lines.{lines};
 ghost use Rattle.farm_cli.specs.Words.{Answers, words_of as words_in};
 ghost use Rattle.farm_cli.specs.Schedule.{AnswersText, limited, step_of, steps_of as steps_spelled};
 
@@ -23,7 +24,7 @@ use std::alloc::Global;
 /// feed. Empty lines and lines that begin with `#` are skipped. In a line the faults are looked
 /// for in the order of [`LineFault`]. A text above 16,777,216 octets has the fault `TooLong` alone.
 pub fn steps_of(alloc: Global, text: &[u8], site: &Site) -> Result<Vec<Step>, ScriptFault>
-    ensures { AnswersText (steps_spelled site.now text.now) result }
+    ensures { AnswersText (length (lines text.now)) (steps_spelled site.now text.now) result }
 {
     if text.len() > SCHEDULE_LIMIT {
         return Err(ScriptFault::TooLong);

@@ -1,5 +1,5 @@
 -- What the text spells is the steps so far and those of the lines that are left.
-use Rattle.std.proofs.Common.{◌+◌, ◌≤◌, length}
+use Rattle.std.proofs.Common.{◌≡◌, ◌+◌, ◌≤◌, length}
 use Rattle.std.specs.Str.Lines.{lines}
 use Rattle.farm_cli.specs.Schedule.{steps_of}
 use Rattle.farm_cli.proofs.Readings.{Continues}
@@ -9,6 +9,7 @@ abbrev pub invariant-loop-rest : goal.invariant-loop-rest
 invariant-loop-rest l = record {
   spelled : Continues l.site (steps_of l.site l.text) l.steps.items (l.line + 1) (lines l.rest);
   counted : l.line + length l.rest ≤ length l.text;
+  numbered : l.line + length (lines l.rest) ≡ length (lines l.text);
 }
 
 abbrev pub decreases-loop-rest : goal.decreases-loop-rest
