@@ -241,27 +241,43 @@ impl Write for Short {
     }
 
     fn flush(&mut self) -> io::Result<()> {
+        if self.fails {
+            return Err(io::Error::from(ErrorKind::BrokenPipe));
+        }
         Ok(())
     }
+}
+
+fn writer_of(alloc: Global, room: usize, fails: bool) -> Short {
+    Short {
+        kept: Vec::new(alloc),
+        room,
+        fails,
+    }
+}
+
+/// The fault of the empty schedule with this writer.
+fn fault_with(alloc: Global, writer: &mut Short) -> Result<Option<ReplayFault>, AllocError> {
+    let site = row_site(alloc)?;
+    Ok(replay_io::<PlainWire, _, _>(alloc, &site, &mut "".as_bytes(), writer).err())
 }
 
 #[test]
 fn a_short_writer_has_a_beginning(rt: HostRuntime) -> Result<(), Fail> {
     for fails in [true, false] {
-        let site = row_site(rt.alloc())?;
-        let mut writer = Short {
-            kept: Vec::new(rt.alloc()),
-            room: 20,
-            fails,
-        };
-        let fault = replay_io::<PlainWire, _, _>(
-            rt.alloc(),
-            &site,
-            &mut "".as_bytes(),
-            &mut writer,
-        ).err();
+        let mut writer = writer_of(rt.alloc(), 20, fails);
+        let fault = fault_with(rt.alloc(), &mut writer)?;
         assert!(rt; matches!(&fault, Some(ReplayFault::Write)));
         assert_eq!(rt; writer.kept.as_slice(), b"end steps 0 skipped ".as_slice());
     }
+    Ok(())
+}
+
+#[test]
+fn what_is_written_is_flushed(rt: HostRuntime) -> Result<(), Fail> {
+    let fault = fault_with(rt.alloc(), &mut writer_of(rt.alloc(), 1_000, true))?;
+    assert!(rt; matches!(&fault, Some(ReplayFault::Write)));
+    let fault = fault_with(rt.alloc(), &mut writer_of(rt.alloc(), 1_000, false))?;
+    assert!(rt; fault.is_none());
     Ok(())
 }
