@@ -58,11 +58,15 @@ abbrev pub moment_of : Entry → ℕ
 moment_of (Take moment request) = moment.0
 moment_of (Sweep moment) = moment.0
 
+-- the deadline of a session after one more posting: one that has ended does not come back
+abbrev pub left_after : ℕ → List ℕ → Option ℕ → Posting → Option ℕ
+left_after validity session deadline posting = option_and_then (λ now. deadline_after validity session now posting.entry) deadline
+
 -- the deadline after one more posting, none while the session is not open
 abbrev pub next_deadline : ℕ → List ℕ → Option ℕ → Posting → Option ℕ
 next_deadline validity session deadline posting =
     if opens posting && is_of session posting.entry then Some (deadline_at validity (moment_of posting.entry))
-    else option_and_then (λ now. deadline_after validity session now posting.entry) deadline
+    else left_after validity session deadline posting
 
 -- the deadline of a session after postings, none where it is not open
 abbrev pub deadline_of : ℕ → List ℕ → List Posting → Option ℕ
@@ -71,9 +75,9 @@ deadline_of validity session postings = fold (next_deadline validity session) No
 abbrev pub is_open : ℕ → List ℕ → List Posting → Bool
 is_open validity session postings = is_some (deadline_of validity session postings)
 
--- whether the session that an entry opened is still open after these postings
+-- whether the session that an entry opened, or kept open, is still open after these postings
 abbrev pub outlasts : ℕ → Entry → List Posting → Bool
-outlasts validity (Take moment request) after = is_some (fold (next_deadline validity request.session) (Some (deadline_at validity moment.0)) after)
+outlasts validity (Take moment request) after = is_some (fold (left_after validity request.session) (Some (deadline_at validity moment.0)) after)
 outlasts validity (Sweep moment) after = false
 
 -- how many sessions are open: each was opened by a posting after which none ended it

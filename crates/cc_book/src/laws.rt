@@ -1,6 +1,6 @@
 //! Laws of the account book, in the words of a reader who knows none of its code.
 
-ghost use Rattle.std.specs.Prelude.{◌≡◌, ◌≢◌, ℕ, ◌<◌, List, [], ◌∷◌, ◌++◌, ◌↔◌, length, None, Some, true, if◌then◌else◌, pos, ◌-ℤ◌, ◌≤ℤ◌};
+ghost use Rattle.std.specs.Prelude.{◌≡◌, ◌≢◌, ℕ, ◌<◌, List, [], ◌∷◌, ◌++◌, ◌↔◌, length, None, Some, true, false, if◌then◌else◌, pos, ◌-ℤ◌, ◌≤ℤ◌};
 ghost use Rattle.dia_base.specs.declared.number.Moment.{Moment};
 ghost use Rattle.cc_view.specs.Fitting.{Fits};
 ghost use Rattle.cc_view.specs.ServiceLimits.{WithinLimits};
@@ -14,9 +14,12 @@ ghost use Rattle.cc_book.specs.declared.terms.Terms.{Terms};
 ghost use Rattle.cc_book.specs.AccountMachine.{account_of, is_debiting, opening_at, postings_of, reply_to, kept_reply};
 ghost use Rattle.cc_book.specs.Balance.{debit_of, balance_of};
 ghost use Rattle.cc_book.specs.Duplicate.{Key, key_of};
-ghost use Rattle.cc_book.specs.History.{IsLegal};
+ghost use Rattle.cc_book.specs.History.{IsLegal, IsNew};
 ghost use Rattle.cc_book.specs.Laws.{total_below, debits_of, cost_of_reply, AreTariffs, CostsFewestBlocks};
 ghost use Rattle.cc_book.specs.Posting.{is_account};
+ghost use Rattle.cc_book.specs.Reservation.{reserved_by};
+ghost use Rattle.cc_book.specs.Session.{is_open, open_count};
+ghost use Rattle.cc_book.specs.SessionExample.{opening, reopening, session, swept, termination, update};
 ghost use Rattle.cc_book.specs.Tariffs.{fault_of, AreInRange};
 
 /// Units cost the price for each of the fewest blocks that hold them.
@@ -78,4 +81,23 @@ pub fn replies_fit()
 /// no service is rated by two of them.
 pub fn what_tariffs_are()
     ensures { (tariffs : List Tariff) → (fault_of tariffs ≡ None) ↔ AreTariffs tariffs }
+{}
+
+/// No reply is kept under a key exactly where the key is new.
+pub fn new_keys_have_no_reply()
+    ensures { (terms : Terms) (history : List Entry) (key : Key) → (kept_reply terms history key ≡ None) ↔ IsNew history key }
+{}
+
+/// The worked example: a session lasts for twice its validity from its last request on (RFC 8506,
+/// section 5.7). A later grant for a service takes the place of the earlier one. What has ended holds
+/// nothing more, though the session opens anew.
+pub fn sessions_last_twice_their_validity()
+    ensures lasts { is_open 600 session (opening ∷ swept 1199999 ∷ []) ≡ true }
+    ensures ends { is_open 600 session (opening ∷ swept 1200000 ∷ []) ≡ false }
+    ensures moves { is_open 600 session (opening ∷ update ∷ swept 1200000 ∷ []) ≡ true }
+    ensures reserved { reserved_by 600 0 (opening ∷ []) ≡ 25 }
+    ensures replaced { reserved_by 600 0 (opening ∷ update ∷ []) ≡ 10 }
+    ensures of_others { reserved_by 600 1 (opening ∷ update ∷ []) ≡ 0 }
+    ensures ended { reserved_by 600 0 (opening ∷ termination ∷ reopening ∷ []) ≡ 0 }
+    ensures anew { open_count 600 (opening ∷ termination ∷ reopening ∷ []) ≡ 1 }
 {}

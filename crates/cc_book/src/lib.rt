@@ -15,8 +15,9 @@ pub use book::{Answered, Book, BookRefusal};
 pub use entry::Entry;
 pub use laws::{
     balances_move_by_debits, cost_is_of_fewest_blocks, debits_pay_for_what_is_granted,
-    kept_reply_is_the_first, kept_reply_stays, keys_are_distinct,
-    openings_less_debits_are_balances, replies_fit, what_tariffs_are,
+    kept_reply_is_the_first, kept_reply_stays, keys_are_distinct, new_keys_have_no_reply,
+    openings_less_debits_are_balances, replies_fit, sessions_last_twice_their_validity,
+    what_tariffs_are,
 };
 
 #[cfg(test)]

@@ -1,6 +1,6 @@
 //! The events of a front.
 
-ghost use Rattle.std.specs.Prelude.{◌≡◌, ◌↔◌, ◌∷◌, [], IsTrue, IfOk, OnOk, OnErr, IsOkUnless, IsSome, IsSomeAnd, IfSome, IfNone, MatchOption, MatchBool, replicate, true, false, Some, None};
+ghost use Rattle.std.specs.Prelude.{◌≡◌, ◌↔◌, ◌∷◌, [], IsTrue, IfOk, OnOk, OnErr, IsOk, IsOkUnless, IsSome, IsSomeAnd, IfSome, IfNone, MatchOption, MatchBool, replicate, true, false, Some, None};
 ghost use Rattle.dia_base.specs.declared.number.ConnId.{ConnId};
 ghost use Rattle.front_core.specs.declared.worker.Worker.TheVariants.{Idle};
 ghost use Rattle.front_core.specs.FrontState.{is_among};
@@ -110,6 +110,7 @@ impl Front {
     /// A connection comes up. One that is up already changes nothing.
     pub fn conn_up(&mut self, conn: ConnId) -> Result<(), FrontError>
         ensures ok { OnOk result (self.new ≡ connected self.old conn) }
+        ensures known { is_among self.old.connections conn ≡ true → IsOk result }
         ensures err { OnErr result (self.new ≡ self.old) }
         ensures memory { IsOkUnless result FrontError.OutOfMemory }
     {
@@ -130,6 +131,7 @@ impl Front {
         ensures known { MatchBool (is_among self.old.connections conn) (IsOkUnless result FrontError.OutOfMemory) (result ≡ Err (FrontError.UnknownConn conn)) }
         ensures sent { IfOk result (λ out. out.items ≡ sent_at_arrival self.old conn message) }
         ensures ok { OnOk result (self.new ≡ after_arrival self.old conn message) }
+        ensures ignored { is_among self.old.connections conn ≡ true → message.header.request ≡ false → IsOk result }
         ensures err { OnErr result (self.new ≡ self.old) }
     {
         if !self.connections.contains(&conn) {
@@ -174,6 +176,7 @@ impl Front {
     /// answer is none where the worker is not done, and then nothing changes.
     pub fn emit(&mut self, alloc: Global, worker: u64) -> Result<Option<Out>, FrontError>
         ensures ok { IfOk result (λ out. Emits (after_emit self.old worker) out self.old self.new) }
+        ensures idle { after_emit self.old worker ≡ None → IsOk result }
         ensures err { OnErr result (self.new ≡ self.old) }
         ensures memory { IsOkUnless result FrontError.OutOfMemory }
     {
@@ -206,6 +209,7 @@ impl Front {
         moment: Moment,
     ) -> Result<bool, FrontError>
         ensures ok { IfOk result (λ applied. Charges (after_charge self.old book.old moment worker) applied self.old book.old self.new book.new) }
+        ensures idle { after_charge self.old book.old moment worker ≡ None → IsOk result }
         ensures err { OnErr result ((self.new ≡ self.old) × (book.new ≡ book.old)) }
         ensures memory { IsOkUnless result FrontError.OutOfMemory }
     {
