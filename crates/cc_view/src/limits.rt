@@ -5,9 +5,7 @@ ghost use Rattle.std.specs.List.{list_all, list_any};
 ghost use Rattle.cc_view.specs.Content.{are_within_limits as are_within, has_small_sums as has_small, have_names_of_their_own as have_own_names, same_name as same_name_of};
 
 use crate::request::Service;
-
-/// How many services a request may have.
-const SERVICES_LIMIT: usize = 32;
+use dia_base::SERVICE_LIMIT;
 
 /// What no sum of used units reaches.
 const SUM_LIMIT: u128 = 1 << 78;
@@ -16,7 +14,7 @@ const SUM_LIMIT: u128 = 1 << 78;
 pub(crate) fn are_within_limits(services: &[Service]) -> bool
     ensures { result ≡ are_within services.now }
 {
-    services.len() <= SERVICES_LIMIT
+    services.len() <= SERVICE_LIMIT
         && have_names_of_their_own(services)
         && have_small_sums(services)
 }

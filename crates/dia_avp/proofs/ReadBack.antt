@@ -10,23 +10,23 @@ use Rattle.dia_avp.proofs.Reading.{least_header}
 use Rattle.dia_avp.specs.AvpList.{BeginsWith, Begins, IsSpelling, HasSpelling, length_in, has_vendor, header_len, length_of, padding_of, vendor_of, written, written_list}
 
 -- the vendor, where the octets after the first eight are these
-vendor_back : (has : Bool) (vendor : ℕ) (after : List ℕ) → vendor < 2 ^ 32 → (has ≡ false → vendor ≡ 0) → vendor ≡ cond has (big_number 4 (cond has (big_bytes 4 vendor) [] ++ after)) 0
+pub vendor_back : (has : Bool) (vendor : ℕ) (after : List ℕ) → vendor < 2 ^ 32 → (has ≡ false → vendor ≡ 0) → vendor ≡ cond has (big_number 4 (cond has (big_bytes 4 vendor) [] ++ after)) 0
 vendor_back true vendor after lt none = sym (big_number-reads_back 4 vendor after lt)
 vendor_back false vendor after lt none = none refl
 
 -- and the octets after the vendor
-after_vendor : (has : Bool) (vendor : ℕ) (a b c d e f g h : ℕ) (after : List ℕ) → drop (cond has 12 8) (a ∷ b ∷ c ∷ d ∷ e ∷ f ∷ g ∷ h ∷ (cond has (big_bytes 4 vendor) [] ++ after)) ≡ after
+pub after_vendor : (has : Bool) (vendor : ℕ) (a b c d e f g h : ℕ) (after : List ℕ) → drop (cond has 12 8) (a ∷ b ∷ c ∷ d ∷ e ∷ f ∷ g ∷ h ∷ (cond has (big_bytes 4 vendor) [] ++ after)) ≡ after
 after_vendor true vendor a b c d e f g h after = refl
 after_vendor false vendor a b c d e f g h after = refl
 
-length_vendor : (has : Bool) (vendor : ℕ) → 8 + length (cond has (big_bytes 4 vendor) []) ≡ cond has 12 8
+pub length_vendor : (has : Bool) (vendor : ℕ) → 8 + length (cond has (big_bytes 4 vendor) []) ≡ cond has 12 8
 length_vendor true vendor = refl
 length_vendor false vendor = refl
 
-regroup : (v x z r : List ℕ) → ((v ++ x) ++ z) ++ r ≡ v ++ (x ++ (z ++ r))
+pub regroup : (v x z r : List ℕ) → ((v ++ x) ++ z) ++ r ≡ v ++ (x ++ (z ++ r))
 regroup v x z r = simp append_assoc
 
-abbrev fixed : RawAvp → List ℕ
+abbrev pub fixed : RawAvp → List ℕ
 fixed avp = big_bytes 4 avp.code ++ (avp.flags ∷ big_bytes 3 (length_of avp))
 
 abbrev zeros : RawAvp → List ℕ

@@ -24,6 +24,10 @@ vendor_in octets = big_number 4 (drop 8 octets)
 abbrev pub has_vendor : ℕ → Bool
 has_vendor flags = not (bit_and flags 128 == 0)
 
+-- whether the flags have M, 40 in hexadecimal: who does not know the AVP refuses the message
+abbrev pub is_mandatory : ℕ → Bool
+is_mandatory flags = not (bit_and flags 64 == 0)
+
 abbrev pub header_len : ℕ → ℕ
 header_len flags = if has_vendor flags then 12 else 8
 

@@ -38,9 +38,10 @@ pub fn more_avps()
 {}
 
 /// Octets that begin with an AVP are its octets as they are written, padding, and the rest: two
-/// spellings of an AVP differ in their padding alone.
+/// spellings of an AVP differ in their padding alone. And padding may be any octets.
 pub fn only_padding_differs()
-    ensures { (octets rest : List ℕ) (avp : RawAvp) → AreOctets octets → BeginsWith octets avp rest → HasPadding octets avp rest }
+    ensures read { (octets rest : List ℕ) (avp : RawAvp) → AreOctets octets → BeginsWith octets avp rest → HasPadding octets avp rest }
+    ensures any { (octets rest : List ℕ) (avp : RawAvp) → HasSpelling avp → HasPadding octets avp rest → BeginsWith octets avp rest }
 {}
 
 /// What was read can be written.

@@ -1,13 +1,20 @@
 //! How the octets of an AVP are laid out (RFC 6733, section 4.1): flags, header and padding.
 
 ghost use Rattle.std.specs.Prelude.{◌≡◌, ◌≤◌, ◌<◌};
-ghost use Rattle.dia_avp.specs.AvpList.{has_vendor as vendor_flag, header_len as header_len_of, padding_of as padding_len};
+ghost use Rattle.dia_avp.specs.AvpList.{has_vendor as vendor_flag, is_mandatory as has_flag_m, header_len as header_len_of, padding_of as padding_len};
 
 /// The flag V: a Vendor-ID follows the length.
 pub const VENDOR: u8 = 0x80;
 
 /// The flag M: who does not know the AVP refuses the message.
 pub const MANDATORY: u8 = 0x40;
+
+/// Whether who does not know the AVP refuses the message.
+pub fn is_mandatory(flags: u8) -> bool
+    ensures { result ≡ has_flag_m flags }
+{
+    flags & MANDATORY != 0
+}
 
 /// Whether a Vendor-ID follows the length.
 pub fn has_vendor(flags: u8) -> bool

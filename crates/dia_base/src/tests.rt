@@ -55,3 +55,15 @@ fn lists(rt: HostRuntime) -> Result<(), Fail> {
     );
     Ok(())
 }
+
+#[test]
+fn texts_of_faults(rt: HostRuntime) -> Result<(), Fail> {
+    let empty = IdentityFault::Empty.to_string(rt.alloc())?;
+    assert_eq!(rt; empty.as_str(), "an identity has at least 1 octet");
+    let bad = IdentityFault::BadOctet { at: 7 }.to_string(rt.alloc())?;
+    assert_eq!(rt;
+        bad.as_str(),
+        "octet 7 of the identity is not visible ASCII"
+    );
+    Ok(())
+}

@@ -1,8 +1,9 @@
 -- Which AVPs a Credit-Control-Request has, and which fault comes first where it has others (RFC 8506, section 3.1). An AVP that is named by its code is one of vendor 0. A place in a list of AVPs counts from 0.
-use Rattle.std.specs.Prelude.{ℕ, ◌<◌, List, [], ◌∷◌, ◌++◌, length, find, position, bit_and, Bool, false, not, ◌&&◌, ◌||◌, ◌==◌, nat_le, if◌then◌else◌, Option, Some, None, option_map, is_some}
+use Rattle.std.specs.Prelude.{ℕ, ◌<◌, List, [], ◌∷◌, ◌++◌, length, find, position, Bool, false, not, ◌&&◌, ◌||◌, ◌==◌, nat_le, if◌then◌else◌, Option, Some, None, option_map, is_some}
 use Rattle.std.specs.List.{list_any}
 use Rattle.byteorder.specs.Endian.{big_number}
 use Rattle.dia_avp.specs.declared.avp.RawAvp.{RawAvp}
+use Rattle.dia_avp.specs.AvpList.{is_mandatory as has_flag_m}
 use Rattle.dia_dict.specs.Dictionary.{row_of}
 use Rattle.dia_grammar.specs.declared.fault.GrammarFault.{GrammarFault}
 use Rattle.dia_grammar.specs.declared.fault.GrammarFault.TheVariants.{Missing, Twice, UnknownM, FirstNotSessionId}
@@ -18,9 +19,9 @@ is_of code avp = avp.vendor == 0 && avp.code == code
 abbrev pub is_among : List ℕ → RawAvp → Bool
 is_among codes avp = list_any (λ code. is_of code avp) codes
 
--- it has the flag M, 40 in hexadecimal: who does not know the AVP refuses the message (RFC 6733, section 4.1)
+-- it has the flag M: who does not know the AVP refuses the message (RFC 6733, section 4.1)
 abbrev pub is_mandatory : RawAvp → Bool
-is_mandatory avp = not (bit_and avp.flags 64 == 0)
+is_mandatory avp = has_flag_m avp.flags
 
 -- the dictionary has a row for this code and vendor
 unfoldable pub has_row : ℕ → ℕ → Bool

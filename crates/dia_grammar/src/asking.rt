@@ -1,11 +1,11 @@
 //! What is asked of a list of AVPs, be it that of a message or of a group.
 
 ghost use Rattle.std.specs.Prelude.{◌≡◌, ◌<◌, length, IfSome};
-ghost use Rattle.dia_grammar.specs.Grammar.{has_avp as has_avp_of, is_among as is_one_of, is_known as is_known_avp, is_of as is_of_code, is_mandatory as has_flag_m, is_second as is_second_of, is_standard as has_standard_code, is_unknown_mandatory as is_unknown_with_m, has_row as is_in_dictionary, missing_of, second_of, unknown_of};
+ghost use Rattle.dia_grammar.specs.Grammar.{has_avp as has_avp_of, is_among as is_one_of, is_known as is_known_avp, is_of as is_of_code, is_second as is_second_of, is_standard as has_standard_code, is_unknown_mandatory as is_unknown_with_m, has_row as is_in_dictionary, missing_of, second_of, unknown_of};
 
 use crate::names::SERVICE_CONTEXT_ID;
 use dia_avp::RawAvp;
-use dia_avp::layout::MANDATORY;
+use dia_avp::layout::is_mandatory;
 use dia_base::Code;
 use dia_dict::row_of;
 
@@ -27,12 +27,6 @@ pub(crate) fn has_avp(avps: &[RawAvp], code: u32) -> bool
     ensures { result ≡ has_avp_of code avps.now }
 {
     avps.iter().any(|avp| is_of(avp, code))
-}
-
-fn is_mandatory(avp: &RawAvp) -> bool
-    ensures { result ≡ has_flag_m avp.now }
-{
-    avp.flags & MANDATORY != 0
 }
 
 fn has_row(avp: &RawAvp) -> bool
@@ -59,7 +53,7 @@ pub fn is_known(avp: &RawAvp, vendors: &[u32]) -> bool
 fn is_unknown_mandatory(avp: &RawAvp, vendors: &[u32]) -> bool
     ensures { result ≡ is_unknown_with_m vendors.now avp.now }
 {
-    is_mandatory(avp) && !is_known(avp, vendors)
+    is_mandatory(avp.flags) && !is_known(avp, vendors)
 }
 
 /// The place of the first AVP that has the flag M and is not known (RFC 6733, section 7.1.5:

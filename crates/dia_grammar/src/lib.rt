@@ -25,8 +25,8 @@ mod request;
 pub use asking::{first_missing, first_repeated, first_unknown, is_among, is_known, is_of};
 pub use fault::GrammarFault;
 pub use laws::{
-    more_may_follow, route_record_may_follow, values_do_not_count, what_a_fault_is,
-    what_a_request_is, what_a_second_one_is,
+    codes_have_names, more_may_follow, route_record_may_follow, values_do_not_count,
+    what_a_fault_is, what_a_request_is, what_a_second_one_is,
 };
 pub use request::check;
 

@@ -163,3 +163,12 @@ fn looks_into_a_group(rt: HostRuntime) -> Result<(), Fail> {
     assert_eq!(rt; first_missing(&avps, &[450]), None);
     Ok(())
 }
+
+#[test]
+fn texts_of_faults(rt: HostRuntime) -> Result<(), Fail> {
+    let missing = GrammarFault::Missing { code: 415 }.to_string(rt.alloc())?;
+    assert_eq!(rt; missing.as_str(), "AVP 415 is missing");
+    let twice = GrammarFault::Twice { at: 3 }.to_string(rt.alloc())?;
+    assert_eq!(rt; twice.as_str(), "AVP number 3 is a second one of its code");
+    Ok(())
+}

@@ -9,3 +9,4 @@ pub mod OneStream
 pub mod Examples
 pub mod Same
 pub mod Pieces
+pub mod Writable

@@ -23,6 +23,7 @@ pub fn one_spelling()
     ensures only { (octets : List ℕ) (message : Message) → Spells octets message ↔ (only_message octets ≡ Some message) }
     ensures written { (message : Message) → HasSpelling message → Spells (octets_of message) message }
     ensures again { (octets : List ℕ) (message : Message) → All (λ octet. octet < 256) octets → Spells octets message → octets_of message ≡ without_reserved octets }
+    ensures writable { (octets : List ℕ) (message : Message) → All (λ octet. octet < 256) octets → Spells octets message → HasSpelling message }
 {}
 
 /// Octets are one stream: spellings of messages, and a rest that holds no whole message.

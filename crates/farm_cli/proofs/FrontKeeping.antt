@@ -128,14 +128,14 @@ module _ (site : Site) (steps : List Step) (ends : Ends) (sent : Sent) (book : L
 -- ---- what a charge does to the book
 
 pub same_book : (site : Site) (steps : List Step) (ends : Ends) (sent : Sent) (book : Ledger) → Grows site steps steps ends ends sent sent book book
-same_book site steps ends sent book = record { passed = λ w p. p; made = λ place nodes e. e; was_sent = λ conn message s. s; answered = λ name message answer a. a }
+same_book site steps ends sent book = record { next = λ step w p. p; made = λ place nodes e. e; was_sent = λ conn message s. s; answered = λ name message answer a. a }
 
 pub charge_grows : (site : Site) (steps : List Step) (ends : Ends) (sent : Sent) (name realm vendors : List ℕ) (ledger book : Ledger) (moment : Moment) (message answer : Message) → IsCharge name realm vendors ledger moment message answer book → Grows site steps steps ends ends sent sent ledger book
 charge_grows site steps ends sent name realm vendors ledger book moment message answer (refuses refusal view) = same_book site steps ends sent ledger
 charge_grows site steps ends sent name realm vendors ledger book moment message answer (repeats request reply view kept) = same_book site steps ends sent ledger
 charge_grows site steps ends sent name realm vendors ledger book moment message answer (has_no_room request view new full) = same_book site steps ends sent ledger
 charge_grows site steps ends sent name realm vendors ledger book moment message answer (takes request view new room) = record {
-  passed = λ w p. p;
+  next = λ step w p. p;
   made = λ place nodes e. e;
   was_sent = λ conn m s. s;
   answered = λ front m a. answered-stays front site.realm site.vendors ledger moment request m a;

@@ -19,7 +19,7 @@ use Rattle.farm_cli.specs.declared.step.Step.{Step}
 use Rattle.farm_cli.specs.declared.world.parts.FrontPart.{FrontPart}
 use Rattle.farm_cli.specs.declared.world.run.Trace.{Trace}
 use Rattle.farm_cli.specs.FarmStep.{skips, Run}
-use Rattle.farm_cli.specs.Promise.{Ends, IsPassed, IsRightAnswer, KeepsPromise}
+use Rattle.farm_cli.specs.Promise.{Ends, IsNext, IsRightAnswer, KeepsPromise}
 use Rattle.farm_cli.specs.Run.{IsRunnable, fresh_front, front_if, fronts_from, opened, start, IsTrace}
 use Rattle.farm_cli.specs.World.{Sent, WorldState}
 use Rattle.farm_cli.proofs.Running.{Run-push}
@@ -96,10 +96,10 @@ start_stands site = record {
 longer : (site : Site) (past : List Step) (step : Step) (ends : Ends) (sent : Sent) (book : Ledger) → Grows site past (past ++ step ∷ []) ends ends sent sent book book
 longer site past step ends sent book = record {
   made = λ place nodes e. e;
-  passed = λ w p. record {
+  next = λ now w p. record {
     before = p.before;
     after = p.after ++ step ∷ [];
-    parts = ap (λ (steps : List Step). steps ++ step ∷ []) p.parts ∙ append_assoc p.before p.after (step ∷ []);
+    parts = ap (λ (steps : List Step). steps ++ step ∷ []) p.parts ∙ append_assoc p.before (now ∷ p.after) (step ∷ []);
     skipped = p.skipped;
     run = p.run;
   };
@@ -129,7 +129,7 @@ run_keeps : (site : Site) (past : List Step) (before : ℕ) (w : WorldState) (st
 run_keeps site past before w [] skipped end runnable so_far s run = subst (Stands site (past ++ [])) (sym run.1) (subst (λ (steps : List Step). Stands site steps w) (sym (append-nil past)) s)
 run_keeps site past before w (step ∷ steps) skipped end runnable so_far s run =
     let next : List Step = past ++ step ∷ [] in
-    let passed : IsPassed site next w = record { before = past; after = step ∷ []; parts = refl; skipped = before; run = so_far } in
+    let passed : IsNext site next step w = record { before = past; after = []; parts = refl; skipped = before; run = so_far } in
     let kept = step_keeps site next w run.1 step run.0 runnable passed run.3 (Stands-longer site past step w s) in
     subst (λ (all : List Step). Stands site all end) (append_assoc past (step ∷ []) steps)
     (run_keeps site next (before + skips run.0) run.1 steps run.2 end runnable (Run-push site (start site) past before w step run.0 run.1 so_far run.3) kept run.4)
@@ -157,6 +157,7 @@ promise_kept site steps trace runnable t =
       received = All-weaker (λ (item : ConnId × Message). IsDue site steps w.ends w.sent w.book item.0 item.1) (λ (item : ConnId × Message). IsRightAnswer site steps w.ends w.sent w.book item.0 item.1)
           (λ (item : ConnId × Message). rightly site steps w.ends w.sent w.book item.0 item.1) w.received s.at_clients;
       legal = s.legal;
+      limit = s.limit;
       within = subst (λ (limit : ℕ). length w.book.history ≤ limit) s.limit s.within;
       taken = s.taken;
       terms = s.terms;

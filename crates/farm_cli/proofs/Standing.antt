@@ -19,7 +19,7 @@ use Rattle.farm_cli.specs.declared.site.Site.{Site}
 use Rattle.farm_cli.specs.declared.step.Step.{Step}
 use Rattle.farm_cli.specs.declared.world.parts.FrontPart.{FrontPart}
 use Rattle.farm_cli.specs.declared.world.parts.Line.{Line}
-use Rattle.farm_cli.specs.Promise.{Ends, IsEndOf, IsFrontAt, IsFrontOn, IsPassed, WasSent, WasAsked, AnswersRequest, RefusesRequest, IsFromClient, HasOneClient, requests_with}
+use Rattle.farm_cli.specs.Promise.{Ends, IsEndOf, IsFrontAt, IsFrontOn, IsNext, WasSent, WasAsked, AnswersRequest, RefusesRequest, IsFromClient, HasOneClient, requests_with}
 use Rattle.farm_cli.specs.Run.{opened}
 use Rattle.farm_cli.specs.World.{Sent, WorldState, is_client}
 use Rattle.farm_cli.proofs.Tally.{pending}
@@ -95,7 +95,7 @@ abbrev pub MoreEnds : Ends → Ends → Type 0
 MoreEnds ends ends' = (place : ℕ) (nodes : NodeNo × NodeNo) → slice_get ends place ≡ Some nodes → slice_get ends' place ≡ Some nodes
 
 pub record Grows (site : Site) (steps steps' : List Step) (ends ends' : Ends) (sent sent' : Sent) (book book' : Ledger) : Type 0 where
-  pub passed : (w : WorldState) → IsPassed site steps w → IsPassed site steps' w
+  pub next : (step : Step) (w : WorldState) → IsNext site steps step w → IsNext site steps' step w
   pub made : MoreEnds ends ends'
   pub was_sent : (conn : ConnId) (message : Message) → WasSent sent conn message → WasSent sent' conn message
   pub answered : (name : List ℕ) (message answer : Message) → IsAnswered name site.realm site.vendors book message answer → IsAnswered name site.realm site.vendors book' message answer
@@ -124,8 +124,9 @@ module _ (site : Site) (steps steps' : List Step) (ends ends' : Ends) (sent sent
     message = r.message;
     asked = asked_grows conn r.message r.asked;
     refusal = r.refusal;
+    step = r.step;
     moment = r.moment;
-    passed = g.passed r.moment r.passed;
+    next = g.next r.step r.moment r.next;
     cause = r.cause;
     written = r.written;
   })

@@ -27,7 +27,7 @@ use Rattle.farm_cli.specs.declared.world.parts.FrontPart.{FrontPart}
 use Rattle.farm_cli.specs.declared.world.parts.Line.{Line}
 use Rattle.farm_cli.specs.Cause.{at_arrival, at_charge}
 use Rattle.farm_cli.specs.FarmStep.{next_conn, learnt_by, learnt, joined, can_rise, raised, sent_on, sent_by, arrived_at_front, heard_by, Taken, taken_from, delivered_to, delivered, picked_at, picks_at, emitted_at, emits_at, charged_at, charges_at, after_step, Outcome, FarmStep}
-use Rattle.farm_cli.specs.Promise.{Ends, IsEndOf, IsPassed, WasAsked, HasOneClient, is_with}
+use Rattle.farm_cli.specs.Promise.{Ends, IsEndOf, IsNext, WasAsked, HasOneClient, is_with}
 use Rattle.farm_cli.specs.Run.{IsRunnable}
 use Rattle.farm_cli.specs.World.{Sent, WorldState, is_client, is_linked, is_relay, is_between, is_front_at, with_front, front_of, front_at}
 use Rattle.farm_cli.proofs.FrontKeeping.{same_book, connected_stands, arrival_stands, pick_stands, emit_stands, done_stands, charge_grows, charge_stands}
@@ -108,7 +108,7 @@ module _ (site : Site) (past : List Step) where
   joined_stands w a b apart s =
       let ends : Ends = w.ends ++ (a, b) ∷ [] in
       let more = more_ends w.ends (a, b) in
-      let g : Grows site past past w.ends ends w.sent w.sent w.book w.book = record { passed = λ v p. p; made = more; was_sent = λ c m was. was; answered = λ name m answer is. is } in
+      let g : Grows site past past w.ends ends w.sent w.sent w.book w.book = record { next = λ step v p. p; made = more; was_sent = λ c m was. was; answered = λ name m answer is. is } in
       record {
         on_lines = All-push (LineStands site past ends w.sent w.book) w.lines _ (lines_grow site past past w.ends ends w.sent w.sent w.book w.book g w.lines s.on_lines)
             (fresh_line_stands site past ends w.sent w.book (next_conn w) a b (omega arith) (next_is_made w.ends (a, b)) apart);
@@ -141,7 +141,7 @@ module _ (site : Site) (past : List Step) where
 
   more_sent : (w : WorldState) (conn : ConnId) (message : Message) → Grows site past past w.ends w.ends w.sent (w.sent ++ (conn, message) ∷ []) w.book w.book
   more_sent w conn message = record {
-    passed = λ v p. p;
+    next = λ step v p. p;
     made = same_ends w.ends;
     was_sent = λ c m was. Contains-append_left w.sent ((conn, message) ∷ []) (c, m) was;
     answered = λ name m answer a. a;
@@ -195,7 +195,7 @@ module _ (site : Site) (past : List Step) where
   flight_of_request ends sent book conn false message due e = no_request ends sent book conn message e due
 
   -- what a front sends at an arrival is due
-  arrival_due : (w : WorldState) (from node : NodeNo) (place : ℕ) (conn : ConnId) (message : Message) (lines : List Line) (front : FrontState) (refusing : Message) → IsPassed site past w
+  arrival_due : (w : WorldState) (from node : NodeNo) (place : ℕ) (conn : ConnId) (message : Message) (lines : List Line) (front : FrontState) (refusing : Message) → IsNext site past (Deliver from node place) w
       → taken_from w.lines from node place ≡ Some (record { conn = conn; message = message; lines = lines }) → front_at node w.fronts ≡ Some front → FrontStands site past w.ends w.sent w.book node front
       → (message.header.request ≡ true → WasAsked w.sent conn message) → IsEndOf w.ends conn node → IsRefusedAtArrival front message refusing → IsDue site past w.ends w.sent w.book conn refusing
   arrival_due w from node place conn message lines front refusing passed taken at s asked at_end r = inr (record {
@@ -204,8 +204,9 @@ module _ (site : Site) (past : List Step) where
     message = message;
     asked = asked (requests front message r.refusal r.cause);
     refusal = r.refusal;
+    step = Deliver from node place;
     moment = w;
-    passed = passed;
+    next = passed;
     cause = at_arrival from node place lines front r.refusal taken at r.cause;
     written = r.written ∙ ap (λ (realm : List ℕ). refusal_of front.name realm message r.refusal) s.of_realm;
   })
@@ -230,7 +231,7 @@ module _ (site : Site) (past : List Step) where
     within = s.within;
   }
 
-  front_hears : (w : WorldState) (from node : NodeNo) (place : ℕ) (conn : ConnId) (message : Message) (lines : List Line) (front : FrontState) → IsPassed site past w
+  front_hears : (w : WorldState) (from node : NodeNo) (place : ℕ) (conn : ConnId) (message : Message) (lines : List Line) (front : FrontState) → IsNext site past (Deliver from node place) w
       → taken_from w.lines from node place ≡ Some (record { conn = conn; message = message; lines = lines }) → front_at node w.fronts ≡ Some front → (message.header.request ≡ true → WasAsked w.sent conn message) → IsEndOf w.ends conn node
       → All (LineStands site past w.ends w.sent w.book) lines → (by_client : Bool) → Left w lines conn by_client message → Standing w → Standing (heard_by (record w { lines = lines }) node conn message front)
   front_hears w from node place conn message lines front passed taken at asked at_end left by_client tally s =
@@ -264,7 +265,7 @@ module _ (site : Site) (past : List Step) where
   known_or_lost w node conn message lines front true hears lost = hears
   known_or_lost w node conn message lines front false hears lost = lost
 
-  front_gets : (w : WorldState) (from node : NodeNo) (place : ℕ) (conn : ConnId) (message : Message) (lines : List Line) (found : Option FrontState) → IsPassed site past w
+  front_gets : (w : WorldState) (from node : NodeNo) (place : ℕ) (conn : ConnId) (message : Message) (lines : List Line) (found : Option FrontState) → IsNext site past (Deliver from node place) w
       → taken_from w.lines from node place ≡ Some (record { conn = conn; message = message; lines = lines }) → front_at node w.fronts ≡ found → (message.header.request ≡ true → WasAsked w.sent conn message) → IsEndOf w.ends conn node
       → All (LineStands site past w.ends w.sent w.book) lines → (by_client : Bool) → Left w lines conn by_client message → Standing w → Standing (arrived_at_front (record w { lines = lines }) node conn message found)
   front_gets w from node place conn message lines None passed taken at asked at_end left by_client tally s = lost_keeps w conn message lines left by_client tally s
@@ -272,7 +273,7 @@ module _ (site : Site) (past : List Step) where
       known_or_lost w node conn message lines front (is_among front.connections conn)
       (front_hears w from node place conn message lines front passed taken at asked at_end left by_client tally s) (lost_keeps w conn message lines left by_client tally s)
 
-  arrival_if : (w : WorldState) (from to : NodeNo) (place : ℕ) (taken : Taken) (b : Bool) → IsPassed site past w → taken_from w.lines from to place ≡ Some taken → is_client site to ≡ b → Standing w
+  arrival_if : (w : WorldState) (from to : NodeNo) (place : ℕ) (taken : Taken) (b : Bool) → IsNext site past (Deliver from to place) w → taken_from w.lines from to place ≡ Some taken → is_client site to ≡ b → Standing w
       → Standing (cond b (record w { lines = taken.lines; received = w.received ++ (taken.conn, taken.message) ∷ [] }) (arrived_at_front (record w { lines = taken.lines }) to taken.conn taken.message (front_at to w.fronts)))
   arrival_if w from to place taken true passed e is s =
       let t = taken_stands site past w.ends w.sent w.book from to place w.lines taken e s.on_lines in
@@ -297,11 +298,11 @@ module _ (site : Site) (past : List Step) where
       let t = taken_stands site past w.ends w.sent w.book from to place w.lines taken e s.on_lines in
       front_gets w from to place taken.conn taken.message taken.lines (front_at to w.fronts) passed e refl (flight_of_request w.ends w.sent w.book taken.conn t.by_client taken.message t.flew) t.at_end t.left t.by_client t.tally s
 
-  delivered_if : (w next : WorldState) (from to : NodeNo) (place : ℕ) (found : Option Taken) → IsPassed site past w → taken_from w.lines from to place ≡ found → delivered_to site w to found ≡ Some next → Standing w → Standing next
+  delivered_if : (w next : WorldState) (from to : NodeNo) (place : ℕ) (found : Option Taken) → IsNext site past (Deliver from to place) w → taken_from w.lines from to place ≡ found → delivered_to site w to found ≡ Some next → Standing w → Standing next
   delivered_if w next from to place None passed e is s = absurd cc
   delivered_if w next from to place (Some taken) passed e is s = subst Standing (some_is is) (arrival_if w from to place taken (is_client site to) passed e refl s)
 
-  pub deliver_keeps : (w next : WorldState) (from to : NodeNo) (place : ℕ) → IsPassed site past w → delivered site w from to place ≡ Some next → Standing w → Standing next
+  pub deliver_keeps : (w next : WorldState) (from to : NodeNo) (place : ℕ) → IsNext site past (Deliver from to place) w → delivered site w from to place ≡ Some next → Standing w → Standing next
   deliver_keeps w next from to place passed e s = delivered_if w next from to place (taken_from w.lines from to place) passed refl e s
 
   -- ---- pick
@@ -361,28 +362,29 @@ module _ (site : Site) (past : List Step) where
 
   -- ---- charge
 
-  charge_due : (w : WorldState) (node : NodeNo) (worker : ℕ) (front : FrontState) (conn : ConnId) (message answer : Message) (book : Ledger) → IsPassed site past w → front_at node w.fronts ≡ Some front → slice_get front.workers worker ≡ Some (Picked conn message)
+  charge_due : (w : WorldState) (node : NodeNo) (worker : ℕ) (moment : Moment) (front : FrontState) (conn : ConnId) (message answer : Message) (book : Ledger) → IsNext site past (Charge node worker moment) w → front_at node w.fronts ≡ Some front → slice_get front.workers worker ≡ Some (Picked conn message)
       → FrontStands site past w.ends w.sent w.book node front → WasAsked w.sent conn message × IsEndOf w.ends conn node → IsAnswered front.name front.realm front.vendors book message answer ⊎ IsRefusedAtCharge front.name front.realm front.vendors w.book message answer → IsDue site past w.ends w.sent book conn answer
-  charge_due w node worker front conn message answer book passed at holds s was_asked (inl a) = inl (record {
+  charge_due w node worker moment front conn message answer book passed at holds s was_asked (inl a) = inl (record {
     name = front.name;
     front = record { place = node; at_end = was_asked.1; front = s.is_front };
     message = message;
     asked = was_asked.0;
     answered = subst (λ (vs : List ℕ). IsAnswered front.name site.realm vs book message answer) s.knows (subst (λ (realm : List ℕ). IsAnswered front.name realm front.vendors book message answer) s.of_realm a);
   })
-  charge_due w node worker front conn message answer book passed at holds s was_asked (inr r) = inr (record {
+  charge_due w node worker moment front conn message answer book passed at holds s was_asked (inr r) = inr (record {
     name = front.name;
     front = record { place = node; at_end = was_asked.1; front = s.is_front };
     message = message;
     asked = was_asked.0;
     refusal = r.refusal;
+    step = Charge node worker moment;
     moment = w;
-    passed = passed;
-    cause = at_charge node worker front r.refusal at holds r.cause;
+    next = passed;
+    cause = at_charge node worker moment front r.refusal at holds r.cause;
     written = r.written ∙ ap (λ (realm : List ℕ). refusal_of front.name realm message r.refusal) s.of_realm;
   })
 
-  charge_case_keeps : (w : WorldState) (node : NodeNo) (worker : ℕ) (moment : Moment) (front : FrontState) (conn : ConnId) (message answer : Message) (book : Ledger) → IsPassed site past w → front_at node w.fronts ≡ Some front
+  charge_case_keeps : (w : WorldState) (node : NodeNo) (worker : ℕ) (moment : Moment) (front : FrontState) (conn : ConnId) (message answer : Message) (book : Ledger) → IsNext site past (Charge node worker moment) w → front_at node w.fronts ≡ Some front
       → slice_get front.workers worker ≡ Some (Picked conn message) → IsCharge front.name front.realm front.vendors w.book moment message answer book → Standing w
       → Standing (record w { fronts = with_front node (with_worker front worker (Done conn answer)) w.fronts; book = book })
   charge_case_keeps w node worker moment front conn message answer book passed at holds cases s =
@@ -390,7 +392,7 @@ module _ (site : Site) (past : List Step) where
       let was_asked : WasAsked w.sent conn message × IsEndOf w.ends conn node = All-read (WorkerStands site past w.ends w.sent w.book node) front.workers worker (Picked conn message) holds f.working in
       let g = charge_grows site past w.ends w.sent front.name front.realm front.vendors w.book book moment message answer cases in
       let b = charge_stands site w.sent front.name front.realm front.vendors w.book book moment conn message answer cases f.knows was_asked.0 s.legal s.within s.taken in
-      let due = charge_due w node worker front conn message answer book passed at holds f was_asked (answered_or_refused front.name front.realm front.vendors w.book book moment message answer s.legal cases) in
+      let due = charge_due w node worker moment front conn message answer book passed at holds f was_asked (answered_or_refused front.name front.realm front.vendors w.book book moment message answer s.legal cases) in
       record {
         on_lines = lines_grow site past past w.ends w.ends w.sent w.sent w.book book g w.lines s.on_lines;
         at_fronts = with_front_stands w.ends w.sent book node w.fronts (with_worker front worker (Done conn answer)) (done_stands site past w.ends w.sent book node front worker conn answer due (FrontStands-grows site past past w.ends w.ends w.sent w.sent w.book book g node front f)) (fronts_grow site past past w.ends w.ends w.sent w.sent w.book book g w.fronts s.at_fronts);
@@ -410,7 +412,7 @@ module _ (site : Site) (past : List Step) where
         within = b.within;
       }
 
-  charged_by_keeps : (w next : WorldState) (node : NodeNo) (worker : ℕ) (moment : Moment) (front : FrontState) (held : Option Worker) → IsPassed site past w → front_at node w.fronts ≡ Some front → slice_get front.workers worker ≡ held
+  charged_by_keeps : (w next : WorldState) (node : NodeNo) (worker : ℕ) (moment : Moment) (front : FrontState) (held : Option Worker) → IsNext site past (Charge node worker moment) w → front_at node w.fronts ≡ Some front → slice_get front.workers worker ≡ held
       → charged_at w node (charged_by front w.book moment worker held) ≡ Some next → Standing w → Standing next
   charged_by_keeps w next node worker moment front None passed at holds e s = absurd cc
   charged_by_keeps w next node worker moment front (Some Idle) passed at holds e s = absurd cc
@@ -419,13 +421,13 @@ module _ (site : Site) (past : List Step) where
       subst Standing (some_is e) (charge_case_keeps w node worker moment front conn message (answer_in front.name front.realm w.book message (view_of front.vendors message)) (book_after w.book moment (view_of front.vendors message)) passed at holds
       (charge_case front.name front.realm front.vendors w.book moment message) s)
 
-  pub charge_keeps : (w next : WorldState) (node : NodeNo) (worker : ℕ) (moment : Moment) (found : Option FrontState) → IsPassed site past w → front_at node w.fronts ≡ found → charges_at w node worker moment found ≡ Some next → Standing w → Standing next
+  pub charge_keeps : (w next : WorldState) (node : NodeNo) (worker : ℕ) (moment : Moment) (found : Option FrontState) → IsNext site past (Charge node worker moment) w → front_at node w.fronts ≡ found → charges_at w node worker moment found ≡ Some next → Standing w → Standing next
   charge_keeps w next node worker moment None passed at e s = absurd cc
   charge_keeps w next node worker moment (Some front) passed at e s = charged_by_keeps w next node worker moment front (slice_get front.workers worker) passed at refl e s
 
   -- ---- any step
 
-  after_step_keeps : (w next : WorldState) (step : Step) → IsRunnable site → IsPassed site past w → after_step site w step ≡ Some next → Standing w → Standing next
+  after_step_keeps : (w next : WorldState) (step : Step) → IsRunnable site → IsNext site past step w → after_step site w step ≡ Some next → Standing w → Standing next
   after_step_keeps w next (Up a b) runnable passed e s = up_keeps w next a b runnable e s
   after_step_keeps w next (Send client to message) runnable passed e s = send_keeps w next client to message e s
   after_step_keeps w next (Deliver from to place) runnable passed e s = deliver_keeps w next from to place passed e s
@@ -433,9 +435,9 @@ module _ (site : Site) (past : List Step) where
   after_step_keeps w next (Charge front worker moment) runnable passed e s = charge_keeps w next front worker moment (front_at front w.fronts) passed refl e s
   after_step_keeps w next (Emit front worker) runnable passed e s = emit_keeps w next front worker (front_at front w.fronts) refl e s
 
-  outcome_keeps : (w next : WorldState) (step : Step) (applied : Bool) (after : Option WorldState) → IsRunnable site → IsPassed site past w → after_step site w step ≡ after → Outcome after applied w next → Standing w → Standing next
+  outcome_keeps : (w next : WorldState) (step : Step) (applied : Bool) (after : Option WorldState) → IsRunnable site → IsNext site past step w → after_step site w step ≡ after → Outcome after applied w next → Standing w → Standing next
   outcome_keeps w next step applied None runnable passed e o s = subst Standing (sym o.1) s
   outcome_keeps w next step applied (Some after) runnable passed e o s = subst Standing (sym o.1) (after_step_keeps w after step runnable passed e s)
 
-  pub step_keeps : (w next : WorldState) (step : Step) (applied : Bool) → IsRunnable site → IsPassed site past w → FarmStep site w step applied next → Standing w → Standing next
+  pub step_keeps : (w next : WorldState) (step : Step) (applied : Bool) → IsRunnable site → IsNext site past step w → FarmStep site w step applied next → Standing w → Standing next
   step_keeps w next step applied runnable passed o s = outcome_keeps w next step applied (after_step site w step) runnable passed refl o s

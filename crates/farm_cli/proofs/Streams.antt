@@ -3,6 +3,7 @@ use Rattle.std.proofs.Common.{◌≡◌, ℕ, zero, suc, ◌≤◌, List, [], �
 use Rattle.std.specs.Prelude.{IfSome}
 use Rattle.std.specs.Io.KnownBytes.{Appends, Consumes, IsAtEnd, Keeps}
 use Rattle.std.proofs.lemmas.List.{append-nil, take_all, take-append-drop}
+use Rattle.farm_cli.specs.Replay.{ReadsSchedule}
 use Rattle.farm_cli.specs.Writing.{BeginsWithRest}
 
 -- one piece after another
@@ -70,3 +71,13 @@ pub read_end : (n : ℕ) (a b c : Option (List ℕ)) (xs buf : List ℕ) (count 
 read_end n a b c xs buf count none before last end le =
     let nothing : Consumes b c [] = subst (λ (k : ℕ). Consumes b c (take k buf)) none last in
     read_to_end n a c xs (subst (λ (ys : List ℕ). Consumes a c ys) (append-nil xs) (Consumes-then a b c xs [] before nothing)) (end none) le
+
+-- what was taken from the stream is what was to be read
+pub reads-text : (a b : Option (List ℕ)) (xs : List ℕ) → IfSome a (λ octets. xs ≡ take 16777217 octets) → Consumes a b xs → ReadsSchedule a b
+reads-text None b xs is p = tt
+reads-text (Some octets) b xs is p = subst (λ (ys : List ℕ). Consumes (Some octets) b ys) is p
+
+-- the last read took nothing
+pub taken_nothing : (a b c : Option (List ℕ)) (xs buf : List ℕ) (count : ℕ) → count ≡ 0 → Consumes a b xs → Consumes b c (take count buf) → Consumes a c xs
+taken_nothing a b c xs buf count none before last =
+    subst (λ (ys : List ℕ). Consumes a c ys) (append-nil xs) (Consumes-then a b c xs [] before (subst (λ (k : ℕ). Consumes b c (take k buf)) none last))

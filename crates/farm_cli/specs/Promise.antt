@@ -1,5 +1,5 @@
 -- What is promised of every run: who is answered what, and what the book stands on.
-use Rattle.std.specs.Prelude.{◌≡◌, ℕ, ◌-◌, ◌≤◌, Bool, true, false, ◌&&◌, ◌||◌, ◌==◌, List, ◌++◌, All, Contains, length, Some, Ok, slice_get, count_by}
+use Rattle.std.specs.Prelude.{◌≡◌, ℕ, ◌-◌, ◌≤◌, Bool, true, false, ◌&&◌, ◌||◌, ◌==◌, List, ◌∷◌, ◌++◌, All, Contains, length, Some, Ok, slice_get, count_by}
 use Rattle.dia_base.specs.declared.number.ConnId.{ConnId}
 use Rattle.dia_base.specs.declared.number.NodeNo.{NodeNo}
 use Rattle.dia_message.specs.declared.message.Message.{Message}
@@ -46,11 +46,11 @@ pub record IsFrontOn (site : Site) (ends : Ends) (conn : ConnId) (name : List �
   pub at_end : IsEndOf ends conn place
   pub front : IsFrontAt site place name
 
--- the first of the steps lead to this state of the farm
-pub record IsPassed (site : Site) (steps : List Step) (w : WorldState) : Type 0 where
+-- the step is one of these, and those before it lead to this state of the farm
+pub record IsNext (site : Site) (steps : List Step) (step : Step) (w : WorldState) : Type 0 where
   pub before : List Step
   pub after : List Step
-  pub parts : steps ≡ before ++ after
+  pub parts : steps ≡ before ++ step ∷ after
   pub skipped : ℕ
   pub run : Run site (start site) before skipped w
 
@@ -70,16 +70,17 @@ pub record AnswersRequest (site : Site) (ends : Ends) (sent : Sent) (book : Ledg
   pub asked : WasAsked sent conn message
   pub answered : IsAnswered name site.realm site.vendors book message answer
 
--- that front's refusal of a request that a client sent on the connection, with a cause that the farm showed in the run
+-- that front's refusal of a request that a client sent on the connection, with a cause that the farm showed at a step of the run
 pub record RefusesRequest (site : Site) (steps : List Step) (ends : Ends) (sent : Sent) (conn : ConnId) (answer : Message) : Type 0 where
   pub name : List ℕ
   pub front : IsFrontOn site ends conn name
   pub message : Message
   pub asked : WasAsked sent conn message
   pub refusal : Refusal
+  pub step : Step
   pub moment : WorldState
-  pub passed : IsPassed site steps moment
-  pub cause : HasCause moment conn message name refusal
+  pub next : IsNext site steps step moment
+  pub cause : HasCause moment conn message step name refusal
   pub written : answer ≡ refusal_of name site.realm message refusal
 
 -- what a client received, by the flag E (RFC 6733, section 3)
@@ -122,6 +123,7 @@ pub record KeepsPromise (site : Site) (steps : List Step) (trace : Trace) : Type
   pub received : All (λ item. IsRightAnswer site steps trace.ends trace.sent trace.book item.0 item.1) trace.received
   pub not_more : (conn : ConnId) (hop end : ℕ) → answers_with trace.received conn hop end ≤ requests_with trace.sent conn hop end
   pub legal : IsLegal trace.book.history
+  pub limit : trace.book.limit ≡ site.limit
   pub within : length trace.book.history ≤ site.limit
   pub taken : All (IsFromClient site trace.sent) trace.book.history
   pub terms : trace.book.terms ≡ (opened site).terms

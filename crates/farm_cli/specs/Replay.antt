@@ -1,5 +1,6 @@
 -- What comes of a schedule that is read from a stream.
-use Rattle.std.specs.Prelude.{◌≡◌, ℕ, List, length, Ok, Err}
+use Rattle.std.specs.Prelude.{◌≡◌, ℕ, List, length, take, IfSome, Option, Ok, Err}
+use Rattle.std.specs.Io.KnownBytes.{Consumes}
 use Rattle.farm_cli.specs.declared.replay.ReplayFault.{ReplayFault}
 use Rattle.farm_cli.specs.declared.replay.ReplayFault.TheVariants.{Read, Write, Script, OutOfMemory}
 use Rattle.farm_cli.specs.declared.script.fault.ScriptFault.{ScriptFault}
@@ -26,6 +27,10 @@ pub record Replays (site : Site) (octets printed : List ℕ) : Type 0 where
 abbrev pub IsRefused : Site → List ℕ → ScriptFault → Type 0
 IsRefused site octets (Line number no_memory) = NoneBefore number (steps_of site octets)
 IsRefused site octets fault = steps_of site octets ≡ Err fault
+
+-- a schedule is read to its end, or up to one octet above its size limit, and nothing behind
+abbrev pub ReadsSchedule : Option (List ℕ) → Option (List ℕ) → Type 0
+ReadsSchedule old new = IfSome old (λ octets. Consumes old new (take 16777217 octets))
 
 -- what reading can fail by
 abbrev pub IsReading : ReplayFault → Type 0

@@ -4,7 +4,7 @@ ghost use Rattle.std.specs.Prelude.{◌≡◌, ◌≢◌, ◌<◌, ◌≤◌, �
 ghost use Rattle.std.specs.Io.KnownBytes.{Keeps, Appends, Consumes, IsAtEnd};
 ghost use Rattle.farm_cli.specs.declared.script.fault.ScriptFault.{ScriptFault};
 ghost use Rattle.farm_cli.specs.Run.{IsRunnable};
-ghost use Rattle.farm_cli.specs.Replay.{Replays, IsRefused, IsReading};
+ghost use Rattle.farm_cli.specs.Replay.{Replays, IsRefused, IsReading, ReadsSchedule};
 ghost use Rattle.farm_cli.specs.Writing.{BeginsWriting};
 
 use crate::output::output;
@@ -73,6 +73,7 @@ fn read_some<R: Read>(reader: &mut R, piece: &mut [u8]) -> io::Result<usize>
 /// Reads until the end, a fault, or one octet above the size limit of a schedule.
 fn read_text<R: Read>(alloc: Global, reader: &mut R) -> Result<Vec<u8>, ReplayFault>
     ensures text { IfOk result (λ text. IfSome (R.remaining reader.old) (λ octets. text.items ≡ take 16777217 octets)) }
+    ensures read { OnOk result (ReadsSchedule (R.remaining reader.old) (R.remaining reader.new)) }
     ensures fault { IfErr result IsReading }
 {
     let mut text = Vec::new(alloc);
@@ -140,6 +141,9 @@ pub fn replay_io<V: Wire, R: Read, W: Write>(
     // schedule's steps.
     ensures ok { OnOk result (IfSome (R.remaining reader.old) (λ octets.
         (printed : List ℕ) × Replays site.now octets printed × Appends (W.contents writer.old) (W.contents writer.new) printed)) }
+
+    // Nothing is read behind the end, nor behind one octet above the size limit.
+    ensures read { OnOk result (ReadsSchedule (R.remaining reader.old) (R.remaining reader.new)) }
 
     // Of a schedule that is refused nothing is written, and the fault is its first.
     ensures script { (fault : ScriptFault) → result ≡ Err (ReplayFault.Script fault) →
