@@ -13,7 +13,7 @@ use Rattle.cc_book.specs.declared.rating.TariffFault.{TariffFault}
 use Rattle.cc_book.specs.declared.rating.TariffFault.TheVariants.{Twice, OutOfRange}
 use Rattle.cc_book.specs.Laws.{AreTariffs, HasOneKey}
 use Rattle.cc_book.specs.Rating.{rates}
-use Rattle.cc_book.specs.Tariffs.{fault_from, fault_of, has_key, in_range, is_twice}
+use Rattle.cc_book.specs.Tariffs.{fault_from, fault_of, has_key, in_range}
 use Rattle.cc_book.proofs.Faults.{fault_of-none}
 
 -- ---- how many tariffs rate a service

@@ -1,5 +1,5 @@
 -- Sums that the laws of the book speak of.
-use Rattle.std.specs.Prelude.{◌≡◌, ℕ, zero, suc, ◌+◌, ◌*◌, ◌<◌, ◌≤◌, List, [], ◌∷◌, All, Bool, ◌&&◌, false, count_by, Option, is_some, ℤ, pos, ◌+ℤ◌, find, sum_by, unwrap_or}
+use Rattle.std.specs.Prelude.{◌≡◌, ℕ, zero, suc, ◌+◌, ◌*◌, ◌<◌, ◌≤◌, List, [], ◌∷◌, All, ◌&&◌, false, count_by, Option, is_some, ℤ, pos, ◌+ℤ◌, find, sum_by, unwrap_or}
 use Rattle.std.specs.Option.{option_and_then, option_map}
 use Rattle.cc_view.specs.declared.reply.CcReply.{CcReply}
 use Rattle.cc_view.specs.declared.reply.ServiceReply.{ServiceReply}

@@ -2,7 +2,6 @@
 -- milliseconds.
 use Rattle.std.specs.Prelude.{ℕ, List, [], ◌∷◌, true, false, Some, None, pos}
 use Rattle.cc_view.specs.declared.code.ResultCode.TheVariants.{Success}
-use Rattle.cc_view.specs.declared.request.CcRequest.{CcRequest}
 use Rattle.cc_view.specs.declared.request.RequestKind.{RequestKind}
 use Rattle.cc_view.specs.declared.request.RequestKind.TheVariants.{Initial, Update, Termination}
 use Rattle.cc_view.specs.declared.request.Service.{Service}

@@ -1,12 +1,11 @@
 -- Octets that end at a multiple of 4 may be followed by further AVPs.
-use Rattle.std.proofs.Common.{◌≡◌, ℕ, zero, suc, ◌+◌, ◌-◌, ◌*◌, ◌/◌, ◌%◌, ◌<◌, ◌≤◌, Bool, true, false, cond, List, [], ◌∷◌, ◌++◌, length, take, drop, get_or, slice_range, refl, sym, subst, ap, ◌∙◌, arith, length-append, length-drop}
+use Rattle.std.proofs.Common.{◌≡◌, ℕ, ◌+◌, ◌-◌, ◌%◌, ◌≤◌, Bool, true, false, cond, List, [], ◌∷◌, ◌++◌, length, take, drop, slice_range, refl, sym, subst, ap, ◌∙◌, arith, length-append, length-drop}
 use Rattle.std.proofs.lemmas.List.{drop-append-le, take-append-le}
 use Rattle.std.proofs.Math.ListN.{get_or-append}
 use Rattle.byteorder.specs.Endian.{big_number}
 use Rattle.byteorder.specs.Numbers.{big_from-append}
 use Rattle.dia_avp.specs.declared.avp.RawAvp.{RawAvp}
-use Rattle.dia_avp.specs.AvpList.{BeginsWith, Begins, code_in, flags_in, length_in, vendor_in, header_len, has_vendor, padding_of}
-use Rattle.dia_avp.proofs.Reading.{least_header}
+use Rattle.dia_avp.specs.AvpList.{BeginsWith, Begins, length_in, vendor_in, header_len, has_vendor, padding_of}
 
 -- a length with its padding is a multiple of 4, and goes past no multiple of 4 that the length keeps to
 pub padded : (n whole : ℕ) → n ≤ whole → whole % 4 ≡ 0 → (n + (4 - n % 4) % 4 ≤ whole) × ((whole - (n + (4 - n % 4) % 4)) % 4 ≡ 0)

@@ -1,8 +1,7 @@
 -- The definitions, computed on worked examples: one AVP, whole bodies of messages, and each fault.
-use Rattle.std.proofs.Common.{◌≡◌, ℕ, ◌+◌, ◌-◌, ◌*◌, List, [], ◌∷◌, cond, leb, Result, Ok, Err, refl}
+use Rattle.std.proofs.Common.{◌≡◌, ℕ, ◌+◌, ◌-◌, ◌*◌, List, [], ◌∷◌, cond, leb, Ok, Err, refl}
 use Rattle.std.specs.Prelude.{codes}
 use Rattle.dia_avp.specs.declared.avp.RawAvp.{RawAvp}
-use Rattle.dia_avp.specs.declared.fault.AvpFault.{AvpFault}
 use Rattle.dia_avp.specs.declared.fault.AvpFault.TheVariants.{ShortHeader, LengthTooSmall, Overrun}
 use Rattle.dia_avp.specs.AvpList.{IsSpelling, IsFirstFault, written_list}
 use Rattle.dia_avp.specs.AvpReading.{split_of, split_from}

@@ -1,11 +1,11 @@
 -- Octets that spell AVPs are what is written, but for the padding; and what was read can be written.
-use Rattle.std.proofs.Common.{◌≡◌, ◌≢◌, ℕ, zero, suc, ◌+◌, ◌-◌, ◌^◌, ◌<◌, ◌≤◌, min, List, [], ◌∷◌, ◌++◌, length, take, drop, get_or, slice_range, All, Bool, true, false, cond, refl, sym, subst, ap, ◌∙◌, arith, length-drop}
+use Rattle.std.proofs.Common.{◌≡◌, ◌≢◌, ℕ, ◌+◌, ◌-◌, ◌^◌, ◌<◌, ◌≤◌, min, List, [], ◌∷◌, ◌++◌, length, take, drop, get_or, All, Bool, true, false, cond, refl, sym, subst, ap, ◌∙◌, arith, length-drop}
 use Rattle.std.proofs.Math.Seq.{take-add, drop-cons}
 use Rattle.std.proofs.lemmas.List.{length-take, length-take-le, take-append-drop}
 use Rattle.std.proofs.lemmas.List.Elements.{All-nil, All-cons, All-drop}
-use Rattle.byteorder.specs.Endian.{big_bytes, big_number}
+use Rattle.byteorder.specs.Endian.{big_bytes}
 use Rattle.dia_avp.specs.declared.avp.RawAvp.{RawAvp}
-use Rattle.dia_avp.specs.AvpList.{AreOctets, BeginsWith, Begins, IsSpelling, HasSpelling, HasPadding, code_in, flags_in, length_in, vendor_in, has_vendor, header_len, padding_of, length_of, vendor_of, unpadded}
+use Rattle.dia_avp.specs.AvpList.{AreOctets, BeginsWith, Begins, HasSpelling, HasPadding, flags_in, length_in, vendor_in, has_vendor, header_len, padding_of, length_of, vendor_of, unpadded}
 use Rattle.dia_avp.proofs.Reading.{least_header}
 use Rattle.dia_avp.proofs.Bytes.{big_number-lt, big_bytes-number}
 

@@ -1,11 +1,11 @@
 -- Octets have no fault exactly where they are an identity.
-use Rattle.std.proofs.Common.{◌≡◌, ℕ, ◌<◌, ◌≤◌, List, [], ◌∷◌, length, Bool, true, false, cond, ltb, leb, ◌&&◌, not, All, get_or, Option, Some, None, refl, sym, subst, ap, ◌∙◌, arith}
+use Rattle.std.proofs.Common.{◌≡◌, ℕ, ◌≤◌, List, [], ◌∷◌, length, Bool, true, false, cond, ltb, leb, not, All, get_or, Option, Some, None, refl, ap, arith}
 use Rattle.std.specs.Prelude.{position, option_map}
-use Rattle.std.specs.List.{position_or_len, prefix_len}
-use Rattle.std.proofs.lemmas.Bool.{ltb-true, ltb-false, lt-ltb, le-ltb, leb-true, le-leb, and_parts, and_from}
-use Rattle.std.proofs.lemmas.List.Sums.{prefix_len-le-length, prefix_len_passes, prefix_len_is}
+use Rattle.std.specs.List.{position_or_len}
+use Rattle.std.proofs.lemmas.Bool.{ltb-false, le-ltb, leb-true, le-leb, and_parts, and_from}
+use Rattle.std.proofs.lemmas.List.Sums.{prefix_len_passes, prefix_len_is}
 use Rattle.dia_base.specs.declared.identity.IdentityFault.{IdentityFault}
-use Rattle.dia_base.specs.declared.identity.IdentityFault.TheVariants.{Empty, TooLong, BadOctet}
+use Rattle.dia_base.specs.declared.identity.IdentityFault.TheVariants.{TooLong, BadOctet}
 use Rattle.dia_base.specs.Identity.{IsIdentity, visible, fault_of}
 
 abbrev Visible : ℕ → Type 0

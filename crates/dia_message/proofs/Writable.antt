@@ -1,14 +1,13 @@
 -- A message that octets spell has a spelling that is written.
-use Rattle.std.proofs.Common.{◌≡◌, ℕ, ◌+◌, ◌-◌, ◌*◌, ◌%◌, ◌^◌, ◌<◌, ◌≤◌, ◌⊎◌, List, length, drop, get_or, ⊎_elim, sym, subst, ap, ◌∙◌, arith, length-drop}
+use Rattle.std.proofs.Common.{◌≡◌, ℕ, ◌-◌, ◌^◌, ◌<◌, List, length, drop, get_or, ⊎_elim, sym, subst, ap, ◌∙◌, arith, length-drop}
 use Rattle.std.specs.Prelude.{All}
 use Rattle.std.proofs.lemmas.List.{get_or_past}
 use Rattle.std.proofs.lemmas.List.Elements.{All-drop}
 use Rattle.std.proofs.lemmas.Bool.{cases_lt}
 use Rattle.byteorder.specs.Numbers.{big_from-lt}
 use Rattle.byteorder.specs.Endian.{big_number}
-use Rattle.dia_message.specs.declared.header.Header.{Header}
 use Rattle.dia_message.specs.declared.message.Message.{Message}
-use Rattle.dia_message.specs.Header.{length_in, header_in, HasOctets}
+use Rattle.dia_message.specs.Header.{header_in, HasOctets}
 use Rattle.dia_message.specs.Spelling.{Spells, HasSpelling}
 
 abbrev Octets : List ℕ → Type 0

@@ -30,7 +30,7 @@ use Rattle.farm_cli.specs.FarmStep.{next_conn, learnt_by, learnt, joined, can_ri
 use Rattle.farm_cli.specs.Promise.{Ends, IsEndOf, IsNext, WasAsked, HasOneClient, is_with}
 use Rattle.farm_cli.specs.Run.{IsRunnable}
 use Rattle.farm_cli.specs.World.{Sent, WorldState, is_client, is_linked, is_relay, is_between, is_front_at, with_front, front_of, front_at}
-use Rattle.farm_cli.proofs.FrontKeeping.{same_book, connected_stands, arrival_stands, pick_stands, emit_stands, done_stands, charge_grows, charge_stands}
+use Rattle.farm_cli.proofs.FrontKeeping.{connected_stands, arrival_stands, pick_stands, emit_stands, done_stands, charge_grows, charge_stands}
 use Rattle.farm_cli.proofs.FrontLemmas.{find-passes, same_node}
 use Rattle.farm_cli.proofs.Keeping.{some_is, sender_of, sent_tally, posted_stands, sent_stands, taken_stands, fresh_line_stands, linked_apart}
 use Rattle.farm_cli.proofs.FrontTally.{charge-is, connected-is, arrival-le, pick-is, emit-le, with_front-is}

@@ -1,8 +1,6 @@
-use Rattle.std.proofs.Common.{◌≡◌, ℕ, List, Result, Err, subst}
+use Rattle.std.proofs.Common.{ℕ, List, subst}
 use Rattle.std.specs.Prelude.{OnOk, IfSome}
 use Rattle.std.specs.Io.KnownBytes.{Appends}
-use Rattle.farm_cli.specs.declared.replay.ReplayFault.TheVariants.{Script, Write}
-use Rattle.farm_cli.specs.declared.script.fault.ScriptFault.{ScriptFault}
 use Rattle.farm_cli.specs.declared.site.Site.{Site}
 use Rattle.farm_cli.specs.Replay.{Replays, IsRefused}
 use Rattle.farm_cli.specs.Writing.{BeginsWriting}
