@@ -3,7 +3,7 @@ use Rattle.std.proofs.Common.{◌≡◌, ℕ, ◌+◌, ◌<◌, ◌≤◌, ◌^�
 use Rattle.std.specs.Prelude.{ℤ, pos, ◌≤ℤ◌, int_le, unwrap_or, sum_by, IfSome}
 use Rattle.std.specs.List.{list_all}
 use Rattle.std.specs.Option.{option_and_then}
-use Rattle.std.proofs.lemmas.Bool.{eqb-true}
+use Rattle.std.proofs.lemmas.Bool.{and_parts, eqb-true}
 use Rattle.std.proofs.lemmas.Int.{ints}
 use Rattle.std.proofs.lemmas.List.{length-map}
 use Rattle.std.proofs.lemmas.List.Elements.{All-cons, All-nil}
@@ -118,14 +118,6 @@ covered terms history request account debiting is_account e =
 
 -- ---- what fits
 
-and_first : (a b : Bool) → (a && b) ≡ true → a ≡ true
-and_first true b e = refl
-and_first false b e = absurd cc
-
-and_second : (a b : Bool) → (a && b) ≡ true → b ≡ true
-and_second true b e = e
-and_second false b e = absurd cc
-
 unit-small : (code : ℕ) → is_unit code ≡ true → code < 2 ^ 32
 unit-small code e = by_case (eqb code 420) (eqb code 421) (eqb code 417) refl refl refl e
   where
@@ -136,14 +128,14 @@ unit-small code e = by_case (eqb code 420) (eqb code 421) (eqb code 417) refl re
     by_case false false false p q r e = absurd cc
 
 range-unit : (tariff : Tariff) → in_range tariff ≡ true → is_unit tariff.kind.0 ≡ true
-range-unit tariff e = and_first (is_unit tariff.kind.0) _ (and_second (has_key tariff) _ e)
+range-unit tariff e = (and_parts (is_unit tariff.kind.0) _ (and_parts (has_key tariff) _ e).1).0
 
 found-in_range : (test : Tariff → Bool) (tariffs : List Tariff) → list_all in_range tariffs ≡ true → IfSome (find test tariffs) (λ tariff. in_range tariff ≡ true)
 found-in_range test [] e = tt
-found-in_range test (tariff ∷ tariffs) e = here (test tariff) (find test tariffs) (found-in_range test tariffs (and_second (in_range tariff) (list_all in_range tariffs) e))
+found-in_range test (tariff ∷ tariffs) e = here (test tariff) (find test tariffs) (found-in_range test tariffs (and_parts (in_range tariff) (list_all in_range tariffs) e).1)
   where
     here : (b : Bool) (later : Option Tariff) → IfSome later (λ other. in_range other ≡ true) → IfSome (cond b (Some tariff) later) (λ other. in_range other ≡ true)
-    here true later p = and_first (in_range tariff) (list_all in_range tariffs) e
+    here true later p = (and_parts (in_range tariff) (list_all in_range tariffs) e).0
     here false later p = p
 
 granted-code : (found : Option Tariff) → IfSome found (λ tariff. in_range tariff ≡ true) → IfSome (option_map (λ (tariff : Tariff). tariff.kind) found) (λ kind. kind.0 < 2 ^ 32)

@@ -3,7 +3,7 @@ use Rattle.std.proofs.Common.{◌≡◌, ℕ, ◌+◌, ◌≤◌, Bool, true, fa
 use Rattle.std.specs.Prelude.{count_by, is_some}
 use Rattle.std.specs.List.{list_all, list_any}
 use Rattle.std.specs.Option.{option_eq, option_or}
-use Rattle.std.proofs.lemmas.Bool.{eqb-true}
+use Rattle.std.proofs.lemmas.Bool.{and_parts, eqb-true, false_from_ne_true}
 use Rattle.std.proofs.lemmas.List.{append_assoc, append-nil}
 use Rattle.std.proofs.lemmas.List.Elements.{All-cons, All-head, All-nil, All-tail}
 use Rattle.std.proofs.lemmas.List.Folds.{Any-from_list_any, list_any_at}
@@ -42,10 +42,6 @@ counted-some test (tariff ∷ tariffs) e =
     let some = some_here (test tariff) (list_any test tariffs) (count_by test tariffs) e (counted-some test tariffs) in
     omega (arith, some, counted-cons test tariff tariffs)
 
-not_true : (b : Bool) → (b ≡ true → ⊥) → b ≡ false
-not_true true f = absurd (f refl)
-not_true false f = refl
-
 regroup : (before : List Tariff) (tariff : Tariff) (after : List Tariff) → (before ++ tariff ∷ []) ++ after ≡ before ++ tariff ∷ after
 regroup before tariff after = append_assoc before (tariff ∷ []) after
 
@@ -74,10 +70,6 @@ rates-own t (Some g) other p q e = ap (λ (o : Option ℕ). option_eq eqb o (Som
 rates-own t None (Some i) p q e = ap (λ (o : Option ℕ). option_eq eqb o (Some i)) q ∙ eq-eqb i i refl
 rates-own t None None p q e = absurd cc
 
-range-key : (a b : Bool) → (a && b) ≡ true → a ≡ true
-range-key true b e = refl
-range-key false b e = absurd cc
-
 -- ---- from no fault
 
 none_parts : (range both shared : Bool) (more : Option TariffFault) → option_or (cond (not range) (Some OutOfRange) (cond (both || shared) (Some Twice) None)) more ≡ None
@@ -96,7 +88,7 @@ parts_of before t after e = none_parts (in_range t) (is_both t) (list_any (rates
 
 -- where one more tariff rates the service, none before it does
 alone : (group ident : Option ℕ) (before : List Tariff) (t : Tariff) → HasOneKey t → list_any (rates t.group t.ident) before ≡ false → rates group ident t ≡ true → list_any (rates group ident) before ≡ false
-alone group ident before t single other e = not_true (list_any (rates group ident) before) (λ any.
+alone group ident before t single other e = false_from_ne_true (list_any (rates group ident) before) (λ any.
     let some = Any-from_list_any (rates group ident) before any in
     let shared = shares group ident t some.1 single e some.4 in
     let found : list_any (rates t.group t.ident) before ≡ true = list_any_at (rates t.group t.ident) before some.0 some.1 some.2 (subst (λ (x : Tariff). rates t.group t.ident x ≡ true) (sym some.3) shared) in
@@ -134,10 +126,6 @@ tariffs-from_none tariffs e = record {
 
 -- ---- to no fault
 
-all_first : (a b : Bool) → (a && b) ≡ true → (a ≡ true) × (b ≡ true)
-all_first true b e = (refl, e)
-all_first false b e = absurd cc
-
 no_fault : (range both shared : Bool) (more : Option TariffFault) → range ≡ true → both ≡ false → shared ≡ false → more ≡ None → option_or (cond (not range) (Some OutOfRange) (cond (both || shared) (Some Twice) None)) more ≡ None
 no_fault true false false more p q r e = e
 no_fault true false true more p q r e = absurd cc
@@ -147,10 +135,10 @@ no_fault false both shared more p q r e = absurd cc
 none-after : (before after : List Tariff) → list_all in_range after ≡ true → All HasOneKey after → ((group ident : Option ℕ) → count_by (rates group ident) (before ++ after) ≤ 1) → fault_from before after ≡ None
 none-after before [] ranges keys single = refl
 none-after before (t ∷ after) ranges keys single =
-    let range = all_first (in_range t) (list_all in_range after) ranges in
+    let range = and_parts (in_range t) (list_all in_range after) ranges in
     let test = rates t.group t.ident in
-    let own : test t ≡ true = rates-own t t.group t.ident refl refl (range-key (has_key t) _ range.0) in
-    let shared : list_any test before ≡ false = not_true (list_any test before) (λ any.
+    let own : test t ≡ true = rates-own t t.group t.ident refl refl (and_parts (has_key t) _ range.0).0 in
+    let shared : list_any test before ≡ false = false_from_ne_true (list_any test before) (λ any.
     let here : ◌≡◌ {A = ℕ} (cond (test t) 1 0) 1 = ap (λ (b : Bool). cond {A = ℕ} b 1 0) own in
     omega (arith, here, counted-some test before any, single t.group t.ident, counted-append test before (t ∷ after), counted-cons test t after)) in
     no_fault (in_range t) (is_both t) (list_any test before) (fault_from (before ++ t ∷ []) after) range.0 (All-head HasOneKey t after keys) shared

@@ -1,10 +1,15 @@
 -- Places of the first item that passes.
-use Rattle.std.proofs.Common.{◌≡◌, ℕ, zero, suc, ◌+◌, ◌≤◌, Bool, true, false, not, cond, List, [], ◌∷◌, length, Option, Some, None, refl, sym, subst, ap, ◌∙◌, arith, ltb}
+use Rattle.std.proofs.Common.{◌≡◌, ℕ, zero, suc, ◌+◌, ◌≤◌, Bool, true, false, not, cond, List, [], ◌∷◌, ◌++◌, length, Option, Some, None, refl, sym, subst, ap, ◌∙◌, arith, ltb}
 use Rattle.std.specs.Prelude.{slice_get, slice_set, IfSome, IfNone}
 use Rattle.std.specs.List.{find, position, position_or_len}
 use Rattle.std.proofs.lemmas.List.Folds.{find_at}
 use Rattle.std.proofs.lemmas.Bool.{ltb-true, ltb-false}
 use Rattle.farm_cli.specs.Lists.{replace_first, IsFirst}
+
+-- what stands behind a list
+pub slice_get-behind : {A : Type 0} (before : List A) (x : A) (after : List A) → slice_get (before ++ x ∷ after) (length before) ≡ Some x
+slice_get-behind [] x after = refl
+slice_get-behind (first ∷ before) x after = slice_get-behind before x after
 
 replace_cons : {A : Type 0} (b : Bool) (x y : A) (ys rs : List A) (n : ℕ) → rs ≡ slice_set ys n x → cond b (x ∷ ys) (y ∷ rs) ≡ slice_set (y ∷ ys) (cond (not b) (1 + n) 0) x
 replace_cons true x y ys rs n e = refl

@@ -22,16 +22,13 @@ use Rattle.farm_cli.specs.FarmStep.{skips, Run}
 use Rattle.farm_cli.specs.Promise.{Ends, IsNext, IsRightAnswer, KeepsPromise}
 use Rattle.farm_cli.specs.Run.{IsRunnable, fresh_front, front_if, fronts_from, opened, start, IsTrace}
 use Rattle.farm_cli.specs.World.{Sent, WorldState}
+use Rattle.farm_cli.proofs.ListLemmas.{slice_get-behind}
 use Rattle.farm_cli.proofs.Running.{Run-push}
 use Rattle.farm_cli.proofs.Standing.{IsDue, WorkerStands, FrontStands, Stands, Grows, answer_is_no_error, refusal_is_error, lines_grow, fronts_grow, received_grow}
 use Rattle.farm_cli.proofs.Tally.{of_worker, of_part}
 use Rattle.farm_cli.proofs.StepKeeping.{step_keeps}
 
 -- ---- before the first step
-
-behind : (before : List Node) (node : Node) (nodes : List Node) → slice_get (before ++ node ∷ nodes) (length before) ≡ Some node
-behind [] node nodes = refl
-behind (first ∷ before) node nodes = behind before node nodes
 
 module _ (site : Site) (steps : List Step) (ends : Ends) (sent : Sent) (book : Ledger) where
   abbrev PartStands : FrontPart → Type 0
@@ -56,7 +53,7 @@ module _ (site : Site) (steps : List Step) (ends : Ends) (sent : Sent) (book : L
   fronts_from_stand before [] all = All-nil PartStands
   fronts_from_stand before (node ∷ nodes) all =
       All-append PartStands (front_if site (length before) node node.kind) (fronts_from site (length before + 1) nodes)
-      (front_if_stands (length before) node node.kind (ap (λ (xs : List Node). slice_get xs (length before)) (sym all) ∙ behind before node nodes) refl)
+      (front_if_stands (length before) node node.kind (ap (λ (xs : List Node). slice_get xs (length before)) (sym all) ∙ slice_get-behind before node nodes) refl)
       (subst (λ (n : ℕ). All PartStands (fronts_from site n nodes)) (length-append before (node ∷ []))
       (fronts_from_stand (before ++ node ∷ []) nodes (append_assoc before (node ∷ []) nodes ∙ all)))
 

@@ -32,6 +32,7 @@ use Rattle.farm_cli.specs.Run.{IsRunnable}
 use Rattle.farm_cli.specs.World.{Sent, WorldState, is_client, is_linked, is_relay, is_between, is_front_at, with_front, front_of, front_at}
 use Rattle.farm_cli.proofs.FrontKeeping.{connected_stands, arrival_stands, pick_stands, emit_stands, done_stands, charge_grows, charge_stands}
 use Rattle.farm_cli.proofs.FrontLemmas.{find-passes, same_node}
+use Rattle.farm_cli.proofs.ListLemmas.{slice_get-behind}
 use Rattle.farm_cli.proofs.Keeping.{some_is, sender_of, sent_tally, posted_stands, sent_stands, taken_stands, fresh_line_stands, linked_apart}
 use Rattle.farm_cli.proofs.FrontTally.{charge-is, connected-is, arrival-le, pick-is, emit-le, with_front-is}
 use Rattle.farm_cli.proofs.Tally.{one, flying, on_line, of_part, of_item, posted-le, flown-ge, with_worker-is}
@@ -51,12 +52,8 @@ more_ends [] last place nodes e = absurd cc
 more_ends (first ∷ ends) last zero nodes e = e
 more_ends (first ∷ ends) last (suc place) nodes e = more_ends ends last place nodes e
 
-last_end : (ends : Ends) (last : NodeNo × NodeNo) → slice_get (ends ++ last ∷ []) (length ends) ≡ Some last
-last_end [] last = refl
-last_end (first ∷ ends) last = last_end ends last
-
 next_is_made : (ends : Ends) (last : NodeNo × NodeNo) → slice_get (ends ++ last ∷ []) (length ends + 1 - 1) ≡ Some last
-next_is_made ends last = let same : length ends + 1 - 1 ≡ length ends = omega arith in ap (slice_get (ends ++ last ∷ [])) same ∙ last_end ends last
+next_is_made ends last = let same : length ends + 1 - 1 ≡ length ends = omega arith in ap (slice_get (ends ++ last ∷ [])) same ∙ slice_get-behind ends last []
 
 first_of : (p q r s : Bool) → (p && q && r && s) ≡ true → p ≡ true
 first_of true q r s e = refl

@@ -1,5 +1,5 @@
 -- What comes of a schedule that is read from a stream.
-use Rattle.std.specs.Prelude.{◌≡◌, ℕ, List, length, take, IfSome, Option, Ok, Err}
+use Rattle.std.specs.Prelude.{◌≡◌, ℕ, List, length, take, IfSome, Option, Result, Ok, Err}
 use Rattle.std.specs.Io.KnownBytes.{Consumes}
 use Rattle.farm_cli.specs.declared.replay.ReplayFault.{ReplayFault}
 use Rattle.farm_cli.specs.declared.replay.ReplayFault.TheVariants.{Read, Write, Script, OutOfMemory}
@@ -31,6 +31,14 @@ IsRefused site octets fault = steps_of site octets ≡ Err fault
 -- a schedule is read to its end, or up to one octet above its size limit, and nothing behind
 abbrev pub ReadsSchedule : Option (List ℕ) → Option (List ℕ) → Type 0
 ReadsSchedule old new = IfSome old (λ octets. Consumes old new (take 16777217 octets))
+
+-- the schedule was read: neither did reading fail, nor did memory run out
+abbrev pub WasRead : Result (Unit {0}) ReplayFault → Type 0
+WasRead (Ok done) = Unit {0}
+WasRead (Err Read) = ⊥
+WasRead (Err OutOfMemory) = ⊥
+WasRead (Err Write) = Unit {0}
+WasRead (Err (Script fault)) = Unit {0}
 
 -- what reading can fail by
 abbrev pub IsReading : ReplayFault → Type 0

@@ -4,7 +4,7 @@
 ghost use Rattle.std.specs.Prelude.{◌≡◌, ◌≢◌, ℕ, List, OnOk, IfErr, IfSome, Err};
 ghost use Rattle.std.specs.Io.KnownBytes.{Keeps, Appends};
 ghost use Rattle.farm_cli.specs.declared.script.fault.ScriptFault.{ScriptFault};
-ghost use Rattle.farm_cli.specs.Replay.{Replays, IsRefused, ReadsSchedule};
+ghost use Rattle.farm_cli.specs.Replay.{Replays, IsRefused, ReadsSchedule, WasRead};
 ghost use Rattle.farm_cli.specs.Site.{the_row_site};
 ghost use Rattle.farm_cli.specs.Writing.{BeginsWriting};
 
@@ -32,7 +32,7 @@ fn replay_row_site<R: Read, W: Write>(
 ) -> Result<(), ReplayFault>
     ensures ok { OnOk result (IfSome (R.remaining reader.old) (λ octets.
         (printed : List ℕ) × Replays the_row_site octets printed × Appends (W.contents writer.old) (W.contents writer.new) printed)) }
-    ensures read { OnOk result (ReadsSchedule (R.remaining reader.old) (R.remaining reader.new)) }
+    ensures read { WasRead result → ReadsSchedule (R.remaining reader.old) (R.remaining reader.new) }
     ensures script { (fault : ScriptFault) → result ≡ Err (ReplayFault.Script fault) →
         IfSome (R.remaining reader.old) (λ octets. IsRefused the_row_site octets fault) }
     ensures nothing { IfErr result (λ fault. fault ≢ ReplayFault.Write → Keeps (W.contents writer.old) (W.contents writer.new)) }

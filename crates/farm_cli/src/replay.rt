@@ -4,7 +4,7 @@ ghost use Rattle.std.specs.Prelude.{◌≡◌, ◌≢◌, ◌<◌, ◌≤◌, �
 ghost use Rattle.std.specs.Io.KnownBytes.{Keeps, Appends, Consumes, IsAtEnd};
 ghost use Rattle.farm_cli.specs.declared.script.fault.ScriptFault.{ScriptFault};
 ghost use Rattle.farm_cli.specs.Run.{IsRunnable};
-ghost use Rattle.farm_cli.specs.Replay.{Replays, IsRefused, IsReading, ReadsSchedule};
+ghost use Rattle.farm_cli.specs.Replay.{Replays, IsRefused, IsReading, ReadsSchedule, WasRead};
 ghost use Rattle.farm_cli.specs.Writing.{BeginsWriting};
 
 use crate::output::output;
@@ -143,7 +143,7 @@ pub fn replay_io<V: Wire, R: Read, W: Write>(
         (printed : List ℕ) × Replays site.now octets printed × Appends (W.contents writer.old) (W.contents writer.new) printed)) }
 
     // Nothing is read behind the end, nor behind one octet above the size limit.
-    ensures read { OnOk result (ReadsSchedule (R.remaining reader.old) (R.remaining reader.new)) }
+    ensures read { WasRead result → ReadsSchedule (R.remaining reader.old) (R.remaining reader.new) }
 
     // Of a schedule that is refused nothing is written, and the fault is its first.
     ensures script { (fault : ScriptFault) → result ≡ Err (ReplayFault.Script fault) →

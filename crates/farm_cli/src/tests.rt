@@ -219,7 +219,7 @@ fn a_stream_that_fails_is_told(rt: HostRuntime) -> Result<(), Fail> {
     Ok(())
 }
 
-/// A writer that keeps so many octets, and then fails or takes nothing.
+/// A writer that keeps so many octets. Then it takes nothing, or it fails, as it does when it is flushed.
 #[derive(Drop)]
 struct Short {
     kept: Vec<u8>,
