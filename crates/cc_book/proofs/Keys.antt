@@ -1,6 +1,6 @@
 -- Requests with a key, and the replies that are kept for them.
-use Rattle.std.proofs.Common.{◌≡◌, ◌≢◌, ℕ, zero, suc, ◌+◌, ◌<◌, Bool, true, false, cond, not, ◌&&◌, eqb, ltb, List, [], ◌∷◌, ◌++◌, length, take, Option, Some, None, refl, sym, subst, ap, ◌∙◌, arith, rules, append_assoc}
-use Rattle.std.specs.Prelude.{slice_get}
+use Rattle.std.proofs.Common.{◌≡◌, ◌≢◌, ℕ, zero, suc, ◌+◌, ◌^◌, ◌<◌, ◌≤◌, Bool, true, false, cond, not, ◌&&◌, eqb, ltb, List, [], ◌∷◌, ◌++◌, length, take, Option, Some, None, inl, inr, refl, sym, subst, ap, ◌∙◌, arith, rules, append_assoc}
+use Rattle.std.specs.Prelude.{◌⊎◌, slice_get}
 use Rattle.std.specs.List.{position_or_len, list_all, IsDistinct, AllByRecursion}
 use Rattle.std.proofs.lemmas.List.{append-nil}
 use Rattle.dia_base.specs.declared.number.Moment.{Moment}
@@ -11,9 +11,10 @@ use Rattle.cc_book.specs.declared.entry.Entry.TheVariants.{Take, Sweep}
 use Rattle.cc_book.specs.declared.terms.Terms.{Terms}
 use Rattle.cc_book.specs.AccountMachine.{reply_to, reply_at, kept_from, kept_reply}
 use Rattle.cc_book.specs.Duplicate.{Key, key_of, same_session, same_key, has_key}
-use Rattle.cc_book.specs.History.{keys_of, IsLegal, place_of, IsNew, IsKeptAt}
+use Rattle.cc_book.specs.History.{keys_of, ended_sessions, IsLegal, place_of, IsNew, IsKeptAt}
+use Rattle.cc_book.specs.Laws.{RepliesToEntry}
 use Rattle.cc_book.specs.Taking.{KeepsLimits}
-use Rattle.cc_book.proofs.Costs.{and_parts}
+use Rattle.std.proofs.lemmas.Bool.{and_parts}
 
 both : (a b : Bool) → a ≡ true → b ≡ true → (a && b) ≡ true
 both true b p q = q
@@ -46,9 +47,9 @@ kept_from-at terms before (entry ∷ after) key (suc place) moment request new i
     ∙ kept_from-at terms (before ++ entry ∷ []) after key place moment request parts.1 is same
     ∙ ap (λ (h : List Entry). Some (reply_to terms h request)) (append_assoc before (entry ∷ []) (take place after))
 
-pub kept_reply-at : (terms : Terms) (history : List Entry) (key : Key) (place : ℕ) (request : CcRequest) → IsKeptAt history key place request → kept_reply terms history key ≡ Some (reply_to terms (take place history) request)
+pub kept_reply-at : (terms : Terms) (history : List Entry) (request : CcRequest) (place : ℕ) (taken : CcRequest) → IsKeptAt history (key_of request) place taken → kept_reply terms history request ≡ Some (reply_to terms (take place history) taken)
 unfolding kept_reply
-kept_reply-at terms history key place request kept = kept_from-at terms [] history key place kept.moment request kept.new_before kept.entry kept.same
+kept_reply-at terms history request place taken kept = kept_from-at terms [] history (key_of request) place kept.moment taken kept.new_before kept.entry kept.same
 
 kept_from-new : (terms : Terms) (before history : List Entry) (key : Key) → IsNew history key → kept_from terms before history key ≡ None
 kept_from-new terms before [] key new = refl
@@ -56,9 +57,9 @@ kept_from-new terms before (entry ∷ after) key new =
     let parts = and_parts (not (has_key key entry)) (list_all (λ (e : Entry). not (has_key key e)) after) new in
     kept_later terms before after key entry (not_true (has_key key entry) parts.0) ∙ kept_from-new terms (before ++ entry ∷ []) after key parts.1
 
-pub kept_reply-new : (terms : Terms) (history : List Entry) (key : Key) → IsNew history key → kept_reply terms history key ≡ None
+pub kept_reply-new : (terms : Terms) (history : List Entry) (request : CcRequest) → IsNew history (key_of request) → kept_reply terms history request ≡ None
 unfolding kept_reply
-kept_reply-new terms history key new = kept_from-new terms [] history key new
+kept_reply-new terms history request new = kept_from-new terms [] history (key_of request) new
 
 -- no reply is kept
 new_by : (b : Bool) (entry : Option CcReply) (more : Bool) (later : Option CcReply) → (b ≡ true → entry ≢ None) → (later ≡ None → more ≡ true) → cond b entry later ≡ None → (not b && more) ≡ true
@@ -75,9 +76,32 @@ new_from terms before (entry ∷ after) key e =
     new_by (has_key key entry) (reply_at terms before entry) (list_all (λ (other : Entry). not (has_key key other)) after) (kept_from terms (before ++ entry ∷ []) after key)
     (takes_reply terms before key entry) (new_from terms (before ++ entry ∷ []) after key) e
 
-pub new-without_reply : (terms : Terms) (history : List Entry) (key : Key) → kept_reply terms history key ≡ None → IsNew history key
+pub new-without_reply : (terms : Terms) (history : List Entry) (request : CcRequest) → kept_reply terms history request ≡ None → IsNew history (key_of request)
 unfolding kept_reply
-new-without_reply terms history key e = new_from terms [] history key e
+new-without_reply terms history request e = new_from terms [] history (key_of request) e
+
+-- ---- a kept reply is that to an entry
+
+of_here : (terms : Terms) (before after : List Entry) (request : CcRequest) (entry : Entry) (reply : CcReply) → has_key (key_of request) entry ≡ true → reply_at terms before entry ≡ Some reply
+    → RepliesToEntry terms (before ++ entry ∷ after) request reply
+of_here terms before after request (Take moment taken) reply same e = record { before = before; moment = moment; taken = taken; after = after; among = refl; same = same; is_reply = cc }
+of_here terms before after request (Sweep moment) reply same e = absurd cc
+
+of_by : (terms : Terms) (before after : List Entry) (request : CcRequest) (entry : Entry) (reply : CcReply) (b : Bool) → has_key (key_of request) entry ≡ b
+    → (kept_from terms (before ++ entry ∷ []) after (key_of request) ≡ Some reply → RepliesToEntry terms (before ++ entry ∷ after) request reply)
+    → cond b (reply_at terms before entry) (kept_from terms (before ++ entry ∷ []) after (key_of request)) ≡ Some reply → RepliesToEntry terms (before ++ entry ∷ after) request reply
+of_by terms before after request entry reply true has later e = of_here terms before after request entry reply has e
+of_by terms before after request entry reply false has later e = later e
+
+kept_from-of : (terms : Terms) (before history : List Entry) (request : CcRequest) (reply : CcReply) → kept_from terms before history (key_of request) ≡ Some reply → RepliesToEntry terms (before ++ history) request reply
+kept_from-of terms before [] request reply e = absurd cc
+kept_from-of terms before (entry ∷ after) request reply e =
+    of_by terms before after request entry reply (has_key (key_of request) entry) refl
+    (λ later. subst (λ (h : List Entry). RepliesToEntry terms h request reply) (append_assoc before (entry ∷ []) after) (kept_from-of terms (before ++ entry ∷ []) after request reply later)) e
+
+pub kept_reply-of : (terms : Terms) (history : List Entry) (request : CcRequest) (reply : CcReply) → kept_reply terms history request ≡ Some reply → RepliesToEntry terms history request reply
+unfolding kept_reply
+kept_reply-of terms history request reply e = kept_from-of terms [] history request reply e
 
 -- ---- its place
 
@@ -120,12 +144,63 @@ distinct_push (Take m r ∷ history) moment request all new =
     (others_push (key_of r) history moment request all.0 (not_true (same_key (key_of r) (key_of request)) parts.0), distinct_push history moment request all.1 parts.1)
 distinct_push (Sweep m ∷ history) moment request all new = distinct_push history moment request all new
 
-pub IsLegal-push : (history : List Entry) (moment : Moment) (request : CcRequest) → IsLegal history → IsNew history (key_of request) → IsLegal (history ++ Take moment request ∷ [])
-IsLegal-push history moment request legal new = record { distinct = distinct_push history moment request legal.distinct new }
+distinct_sweep : (history : List Entry) (moment : Moment) → keys_of (history ++ Sweep moment ∷ []) ≡ keys_of history
+distinct_sweep [] moment = refl
+distinct_sweep (Take m r ∷ history) moment = ap (λ (keys : List Key). key_of r ∷ keys) (distinct_sweep history moment)
+distinct_sweep (Sweep m ∷ history) moment = distinct_sweep history moment
 
-pub KeepsLimits-empty : (limit : ℕ) → KeepsLimits limit []
+-- ---- sweeps
+
+not_empty : (before after : List Entry) (entry : Entry) → before ++ entry ∷ after ≡ [] → ⊥
+not_empty [] after entry e = cc
+not_empty (b ∷ before) after entry e = cc
+
+head_same : (a b : Entry) (xs ys : List Entry) → a ∷ xs ≡ b ∷ ys → a ≡ b
+head_same a b xs ys e = cc
+
+tail_same : (a b : Entry) (xs ys : List Entry) → a ∷ xs ≡ b ∷ ys → xs ≡ ys
+tail_same a b xs ys e = cc
+
+-- an entry of a list that grew by one is that one, with the list before it, or one of the list
+among_push : (history before after : List Entry) (last entry : Entry) → history ++ last ∷ [] ≡ before ++ entry ∷ after
+    → ((last ≡ entry) × (before ≡ history)) ⊎ ((rest : List Entry) × (history ≡ before ++ entry ∷ rest))
+among_push [] [] after last entry e = inl (head_same last entry [] after e, refl)
+among_push [] (b ∷ before) after last entry e = absurd (not_empty before after entry (sym (tail_same last b [] (before ++ entry ∷ after) e)))
+among_push (h ∷ history) [] after last entry e = inr (history, ap (λ (x : Entry). x ∷ history) (head_same h entry (history ++ last ∷ []) after e))
+among_push (h ∷ history) (b ∷ before) after last entry e =
+    let first = head_same h b (history ++ last ∷ []) (before ++ entry ∷ after) e in
+    elim (among_push history before after last entry (tail_same h b (history ++ last ∷ []) (before ++ entry ∷ after) e)) as (λ _. ((last ≡ entry) × (b ∷ before ≡ h ∷ history)) ⊎ ((rest : List Entry) × (h ∷ history ≡ (b ∷ before) ++ entry ∷ rest))) [
+      | inl p ↦ inl (p.0, cc)
+      | inr p ↦ inr (p.0, cc)
+    ]
+
+pub IsLegal-push : (terms : Terms) (history : List Entry) (moment : Moment) (request : CcRequest) → IsLegal terms history → IsNew history (key_of request) → IsLegal terms (history ++ Take moment request ∷ [])
+IsLegal-push terms history moment request legal new = record {
+  distinct = distinct_push history moment request legal.distinct new;
+  sweeps = λ before after m e. elim (among_push history before after (Take moment request) (Sweep m) e) as (λ _. 0 < ended_sessions terms before m) [
+    | inl p ↦ absurd (let is : Take moment request ≡ Sweep m = p.0 in cc)
+    | inr p ↦ legal.sweeps before p.0 m p.1
+  ];
+}
+
+same_moment : (m n : Moment) → Sweep m ≡ Sweep n → m ≡ n
+same_moment m n e = cc
+
+pub IsLegal-sweep : (terms : Terms) (history : List Entry) (moment : Moment) → IsLegal terms history → 0 < ended_sessions terms history moment → IsLegal terms (history ++ Sweep moment ∷ [])
+IsLegal-sweep terms history moment legal ends = record {
+  distinct = subst (λ (keys : List Key). IsDistinct same_key keys) (sym (distinct_sweep history moment)) legal.distinct;
+  sweeps = λ before after m e. elim (among_push history before after (Sweep moment) (Sweep m) e) as (λ _. 0 < ended_sessions terms before m) [
+    | inl p ↦ subst (λ (n : Moment). 0 < ended_sessions terms before n) (same_moment moment m p.0) (subst (λ (h : List Entry). 0 < ended_sessions terms h moment) (sym p.1) ends)
+    | inr p ↦ legal.sweeps before p.0 m p.1
+  ];
+}
+
+pub IsLegal-empty : (terms : Terms) → IsLegal terms []
 unfolding IsDistinct
-KeepsLimits-empty limit = record { legal = record { distinct = tt }; within = omega arith }
+IsLegal-empty terms = record { distinct = tt; sweeps = λ before after moment e. absurd (not_empty before after (Sweep moment) (sym e)) }
+
+pub KeepsLimits-empty : (terms : Terms) (limit : ℕ) → limit ≤ 2 ^ 20 → KeepsLimits terms limit []
+KeepsLimits-empty terms limit most = record { legal = IsLegal-empty terms; within = omega arith; most = most }
 
 -- ---- laws
 
@@ -149,9 +224,9 @@ kept_from-stays terms before (entry ∷ after) more key reply e =
     kept_stays_by (has_key key entry) (reply_at terms before entry) (kept_from terms (before ++ entry ∷ []) after key) (kept_from terms (before ++ entry ∷ []) (after ++ more) key) reply
     (kept_from-stays terms (before ++ entry ∷ []) after more key reply) e
 
-pub kept_reply-stays : (terms : Terms) (history more : List Entry) (key : Key) (reply : CcReply) → kept_reply terms history key ≡ Some reply → kept_reply terms (history ++ more) key ≡ Some reply
+pub kept_reply-stays : (terms : Terms) (history more : List Entry) (request : CcRequest) (reply : CcReply) → kept_reply terms history request ≡ Some reply → kept_reply terms (history ++ more) request ≡ Some reply
 unfolding kept_reply
-kept_reply-stays terms history more key reply e = kept_from-stays terms [] history more key reply e
+kept_reply-stays terms history more request reply e = kept_from-stays terms [] history more (key_of request) reply e
 
 -- a key that no later request has
 others_at : (key : Key) (history after : List Entry) (moment : Moment) (request : CcRequest) → AllByRecursion (λ (k : Key). same_key key k ≡ false) (keys_of (history ++ Take moment request ∷ after)) → same_key key (key_of request) ≡ false
@@ -165,8 +240,8 @@ keys-distinct [] between after m n one other all = others_at (key_of one) betwee
 keys-distinct (Take l r ∷ before) between after m n one other all = keys-distinct before between after m n one other all.1
 keys-distinct (Sweep l ∷ before) between after m n one other all = keys-distinct before between after m n one other all
 
-pub keys-apart : (before between after : List Entry) (m n : Moment) (one other : CcRequest) → IsLegal (before ++ Take m one ∷ (between ++ Take n other ∷ after)) → key_of one ≢ key_of other
-keys-apart before between after m n one other legal same =
+pub keys-apart : (terms : Terms) (before between after : List Entry) (m n : Moment) (one other : CcRequest) → IsLegal terms (before ++ Take m one ∷ (between ++ Take n other ∷ after)) → key_of one ≢ key_of other
+keys-apart terms before between after m n one other legal same =
     let apart = keys-distinct before between after m n one other legal.distinct in
     let met : same_key (key_of one) (key_of other) ≡ true = subst (λ (k : Key). same_key (key_of one) k ≡ true) same (same_key-self (key_of one)) in
     cc
@@ -190,8 +265,8 @@ take_front : (before after : List Entry) → take (length before) (before ++ aft
 take_front [] after = refl
 take_front (b ∷ before) after = ap (λ (xs : List Entry). b ∷ xs) (take_front before after)
 
-pub kept_reply-first : (terms : Terms) (before after : List Entry) (moment : Moment) (request : CcRequest) → IsLegal (before ++ Take moment request ∷ after)
-    → kept_reply terms (before ++ Take moment request ∷ after) (key_of request) ≡ Some (reply_to terms before request)
+pub kept_reply-first : (terms : Terms) (before after : List Entry) (moment : Moment) (request : CcRequest) → IsLegal terms (before ++ Take moment request ∷ after)
+    → kept_reply terms (before ++ Take moment request ∷ after) request ≡ Some (reply_to terms before request)
 unfolding kept_reply
 kept_reply-first terms before after moment request legal =
     let front = take_front before (Take moment request ∷ after) in

@@ -1,7 +1,4 @@
 mod Paying
-mod Tariffs
-pub mod Costs
-pub mod Faults
 pub mod Keys
 pub mod Looking
 pub mod Postings

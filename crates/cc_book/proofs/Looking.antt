@@ -5,7 +5,7 @@ use Rattle.std.proofs.Math.Seq.{drop-cons}
 use Rattle.cc_view.specs.declared.request.Service.{Service}
 use Rattle.cc_view.specs.declared.request.Subscription.{Subscription}
 use Rattle.cc_book.specs.declared.account.Account.{Account}
-use Rattle.cc_book.specs.declared.rating.Tariff.{Tariff}
+use Rattle.cc_rating.specs.declared.tariff.Tariff.{Tariff}
 use Rattle.cc_book.specs.AccountMachine.{account_of, account_with, opening_at, add, service_cost, sum_of_costs}
 
 pub account_of-at : (accounts : List Account) (xs : List Subscription) (i : ℕ) (d : Subscription) → i < length xs → account_of accounts (drop i xs) ≡ option_or (account_with accounts (get_or xs i d)) (account_of accounts (drop (i + 1) xs))

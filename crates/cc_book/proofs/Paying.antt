@@ -1,6 +1,6 @@
 -- What a debit pays for.
-use Rattle.std.proofs.Common.{◌≡◌, ℕ, ◌+◌, ◌<◌, ◌≤◌, ◌^◌, Bool, true, false, ◌||◌, ◌&&◌, cond, eqb, List, [], ◌∷◌, length, map, All, find, Option, Some, None, option_map, refl, sym, ap, subst, ◌∙◌, arith, lit≤}
-use Rattle.std.specs.Prelude.{ℤ, pos, ◌≤ℤ◌, int_le, unwrap_or, sum_by, IfSome}
+use Rattle.std.proofs.Common.{◌≡◌, ℕ, ◌+◌, ◌<◌, ◌≤◌, ◌^◌, Bool, true, false, ◌||◌, ◌&&◌, cond, ltb, List, [], ◌∷◌, length, map, All, find, Option, Some, None, option_map, refl, sym, ap, subst, ◌∙◌, arith, lit≤}
+use Rattle.std.specs.Prelude.{ℤ, pos, ◌-ℤ◌, ◌≤ℤ◌, int_le, is_none, unwrap_or, sum_by, IfSome}
 use Rattle.std.specs.List.{list_all}
 use Rattle.std.specs.Option.{option_and_then}
 use Rattle.std.proofs.lemmas.Bool.{and_parts, eqb-true}
@@ -8,23 +8,31 @@ use Rattle.std.proofs.lemmas.Int.{ints}
 use Rattle.std.proofs.lemmas.List.{length-map}
 use Rattle.std.proofs.lemmas.List.Elements.{All-cons, All-nil}
 use Rattle.std.proofs.lemmas.List.Sums.{sum_by-cons}
-use Rattle.cc_view.specs.Fitting.{Fits, HasUnitCode}
-use Rattle.cc_view.specs.ServiceLimits.{WithinLimits}
-use Rattle.cc_view.specs.declared.code.ResultCode.TheVariants.{Success, CreditLimitReached, UnableToComply}
+use Rattle.cc_view.specs.Answer.Fitting.{Fits, HasUnitCode}
+use Rattle.cc_view.specs.Request.ServiceLimits.{WithinLimits}
+use Rattle.cc_view.specs.declared.code.ResultCode.{ResultCode}
+use Rattle.cc_view.specs.declared.code.ResultCode.TheVariants.{Success, CreditLimitReached, UnableToComply, UserUnknown, RatingFailed}
 use Rattle.cc_view.specs.declared.reply.CcReply.{CcReply}
 use Rattle.cc_view.specs.declared.request.CcRequest.{CcRequest}
+use Rattle.cc_view.specs.declared.request.RequestKind.{RequestKind}
+use Rattle.cc_view.specs.declared.request.RequestKind.TheVariants.{Initial, Update, Termination, Event}
+use Rattle.cc_view.specs.declared.request.RequestedAction.{RequestedAction}
+use Rattle.cc_view.specs.declared.request.RequestedAction.TheVariants.{DirectDebiting, RefundAccount, CheckBalance, PriceEnquiry}
 use Rattle.cc_view.specs.declared.request.Service.{Service}
+use Rattle.cc_book.specs.declared.account.Money.{Money}
 use Rattle.cc_book.specs.declared.entry.Entry.{Entry}
-use Rattle.cc_book.specs.declared.rating.Tariff.{Tariff}
+use Rattle.cc_rating.specs.declared.tariff.Tariff.{Tariff}
 use Rattle.cc_book.specs.declared.terms.Terms.{Terms}
-use Rattle.cc_book.specs.AccountMachine.{account_of, add, code_alone, debit_after, debiting_reply, free_after, granted, granted_all, is_debiting, postings_of, reply_after, reply_by_total, reply_to, service_cost, sum_of_costs, total_of}
+use Rattle.cc_book.specs.AccountMachine.{account_of, action_debit, add, check_reply, code_alone, debit_after, debit_by, event_reply, free_after, free_for, granted, granted_all, needs_account, postings_of, price_reply, rated_reply, reply_after, reply_by, reply_to, service_cost, sum_of_costs, total_of}
 use Rattle.cc_book.specs.Balance.{balance_of, debit_of}
 use Rattle.cc_book.specs.Laws.{cost_of_reply, granted_cost}
 use Rattle.cc_book.specs.Posting.{Posting}
-use Rattle.cc_book.specs.Rating.{asked_of, asking_cost, cost_of}
-use Rattle.cc_book.specs.Session.{is_success}
-use Rattle.cc_book.specs.Tariffs.{AreInRange, has_key, in_range, is_unit, tariff_of}
+use Rattle.cc_rating.specs.Rating.{cost_of}
+use Rattle.cc_book.specs.ServiceRating.{asked_of, asking_cost, tariff_of, unit_code}
+use Rattle.cc_rating.specs.declared.tariff.UnitKind.{UnitKind}
+use Rattle.cc_rating.specs.declared.tariff.UnitKind.TheVariants.{Time, Octets, Units}
 use Rattle.cc_book.proofs.Postings.{free_after-is}
+use Rattle.cc_book.proofs.Sums.{checks_nothing, prices_nothing}
 
 -- ---- costs
 
@@ -56,119 +64,152 @@ granted-total tariffs (service ∷ services) total e = granted-costs tariffs (se
 
 -- ---- what is paid
 
-abbrev paid_for : List Tariff → Option ℕ → CcReply → Type 0
-paid_for tariffs total reply = cond (is_success reply.code) (pos (unwrap_or total 0)) (pos 0) ≡ pos (cost_of_reply tariffs reply)
+abbrev paid_for : List Tariff → ℕ → CcReply → Type 0
+paid_for tariffs amount reply = action_debit amount reply.code (Some DirectDebiting) ≡ pos (cost_of_reply tariffs reply)
 
 paid-room : (tariffs : List Tariff) (services : List Service) (room : Bool) (total : ℕ) → total_of tariffs services ≡ Some total
-    → paid_for tariffs (Some total) (cond room (granted_all tariffs services) (code_alone CreditLimitReached))
+    → paid_for tariffs total (cond room (granted_all tariffs services) (code_alone CreditLimitReached))
 paid-room tariffs services true total e = ap (λ (n : ℕ). pos n) (sym (granted-total tariffs services total e))
 paid-room tariffs services false total e = refl
 
-paid-total : (tariffs : List Tariff) (services : List Service) (free : ℤ) (total : Option ℕ) → total_of tariffs services ≡ total → paid_for tariffs total (reply_by_total tariffs services free total)
-paid-total tariffs services free None e = refl
-paid-total tariffs services free (Some total) e = paid-room tariffs services (int_le (pos total) free) total e
+paid-total : (terms : Terms) (services : List Service) (free : ℤ) (total : Option ℕ) → total_of terms.tariffs services ≡ total → paid_for terms.tariffs (unwrap_or total 0) (rated_reply terms services total free DirectDebiting)
+paid-total terms services free None e = refl
+paid-total terms services free (Some total) e = paid-room terms.tariffs services (int_le (pos total) free) total e
 
-paid-account : (terms : Terms) (before : List Posting) (services : List Service) (account : Option ℕ) → paid_for terms.tariffs (total_of terms.tariffs services) (debiting_reply terms before services account)
+paid-account : (terms : Terms) (before : List Posting) (services : List Service) (account : Option ℕ) → paid_for terms.tariffs (unwrap_or (total_of terms.tariffs services) 0) (event_reply terms before services account (Some DirectDebiting))
 paid-account terms before services None = refl
-paid-account terms before services (Some account) = paid-total terms.tariffs services (free_after terms before account) (total_of terms.tariffs services) refl
+paid-account terms before services (Some account) = paid-total terms services (free_after terms before account) (total_of terms.tariffs services) refl
 
-paid-action : (debiting : Bool) (tariffs : List Tariff) (total : Option ℕ) (reply : CcReply) → paid_for tariffs total reply
-    → cond (debiting && is_success (cond debiting reply (code_alone UnableToComply)).code) (pos (unwrap_or total 0)) (pos 0) ≡ pos (cost_of_reply tariffs (cond debiting reply (code_alone UnableToComply)))
-paid-action true tariffs total reply p = p
-paid-action false tariffs total reply p = refl
+debit_of-event : (terms : Terms) (before : List Posting) (request : CcRequest) (action : Option RequestedAction) → request.kind ≡ Event → request.action ≡ action
+    → debit_after terms before request
+    ≡ action_debit (unwrap_or (total_of terms.tariffs request.services) 0) (event_reply terms before request.services (account_of terms.accounts request.subscriptions) action).code action
+debit_of-event terms before request action event is =
+    ap (debit_by terms before request) event
+    ∙ ap (λ (a : Option RequestedAction). action_debit (unwrap_or (total_of terms.tariffs request.services) 0) (event_reply terms before request.services (account_of terms.accounts request.subscriptions) a).code a) is
 
-pub paid : (terms : Terms) (history : List Entry) (request : CcRequest) → debit_of terms history request ≡ pos (cost_of_reply terms.tariffs (reply_to terms history request))
+reply-event : (terms : Terms) (before : List Posting) (request : CcRequest) (action : Option RequestedAction) → request.kind ≡ Event → request.action ≡ action
+    → reply_after terms before request ≡ event_reply terms before request.services (account_of terms.accounts request.subscriptions) action
+reply-event terms before request action event is =
+    ap (reply_by terms before request) event ∙ ap (λ (a : Option RequestedAction). event_reply terms before request.services (account_of terms.accounts request.subscriptions) a) is
+
+pub paid : (terms : Terms) (history : List Entry) (request : CcRequest) → request.kind ≡ Event → request.action ≡ Some DirectDebiting → debit_of terms history request ≡ pos (cost_of_reply terms.tariffs (reply_to terms history request))
 unfolding debit_of reply_to
-paid terms history request =
+paid terms history request event debits =
     let before = postings_of terms history in
-    paid-action (is_debiting request.kind request.action) terms.tariffs (total_of terms.tariffs request.services)
-    (debiting_reply terms before request.services (account_of terms.accounts request.subscriptions))
-    (paid-account terms before request.services (account_of terms.accounts request.subscriptions))
+    debit_of-event terms before request (Some DirectDebiting) event debits
+    ∙ paid-account terms before request.services (account_of terms.accounts request.subscriptions)
+    ∙ sym (ap (λ (r : CcReply). pos (cost_of_reply terms.tariffs r)) (reply-event terms before request (Some DirectDebiting) event debits))
 
 -- ---- what is covered
 
 test_le : (a b : ℤ) → int_le a b ≡ true → a ≤ℤ b
 test_le a b h = grind (arith, ints)
 
-covered-room : (tariffs : List Tariff) (services : List Service) (room : Bool) (total : ℕ) → (cond room (granted_all tariffs services) (code_alone CreditLimitReached)).code ≡ Success → room ≡ true
-covered-room tariffs services true total e = refl
-covered-room tariffs services false total e = absurd cc
+covered-room : (tariffs : List Tariff) (services : List Service) (room : Bool) → (cond room (granted_all tariffs services) (code_alone CreditLimitReached)).code ≡ Success → room ≡ true
+covered-room tariffs services true e = refl
+covered-room tariffs services false e = absurd cc
 
-covered-total : (tariffs : List Tariff) (services : List Service) (free : ℤ) (total : Option ℕ) → (reply_by_total tariffs services free total).code ≡ Success → pos (unwrap_or total 0) ≤ℤ free
-covered-total tariffs services free None e = absurd cc
-covered-total tariffs services free (Some total) e = test_le (pos total) free (covered-room tariffs services (int_le (pos total) free) total e)
+covered-total : (terms : Terms) (services : List Service) (free : ℤ) (total : Option ℕ) → (rated_reply terms services total free DirectDebiting).code ≡ Success → pos (unwrap_or total 0) ≤ℤ free
+covered-total terms services free None e = absurd cc
+covered-total terms services free (Some total) e = test_le (pos total) free (covered-room terms.tariffs services (int_le (pos total) free) e)
 
-pub covered : (terms : Terms) (history : List Entry) (request : CcRequest) (account : ℕ) → is_debiting request.kind request.action ≡ true → account_of terms.accounts request.subscriptions ≡ Some account
+pub covered : (terms : Terms) (history : List Entry) (request : CcRequest) (account : ℕ) → request.kind ≡ Event → request.action ≡ Some DirectDebiting → account_of terms.accounts request.subscriptions ≡ Some account
     → (reply_to terms history request).code ≡ Success → debit_of terms history request ≤ℤ balance_of terms history account
 unfolding debit_of reply_to
-covered terms history request account debiting is_account e =
+covered terms history request account event debits is_account e =
     let before = postings_of terms history in
     let free = free_after terms before account in
     let total = total_of terms.tariffs request.services in
-    let reply = debiting_reply terms before request.services (account_of terms.accounts request.subscriptions) in
-    let same : reply_after terms before request ≡ reply_by_total terms.tariffs request.services free total =
-    ap (λ (b : Bool). cond b reply (code_alone UnableToComply)) debiting
-    ∙ ap (λ (a : Option ℕ). debiting_reply terms before request.services a) is_account in
-    let success : (reply_by_total terms.tariffs request.services free total).code ≡ Success = sym (ap (λ (r : CcReply). r.code) same) ∙ e in
+    let reply = rated_reply terms request.services total free DirectDebiting in
+    let is : event_reply terms before request.services (account_of terms.accounts request.subscriptions) (Some DirectDebiting) ≡ reply =
+    ap (λ (a : Option ℕ). event_reply terms before request.services a (Some DirectDebiting)) is_account in
+    let same : reply_after terms before request ≡ reply = reply-event terms before request (Some DirectDebiting) event debits ∙ is in
+    let success : reply.code ≡ Success = sym (ap (λ (r : CcReply). r.code) same) ∙ e in
     let debit : debit_after terms before request ≡ pos (unwrap_or total 0) =
-    ap (λ (b : Bool). cond (b && is_success (reply_after terms before request).code) (pos (unwrap_or total 0)) (pos 0)) debiting
-    ∙ ap (λ code. cond (is_success code) (pos (unwrap_or total 0)) (pos 0)) e in
+    debit_of-event terms before request (Some DirectDebiting) event debits
+    ∙ ap (λ (r : CcReply). action_debit (unwrap_or total 0) r.code (Some DirectDebiting)) is
+    ∙ ap (λ (code : ResultCode). action_debit (unwrap_or total 0) code (Some DirectDebiting)) success in
     subst (λ (z : ℤ). z ≤ℤ balance_of terms history account) (sym debit)
-    (subst (λ (z : ℤ). pos (unwrap_or total 0) ≤ℤ z) (free_after-is terms history account) (covered-total terms.tariffs request.services free total success))
+    (subst (λ (z : ℤ). pos (unwrap_or total 0) ≤ℤ z) (free_after-is terms history account) (covered-total terms request.services free total success))
+
+-- ---- refunds, and what moves nothing
+
+pub refunded : (terms : Terms) (history : List Entry) (request : CcRequest) (total : ℕ) → request.kind ≡ Event → request.action ≡ Some RefundAccount
+    → (reply_to terms history request).code ≡ Success → total_of terms.tariffs request.services ≡ Some total → debit_of terms history request ≡ pos 0 -ℤ pos total
+unfolding debit_of reply_to
+refunded terms history request total event refunds e is =
+    let before = postings_of terms history in
+    let reply = event_reply terms before request.services (account_of terms.accounts request.subscriptions) (Some RefundAccount) in
+    let success : reply.code ≡ Success = sym (ap (λ (r : CcReply). r.code) (reply-event terms before request (Some RefundAccount) event refunds)) ∙ e in
+    debit_of-event terms before request (Some RefundAccount) event refunds
+    ∙ ap (λ (code : ResultCode). action_debit (unwrap_or (total_of terms.tariffs request.services) 0) code (Some RefundAccount)) success
+    ∙ ap (λ (t : Option ℕ). pos 0 -ℤ pos (unwrap_or t 0)) is
+
+pub checked : (terms : Terms) (history : List Entry) (request : CcRequest) → request.kind ≡ Event → request.action ≡ Some CheckBalance → debit_of terms history request ≡ pos 0
+unfolding debit_of
+checked terms history request event checks = debit_of-event terms (postings_of terms history) request (Some CheckBalance) event checks
+    ∙ checks_nothing (unwrap_or (total_of terms.tariffs request.services) 0) (event_reply terms (postings_of terms history) request.services (account_of terms.accounts request.subscriptions) (Some CheckBalance)).code
+
+pub enquired : (terms : Terms) (history : List Entry) (request : CcRequest) → request.kind ≡ Event → request.action ≡ Some PriceEnquiry → debit_of terms history request ≡ pos 0
+unfolding debit_of
+enquired terms history request event asks = debit_of-event terms (postings_of terms history) request (Some PriceEnquiry) event asks
+    ∙ prices_nothing (unwrap_or (total_of terms.tariffs request.services) 0) (event_reply terms (postings_of terms history) request.services (account_of terms.accounts request.subscriptions) (Some PriceEnquiry)).code
 
 -- ---- what fits
 
-unit-small : (code : ℕ) → is_unit code ≡ true → code < 2 ^ 32
-unit-small code e = by_case (eqb code 420) (eqb code 421) (eqb code 417) refl refl refl e
-  where
-    by_case : (a b c : Bool) → eqb code 420 ≡ a → eqb code 421 ≡ b → eqb code 417 ≡ c → (a || (b || c)) ≡ true → code < 2 ^ 32
-    by_case true b c p q r e = omega (arith, eqb-true code 420 p)
-    by_case false true c p q r e = omega (arith, eqb-true code 421 q)
-    by_case false false true p q r e = omega (arith, eqb-true code 417 r)
-    by_case false false false p q r e = absurd cc
+unit_code-small : (kind : UnitKind) → (unit_code kind).0 < 2 ^ 32
+unit_code-small Time = omega arith
+unit_code-small Octets = omega arith
+unit_code-small Units = omega arith
 
-range-unit : (tariff : Tariff) → in_range tariff ≡ true → is_unit tariff.kind.0 ≡ true
-range-unit tariff e = (and_parts (is_unit tariff.kind.0) _ (and_parts (has_key tariff) _ e).1).0
+granted-code : (found : Option Tariff) → IfSome (option_map (λ (tariff : Tariff). unit_code tariff.kind) found) (λ kind. kind.0 < 2 ^ 32)
+granted-code (Some tariff) = unit_code-small tariff.kind
+granted-code None = tt
 
-found-in_range : (test : Tariff → Bool) (tariffs : List Tariff) → list_all in_range tariffs ≡ true → IfSome (find test tariffs) (λ tariff. in_range tariff ≡ true)
-found-in_range test [] e = tt
-found-in_range test (tariff ∷ tariffs) e = here (test tariff) (find test tariffs) (found-in_range test tariffs (and_parts (in_range tariff) (list_all in_range tariffs) e).1)
-  where
-    here : (b : Bool) (later : Option Tariff) → IfSome later (λ other. in_range other ≡ true) → IfSome (cond b (Some tariff) later) (λ other. in_range other ≡ true)
-    here true later p = (and_parts (in_range tariff) (list_all in_range tariffs) e).0
-    here false later p = p
-
-granted-code : (found : Option Tariff) → IfSome found (λ tariff. in_range tariff ≡ true) → IfSome (option_map (λ (tariff : Tariff). tariff.kind) found) (λ kind. kind.0 < 2 ^ 32)
-granted-code (Some tariff) e = unit-small tariff.kind.0 (range-unit tariff e)
-granted-code None e = tt
-
-granted-codes : (tariffs : List Tariff) (services : List Service) → list_all in_range tariffs ≡ true → All HasUnitCode (map (granted tariffs) services)
-granted-codes tariffs [] e = All-nil HasUnitCode
-granted-codes tariffs (service ∷ services) e =
+granted-codes : (tariffs : List Tariff) (services : List Service) → All HasUnitCode (map (granted tariffs) services)
+granted-codes tariffs [] = All-nil HasUnitCode
+granted-codes tariffs (service ∷ services) =
     All-cons HasUnitCode (granted tariffs service) (map (granted tariffs) services)
-    (granted-code (tariff_of tariffs service) (found-in_range _ tariffs e)) (granted-codes tariffs services e)
+    (granted-code (tariff_of tariffs service)) (granted-codes tariffs services)
 
 fits-alone : (code : _) → Fits (code_alone code)
 fits-alone code = record { few = lit≤ tt; codes = All-nil HasUnitCode }
 
-fits-room : (tariffs : List Tariff) (services : List Service) (room : Bool) → length services ≤ 32 → list_all in_range tariffs ≡ true → Fits (cond room (granted_all tariffs services) (code_alone CreditLimitReached))
-fits-room tariffs services true few e = record { few = subst (λ (n : ℕ). n ≤ 32) (sym (length-map services (granted tariffs))) few; codes = granted-codes tariffs services e }
-fits-room tariffs services false few e = fits-alone CreditLimitReached
+fits-room : (tariffs : List Tariff) (services : List Service) (room : Bool) → length services ≤ 32 → Fits (cond room (granted_all tariffs services) (code_alone CreditLimitReached))
+fits-room tariffs services true few = record { few = subst (λ (n : ℕ). n ≤ 32) (sym (length-map services (granted tariffs))) few; codes = granted-codes tariffs services }
+fits-room tariffs services false few = fits-alone CreditLimitReached
 
-fits-total : (tariffs : List Tariff) (services : List Service) (free : ℤ) (total : Option ℕ) → length services ≤ 32 → list_all in_range tariffs ≡ true → Fits (reply_by_total tariffs services free total)
-fits-total tariffs services free None few e = fits-alone _
-fits-total tariffs services free (Some total) few e = fits-room tariffs services (int_le (pos total) free) few e
+fits-check : (total : ℕ) (free : ℤ) → Fits (check_reply total free)
+fits-check total free = record { few = lit≤ tt; codes = All-nil HasUnitCode }
 
-fits-account : (terms : Terms) (before : List Posting) (services : List Service) (account : Option ℕ) → length services ≤ 32 → list_all in_range terms.tariffs ≡ true → Fits (debiting_reply terms before services account)
-fits-account terms before services None few e = fits-alone _
-fits-account terms before services (Some account) few e = fits-total terms.tariffs services (free_after terms before account) (total_of terms.tariffs services) few e
+fits-price : (money : Money) (total : ℕ) → Fits (price_reply money total)
+fits-price money total = by (ltb total (2 ^ 63)) where
+  by : (b : Bool) → Fits (cond b (record { code = Success; services = []; cost = Some (record { digits = pos total; exponent = money.exponent; currency = money.currency }); check = None }) (code_alone RatingFailed))
+  by true = record { few = lit≤ tt; codes = All-nil HasUnitCode }
+  by false = fits-alone RatingFailed
 
-fits-action : (debiting : Bool) (reply : CcReply) → Fits reply → Fits (cond debiting reply (code_alone UnableToComply))
-fits-action true reply p = p
-fits-action false reply p = fits-alone UnableToComply
+fits-rated : (terms : Terms) (services : List Service) (free : ℤ) (total : Option ℕ) (action : RequestedAction) → length services ≤ 32 → Fits (rated_reply terms services total free action)
+fits-rated terms services free None action few = fits-alone RatingFailed
+fits-rated terms services free (Some total) DirectDebiting few = fits-room terms.tariffs services (int_le (pos total) free) few
+fits-rated terms services free (Some total) RefundAccount few = fits-alone Success
+fits-rated terms services free (Some total) CheckBalance few = fits-check total free
+fits-rated terms services free (Some total) PriceEnquiry few = fits-price terms.money total
 
-pub fits : (terms : Terms) (history : List Entry) (request : CcRequest) → AreInRange terms.tariffs → WithinLimits request.services → Fits (reply_to terms history request)
+fits-test : (b : Bool) (one other : CcReply) → Fits one → Fits other → Fits (cond b one other)
+fits-test true one other p q = p
+fits-test false one other p q = q
+
+fits-event : (terms : Terms) (before : List Posting) (services : List Service) (account : Option ℕ) (action : Option RequestedAction) → length services ≤ 32 → Fits (event_reply terms before services account action)
+fits-event terms before services account None few = fits-alone UnableToComply
+fits-event terms before services account (Some action) few =
+    fits-test (needs_account action && is_none account) (code_alone UserUnknown) (rated_reply terms services (total_of terms.tariffs services) (free_for terms before account) action)
+    (fits-alone UserUnknown) (fits-rated terms services (free_for terms before account) (total_of terms.tariffs services) action few)
+
+pub fits : (terms : Terms) (history : List Entry) (request : CcRequest) → WithinLimits request.services → Fits (reply_to terms history request)
 unfolding reply_to
-fits terms history request range limits =
-    fits-action (is_debiting request.kind request.action) (debiting_reply terms (postings_of terms history) request.services (account_of terms.accounts request.subscriptions))
-    (fits-account terms (postings_of terms history) request.services (account_of terms.accounts request.subscriptions) limits.few range)
+fits terms history request limits = by request.kind where
+  by : (kind : RequestKind) → Fits (reply_by terms (postings_of terms history) request kind)
+  by Event = fits-event terms (postings_of terms history) request.services (account_of terms.accounts request.subscriptions) request.action limits.few
+  by Initial = fits-alone UnableToComply
+  by Update = fits-alone UnableToComply
+  by Termination = fits-alone UnableToComply

@@ -10,9 +10,9 @@ use Rattle.cc_view.specs.declared.request.CcRequest.{CcRequest}
 use Rattle.cc_book.specs.declared.entry.Entry.{Entry}
 use Rattle.cc_book.specs.declared.entry.Entry.TheVariants.{Take, Sweep}
 use Rattle.cc_book.specs.declared.terms.Terms.{Terms}
-use Rattle.cc_book.specs.AccountMachine.{account_of, post, posting_of, postings_of, free_after, opening_at}
+use Rattle.cc_book.specs.AccountMachine.{charged_account, post, posting_of, postings_of, free_after, opening_at}
 use Rattle.cc_book.specs.Balance.{debit_of, balance_of, spent_by, reserved_of, open_sessions_of}
-use Rattle.cc_book.specs.Posting.{Grant, Posting, is_account, debit_to, debits_to}
+use Rattle.cc_book.specs.Posting.{Hold, Posting, is_account, debit_to, debits_to}
 use Rattle.cc_book.specs.Reservation.{reserved_by, held_after}
 use Rattle.cc_book.specs.Session.{opens, outlasts, is_initial, replies_success, open_count}
 
@@ -49,7 +49,7 @@ same_zero false = refl
 pub reserved_by-quiet : (validity account : ℕ) (postings : List Posting) → AllByRecursion Quiet postings → reserved_by validity account postings ≡ 0
 reserved_by-quiet validity account [] all = refl
 reserved_by-quiet validity account (p ∷ after) all =
-    let none : held_after validity p.entry p.grants after ≡ 0 = ap (λ (gs : List Grant). held_after validity p.entry gs after) all.0.grants in
+    let none : held_after validity p.entry p.grants after ≡ 0 = ap (λ (gs : List Hold). held_after validity p.entry gs after) all.0.grants in
     let first : cond (is_account account p.account) (held_after validity p.entry p.grants after) 0 ≡ 0 = ap (λ (n : ℕ). cond (is_account account p.account) n 0) none ∙ same_zero (is_account account p.account) in
     let more = reserved_by-quiet validity account after all.1 in omega arith
 
@@ -98,7 +98,7 @@ balance_of-empty terms account = omega (arith, ints)
 -- ---- laws
 
 pub balance_of-take : (terms : Terms) (history : List Entry) (moment : Moment) (request : CcRequest) (account : ℕ)
-    → balance_of terms (history ++ Take moment request ∷ []) account ≡ balance_of terms history account -ℤ cond (is_account account (account_of terms.accounts request.subscriptions)) (debit_of terms history request) (pos 0)
+    → balance_of terms (history ++ Take moment request ∷ []) account ≡ balance_of terms history account -ℤ cond (is_account account (charged_account terms (postings_of terms history) request)) (debit_of terms history request) (pos 0)
 unfolding debit_of
 balance_of-take terms history moment request account = balance_of-push terms history (Take moment request) account
 

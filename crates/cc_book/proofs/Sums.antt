@@ -1,21 +1,28 @@
 -- Each debit is of one account.
-use Rattle.std.proofs.Common.{◌≡◌, ℕ, zero, suc, ◌<◌, ◌≤◌, Bool, true, false, cond, ◌&&◌, eqb, ltb, List, [], ◌∷◌, ◌++◌, length, Option, Some, None, refl, sym, ap, ◌∙◌, arith, rules}
+use Rattle.std.proofs.Common.{◌≡◌, ℕ, zero, suc, ◌<◌, ◌≤◌, Bool, true, false, cond, ◌&&◌, eqb, leb, ltb, List, [], ◌∷◌, ◌++◌, length, Option, Some, None, refl, sym, ap, ◌∙◌, arith, rules}
 use Rattle.std.specs.Prelude.{ℤ, pos, ◌+ℤ◌, ◌-ℤ◌, unwrap_or, MatchOption}
 use Rattle.std.specs.List.{fold, position_or_len, AllByRecursion}
-use Rattle.std.specs.Option.{option_or}
+use Rattle.std.specs.Option.{option_and_then, option_or}
 use Rattle.std.proofs.lemmas.Int.{ints}
-use Rattle.cc_view.specs.declared.code.ResultCode.TheVariants.{UnableToComply}
+use Rattle.cc_view.specs.declared.code.ResultCode.{ResultCode}
+use Rattle.cc_view.specs.declared.code.ResultCode.TheVariants.{Success}
 use Rattle.cc_view.specs.declared.request.CcRequest.{CcRequest}
+use Rattle.cc_view.specs.declared.request.RequestKind.{RequestKind}
+use Rattle.cc_view.specs.declared.request.RequestKind.TheVariants.{Initial, Update, Termination, Event}
+use Rattle.cc_view.specs.declared.request.RequestedAction.{RequestedAction}
+use Rattle.cc_view.specs.declared.request.RequestedAction.TheVariants.{DirectDebiting, RefundAccount, CheckBalance, PriceEnquiry}
+use Rattle.cc_view.specs.declared.request.Service.{Service}
 use Rattle.cc_view.specs.declared.request.Subscription.{Subscription}
 use Rattle.cc_book.specs.declared.account.Account.{Account}
 use Rattle.cc_book.specs.declared.entry.Entry.{Entry}
 use Rattle.cc_book.specs.declared.entry.Entry.TheVariants.{Take, Sweep}
 use Rattle.cc_book.specs.declared.terms.Terms.{Terms}
-use Rattle.cc_book.specs.AccountMachine.{owns, account_with, account_of, opening_at, total_of, code_alone, debiting_reply, is_debiting, post, posting_of, postings_of}
+use Rattle.cc_book.specs.AccountMachine.{owns, account_with, account_of, account_by, action_debit, charged_account, opener_account, opening_at, total_of, debit_after, debit_by, event_reply, post, posting_of, postings_of}
 use Rattle.cc_book.specs.Balance.{balance_of, spent_by}
+use Rattle.cc_book.specs.Duplicate.{same_session}
 use Rattle.cc_book.specs.Laws.{total_below, debits_of}
 use Rattle.cc_book.specs.Posting.{Posting, is_account, debit_to, debits_to}
-use Rattle.cc_book.specs.Session.{is_success}
+use Rattle.cc_book.specs.Session.{Opened, is_of, left_after, moment_of, next_session, opened_at, opens, session_after, session_by, session_of}
 
 -- ---- sums over accounts
 
@@ -105,23 +112,95 @@ account_of-within accounts [] = tt
 account_of-within accounts (s ∷ subscriptions) =
     or_within (account_with accounts s) (account_of accounts subscriptions) (length accounts) (position-within (position_or_len (owns s) accounts) (length accounts)) (account_of-within accounts subscriptions)
 
--- without an account nothing is debited
-none_debited : (debiting : Bool) (terms : Terms) (before : List Posting) (request : CcRequest) (amount : ℤ)
-    → cond (debiting && is_success (cond debiting (debiting_reply terms before request.services None) (code_alone UnableToComply)).code) amount (pos 0) ≡ pos 0
-none_debited true terms before request amount = refl
-none_debited false terms before request amount = refl
+-- the account of a session is one of those of the postings
+abbrev IsWithin : ℕ → Option ℕ → Type 0
+IsWithin n account = MatchOption account (Unit {0}) (λ a. a < n)
 
-placed_by : (terms : Terms) (before : List Posting) (request : CcRequest) (account : Option ℕ) → MatchOption account (Unit {0}) (λ a. a < length terms.accounts)
-    → MatchOption account
-    (cond (is_debiting request.kind request.action && is_success (cond (is_debiting request.kind request.action) (debiting_reply terms before request.services account) (code_alone UnableToComply)).code)
-    (pos (unwrap_or (total_of terms.tariffs request.services) 0)) (pos 0) ≡ pos 0)
-    (λ a. a < length terms.accounts)
-placed_by terms before request None within = none_debited (is_debiting request.kind request.action) terms before request (pos (unwrap_or (total_of terms.tariffs request.services) 0))
-placed_by terms before request (Some a) within = within
+placed-within : (n : ℕ) (account : Option ℕ) (debit : ℤ) → MatchOption account (debit ≡ pos 0) (λ a. a < n) → IsWithin n account
+placed-within n None debit p = tt
+placed-within n (Some a) debit p = p
 
-placed : (terms : Terms) (before : List Posting) (entry : Entry) → Placed (length terms.accounts) (posting_of terms before entry)
-placed terms before (Take moment request) = placed_by terms before request (account_of terms.accounts request.subscriptions) (account_of-within terms.accounts request.subscriptions)
-placed terms before (Sweep moment) = refl
+abbrev HasPlace : ℕ → Option Opened → Type 0
+HasPlace n opened = MatchOption opened (Unit {0}) (λ now. IsWithin n now.account)
+
+session_by-place : (n validity moment : ℕ) (opened : Opened) (kind : RequestKind) → IsWithin n opened.account → HasPlace n (session_by validity opened moment kind)
+session_by-place n validity moment opened Initial p = p
+session_by-place n validity moment opened Update p = p
+session_by-place n validity moment opened Termination p = tt
+session_by-place n validity moment opened Event p = p
+
+place_by : (n : ℕ) (b : Bool) (one other : Option Opened) → HasPlace n one → HasPlace n other → HasPlace n (cond b one other)
+place_by n true one other p q = p
+place_by n false one other p q = q
+
+left_after-place : (n validity : ℕ) (session : List ℕ) (opened : Option Opened) (posting : Posting) → HasPlace n opened → HasPlace n (left_after validity session opened posting)
+left_after-place n validity session None posting p = tt
+left_after-place n validity session (Some opened) posting p = by posting.entry where
+  by : (entry : Entry) → HasPlace n (session_after validity session opened entry)
+  by (Take moment request) = place_by n (same_session request.session session) (session_by validity opened moment.0 request.kind) (Some opened) (session_by-place n validity moment.0 opened request.kind p) p
+  by (Sweep moment) = place_by n (leb opened.deadline moment.0) None (Some opened) tt p
+
+session_of-place : (n validity : ℕ) (session : List ℕ) (opened : Option Opened) (postings : List Posting) → HasPlace n opened → AllByRecursion (Placed n) postings → HasPlace n (fold (next_session validity session) opened postings)
+session_of-place n validity session opened [] p all = p
+session_of-place n validity session opened (posting ∷ postings) p all =
+    session_of-place n validity session (next_session validity session opened posting) postings
+    (place_by n (opens posting && is_of session posting.entry) (Some (opened_at validity posting.account (moment_of posting.entry))) (left_after validity session opened posting)
+    (placed-within n posting.account posting.debit all.0) (left_after-place n validity session opened posting p)) all.1
+
+opener-place : (n : ℕ) (opened : Option Opened) → HasPlace n opened → IsWithin n (option_and_then (λ (now : Opened). now.account) opened)
+opener-place n None p = tt
+opener-place n (Some opened) p = p
+
+account_by-within : (n : ℕ) (kind : RequestKind) (own opener : Option ℕ) → IsWithin n own → IsWithin n opener → IsWithin n (account_by kind own opener)
+account_by-within n Initial own opener p q = p
+account_by-within n Update own opener p q = q
+account_by-within n Termination own opener p q = q
+account_by-within n Event own opener p q = p
+
+pub charged_account-within : (terms : Terms) (before : List Posting) (request : CcRequest) → AllByRecursion (Placed (length terms.accounts)) before → IsWithin (length terms.accounts) (charged_account terms before request)
+charged_account-within terms before request all =
+    account_by-within (length terms.accounts) request.kind (account_of terms.accounts request.subscriptions) (opener_account terms.validity before request.session)
+    (account_of-within terms.accounts request.subscriptions)
+    (opener-place (length terms.accounts) (session_of terms.validity request.session before) (session_of-place (length terms.accounts) terms.validity request.session None before tt all))
+
+-- an action that moves no money debits nothing, whatever is answered
+pub checks_nothing : (amount : ℕ) (code : ResultCode) → action_debit amount code (Some CheckBalance) ≡ pos 0
+checks_nothing amount Success = refl
+checks_nothing amount _ = refl
+
+pub prices_nothing : (amount : ℕ) (code : ResultCode) → action_debit amount code (Some PriceEnquiry) ≡ pos 0
+prices_nothing amount Success = refl
+prices_nothing amount _ = refl
+
+-- without an account no action debits
+action-none : (terms : Terms) (before : List Posting) (services : List Service) (amount : ℕ) (total : Option ℕ) (action : Option RequestedAction)
+    → total_of terms.tariffs services ≡ total → action_debit amount (event_reply terms before services None action).code action ≡ pos 0
+action-none terms before services amount total None e = refl
+action-none terms before services amount total (Some DirectDebiting) e = refl
+action-none terms before services amount total (Some RefundAccount) e = refl
+action-none terms before services amount total (Some CheckBalance) e = refl
+action-none terms before services amount total (Some PriceEnquiry) e = prices_nothing amount (event_reply terms before services None (Some PriceEnquiry)).code
+
+-- a request that debits charges the account that it names
+debit-none : (terms : Terms) (before : List Posting) (request : CcRequest) → charged_account terms before request ≡ None → debit_after terms before request ≡ pos 0
+debit-none terms before request none = by request.kind none where
+  by : (kind : RequestKind) → account_by kind (account_of terms.accounts request.subscriptions) (opener_account terms.validity before request.session) ≡ None → debit_by terms before request kind ≡ pos 0
+  by Event none =
+      let amount : ℕ = unwrap_or (total_of terms.tariffs request.services) 0 in
+      ap (λ (account : Option ℕ). action_debit amount (event_reply terms before request.services account request.action).code request.action) none
+      ∙ action-none terms before request.services amount (total_of terms.tariffs request.services) request.action refl
+  by Initial none = refl
+  by Update none = refl
+  by Termination none = refl
+
+placed_by : (n : ℕ) (account : Option ℕ) (debit : ℤ) → IsWithin n account → (account ≡ None → debit ≡ pos 0) → MatchOption account (debit ≡ pos 0) (λ a. a < n)
+placed_by n None debit within none = none refl
+placed_by n (Some a) debit within none = within
+
+placed : (terms : Terms) (before : List Posting) (entry : Entry) → AllByRecursion (Placed (length terms.accounts)) before → Placed (length terms.accounts) (posting_of terms before entry)
+placed terms before (Take moment request) all =
+    placed_by (length terms.accounts) (charged_account terms before request) (debit_after terms before request) (charged_account-within terms before request all) (debit-none terms before request)
+placed terms before (Sweep moment) all = refl
 
 placed_push : (n : ℕ) (xs : List Posting) (x : Posting) → AllByRecursion (Placed n) xs → Placed n x → AllByRecursion (Placed n) (xs ++ x ∷ [])
 placed_push n [] x all one = (one, tt)
@@ -130,7 +209,7 @@ placed_push n (y ∷ ys) x all one = (all.0, placed_push n ys x all.1 one)
 placed_fold : (terms : Terms) (before : List Posting) (history : List Entry) → AllByRecursion (Placed (length terms.accounts)) before → AllByRecursion (Placed (length terms.accounts)) (fold (post terms) before history)
 placed_fold terms before [] all = all
 placed_fold terms before (entry ∷ history) all =
-    placed_fold terms (post terms before entry) history (placed_push (length terms.accounts) before (posting_of terms before entry) all (placed terms before entry))
+    placed_fold terms (post terms before entry) history (placed_push (length terms.accounts) before (posting_of terms before entry) all (placed terms before entry all))
 
 all_placed : (terms : Terms) (history : List Entry) → AllByRecursion (Placed (length terms.accounts)) (postings_of terms history)
 unfolding postings_of

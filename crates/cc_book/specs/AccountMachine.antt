@@ -1,7 +1,7 @@
 -- The account machine: the reply to a request as a function of the entries before it, and of nothing else
--- (RFC 8506, sections 6 and 8.41). A DIRECT_DEBITING is answered whole. All other requests are answered
+-- (RFC 8506, sections 6 and 8.41). An EVENT is answered whole. All other requests are answered
 -- DIAMETER_UNABLE_TO_COMPLY, and settle no session.
-use Rattle.std.specs.Prelude.{ℕ, zero, suc, ◌+◌, List, [], ◌∷◌, ◌++◌, map, Bool, true, false, if◌then◌else◌, Option, Some, None, unwrap_or, ℤ, pos, ◌-ℤ◌, int_le, ◌&&◌, ◌==◌}
+use Rattle.std.specs.Prelude.{ℕ, zero, suc, ◌+◌, ◌^◌, List, [], ◌∷◌, ◌++◌, map, Bool, true, false, if◌then◌else◌, Option, Some, None, is_none, unwrap_or, ℤ, pos, ◌-ℤ◌, int_le, nat_lt, ◌&&◌, ◌==◌}
 use Rattle.std.specs.List.{fold, position}
 use Rattle.std.specs.Option.{option_map, option_or, option_and_then}
 use Rattle.cc_view.specs.declared.code.ResultCode.{ResultCode}
@@ -10,22 +10,22 @@ use Rattle.cc_view.specs.declared.reply.CcReply.{CcReply}
 use Rattle.cc_view.specs.declared.reply.ServiceReply.{ServiceReply}
 use Rattle.cc_view.specs.declared.request.CcRequest.{CcRequest}
 use Rattle.cc_view.specs.declared.request.RequestKind.{RequestKind}
-use Rattle.cc_view.specs.declared.request.RequestKind.TheVariants.{Event}
+use Rattle.cc_view.specs.declared.request.RequestKind.TheVariants.{Update, Termination, Event}
 use Rattle.cc_view.specs.declared.request.RequestedAction.{RequestedAction}
-use Rattle.cc_view.specs.declared.request.RequestedAction.TheVariants.{DirectDebiting}
+use Rattle.cc_view.specs.declared.request.RequestedAction.TheVariants.{DirectDebiting, RefundAccount, CheckBalance, PriceEnquiry}
 use Rattle.cc_view.specs.declared.request.Service.{Service}
 use Rattle.cc_view.specs.declared.request.Subscription.{Subscription}
 use Rattle.cc_book.specs.declared.account.Account.{Account}
+use Rattle.cc_book.specs.declared.account.Money.{Money}
 use Rattle.cc_book.specs.declared.entry.Entry.{Entry}
 use Rattle.cc_book.specs.declared.entry.Entry.TheVariants.{Take, Sweep}
-use Rattle.cc_book.specs.declared.rating.Tariff.{Tariff}
+use Rattle.cc_rating.specs.declared.tariff.Tariff.{Tariff}
 use Rattle.cc_book.specs.declared.terms.Terms.{Terms}
-use Rattle.cc_book.specs.Duplicate.{Key, has_key, same_session}
-use Rattle.cc_book.specs.Posting.{Grant, Posting, debits_to}
-use Rattle.cc_book.specs.Rating.{asked_of, asking_cost}
+use Rattle.cc_book.specs.Duplicate.{Key, has_key, key_of, same_session}
+use Rattle.cc_book.specs.Posting.{Hold, Posting, debits_to}
+use Rattle.cc_book.specs.ServiceRating.{asked_of, asking_cost, tariff_of, unit_code}
 use Rattle.cc_book.specs.Reservation.{reserved_by}
-use Rattle.cc_book.specs.Session.{is_success}
-use Rattle.cc_book.specs.Tariffs.{tariff_of}
+use Rattle.cc_book.specs.Session.{session_of}
 
 -- ---- the account
 
@@ -41,13 +41,28 @@ abbrev pub account_of : List Account → List Subscription → Option ℕ
 account_of accounts [] = None
 account_of accounts (subscription ∷ more) = option_or (account_with accounts subscription) (account_of accounts more)
 
+-- the account of the request that opened a session, none where the session is not open
+abbrev pub opener_account : ℕ → List Posting → List ℕ → Option ℕ
+opener_account validity before session = option_and_then (λ opened. opened.account) (session_of validity session before)
+
+abbrev pub account_by : RequestKind → Option ℕ → Option ℕ → Option ℕ
+account_by Update own opener = opener
+account_by Termination own opener = opener
+account_by _ own opener = own
+
+-- The account that a request charges: the first that one of its Subscription-Ids has. UPDATE and TERMINATION charge
+-- the account of the request that opened their session, whatever they name.
+abbrev pub charged_account : Terms → List Posting → CcRequest → Option ℕ
+charged_account terms before request =
+    account_by request.kind (account_of terms.accounts request.subscriptions) (opener_account terms.validity before request.session)
+
 -- the opening amount of the account at a place
 abbrev pub opening_at : List Account → ℕ → ℤ
 opening_at [] account = pos 0
 opening_at (first ∷ accounts) zero = first.opening
 opening_at (first ∷ accounts) (suc account) = opening_at accounts account
 
--- ---- what is asked
+-- ---- what an event asks
 
 abbrev pub add : Option ℕ → Option ℕ → Option ℕ
 add None total = None
@@ -67,7 +82,18 @@ abbrev pub total_of : List Tariff → List Service → Option ℕ
 total_of tariffs [] = None
 total_of tariffs (service ∷ services) = sum_of_costs tariffs (service ∷ services)
 
--- ---- the reply
+-- ---- what is free
+
+-- what is free of an account: its balance less what sessions hold of it
+abbrev pub free_after : Terms → List Posting → ℕ → ℤ
+free_after terms before account =
+    (opening_at terms.accounts account -ℤ debits_to account before) -ℤ pos (reserved_by terms.validity account before)
+
+abbrev pub free_for : Terms → List Posting → Option ℕ → ℤ
+free_for terms before None = pos 0
+free_for terms before (Some account) = free_after terms before account
+
+-- ---- the reply to an EVENT
 
 -- a Result-Code and nothing else
 abbrev pub code_alone : ResultCode → CcReply
@@ -79,7 +105,7 @@ granted tariffs service = record {
   name = record { group = service.group; ident = service.ident };
   bare = service.bare;
   code = Success;
-  kind = option_map (λ tariff. tariff.kind) (tariff_of tariffs service);
+  kind = option_map (λ tariff. unit_code tariff.kind) (tariff_of tariffs service);
   granted = option_and_then (λ tariff. asked_of tariff service) (tariff_of tariffs service);
   validity = None;
   last = false;
@@ -88,51 +114,89 @@ granted tariffs service = record {
 abbrev pub granted_all : List Tariff → List Service → CcReply
 granted_all tariffs services = record { code = Success; services = map (granted tariffs) services; cost = None; check = None }
 
--- a debit is made where the whole of it is free
-abbrev pub reply_by_total : List Tariff → List Service → ℤ → Option ℕ → CcReply
-reply_by_total tariffs services free None = code_alone RatingFailed
-reply_by_total tariffs services free (Some total) = if int_le (pos total) free then granted_all tariffs services else code_alone CreditLimitReached
+-- DIRECT_DEBITING is made where the whole of it is free
+abbrev pub debiting_reply : List Tariff → List Service → ℕ → ℤ → CcReply
+debiting_reply tariffs services total free = if int_le (pos total) free then granted_all tariffs services else code_alone CreditLimitReached
 
--- what is free of an account: its balance less what sessions hold of it
-abbrev pub free_after : Terms → List Posting → ℕ → ℤ
-free_after terms before account =
-    (opening_at terms.accounts account -ℤ debits_to account before) -ℤ pos (reserved_by terms.validity account before)
+-- Check-Balance-Result: 0 where the whole of it is free, else 1 (RFC 8506, section 8.6)
+abbrev pub check_reply : ℕ → ℤ → CcReply
+check_reply total free = record { code = Success; services = []; cost = None; check = Some (if int_le (pos total) free then 0 else 1) }
 
--- the reply to a DIRECT_DEBITING
-abbrev pub debiting_reply : Terms → List Posting → List Service → Option ℕ → CcReply
-debiting_reply terms before services None = code_alone UserUnknown
-debiting_reply terms before services (Some account) =
-    reply_by_total terms.tariffs services (free_after terms before account) (total_of terms.tariffs services)
+-- Cost-Information (RFC 8506, section 8.7), where the digits fit their AVP
+abbrev pub price_reply : Money → ℕ → CcReply
+price_reply money total =
+    if nat_lt total (2 ^ 63)
+    then record { code = Success; services = []; cost = Some (record { digits = pos total; exponent = money.exponent; currency = money.currency }); check = None }
+    else code_alone RatingFailed
 
-abbrev pub is_debiting : RequestKind → Option RequestedAction → Bool
-is_debiting Event (Some DirectDebiting) = true
-is_debiting _ _ = false
+-- the reply of an action to a total, where so much is free
+abbrev pub action_reply : Terms → List Service → ℕ → ℤ → RequestedAction → CcReply
+action_reply terms services total free DirectDebiting = debiting_reply terms.tariffs services total free
+action_reply terms services total free RefundAccount = code_alone Success
+action_reply terms services total free CheckBalance = check_reply total free
+action_reply terms services total free PriceEnquiry = price_reply terms.money total
+
+-- whether an action is on an account: a PRICE_ENQUIRY needs none
+abbrev pub needs_account : RequestedAction → Bool
+needs_account PriceEnquiry = false
+needs_account _ = true
+
+abbrev pub rated_reply : Terms → List Service → Option ℕ → ℤ → RequestedAction → CcReply
+rated_reply terms services None free action = code_alone RatingFailed
+rated_reply terms services (Some total) free action = action_reply terms services total free action
+
+-- the reply to an EVENT (RFC 8506, section 8.41)
+abbrev pub event_reply : Terms → List Posting → List Service → Option ℕ → Option RequestedAction → CcReply
+event_reply terms before services account None = code_alone UnableToComply
+event_reply terms before services account (Some action) =
+    if needs_account action && is_none account then code_alone UserUnknown
+    else rated_reply terms services (total_of terms.tariffs services) (free_for terms before account) action
+
+-- what an action debits, where it was answered so: a DIRECT_DEBITING its total, a REFUND_ACCOUNT the total below 0
+abbrev pub action_debit : ℕ → ResultCode → Option RequestedAction → ℤ
+action_debit total Success (Some DirectDebiting) = pos total
+action_debit total Success (Some RefundAccount) = pos 0 -ℤ pos total
+action_debit total _ _ = pos 0
+
+-- the same by what is free: a DIRECT_DEBITING is answered so where its total is free, a REFUND_ACCOUNT always
+abbrev pub amount_of : Option RequestedAction → ℕ → ℤ → ℤ
+amount_of (Some DirectDebiting) total free = if int_le (pos total) free then pos total else pos 0
+amount_of (Some RefundAccount) total free = pos 0 -ℤ pos total
+amount_of _ total free = pos 0
+
+-- ---- the reply
+
+abbrev pub reply_by : Terms → List Posting → CcRequest → RequestKind → CcReply
+reply_by terms before request Event = event_reply terms before request.services (account_of terms.accounts request.subscriptions) request.action
+reply_by terms before request _ = code_alone UnableToComply
 
 abbrev pub reply_after : Terms → List Posting → CcRequest → CcReply
-reply_after terms before request =
-    if is_debiting request.kind request.action then debiting_reply terms before request.services (account_of terms.accounts request.subscriptions)
-    else code_alone UnableToComply
+reply_after terms before request = reply_by terms before request request.kind
 
 -- ---- what a request does
 
--- A DIRECT_DEBITING that is answered 2001 debits the total.
+abbrev pub debit_by : Terms → List Posting → CcRequest → RequestKind → ℤ
+debit_by terms before request Event =
+    action_debit (unwrap_or (total_of terms.tariffs request.services) 0)
+    (event_reply terms before request.services (account_of terms.accounts request.subscriptions) request.action).code request.action
+debit_by terms before request _ = pos 0
+
+-- what a request debits of the account that it charges
 abbrev pub debit_after : Terms → List Posting → CcRequest → ℤ
-debit_after terms before request =
-    if is_debiting request.kind request.action && is_success (reply_after terms before request).code
-    then pos (unwrap_or (total_of terms.tariffs request.services) 0) else pos 0
+debit_after terms before request = debit_by terms before request request.kind
 
 -- whether a request settles services of a session
 abbrev pub settles_after : Terms → List Posting → CcRequest → Bool
 settles_after terms before request = false
 
 -- what a request reserves
-abbrev pub grants_after : Terms → List Posting → CcRequest → List Grant
+abbrev pub grants_after : Terms → List Posting → CcRequest → List Hold
 grants_after terms before request = []
 
 abbrev pub posting_of : Terms → List Posting → Entry → Posting
 posting_of terms before (Take moment request) = record {
   entry = Take moment request;
-  account = account_of terms.accounts request.subscriptions;
+  account = charged_account terms before request;
   debit = debit_after terms before request;
   settles = settles_after terms before request;
   grants = grants_after terms before request;
@@ -161,6 +225,6 @@ abbrev pub kept_from : Terms → List Entry → List Entry → Key → Option Cc
 kept_from terms before [] key = None
 kept_from terms before (entry ∷ after) key = if has_key key entry then reply_at terms before entry else kept_from terms (before ++ entry ∷ []) after key
 
--- the reply to the first request with a key, after the entries before that request
-unfoldable pub kept_reply : Terms → List Entry → Key → Option CcReply
-kept_reply terms history key = kept_from terms [] history key
+-- the reply to the first request with the key of this one, after the entries before that request
+unfoldable pub kept_reply : Terms → List Entry → CcRequest → Option CcReply
+kept_reply terms history request = kept_from terms [] history (key_of request)

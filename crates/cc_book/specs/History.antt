@@ -1,10 +1,12 @@
 -- The history of the book: requests in the one order in which they were charged.
-use Rattle.std.specs.Prelude.{◌≡◌, ℕ, ◌<◌, List, length, take, not, slice_get, Option, Some, None, IsTrue}
+use Rattle.std.specs.Prelude.{◌≡◌, ℕ, ◌-◌, ◌<◌, List, [], ◌∷◌, ◌++◌, length, take, not, slice_get, Option, Some, None, IsTrue}
 use Rattle.std.specs.List.{filter_map, position, list_all, IsDistinct}
 use Rattle.dia_base.specs.declared.number.Moment.{Moment}
 use Rattle.cc_view.specs.declared.request.CcRequest.{CcRequest}
 use Rattle.cc_book.specs.declared.entry.Entry.{Entry}
 use Rattle.cc_book.specs.declared.entry.Entry.TheVariants.{Take, Sweep}
+use Rattle.cc_book.specs.declared.terms.Terms.{Terms}
+use Rattle.cc_book.specs.Balance.{open_sessions_of}
 use Rattle.cc_book.specs.Duplicate.{Key, key_of, same_key, has_key}
 
 abbrev pub entry_key : Entry → Option Key
@@ -15,9 +17,14 @@ entry_key (Sweep moment) = None
 abbrev pub keys_of : List Entry → List Key
 keys_of history = filter_map entry_key history
 
--- no two requests of a legal history have one key
-pub record IsLegal (history : List Entry) : Type 0 where
+-- how many of the sessions that are open after a history a sweep at a moment ends
+abbrev pub ended_sessions : Terms → List Entry → Moment → ℕ
+ended_sessions terms history moment = open_sessions_of terms history - open_sessions_of terms (history ++ Sweep moment ∷ [])
+
+-- no two requests of a legal history have one key, and each sweep ends a session
+pub record IsLegal (terms : Terms) (history : List Entry) : Type 0 where
   pub distinct : IsDistinct same_key (keys_of history)
+  pub sweeps : (before after : List Entry) (moment : Moment) → history ≡ before ++ Sweep moment ∷ after → 0 < ended_sessions terms before moment
 
 -- the place of the first take with a key
 abbrev pub place_of : List Entry → Key → Option ℕ

@@ -1,12 +1,30 @@
--- Sums that the laws of the book speak of.
-use Rattle.std.specs.Prelude.{◌≡◌, ℕ, zero, suc, ◌+◌, ◌*◌, ◌<◌, ◌≤◌, List, [], ◌∷◌, All, ◌&&◌, false, count_by, Option, is_some, ℤ, pos, ◌+ℤ◌, find, sum_by, unwrap_or}
+-- What the laws of the book speak of.
+use Rattle.std.specs.Prelude.{◌≡◌, ℕ, zero, suc, ◌+◌, ◌*◌, ◌<◌, ◌≤◌, List, [], ◌∷◌, ◌++◌, All, IsTrue, ◌&&◌, false, count_by, Option, is_some, ℤ, pos, ◌+ℤ◌, find, sum_by, unwrap_or}
 use Rattle.std.specs.Option.{option_and_then, option_map}
+use Rattle.dia_base.specs.declared.number.Moment.{Moment}
 use Rattle.cc_view.specs.declared.reply.CcReply.{CcReply}
 use Rattle.cc_view.specs.declared.reply.ServiceReply.{ServiceReply}
-use Rattle.cc_book.specs.declared.rating.Tariff.{Tariff}
+use Rattle.cc_view.specs.declared.request.CcRequest.{CcRequest}
+use Rattle.cc_book.specs.declared.entry.Entry.{Entry}
+use Rattle.cc_book.specs.declared.entry.Entry.TheVariants.{Take}
+use Rattle.cc_rating.specs.declared.tariff.Tariff.{Tariff}
+use Rattle.cc_book.specs.declared.terms.Terms.{Terms}
+use Rattle.cc_book.specs.AccountMachine.{reply_to}
+use Rattle.cc_book.specs.Duplicate.{key_of, same_key}
 use Rattle.cc_book.specs.Posting.{Posting}
-use Rattle.cc_book.specs.Rating.{cost_of, rates}
-use Rattle.cc_book.specs.Tariffs.{AreInRange}
+use Rattle.cc_rating.specs.Rating.{cost_of}
+use Rattle.cc_rating.specs.Tariffs.{rates}
+
+-- A reply is that to an entry of the history: the account machine's to a taken request with the key of this
+-- one, after the entries before it.
+pub record RepliesToEntry (terms : Terms) (history : List Entry) (request : CcRequest) (reply : CcReply) : Type 0 where
+  pub before : List Entry
+  pub moment : Moment
+  pub taken : CcRequest
+  pub after : List Entry
+  pub among : history ≡ before ++ Take moment taken ∷ after
+  pub same : IsTrue (same_key (key_of taken) (key_of request))
+  pub is_reply : reply ≡ reply_to terms before taken
 
 -- the sum of amounts of the accounts below a place
 abbrev pub total_below : ℕ → (ℕ → ℤ) → ℤ
@@ -18,13 +36,6 @@ abbrev pub debits_of : List Posting → ℤ
 debits_of [] = pos 0
 debits_of (posting ∷ postings) = posting.debit +ℤ debits_of postings
 
--- the cost is that of the fewest blocks which hold the units
-pub record CostsFewestBlocks (tariff : Tariff) (units : ℕ) : Type 0 where
-  pub blocks : ℕ
-  pub cost : cost_of tariff units ≡ blocks * tariff.price
-  pub enough : units ≤ blocks * tariff.block
-  pub fewest : blocks * tariff.block < units + tariff.block
-
 -- what the units cost that a reply grants to a service
 abbrev pub granted_cost : List Tariff → ServiceReply → ℕ
 granted_cost tariffs service =
@@ -33,13 +44,3 @@ granted_cost tariffs service =
 -- what all units cost that a reply grants
 abbrev pub cost_of_reply : List Tariff → CcReply → ℕ
 cost_of_reply tariffs reply = sum_by (granted_cost tariffs) reply.services
-
--- its key is not both a group and an identifier
-abbrev pub HasOneKey : Tariff → Type 0
-HasOneKey tariff = (is_some tariff.group && is_some tariff.ident) ≡ false
-
--- tariffs in their ranges, each for a group or for an identifier, and at most one of them for a service
-pub record AreTariffs (tariffs : List Tariff) : Type 0 where
-  pub ranges : AreInRange tariffs
-  pub keys : All HasOneKey tariffs
-  pub single : (group ident : Option ℕ) → count_by (rates group ident) tariffs ≤ 1

@@ -4,9 +4,9 @@ pub mod Duplicate
 pub mod History
 pub mod Laws
 pub mod Posting
-pub mod Rating
 pub mod Reservation
+pub mod RowExample
+pub mod ServiceRating
 pub mod Session
 pub mod SessionExample
 pub mod Taking
-pub mod Tariffs

@@ -5,7 +5,7 @@ use Rattle.cc_view.specs.declared.request.ServiceName.{ServiceName}
 use Rattle.cc_book.specs.declared.entry.Entry.{Entry}
 
 -- a reservation that is made for a service: what its granted units cost
-pub record Grant : Type 0 where
+pub record Hold : Type 0 where
   pub service : ServiceName
   pub cost : ℕ
 
@@ -17,7 +17,8 @@ pub record Posting : Type 0 where
   pub debit : ℤ
   -- whether it settles the services of its session
   pub settles : Bool
-  pub grants : List Grant
+  -- what it reserves
+  pub grants : List Hold
   -- the reply to its request
   pub reply : Option CcReply
 

@@ -6,7 +6,7 @@ use Rattle.cc_view.specs.declared.request.Service.{Service}
 use Rattle.cc_view.specs.declared.request.ServiceName.{ServiceName}
 use Rattle.cc_book.specs.declared.entry.Entry.{Entry}
 use Rattle.cc_book.specs.declared.entry.Entry.TheVariants.{Take, Sweep}
-use Rattle.cc_book.specs.Posting.{Grant, Posting, is_account}
+use Rattle.cc_book.specs.Posting.{Hold, Posting, is_account}
 use Rattle.cc_book.specs.Session.{is_of, outlasts}
 
 abbrev pub same_name : ServiceName → ServiceName → Bool
@@ -31,7 +31,7 @@ is_alive validity (Take moment request) name after =
 is_alive validity (Sweep moment) name after = false
 
 -- what the grants of an entry still hold after these postings
-abbrev pub held_after : ℕ → Entry → List Grant → List Posting → ℕ
+abbrev pub held_after : ℕ → Entry → List Hold → List Posting → ℕ
 held_after validity entry grants after = sum_by (λ grant. if is_alive validity entry grant.service after then grant.cost else 0) grants
 
 -- what a session holds for a service

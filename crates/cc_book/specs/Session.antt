@@ -42,42 +42,52 @@ opens posting = posting.settles && (is_initial posting.entry && replies_success 
 abbrev pub deadline_at : ℕ → ℕ → ℕ
 deadline_at validity moment = moment + 2000 * validity
 
--- the deadline of an open session after a request of that session
-abbrev pub deadline_by : ℕ → ℕ → ℕ → RequestKind → Option ℕ
-deadline_by validity deadline moment Termination = None
-deadline_by validity deadline moment Event = Some deadline
-deadline_by validity deadline moment _ = Some (deadline_at validity moment)
+-- an open session: the account of the request that opened it, and when it ends by itself
+pub record Opened : Type 0 where
+  pub account : Option ℕ
+  pub deadline : ℕ
 
--- the deadline of an open session after an entry, none where that ended it
-abbrev pub deadline_after : ℕ → List ℕ → ℕ → Entry → Option ℕ
-deadline_after validity session deadline (Take moment request) =
-    if same_session request.session session then deadline_by validity deadline moment.0 request.kind else Some deadline
-deadline_after validity session deadline (Sweep moment) = if nat_le deadline moment.0 then None else Some deadline
+-- a session that is open from a request at a moment on
+abbrev pub opened_at : ℕ → Option ℕ → ℕ → Opened
+opened_at validity account moment = record { account = account; deadline = deadline_at validity moment }
+
+-- an open session after a request of that session: TERMINATION ends it, and all but EVENT prolong it
+abbrev pub session_by : ℕ → Opened → ℕ → RequestKind → Option Opened
+session_by validity opened moment Termination = None
+session_by validity opened moment Event = Some opened
+session_by validity opened moment _ = Some (opened_at validity opened.account moment)
+
+-- an open session after an entry, none where that ended it
+abbrev pub session_after : ℕ → List ℕ → Opened → Entry → Option Opened
+session_after validity session opened (Take moment request) =
+    if same_session request.session session then session_by validity opened moment.0 request.kind else Some opened
+session_after validity session opened (Sweep moment) = if nat_le opened.deadline moment.0 then None else Some opened
 
 abbrev pub moment_of : Entry → ℕ
 moment_of (Take moment request) = moment.0
 moment_of (Sweep moment) = moment.0
 
--- the deadline of a session after one more posting: one that has ended does not come back
-abbrev pub left_after : ℕ → List ℕ → Option ℕ → Posting → Option ℕ
-left_after validity session deadline posting = option_and_then (λ now. deadline_after validity session now posting.entry) deadline
+-- a session after one more posting: one that has ended does not come back
+abbrev pub left_after : ℕ → List ℕ → Option Opened → Posting → Option Opened
+left_after validity session opened posting = option_and_then (λ now. session_after validity session now posting.entry) opened
 
--- the deadline after one more posting, none while the session is not open
-abbrev pub next_deadline : ℕ → List ℕ → Option ℕ → Posting → Option ℕ
-next_deadline validity session deadline posting =
-    if opens posting && is_of session posting.entry then Some (deadline_at validity (moment_of posting.entry))
-    else left_after validity session deadline posting
+-- a session after one more posting, which may open it
+abbrev pub next_session : ℕ → List ℕ → Option Opened → Posting → Option Opened
+next_session validity session opened posting =
+    if opens posting && is_of session posting.entry then Some (opened_at validity posting.account (moment_of posting.entry))
+    else left_after validity session opened posting
 
--- the deadline of a session after postings, none where it is not open
-abbrev pub deadline_of : ℕ → List ℕ → List Posting → Option ℕ
-deadline_of validity session postings = fold (next_deadline validity session) None postings
+-- a session after postings, none where it is not open
+abbrev pub session_of : ℕ → List ℕ → List Posting → Option Opened
+session_of validity session postings = fold (next_session validity session) None postings
 
 abbrev pub is_open : ℕ → List ℕ → List Posting → Bool
-is_open validity session postings = is_some (deadline_of validity session postings)
+is_open validity session postings = is_some (session_of validity session postings)
 
--- whether the session that an entry opened, or kept open, is still open after these postings
+-- Whether the session that an entry opened, or kept open, is still open after these postings. Which account it
+-- charges does not matter for that.
 abbrev pub outlasts : ℕ → Entry → List Posting → Bool
-outlasts validity (Take moment request) after = is_some (fold (left_after validity request.session) (Some (deadline_at validity moment.0)) after)
+outlasts validity (Take moment request) after = is_some (fold (left_after validity request.session) (Some (opened_at validity None moment.0)) after)
 outlasts validity (Sweep moment) after = false
 
 -- how many sessions are open: each was opened by a posting after which none ended it

@@ -1,5 +1,5 @@
 -- What the book answers to a request, and what it keeps.
-use Rattle.std.specs.Prelude.{◌≡◌, ℕ, ◌≤◌, List, [], ◌∷◌, ◌++◌, length, Bool, true, false, nat_le, if◌then◌else◌, Option, Some, None, unwrap_or, Result, Ok, Err}
+use Rattle.std.specs.Prelude.{◌≡◌, ℕ, ◌≤◌, ◌^◌, List, [], ◌∷◌, ◌++◌, length, Bool, true, false, nat_le, if◌then◌else◌, Option, Some, None, unwrap_or, Result, Ok, Err}
 use Rattle.dia_base.specs.declared.number.Moment.{Moment}
 use Rattle.cc_view.specs.declared.reply.CcReply.{CcReply}
 use Rattle.cc_view.specs.declared.request.CcRequest.{CcRequest}
@@ -31,7 +31,7 @@ answer_by ledger request place (Some reply) = Ok (record { reply = reply; place 
 
 abbrev pub answer_of : Ledger → CcRequest → Result Answered BookRefusal
 answer_of ledger request =
-    answer_by ledger request (unwrap_or (place_of ledger.history (key_of request)) 0) (kept_reply ledger.terms ledger.history (key_of request))
+    answer_by ledger request (unwrap_or (place_of ledger.history (key_of request)) 0) (kept_reply ledger.terms ledger.history request)
 
 -- a call answered so, unless memory ran out
 abbrev pub AnswersWith : Result Answered BookRefusal → Result Answered BookRefusal → Type 0
@@ -47,6 +47,8 @@ abbrev pub with_take : Ledger → Moment → CcRequest → Ledger
 with_take ledger moment request = record ledger { history = ledger.history ++ Take moment request ∷ [] }
 
 -- what is true of each book
-pub record KeepsLimits (limit : ℕ) (history : List Entry) : Type 0 where
-  pub legal : IsLegal history
+pub record KeepsLimits (terms : Terms) (limit : ℕ) (history : List Entry) : Type 0 where
+  pub legal : IsLegal terms history
   pub within : length history ≤ limit
+  -- the most entries that a book may be made for
+  pub most : limit ≤ 2 ^ 20

@@ -1,6 +1,6 @@
 //! The account book: a history of requests, from which every balance and reply is made.
 
-ghost use Rattle.std.specs.Prelude.{◌≡◌, ◌≤◌, ◌<◌, [], length, IfOk, if◌then◌else◌, nat_lt, Some, None, pos};
+ghost use Rattle.std.specs.Prelude.{◌≡◌, ◌≤◌, ◌<◌, ◌^◌, [], length, IfOk, if◌then◌else◌, nat_lt, Some, None, pos};
 ghost use Rattle.std.specs.Bool.{OnTrue};
 ghost use Rattle.cc_book.specs.declared.book.BookRefusal.TheVariants.{OutOfMemory};
 ghost use Rattle.cc_book.specs.Duplicate.{key_of};
@@ -11,10 +11,10 @@ use crate::account::{Account, Money};
 use crate::copy::copy_of_request;
 use crate::entry::Entry;
 use crate::key::kept;
-use crate::rating::Tariffs;
 use crate::terms::Terms;
+use cc_rating::Tariffs;
 use cc_view::{CcReply, CcRequest};
-use dia_base::{Listing, Moment};
+use dia_base::{HISTORY_LIMIT, Listing, Moment};
 use std::alloc::{AllocError, AllocFailed, Global};
 use std::marker::Model;
 use thiserror::Error;
@@ -77,7 +77,7 @@ impl Model for Book {
 
     ghost view = { λ b. record { terms = b.terms; limit = b.limit; history = b.history.items } };
 
-    ghost invariant = { λ b. KeepsLimits b.limit b.history.items };
+    ghost invariant = { λ b. KeepsLimits b.terms b.limit b.history.items };
 }
 
 impl Book {
@@ -85,7 +85,8 @@ impl Book {
     ghost use Rattle.cc_book.specs.History.{IsLegal};
     ghost use Rattle.cc_book.specs.Taking.{Ledger, is_fresh, with_take};
 
-    /// A book with no entry. It takes up to `limit` entries; `validity` is the Validity-Time of grants in seconds.
+    /// A book with no entry. It takes up to `limit` entries, which the caller keeps to [`HISTORY_LIMIT`] so that no
+    /// sum of amounts leaves 128 bits; `validity` is the Validity-Time of grants in seconds.
     pub fn new(
         alloc: Global,
         accounts: Vec<Account>,
@@ -94,6 +95,7 @@ impl Book {
         money: Money,
         limit: u64,
     ) -> Result<Self, AllocError>
+        requires { limit ≤ HISTORY_LIMIT }
         ensures terms { IfOk result (λ book. book.terms ≡ record { accounts = accounts.items; tariffs = tariffs; validity = validity; money = money }) }
         ensures limit { IfOk result (λ book. book.limit ≡ limit) }
         ensures history { IfOk result (λ book. book.history ≡ []) }
@@ -181,7 +183,7 @@ impl Book {
     /// The entries, the oldest first.
     pub fn history(&self) -> &[Entry]
         ensures entries { result.now ≡ self.now.history }
-        ensures legal { IsLegal self.now.history }
+        ensures legal { IsLegal self.now.terms self.now.history }
         ensures within { length self.now.history ≤ self.now.limit }
     {
         self.history.as_slice()
@@ -196,6 +198,7 @@ fn answer_after(
     history: &[Entry],
     request: &CcRequest,
 ) -> Result<Answered, BookRefusal>
+    requires { length history.now ≤ 2 ^ 20 }
     ensures answer { AnswersWith (answer_of (record { terms = terms.now; limit = limit; history = history.now }) request.now) result }
     // What is fresh can be appended.
     ensures new { IfOk result (λ answered. OnTrue answered.fresh (IsNew history.now (key_of request.now))) }

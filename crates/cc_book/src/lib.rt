@@ -1,23 +1,48 @@
 //! The account book of online charging: its history, and what it replies to a request (RFC 8506).
+//!
+//! - [`Book`]: a history of entries, from which every balance and every reply is made. [`Book::take`] charges a
+//!   request and keeps it; a repeat gets the kept reply. [`Book::quote`] says what `take` would answer.
+//! - [`Account`], [`Money`], [`Entry`], [`Answered`], [`BookRefusal`]: what goes in and comes out.
+//!
+//! EVENTs are answered whole: debits, refunds, balance checks and price enquiries. A request of a session is
+//! answered DIAMETER_UNABLE_TO_COMPLY.
+//!
+//! The reply to a request stands in `specs/AccountMachine`, what entries do to accounts in `specs/Posting` and
+//! `specs/Balance`, sessions and reservations in `specs/Session` and `specs/Reservation`, what services ask in
+//! `specs/ServiceRating`, the history in `specs/History` and `specs/Duplicate`, and a call in `specs/Taking`.
+//! `specs/RowExample` and `specs/SessionExample` are worked examples. The functions of `laws` have no body: their
+//! contracts are laws of these definitions.
+//!
+//! ```text
+//! let mut book = Book::new(alloc, accounts, tariffs, 600, money, HISTORY_LIMIT)?;
+//! match book.take(alloc, Moment(1000), &request) {
+//!     Ok(answered) => send(answered.reply),             // a repeat is not `fresh`
+//!     Err(BookRefusal::Full { limit }) => refuse(limit), // the book is unchanged
+//!     Err(BookRefusal::OutOfMemory) => give_up(),        // and here
+//! }
+//! let balance = book.balance(0);                         // of the first account
+//! ```
 #![tactic(auto)]
 
 mod account;
+mod asking;
 mod book;
 mod copy;
 mod entry;
+mod event;
 mod key;
 mod laws;
-pub mod rating;
 mod terms;
 
 pub use account::{Account, Money};
 pub use book::{Answered, Book, BookRefusal};
 pub use entry::Entry;
 pub use laws::{
-    balances_move_by_debits, cost_is_of_fewest_blocks, debits_pay_for_what_is_granted,
-    kept_reply_is_the_first, kept_reply_stays, keys_are_distinct, new_keys_have_no_reply,
-    openings_less_debits_are_balances, replies_fit, sessions_last_twice_their_validity,
-    what_tariffs_are,
+    balances_move_by_debits, debits_pay_for_what_is_granted, kept_replies_are_of_entries,
+    kept_reply_is_the_first, kept_reply_stays, keys_are_distinct, legal_histories_grow,
+    new_keys_have_no_reply, openings_less_debits_are_balances, refunds_are_debits_below_zero,
+    replies_fit, sessions_and_services_stand_apart, sessions_last_twice_their_validity,
+    the_empty_history_is_legal, what_events_do,
 };
 
 #[cfg(test)]

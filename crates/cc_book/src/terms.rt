@@ -1,17 +1,19 @@
 //! The account machine: what is replied to a request, and what it debits (RFC 8506, section 6).
 
 ghost use Rattle.std.specs.Prelude.{◌≡◌, ◌≤◌, ◌<◌, ◌^◌, List, pos, negsuc, ◌≤ℤ◌, ◌-ℤ◌, length, map, int_le, if◌then◌else◌, IfOk, IfSome, IsTrue};
-ghost use Rattle.std.specs.Option.{option_copied};
+ghost use Rattle.std.specs.Option.{ForSome, option_copied};
 ghost use Rattle.std.specs.Int.{int_max};
-ghost use Rattle.cc_view.specs.ServiceLimits.{WithinLimits};
-ghost use Rattle.cc_book.specs.AccountMachine.{account_of, account_with, owns as is_owner, opening_at, service_cost, total_of, granted as shown, code_alone as alone, free_after, is_debiting, posting_of, reply_to};
+ghost use Rattle.cc_view.specs.Request.ServiceLimits.{WithinLimits};
+ghost use Rattle.cc_book.specs.AccountMachine.{account_of, account_with, amount_of, code_alone, free_after, free_for, granted, opening_at, owns, posting_of, postings_of, reply_to, service_cost, total_of};
 ghost use Rattle.cc_book.specs.Balance.{balance_of};
 ghost use Rattle.cc_book.specs.Posting.{Posting, debit_to};
-ghost use Rattle.cc_book.specs.Tariffs.{tariff_of, in_range};
+ghost use Rattle.cc_book.specs.ServiceRating.{tariff_of};
+ghost use Rattle.cc_rating.specs.Tariffs.{in_range};
 
 use crate::account::{Account, Money};
+use crate::asking::{asked_of, unit_code};
 use crate::entry::Entry;
-use crate::rating::{Tariff, Tariffs};
+use cc_rating::{Tariff, Tariffs};
 use cc_view::{
     CcReply, CcRequest, RequestKind, RequestedAction, ResultCode, Service, ServiceName,
     ServiceReply, Subscription,
@@ -38,32 +40,33 @@ impl Terms {
         history: &[Entry],
         request: &CcRequest,
     ) -> Result<CcReply, AllocError>
+        requires { length history.now ≤ 2 ^ 20 }
         ensures { IfOk result (λ reply. reply ≡ reply_to self.now history.now request.now) }
     {
-        if !is_direct_debit(request) {
-            return Ok(code_alone(alloc, ResultCode::UnableToComply));
+        match request.kind {
+            RequestKind::Event => self.event_reply(alloc, history, request),
+            RequestKind::Initial | RequestKind::Update | RequestKind::Termination => {
+                Ok(code_alone(alloc, ResultCode::UnableToComply))
+            }
         }
-        let Some(account) = self.account_of(request) else {
-            return Ok(code_alone(alloc, ResultCode::UserUnknown));
-        };
-        let services = request.services.as_slice();
-        let Some(total) = self.total_of(services) else {
-            return Ok(code_alone(alloc, ResultCode::RatingFailed));
-        };
-        if total as i128 > self.balance_after(history, account) {
-            return Ok(code_alone(alloc, ResultCode::CreditLimitReached));
+    }
+
+    /// What is free of an account after these entries. Without an account nothing is.
+    pub fn free_for(&self, history: &[Entry], account: Option<usize>) -> i128
+        requires few { length history.now ≤ 2 ^ 20 }
+        requires within { ForSome account (λ place. place < length self.now.accounts) }
+        ensures { result ≡ free_for self.now (postings_of self.now history.now) account }
+    {
+        match account {
+            Some(account) => self.balance_after(history, account),
+            None => 0,
         }
-        Ok(CcReply {
-            code: ResultCode::Success,
-            services: Listing::from_vec(self.granted(alloc, services)?),
-            cost: None,
-            check: None,
-        })
     }
 
     /// The balance of an account after these entries.
     pub fn balance_after(&self, history: &[Entry], account: usize) -> i128
-        requires { account < length self.now.accounts }
+        requires few { length history.now ≤ 2 ^ 20 }
+        requires within { account < length self.now.accounts }
         ensures { result ≡ balance_of self.now history.now account }
     {
         let mut balance = self.opening_of(account);
@@ -85,23 +88,23 @@ impl Terms {
     /// What an entry debits this account of, where so much is free.
     fn debit_of(&self, free: i128, account: usize, entry: &Entry) -> i128
         ensures value { (before : List Posting) → free_after self.now before account ≡ free → result ≡ debit_to account (posting_of self.now before entry.now) }
-        ensures least { pos 0 ≤ℤ result }
+        ensures least { negsuc (2 ^ 90) ≤ℤ result }
         ensures most { result ≤ℤ int_max free (pos 0) }
     {
         let Entry::Take { request, .. } = entry else {
             return 0;
         };
-        if !is_direct_debit(request) || self.account_of(request) != Some(account) {
+        if request.kind != RequestKind::Event || self.account_of(request) != Some(account) {
             return 0;
         }
         match self.total_of(request.services.as_slice()) {
-            Some(total) => debited(total as i128, free),
+            Some(total) => amount_of(request.action, total, free),
             None => 0,
         }
     }
 
     /// The account of the first Subscription-Id that has one.
-    fn account_of(&self, request: &CcRequest) -> Option<usize>
+    pub fn account_of(&self, request: &CcRequest) -> Option<usize>
         ensures value { result ≡ account_of self.now.accounts request.now.subscriptions }
         ensures within { IfSome result (λ account. account < length self.now.accounts) }
     {
@@ -124,7 +127,7 @@ impl Terms {
     }
 
     /// The sum of the costs of the asked units. None with no service, or with one that has no tariff.
-    fn total_of(&self, services: &[Service]) -> Option<u128>
+    pub fn total_of(&self, services: &[Service]) -> Option<u128>
         requires { length services.now ≤ 32 }
         ensures value { result ≡ total_of self.now.tariffs services.now }
         ensures most { IfSome result (λ total. total < 2 ^ 90) }
@@ -152,15 +155,19 @@ impl Terms {
         ensures most { IfSome result (λ cost. cost < 2 ^ 84) }
     {
         let tariff = self.tariff_of(service)?;
-        match tariff.asked(service) {
+        match asked_of(tariff, service) {
             Some(units) => Some(tariff.cost(units as u128)),
             None => Some(0),
         }
     }
 
     /// The services with the units that they asked for.
-    fn granted(&self, alloc: Global, services: &[Service]) -> Result<Vec<ServiceReply>, AllocError>
-        ensures { IfOk result (λ replies. replies.items ≡ map (shown self.now.tariffs) services.now) }
+    pub fn granted(
+        &self,
+        alloc: Global,
+        services: &[Service],
+    ) -> Result<Vec<ServiceReply>, AllocError>
+        ensures { IfOk result (λ replies. replies.items ≡ map (granted self.now.tariffs) services.now) }
     {
         services
             .iter()
@@ -169,10 +176,10 @@ impl Terms {
     }
 
     fn granted_to(&self, service: &Service) -> ServiceReply
-        ensures { result ≡ shown self.now.tariffs service.now }
+        ensures { result ≡ granted self.now.tariffs service.now }
     {
         let (kind, granted) = match self.tariff_of(service) {
-            Some(tariff) => (Some(tariff.kind), tariff.asked(service)),
+            Some(tariff) => (Some(unit_code(tariff.kind)), asked_of(tariff, service)),
             None => (None, None),
         };
         ServiceReply {
@@ -190,30 +197,29 @@ impl Terms {
     }
 }
 
-/// What a debit of this total takes, where so much is free: all of it, or nothing.
-fn debited(total: i128, free: i128) -> i128
-    requires { pos 0 ≤ℤ total }
-    ensures value { result ≡ (if int_le total free then total else pos 0) }
-    ensures least { pos 0 ≤ℤ result }
+/// What an action debits, where so much is free: a debit all of its total or nothing, a refund less than nothing.
+fn amount_of(action: Option<RequestedAction>, total: u128, free: i128) -> i128
+    requires { total < 2 ^ 90 }
+    ensures value { result ≡ amount_of action total free }
+    ensures least { negsuc (2 ^ 90) ≤ℤ result }
     ensures most { result ≤ℤ int_max free (pos 0) }
 {
-    if total <= free { total } else { 0 }
-}
-
-fn is_direct_debit(request: &CcRequest) -> bool
-    ensures { result ≡ is_debiting request.now.kind request.now.action }
-{
-    request.kind == RequestKind::Event && request.action == Some(RequestedAction::DirectDebiting)
+    let total = total as i128;
+    match action {
+        Some(RequestedAction::DirectDebiting) => { if total <= free { total } else { 0 } }
+        Some(RequestedAction::RefundAccount) => -total,
+        Some(RequestedAction::CheckBalance | RequestedAction::PriceEnquiry) | None => 0,
+    }
 }
 
 fn owns(subscription: &Subscription, account: &Account) -> bool
-    ensures { result ≡ is_owner subscription.now account.now }
+    ensures { result ≡ owns subscription.now account.now }
 {
     account.id_kind == subscription.kind && account.id == subscription.text
 }
 
-fn code_alone(alloc: Global, code: ResultCode) -> CcReply
-    ensures { result ≡ alone code }
+pub fn code_alone(alloc: Global, code: ResultCode) -> CcReply
+    ensures { result ≡ code_alone code }
 {
     CcReply {
         code,

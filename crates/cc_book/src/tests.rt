@@ -1,10 +1,12 @@
 //! Debits worked out by hand for a small site.
 
-use crate::rating::{CC_TIME, CC_TOTAL_OCTETS, Tariff, TariffFault, Tariffs};
+ghost use Rattle.std.specs.Prelude.{◌≤◌};
+
 use crate::{Account, Answered, Book, BookRefusal, Money};
+use cc_rating::{Tariff, Tariffs, UnitKind};
 use cc_view::{CcRequest, RequestKind, RequestedAction, Service, Services, Subscription};
 use dia_avp::Octets;
-use dia_base::{Code, Listing, Moment};
+use dia_base::{HISTORY_LIMIT, Listing, Moment};
 use std::alloc::{AllocError, Global};
 use std::test::Fail;
 
@@ -12,7 +14,7 @@ fn octets_tariff() -> Tariff {
     Tariff {
         group: Some(10),
         ident: None,
-        kind: CC_TOTAL_OCTETS,
+        kind: UnitKind::Octets,
         block: 1000,
         price: 5,
         quantum: 5000,
@@ -38,7 +40,9 @@ fn accounts(alloc: Global) -> Result<Vec<Account>, AllocError> {
     Ok(accounts)
 }
 
-fn book(alloc: Global, limit: u64) -> Result<Book, Fail> {
+fn book(alloc: Global, limit: u64) -> Result<Book, Fail>
+    requires { limit ≤ HISTORY_LIMIT }
+{
     let tariffs = Tariffs::new(alloc, [octets_tariff()].to_vec(alloc)?)?;
     let money = Money {
         currency: 978,
@@ -273,72 +277,65 @@ fn an_empty_request_asks_the_quantum_and_none_asks_nothing(rt: HostRuntime) -> R
     Ok(())
 }
 
-#[test]
-fn what_octets_cost(rt: HostRuntime) -> Result<(), Fail> {
-    let alloc = rt.alloc();
-    let dear = Tariff {
-        group: Some(11),
-        block: 1,
-        price: 1_048_576,
-        ..octets_tariff()
+/// What an EVENT is answered, and the balance behind it: Result-Code, Check-Balance-Result, the digits of a price.
+#[derive(Clone, Copy, Debug, PartialEq, Eq)]
+struct EventShown {
+    code: u32,
+    check: Option<u32>,
+    digits: Option<i64>,
+    balance: Option<i128>,
+}
+
+/// Takes an EVENT on 3200 octets in a book of its own.
+fn event(
+    alloc: Global,
+    action: RequestedAction,
+    id: &[u8],
+    account: usize,
+) -> Result<EventShown, Fail> {
+    let mut book = book(alloc, 10)?;
+    let services = services(alloc, 10, Some([None, Some(3200), None]))?;
+    let mut request = request(alloc, b"c1;1;1", id, services)?;
+    request.action = Some(action);
+    let answered = book.take(alloc, Moment(1000), &request)?;
+    let digits = match answered.reply.cost {
+        Some(cost) => Some(cost.digits),
+        None => None,
     };
-    let tariffs = Tariffs::new(alloc, [octets_tariff(), dear].to_vec(alloc)?)?;
-    let tariff = tariffs.find(Some(10), None).ok_or("no tariff")?;
-    assert_eq!(rt;
-        (tariff.cost(0), tariff.cost(1), tariff.cost(1000)),
-        (0, 5, 5)
-    );
-    assert_eq!(rt;
-        (tariff.cost(1001), tariff.cost(3200), tariff.cost(5000)),
-        (10, 20, 25)
-    );
-    let dear = tariffs.find(Some(11), None).ok_or("no tariff")?;
-    assert_eq!(rt;
-        dear.cost(18_446_744_073_709_551_615),
-        19_342_813_113_834_066_794_250_240
-    );
-    Ok(())
+    Ok(EventShown {
+        code: answered.reply.code as u32,
+        check: answered.reply.check,
+        digits,
+        balance: book.balance(account),
+    })
 }
 
-/// The fault of two tariffs of which the first has none.
-fn fault_of(alloc: Global, second: Tariff) -> Result<Option<TariffFault>, Fail> {
-    let tariffs = [octets_tariff(), second].to_vec(alloc)?;
-    Ok(Tariffs::new(alloc, tariffs).err())
+fn left(code: u32, balance: i128) -> EventShown {
+    EventShown {
+        code,
+        check: None,
+        digits: None,
+        balance: Some(balance),
+    }
 }
 
 #[test]
-fn tariffs_out_of_range_and_twice(rt: HostRuntime) -> Result<(), Fail> {
+fn the_four_actions_of_an_event(rt: HostRuntime) -> Result<(), Fail> {
     let alloc = rt.alloc();
-    let mut tariff = octets_tariff();
-    assert_eq!(rt; fault_of(alloc, tariff)?, Some(TariffFault::Twice));
-    tariff.ident = Some(7);
-    assert_eq!(rt; fault_of(alloc, tariff)?, Some(TariffFault::Twice));
-    tariff.group = None;
-    assert_eq!(rt; fault_of(alloc, tariff)?, None);
-    tariff.price = 1_048_577;
-    assert_eq!(rt; fault_of(alloc, tariff)?, Some(TariffFault::OutOfRange));
-    tariff.price = 0;
-    tariff.kind = CC_TIME;
-    tariff.quantum = 4_294_967_296;
-    assert_eq!(rt; fault_of(alloc, tariff)?, Some(TariffFault::OutOfRange));
-    tariff.kind = Code(412);
-    assert_eq!(rt; fault_of(alloc, tariff)?, Some(TariffFault::OutOfRange));
-    Ok(())
-}
-
-#[test]
-fn a_tariff_is_found_by_group_first(rt: HostRuntime) -> Result<(), Fail> {
-    let alloc = rt.alloc();
-    let mut by_ident = octets_tariff();
-    by_ident.group = None;
-    by_ident.ident = Some(7);
-    let tariffs = Tariffs::new(alloc, [octets_tariff(), by_ident].to_vec(alloc)?)?;
-    assert_eq!(rt;
-        tariffs.find(Some(10), Some(7)).copied(),
-        Some(octets_tariff())
-    );
-    assert_eq!(rt; tariffs.find(None, Some(7)).copied(), Some(by_ident));
-    assert_eq!(rt; tariffs.find(Some(11), Some(7)).copied(), None);
-    assert_eq!(rt; tariffs.find(None, None).copied(), None);
+    let mut enough = left(2001, 1000);
+    enough.check = Some(0);
+    let mut too_little = left(2001, 4);
+    too_little.check = Some(1);
+    let mut price = left(2001, 1000);
+    price.digits = Some(20);
+    let debit = event(alloc, RequestedAction::DirectDebiting, b"491700000001", 0)?;
+    let refund = event(alloc, RequestedAction::RefundAccount, b"491700000001", 0)?;
+    assert_eq!(rt; (debit, refund), (left(2001, 980), left(2001, 1020)));
+    let rich = event(alloc, RequestedAction::CheckBalance, b"491700000001", 0)?;
+    let poor = event(alloc, RequestedAction::CheckBalance, b"491700000003", 2)?;
+    assert_eq!(rt; (rich, poor), (enough, too_little));
+    let stranger = event(alloc, RequestedAction::PriceEnquiry, b"499", 0)?;
+    let refused = event(alloc, RequestedAction::RefundAccount, b"499", 0)?;
+    assert_eq!(rt; (stranger, refused), (price, left(5030, 1000)));
     Ok(())
 }

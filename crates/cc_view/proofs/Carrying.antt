@@ -8,9 +8,8 @@ use Rattle.std.proofs.lemmas.Bool.{lt-ltb, ltb-false}
 use Rattle.dia_avp.specs.declared.avp.RawAvp.{RawAvp}
 use Rattle.dia_avp.specs.AvpList.{has_vendor}
 use Rattle.dia_grammar.specs.Grammar.{is_of}
-use Rattle.cc_view.specs.Carried.{is_carried, padded_len, carried_len, carries_too_much}
-use Rattle.dia_grammar.specs.Codes.{session_id}
-use Rattle.cc_view.specs.Codes.{proxy_info}
+use Rattle.cc_view.specs.Answer.Carried.{is_carried, padded_len, carried_len, carries_too_much}
+use Rattle.dia_base.specs.Codes.{session_id, proxy_info}
 
 pub carried_len-append : (xs ys : List RawAvp) → carried_len (xs ++ ys) ≡ carried_len xs + carried_len ys
 carried_len-append xs ys = ap (sum_by padded_len) (filter-append is_carried xs ys) ∙ sum_by-append padded_len (filter is_carried xs) (filter is_carried ys)

@@ -5,9 +5,9 @@ use Rattle.std.proofs.lemmas.List.{take-append-drop}
 use Rattle.std.specs.Option.{option_or}
 use Rattle.dia_avp.specs.declared.avp.RawAvp.{RawAvp}
 use Rattle.cc_view.specs.declared.refusal.Refusal.{Refusal}
-use Rattle.cc_view.specs.declared.reading.ViewError.{ViewError}
-use Rattle.cc_view.specs.declared.reading.ViewError.TheVariants.{Refused, OutOfMemory}
-use Rattle.cc_view.specs.Checking.{first_refusal, tested_in}
+use Rattle.cc_view.specs.declared.view.ViewError.{ViewError}
+use Rattle.cc_view.specs.declared.view.ViewError.TheVariants.{Refused, OutOfMemory}
+use Rattle.cc_view.specs.RequestView.Checking.{first_refusal, tested_in}
 use Rattle.cc_view.specs.Finding.{GivesAll, Passes}
 
 -- ---- one test after the other

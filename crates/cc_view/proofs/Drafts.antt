@@ -8,9 +8,9 @@ use Rattle.dia_base.specs.declared.number.Code.{Code}
 use Rattle.dia_avp.specs.declared.avp.RawAvp.{RawAvp}
 use Rattle.cc_view.specs.declared.reply.ServiceReply.{ServiceReply}
 use Rattle.cc_view.specs.Answer.{optional_u32, granted_part, final_part, service_avp, services_part}
-use Rattle.cc_view.specs.Codes.{cc_time, granted_service_unit}
-use Rattle.cc_view.specs.Writing.{u32_avp, u64_avp, group_avp, spelled}
-use Rattle.cc_view.proofs.Spelling.{spelled-append}
+use Rattle.dia_base.specs.Codes.{cc_time, granted_service_unit}
+use Rattle.cc_view.specs.Answer.Writing.{u32_avp, u64_avp, group_avp, spelling_of}
+use Rattle.cc_view.proofs.Spelling.{spelling_of-append}
 
 -- ---- additions
 
@@ -42,10 +42,10 @@ six_added d0 d1 d2 d3 d4 d5 d6 a b c d e f e0 e1 e2 e3 e4 e5 e6 =
 -- ---- lengths
 
 abbrev pub spelled_len : List RawAvp → ℕ
-spelled_len avps = length (spelled avps)
+spelled_len avps = length (spelling_of avps)
 
 pub spelled_len-append : (xs ys : List RawAvp) → spelled_len (xs ++ ys) ≡ spelled_len xs + spelled_len ys
-spelled_len-append xs ys = ap length (spelled-append xs ys) ∙ length-append (spelled xs) (spelled ys)
+spelled_len-append xs ys = ap length (spelling_of-append xs ys) ∙ length-append (spelling_of xs) (spelling_of ys)
 
 pub spelled_len-u32 : (code n : ℕ) → spelled_len (u32_avp code n ∷ []) ≡ 12
 spelled_len-u32 code n = refl

@@ -5,7 +5,7 @@ use lib.Utf8.{encode}
 use Rattle.dia_avp.specs.AvpReading.{split_from, split_of}
 use Rattle.dia_grammar.specs.Grammar.{grammar_fault, has_row}
 use Rattle.cc_view.specs.Answer.{answer_to}
-use Rattle.cc_view.specs.Checking.{service_refusal, subscription_refusal, units_refusal, value_refusal}
+use Rattle.cc_view.specs.RequestView.Checking.{service_refusal, subscription_refusal, units_refusal, value_refusal}
 use Rattle.cc_view.specs.FirstDebit.{debit_message, answer_message, debit_request, debit_reply, front_name, realm_name}
 use Rattle.cc_view.specs.RequestView.{view_of}
 

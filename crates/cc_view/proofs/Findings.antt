@@ -1,8 +1,8 @@
 -- What calls answer with, by what they were given.
 use Rattle.std.proofs.Common.{◌≡◌, List, Option, Some, Result, Err, ap, ◌∙◌}
 use Rattle.cc_view.specs.declared.refusal.Refusal.{Refusal}
-use Rattle.cc_view.specs.declared.reading.ViewError.{ViewError}
-use Rattle.cc_view.specs.declared.reading.ViewError.TheVariants.{Refused, OutOfMemory}
+use Rattle.cc_view.specs.declared.view.ViewError.{ViewError}
+use Rattle.cc_view.specs.declared.view.ViewError.TheVariants.{Refused, OutOfMemory}
 use Rattle.cc_view.specs.Finding.{GivesAll, IsRefusal, Passes}
 
 abbrev error : {T : Type 0} → Refusal → Result T Refusal

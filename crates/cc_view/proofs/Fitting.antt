@@ -4,15 +4,15 @@ use Rattle.std.proofs.lemmas.List.Elements.{All-append, All-cons, All-nil}
 use Rattle.dia_avp.specs.declared.avp.RawAvp.{RawAvp}
 use Rattle.dia_avp.specs.AvpList.{HasSpelling, length_of, padding_of, written}
 use Rattle.dia_avp.proofs.ReadBack.{length_spelling}
-use Rattle.cc_view.specs.Carried.{padded_len}
-use Rattle.cc_view.specs.Writing.{group_avp, octets_avp, spelled, u32_avp, u64_avp}
+use Rattle.cc_view.specs.Answer.Carried.{padded_len}
+use Rattle.cc_view.specs.Answer.Writing.{group_avp, octets_avp, spelling_of, u32_avp, u64_avp}
 use Rattle.cc_view.specs.Answer.{optional_u32}
 use Rattle.cc_view.proofs.Drafts.{spelled_len, spelled_len-append}
 
 -- ---- lengths
 
 pub spelled_len-cons : (avp : RawAvp) (avps : List RawAvp) → spelled_len (avp ∷ avps) ≡ padded_len avp + spelled_len avps
-spelled_len-cons avp avps = length-append (written avp) (spelled avps) ∙ ap (λ (n : ℕ). n + spelled_len avps) (length_spelling avp)
+spelled_len-cons avp avps = length-append (written avp) (spelling_of avps) ∙ ap (λ (n : ℕ). n + spelled_len avps) (length_spelling avp)
 
 pub padded-whole : (n : ℕ) → (n + padding_of n) % 4 ≡ 0
 padded-whole n = omega arith
@@ -21,9 +21,9 @@ pub padding-small : (n : ℕ) → padding_of n ≤ 3
 padding-small n = omega arith
 
 -- what is written is a multiple of 4
-pub spelled-whole : (avps : List RawAvp) → spelled_len avps % 4 ≡ 0
-spelled-whole [] = refl
-spelled-whole (avp ∷ avps) = omega (arith, spelled_len-cons avp avps, padded-whole (length_of avp), spelled-whole avps)
+pub spelling_of-whole : (avps : List RawAvp) → spelled_len avps % 4 ≡ 0
+spelling_of-whole [] = refl
+spelling_of-whole (avp ∷ avps) = omega (arith, spelled_len-cons avp avps, padded-whole (length_of avp), spelling_of-whole avps)
 
 -- ---- AVPs that can be spelled, in at most so many octets
 
@@ -63,5 +63,5 @@ takes-optional code None fits = takes-more 0 12 [] (lit≤ tt) takes-nil
 -- a group takes its header and its members
 pub takes-group : (code n : ℕ) (members : List RawAvp) → code < 2 ^ 32 → n ≤ 65536 → spelled_len members ≤ n → Takes (8 + n) (group_avp code members ∷ [])
 takes-group code n members fits short le =
-    one code (8 + n) (spelled members) fits (omega (arith, le, short))
-    (omega (arith, le, spelled-whole members, spelled_len-cons (group_avp code members) []))
+    one code (8 + n) (spelling_of members) fits (omega (arith, le, short))
+    (omega (arith, le, spelling_of-whole members, spelled_len-cons (group_avp code members) []))

@@ -1,7 +1,7 @@
 -- Answers and refusals fit into a message, and are read back.
 use Rattle.std.proofs.Common.{◌≡◌, ℕ, ◌+◌, ◌≤◌, List, [], ◌∷◌, ◌++◌, length, Bool, true, false, cond, ◌||◌, eqb, All, sum_by, filter, find, Option, Some, None, option_map, Result, Ok, Err, refl, sym, ap, subst, ◌∙◌, arith, lit≤}
 use Rattle.std.specs.Option.{unwrap_or}
-use Rattle.std.proofs.lemmas.Bool.{eqb-true, leb-true, ltb-false}
+use Rattle.std.proofs.lemmas.Bool.{and_parts, eqb-true, leb-true, ltb-false}
 use Rattle.std.proofs.lemmas.List.Elements.{All-cons, All-filter, All-nil}
 use Rattle.std.proofs.lemmas.List.Sums.{sum_by-cons}
 use Rattle.dia_base.specs.Identity.{IsIdentity}
@@ -15,9 +15,8 @@ use Rattle.dia_avp.proofs.Splitting.{split_of-reads}
 use Rattle.dia_message.specs.declared.header.Header.{Header}
 use Rattle.dia_message.specs.declared.message.Message.{Message}
 use Rattle.dia_message.specs.Header.{HasOctets}
-use Rattle.dia_grammar.specs.Codes.{auth_application_id, cc_request_number, cc_request_type, session_id}
+use Rattle.dia_base.specs.Codes.{auth_application_id, cc_request_number, cc_request_type, session_id, cc_session_failover, credit_control_application, failed_avp, proxy_info, result_code}
 use Rattle.dia_grammar.specs.Grammar.{is_of}
-use Rattle.dia_grammar.proofs.Finding.{and_second}
 use Rattle.cc_view.specs.declared.code.ResultCode.{ResultCode}
 use Rattle.cc_view.specs.declared.code.ResultCode.TheVariants.{Success}
 use Rattle.cc_view.specs.declared.refusal.Refusal.{Refusal}
@@ -26,17 +25,16 @@ use Rattle.cc_view.specs.declared.request.CcRequest.{CcRequest}
 use Rattle.cc_view.specs.declared.request.RequestKind.{RequestKind}
 use Rattle.cc_view.specs.declared.request.RequestKind.TheVariants.{Initial}
 use Rattle.cc_view.specs.Answer.{answer_avps, answer_header, answer_to, command_part, failover_part, origin_part, refusal_avps, refusal_of, session_part, units_part}
-use Rattle.cc_view.specs.Carried.{carriable, carried_len, carries_too_much, is_carried, padded_len, proxies_in, session_in}
-use Rattle.cc_view.specs.Codes.{cc_session_failover, credit_control_application, failed_avp, proxy_info, result_code}
-use Rattle.cc_view.specs.Content.{octets_in}
-use Rattle.cc_view.specs.FailedAvp.{failed_part, is_copied}
-use Rattle.cc_view.specs.Fitting.{Fits, IsReadBack}
-use Rattle.cc_view.specs.RequestNumber.{kind_number}
+use Rattle.cc_view.specs.Answer.Carried.{carriable_avps, carried_len, carries_too_much, is_carried, padded_len, proxies_in, session_in}
+use Rattle.cc_view.specs.RequestView.Content.{octets_in}
+use Rattle.cc_view.specs.Refusal.FailedAvp.{failed_part, is_copied}
+use Rattle.cc_view.specs.Answer.Fitting.{Fits, IsReadBack}
+use Rattle.cc_view.specs.Request.Number.{kind_number}
 use Rattle.cc_view.specs.RequestView.{view_of}
 use Rattle.cc_view.specs.ResultNumber.{number_of}
-use Rattle.cc_view.specs.Writing.{group_avp, octets_avp, spelled, u32_avp}
+use Rattle.cc_view.specs.Answer.Writing.{group_avp, octets_avp, spelling_of, u32_avp}
 use Rattle.cc_view.proofs.Drafts.{spelled_len}
-use Rattle.cc_view.proofs.Fitting.{Takes, spelled-whole, spelled_len-cons, spelling, takes-append, takes-group, takes-more, takes-nil, takes-u32}
+use Rattle.cc_view.proofs.Fitting.{Takes, spelling_of-whole, spelled_len-cons, spelling, takes-append, takes-group, takes-more, takes-nil, takes-u32}
 use Rattle.cc_view.proofs.FittingUnits.{takes-origin, takes-units}
 use Rattle.cc_view.proofs.Sessions.{session_found}
 use Rattle.cc_view.proofs.ViewedSessions.{session_part-viewed, viewed_avps}
@@ -68,8 +66,8 @@ no_session avp e = other (is_of proxy_info avp) refl
   where
     other : (b : Bool) → is_of proxy_info avp ≡ b → b ≡ false
     other true is =
-        let a : avp.code ≡ 263 = eqb-true avp.code 263 (and_second (eqb avp.vendor 0) (eqb avp.code 263) e) in
-        let c : avp.code ≡ 284 = eqb-true avp.code 284 (and_second (eqb avp.vendor 0) (eqb avp.code 284) is) in
+        let a : avp.code ≡ 263 = eqb-true avp.code 263 (and_parts (eqb avp.vendor 0) (eqb avp.code 263) e).1 in
+        let c : avp.code ≡ 284 = eqb-true avp.code 284 (and_parts (eqb avp.vendor 0) (eqb avp.code 284) is).1 in
         absurd (omega (arith, a, c))
     other false is = refl
 
@@ -117,9 +115,9 @@ carries-none = record { first = All-nil HasSpelling; others = All-nil HasSpellin
 spells : (body : List ℕ) (avps : List RawAvp) → AreOctets body → split_of body ≡ Ok avps → All HasSpelling avps
 spells body avps octets e = All-HasSpelling-read body avps [] octets (subst (Reads body) e (split_of-reads body))
 
-carriable-carries : (body : List ℕ) (s : Result (List RawAvp) AvpFault) → AreOctets body → split_of body ≡ s → Carries 49152 (session_in (carriable s)) (proxies_in (carriable s))
-carriable-carries body (Err fault) octets e = carries-none
-carriable-carries body (Ok avps) octets e = by_room (carries_too_much avps) refl
+carriable_avps-carries : (body : List ℕ) (s : Result (List RawAvp) AvpFault) → AreOctets body → split_of body ≡ s → Carries 49152 (session_in (carriable_avps s)) (proxies_in (carriable_avps s))
+carriable_avps-carries body (Err fault) octets e = carries-none
+carriable_avps-carries body (Ok avps) octets e = by_room (carries_too_much avps) refl
   where
     by_room : (much : Bool) → carries_too_much avps ≡ much → Carries 49152 (session_in (cond much [] avps)) (proxies_in (cond much [] avps))
     by_room true is = carries-none
@@ -131,14 +129,14 @@ session-written (Some avp) = omega arith
 session-written None = lit≤ tt
 
 carries-answer : (vendors : List ℕ) (message : Message) (request : CcRequest) → AreOctets message.body → view_of vendors message ≡ Ok request
-    → Carries 49160 (session_part request.session) (proxies_in (carriable (split_of message.body)))
+    → Carries 49160 (session_part request.session) (proxies_in (carriable_avps (split_of message.body)))
 carries-answer vendors message request octets e =
     let viewed = viewed_avps vendors message request e in
     let avps = viewed.0 in
     let carried = carries avps (spells message.body avps octets viewed.1) viewed.2 in
     let same : session_part request.session ≡ octets_avp session_id (octets_in session_id avps) ∷ [] =
     session_part-viewed vendors message request e ∙ ap (λ (r : CcRequest). octets_avp session_id r.session ∷ []) (sym viewed.3) in
-    let proxies : carriable (split_of message.body) ≡ avps = ap carriable viewed.1 ∙ ap (λ (b : Bool). cond b [] avps) viewed.2 in
+    let proxies : carriable_avps (split_of message.body) ≡ avps = ap carriable_avps viewed.1 ∙ ap (λ (b : Bool). cond b [] avps) viewed.2 in
     let long : spelled_len (octets_avp session_id (octets_in session_id avps) ∷ []) ≤ spelled_len (session_in avps) + 8 = session-written (find (is_of session_id) avps) in
     let short : length (octets_in session_id avps) ≤ 65536 = omega (arith, long, carried.most, spelled_len-cons (octets_avp session_id (octets_in session_id avps)) []) in
     let both : Carries 49160 (octets_avp session_id (octets_in session_id avps) ∷ []) (proxies_in avps) = record {
@@ -146,7 +144,7 @@ carries-answer vendors message request octets e =
       others = carried.others;
       most = omega (arith, long, carried.most);
     } in
-    subst (λ (xs : List RawAvp). Carries 49160 xs (proxies_in (carriable (split_of message.body)))) (sym same)
+    subst (λ (xs : List RawAvp). Carries 49160 xs (proxies_in (carriable_avps (split_of message.body)))) (sym same)
     (subst (λ (xs : List RawAvp). Carries 49160 (octets_avp session_id (octets_in session_id avps) ∷ []) (proxies_in xs)) (sym proxies) both)
 
 -- ---- messages
@@ -155,9 +153,9 @@ answer-octets : (error : Bool) (header : Header) → HasOctets header → HasOct
 answer-octets error header h = record { command = h.command; application = h.application; hop = h.hop; «end» = h.«end» }
 
 -- AVPs that take few octets are a message's
-read_back : (error : Bool) (header : Header) (n : ℕ) (avps : List RawAvp) → HasOctets header → n ≤ 65516 → Takes n avps → IsReadBack (record { header = answer_header error header; body = spelled avps }) avps
+read_back : (error : Bool) (header : Header) (n : ℕ) (avps : List RawAvp) → HasOctets header → n ≤ 65516 → Takes n avps → IsReadBack (record { header = answer_header error header; body = spelling_of avps }) avps
 read_back error header n avps octets le takes = record {
-  whole = record { header = answer-octets error header octets; whole = spelled-whole avps; most = omega (arith, le, takes.most) };
+  whole = record { header = answer-octets error header octets; whole = spelling_of-whole avps; most = omega (arith, le, takes.most) };
   body = IsSpelling-written_list avps takes.each;
 }
 
@@ -205,7 +203,7 @@ answer-read_back vendors front realm message request reply p q header octets e f
     let carried = carries-answer vendors message request octets e in
     let command = command_part front realm request reply.code in
     let units = units_part reply in
-    let proxies = proxies_in (carriable (split_of message.body)) in
+    let proxies = proxies_in (carriable_avps (split_of message.body)) in
     let n = spelled_len (session_part request.session) in
     let most : n + spelled_len proxies ≤ 49160 = carried.most in
     read_back false message.header (n + 592 + 3324 + spelled_len proxies) (command ++ units ++ proxies) header (omega (arith, most))
@@ -229,8 +227,8 @@ pub refusal-read_back : (node realm : List ℕ) (message : Message) (refusal : R
     → IsReadBack (refusal_of node realm message refusal) (refusal_avps node realm message refusal)
 unfolding refusal_of
 refusal-read_back node realm message refusal p q header octets =
-    let avps = carriable (split_of message.body) in
-    let carried = carriable-carries message.body (split_of message.body) octets refl in
+    let avps = carriable_avps (split_of message.body) in
+    let carried = carriable_avps-carries message.body (split_of message.body) octets refl in
     let session = session_in avps in
     let proxies = proxies_in avps in
     let result = u32_avp result_code (number_of refusal.code) ∷ [] in

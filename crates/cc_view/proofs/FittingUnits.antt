@@ -4,15 +4,14 @@ use Rattle.std.specs.Prelude.{IfSome}
 use Rattle.std.specs.Int.{cast_unsigned, w32, w64}
 use Rattle.std.proofs.lemmas.List.Elements.{All-head, All-tail}
 use Rattle.dia_base.specs.declared.number.Code.{Code}
-use Rattle.dia_grammar.specs.Codes.{origin_host, origin_realm, service_identifier}
+use Rattle.dia_base.specs.Codes.{origin_host, origin_realm, service_identifier, cc_time, check_balance_result, cost_information, currency_code, exponent, final_unit_action, final_unit_indication, granted_service_unit, multiple_services, rating_group, result_code, unit_value, validity_time, value_digits}
 use Rattle.cc_view.specs.declared.reply.CcReply.{CcReply}
 use Rattle.cc_view.specs.declared.reply.Cost.{Cost}
 use Rattle.cc_view.specs.declared.reply.ServiceReply.{ServiceReply}
 use Rattle.cc_view.specs.Answer.{bare_final_part, bare_granted_part, bare_in, bare_validity_part, cost_part, final_part, granted_part, optional_u32, origin_part, service_avp, services_part, unit_avp, units_part}
-use Rattle.cc_view.specs.Codes.{cc_time, check_balance_result, cost_information, currency_code, exponent, final_unit_action, final_unit_indication, granted_service_unit, multiple_services, rating_group, result_code, unit_value, validity_time, value_digits}
-use Rattle.cc_view.specs.Fitting.{Fits, HasUnitCode}
+use Rattle.cc_view.specs.Answer.Fitting.{Fits, HasUnitCode}
 use Rattle.cc_view.specs.ResultNumber.{number_of}
-use Rattle.cc_view.specs.Writing.{group_avp, i32_avp, i64_avp, octets_avp, u32_avp, u64_avp}
+use Rattle.cc_view.specs.Answer.Writing.{group_avp, i32_avp, i64_avp, octets_avp, u32_avp, u64_avp}
 use Rattle.cc_view.proofs.Fitting.{Takes, takes-append, takes-group, takes-more, takes-nil, takes-octets, takes-optional, takes-u32, takes-u64}
 
 pub takes-origin : (host realm : List ℕ) → length host ≤ 255 → length realm ≤ 255 → Takes 532 (origin_part host realm)

@@ -6,8 +6,13 @@ mod Findings
 mod Fitting
 mod FittingMessages
 mod FittingUnits
+mod Forwarding
+mod Kept
 mod Messages
+mod NamedAvps
 mod Sessions
+mod Readable
+mod RefusalsByCode
 mod Shortness
 mod Spelling
 mod Places
@@ -15,3 +20,4 @@ mod Splits
 mod Unread
 mod ViewedSessions
 mod Views
+mod WithinLimits

@@ -9,11 +9,11 @@ use Rattle.std.proofs.lemmas.Option.{slice_get-get_or}
 use Rattle.dia_avp.specs.declared.avp.RawAvp.{RawAvp}
 use Rattle.dia_grammar.specs.declared.fault.GrammarFault.{GrammarFault}
 use Rattle.dia_grammar.specs.declared.fault.GrammarFault.TheVariants.{Missing, Twice, UnknownM, FirstNotSessionId}
-use Rattle.dia_grammar.specs.Codes.{session_id}
-use Rattle.dia_grammar.specs.Grammar.{first_fault, grammar_fault, has_avp, is_of, is_second, is_unknown_mandatory, missing_of, required_in, second_behind, second_of, single_codes, unknown_of}
+use Rattle.dia_base.specs.Codes.{session_id}
+use Rattle.dia_grammar.specs.Grammar.{begins_with_session, first_fault, grammar_fault, has_avp, is_second, is_unknown_mandatory, missing_of, required_in, second_behind, second_of, single_codes, unknown_of}
 use Rattle.cc_view.specs.declared.code.ResultCode.TheVariants.{AvpUnsupported, AvpOccursTooManyTimes, UnableToComply}
 use Rattle.cc_view.specs.declared.refusal.Refusal.{Refusal}
-use Rattle.cc_view.specs.Refusing.{grammar_refusal, refused, refused_by, refused_for, refused_without}
+use Rattle.cc_view.specs.Refusal.{grammar_refusal, refusal_with, refusal_by_fault, refusal_for, refusal_for_missing}
 
 -- the AVP at a place, where there is one
 abbrev pub IsAt : List RawAvp → Option ℕ → Option RawAvp → Type 0
@@ -60,8 +60,8 @@ second-is codes before (avp ∷ avps) =
 -- there is a Session-Id, the first AVP is one, the first unknown one with M, the first second one, the first missing code
 abbrev pub grammar_by : Bool → Bool → Option RawAvp → Option RawAvp → Option ℕ → Option Refusal
 grammar_by has begins unknown second missing =
-    cond (not has) (Some (refused_without session_id)) (cond (not begins) (Some (refused UnableToComply))
-    (option_or (option_map (refused_for AvpUnsupported) unknown) (option_or (option_map (refused_for AvpOccursTooManyTimes) second) (option_map refused_without missing))))
+    cond (not has) (Some (refusal_for_missing session_id)) (cond (not begins) (Some (refusal_with UnableToComply))
+    (option_or (option_map (refusal_for AvpUnsupported) unknown) (option_or (option_map (refusal_for AvpOccursTooManyTimes) second) (option_map refusal_for_missing missing))))
 
 abbrev fault_by : Bool → Bool → Option ℕ → Option ℕ → Option ℕ → Option GrammarFault
 fault_by has begins unknown second missing = first_fault (
@@ -69,24 +69,24 @@ fault_by has begins unknown second missing = first_fault (
     ∷ option_map (λ at. UnknownM at) unknown ∷ option_map (λ at. Twice at) second ∷ option_map (λ code. Missing code) missing ∷ [])
 
 by_parts : (avps : List RawAvp) (has begins : Bool) (u : Option ℕ) (x : Option RawAvp) (t : Option ℕ) (y : Option RawAvp) (m : Option ℕ) → IsAt avps u x → IsAt avps t y
-    → option_and_then (refused_by avps) (fault_by has begins u t m) ≡ grammar_by has begins x y m
+    → option_and_then (refusal_by_fault avps) (fault_by has begins u t m) ≡ grammar_by has begins x y m
 by_parts avps false begins u x t y m p q = refl
 by_parts avps true false u x t y m p q = refl
-by_parts avps true true (Some at) (Some avp) t y m p q = ap (option_map (refused_for AvpUnsupported)) p.0
+by_parts avps true true (Some at) (Some avp) t y m p q = ap (option_map (refusal_for AvpUnsupported)) p.0
 by_parts avps true true (Some at) None t y m p q = let no = p.1 in absurd cc
 by_parts avps true true None (Some avp) t y m p q = let no = p.1 in absurd cc
-by_parts avps true true None None (Some at) (Some avp) m p q = ap (option_map (refused_for AvpOccursTooManyTimes)) q.0
+by_parts avps true true None None (Some at) (Some avp) m p q = ap (option_map (refusal_for AvpOccursTooManyTimes)) q.0
 by_parts avps true true None None (Some at) None m p q = let no = q.1 in absurd cc
 by_parts avps true true None None None (Some avp) m p q = let no = q.1 in absurd cc
 by_parts avps true true None None None None (Some code) p q = refl
 by_parts avps true true None None None None None p q = refl
 
-pub grammar-is : (vendors : List ℕ) (first : RawAvp) (avps : List RawAvp) → grammar_refusal vendors (first ∷ avps)
-    ≡ grammar_by (has_avp session_id (first ∷ avps)) (is_of session_id first) (find (is_unknown_mandatory vendors) (first ∷ avps)) (second_in single_codes [] (first ∷ avps)) (missing_of (required_in (first ∷ avps)) (first ∷ avps))
+pub grammar-is : (vendors : List ℕ) (avps : List RawAvp) → grammar_refusal vendors avps
+    ≡ grammar_by (has_avp session_id avps) (begins_with_session avps) (find (is_unknown_mandatory vendors) avps) (second_in single_codes [] avps) (missing_of (required_in avps) avps)
 unfolding grammar_fault
-grammar-is vendors first avps =
-    by_parts (first ∷ avps) (has_avp session_id (first ∷ avps)) (is_of session_id first)
-    (unknown_of vendors (first ∷ avps)) (find (is_unknown_mandatory vendors) (first ∷ avps))
-    (second_of single_codes (first ∷ avps)) (second_in single_codes [] (first ∷ avps))
-    (missing_of (required_in (first ∷ avps)) (first ∷ avps))
-    (find-is (is_unknown_mandatory vendors) (first ∷ avps)) (second-is single_codes [] (first ∷ avps))
+grammar-is vendors avps =
+    by_parts avps (has_avp session_id avps) (begins_with_session avps)
+    (unknown_of vendors avps) (find (is_unknown_mandatory vendors) avps)
+    (second_of single_codes avps) (second_in single_codes [] avps)
+    (missing_of (required_in avps) avps)
+    (find-is (is_unknown_mandatory vendors) avps) (second-is single_codes [] avps)

@@ -3,16 +3,16 @@ use Rattle.std.proofs.Common.{◌≡◌, List, [], Bool, cond, Option, option_ma
 use Rattle.std.specs.Prelude.{option_to_list}
 use Rattle.dia_avp.specs.declared.avp.RawAvp.{RawAvp}
 use Rattle.dia_avp.specs.declared.fault.AvpFault.{AvpFault}
-use Rattle.cc_view.specs.Carried.{carriable, carries_too_much}
-use Rattle.dia_grammar.specs.Codes.{session_id}
-use Rattle.cc_view.specs.Writing.{octets_avp}
+use Rattle.cc_view.specs.Answer.Carried.{carriable_avps, carries_too_much}
+use Rattle.dia_base.specs.Codes.{session_id}
+use Rattle.cc_view.specs.Answer.Writing.{octets_avp}
 
 -- what is written for the Session-Id that is found
 abbrev pub session_found : Option RawAvp → List RawAvp
 session_found found = option_to_list (option_map (λ avp. octets_avp session_id avp.value) found)
 
-pub carriable-fault : (s : Result (List RawAvp) AvpFault) (fault : AvpFault) → s ≡ Err fault → carriable s ≡ []
-carriable-fault s fault e = ap carriable e
+pub carriable_avps-fault : (s : Result (List RawAvp) AvpFault) (fault : AvpFault) → s ≡ Err fault → carriable_avps s ≡ []
+carriable_avps-fault s fault e = ap carriable_avps e
 
-pub carriable-by : (s : Result (List RawAvp) AvpFault) (avps : List RawAvp) (b : Bool) → s ≡ Ok avps → carries_too_much avps ≡ b → carriable s ≡ cond b [] avps
-carriable-by s avps b e much = ap carriable e ∙ ap (λ (x : Bool). cond x [] avps) much
+pub carriable_avps-by : (s : Result (List RawAvp) AvpFault) (avps : List RawAvp) (b : Bool) → s ≡ Ok avps → carries_too_much avps ≡ b → carriable_avps s ≡ cond b [] avps
+carriable_avps-by s avps b e much = ap carriable_avps e ∙ ap (λ (x : Bool). cond x [] avps) much

@@ -24,12 +24,12 @@ use Rattle.cc_view.specs.declared.code.ResultCode.{ResultCode}
 use Rattle.cc_view.specs.declared.code.ResultCode.TheVariants.{ApplicationUnsupported, AvpOccursTooManyTimes, AvpUnsupported, CommandUnsupported, UnableToComply}
 use Rattle.cc_view.specs.declared.refusal.Refusal.{Refusal}
 use Rattle.cc_view.specs.declared.request.CcRequest.{CcRequest}
-use Rattle.cc_view.specs.Carried.{carries_too_much}
-use Rattle.cc_view.specs.Checking.{command_values, count_codes, first_refusal, group_refusal, group_values, groups_refusal, inner_group_refusal, inner_refusal, is_units, members_refusal, refused_fault, service_codes, service_members_refusal, service_refusal, subscription_codes, subscription_refusal, tested_in, units_refusal, value_refusal, value_refusal_among, values_refusal}
-use Rattle.cc_view.specs.Codes.{multiple_services, subscription_id}
-use Rattle.cc_view.specs.Content.{are_within_limits, content_of, request_in, services_in}
-use Rattle.cc_view.specs.FailedAvp.{copied, fixed_len, is_copied, kind_at, least_form, least_len}
-use Rattle.cc_view.specs.Refusing.{grammar_refusal, listed_by, listed_in, refused, refused_at, refused_by, refused_for, refused_octets, refused_without, unless_refused}
+use Rattle.cc_view.specs.Answer.Carried.{carries_too_much}
+use Rattle.cc_view.specs.RequestView.Checking.{command_values, count_codes, first_refusal, group_refusal, group_values, groups_refusal, inner_group_refusal, inner_refusal, is_units, members_refusal, fault_refusal, service_codes, service_members_refusal, service_refusal, subscription_codes, subscription_refusal, tested_in, units_refusal, value_refusal, value_refusal_among, values_refusal}
+use Rattle.dia_base.specs.Codes.{multiple_services, subscription_id}
+use Rattle.cc_view.specs.RequestView.Content.{are_within_limits, content_of, request_in, services_in}
+use Rattle.cc_view.specs.Refusal.FailedAvp.{copy_or_least_form, fixed_len, is_copied, kind_at, least_form, least_len}
+use Rattle.cc_view.specs.Refusal.{grammar_refusal, avps_by, avps_of, refusal_with, refusal_at, refusal_by_fault, refusal_for, refusal_of_octets, refusal_for_missing, unless_refused}
 use Rattle.cc_view.specs.RequestView.{request_refusal, view_of, view_of_list}
 
 abbrev IsShortIn : Refusal → Type 0
@@ -65,7 +65,7 @@ short-least : (code flags vendor : ℕ) → length_of (least_form code flags ven
 short-least code flags vendor =
     omega (arith, header_most (has_vendor flags), least_least (kind_at code vendor), length-replicate {A = ℕ} (least_len (kind_at code vendor)) 0)
 
-short-copied : (avp : RawAvp) → length_of (copied avp) ≤ 8192
+short-copied : (avp : RawAvp) → length_of (copy_or_least_form avp) ≤ 8192
 short-copied avp = by_length (is_copied avp) refl
   where
     by_length : (short : Bool) → is_copied avp ≡ short → length_of (cond short avp (least_form avp.code avp.flags avp.vendor)) ≤ 8192
@@ -74,7 +74,7 @@ short-copied avp = by_length (is_copied avp) refl
 
 -- ---- one refusal
 
-short-octets : (octets : List ℕ) (fault : AvpFault) → IsShortIn (refused_octets octets fault)
+short-octets : (octets : List ℕ) (fault : AvpFault) → IsShortIn (refusal_of_octets octets fault)
 short-octets octets (ShortHeader at) = tt
 short-octets octets (LengthTooSmall at code) = short-least code _ _
 short-octets octets (Overrun at code) = short-least code _ _
@@ -82,14 +82,14 @@ short-octets octets TooLong = tt
 short-octets octets TooDeep = tt
 short-octets octets OutOfMemory = tt
 
-short-at : (code : ResultCode) (avps : List RawAvp) (at : ℕ) → Short (refused_at code avps at)
+short-at : (code : ResultCode) (avps : List RawAvp) (at : ℕ) → Short (refusal_at code avps at)
 short-at code avps at = by_place (slice_get avps at)
   where
-    by_place : (found : Option RawAvp) → Short (option_map (refused_for code) found)
+    by_place : (found : Option RawAvp) → Short (option_map (refusal_for code) found)
     by_place (Some avp) = short-copied avp
     by_place None = tt
 
-short-fault : (avp : RawAvp) (fault : DictFault) → Short (refused_fault avp fault)
+short-fault : (avp : RawAvp) (fault : DictFault) → Short (fault_refusal avp fault)
 short-fault avp (dict.BadLength code) = short-least avp.code avp.flags avp.vendor
 short-fault avp (dict.BadUtf8 code) = short-copied avp
 short-fault avp (dict.BadEnumerated code) = short-copied avp
@@ -114,7 +114,7 @@ short-first : (test : RawAvp → Option Refusal) → ((avp : RawAvp) → Short (
 short-first test each [] = tt
 short-first test each (avp ∷ avps) = short-or (test avp) (first_refusal test avps) (each avp) (short-first test each avps)
 
-short-missing : (code : Option ℕ) → Short (option_map refused_without code)
+short-missing : (code : Option ℕ) → Short (option_map refusal_for_missing code)
 short-missing (Some code) = short-least code 64 0
 short-missing None = tt
 
@@ -122,22 +122,22 @@ short-missing None = tt
 
 short-value : (avp : RawAvp) → Short (value_refusal avp)
 unfolding value_refusal
-short-value avp = short-then (refused_fault avp) (short-fault avp) (result_err (reading_of avp))
+short-value avp = short-then (fault_refusal avp) (short-fault avp) (result_err (reading_of avp))
 
 short-values : (codes : List ℕ) (avps : List RawAvp) → Short (values_refusal codes avps)
 short-values codes avps = short-first (value_refusal_among codes) (λ avp. short-if (is_among codes avp) (value_refusal avp) None (short-value avp) tt) avps
 
 short-members : (vendors single required : List ℕ) (avps : List RawAvp) → Short (members_refusal vendors single required avps)
 short-members vendors single required avps =
-    let unknown = option_and_then (refused_at AvpUnsupported avps) (unknown_of vendors avps) in
-    let second = option_and_then (refused_at AvpOccursTooManyTimes avps) (second_of single avps) in
-    let missing = option_map refused_without (missing_of required avps) in
+    let unknown = option_and_then (refusal_at AvpUnsupported avps) (unknown_of vendors avps) in
+    let second = option_and_then (refusal_at AvpOccursTooManyTimes avps) (second_of single avps) in
+    let missing = option_map refusal_for_missing (missing_of required avps) in
     let values = values_refusal group_values avps in
-    short-or unknown (option_or second (option_or missing values)) (short-then (refused_at AvpUnsupported avps) (short-at AvpUnsupported avps) (unknown_of vendors avps))
-    (short-or second (option_or missing values) (short-then (refused_at AvpOccursTooManyTimes avps) (short-at AvpOccursTooManyTimes avps) (second_of single avps))
+    short-or unknown (option_or second (option_or missing values)) (short-then (refusal_at AvpUnsupported avps) (short-at AvpUnsupported avps) (unknown_of vendors avps))
+    (short-or second (option_or missing values) (short-then (refusal_at AvpOccursTooManyTimes avps) (short-at AvpOccursTooManyTimes avps) (second_of single avps))
     (short-or missing values (short-missing (missing_of required avps)) (short-values group_values avps)))
 
-short-tested : (test : List RawAvp → Option Refusal) → ((avps : List RawAvp) → Short (test avps)) → (octets : List ℕ) (s : Result (List RawAvp) AvpFault) → Short (tested_in test (listed_by octets s))
+short-tested : (test : List RawAvp → Option Refusal) → ((avps : List RawAvp) → Short (test avps)) → (octets : List ℕ) (s : Result (List RawAvp) AvpFault) → Short (tested_in test (avps_by octets s))
 short-tested test each octets (Ok avps) = each avps
 short-tested test each octets (Err fault) = short-octets octets fault
 
@@ -169,7 +169,7 @@ short-group vendors avp =
 
 -- ---- a request
 
-short-by : (avps : List RawAvp) (fault : GrammarFault) → Short (refused_by avps fault)
+short-by : (avps : List RawAvp) (fault : GrammarFault) → Short (refusal_by_fault avps fault)
 short-by avps (Missing code) = short-least code 64 0
 short-by avps FirstNotSessionId = tt
 short-by avps (UnknownM at) = short-at AvpUnsupported avps at
@@ -179,7 +179,7 @@ short-request : (vendors : List ℕ) (avps : List RawAvp) → Short (request_ref
 short-request vendors avps =
     let values = values_refusal command_values avps in
     let groups = groups_refusal vendors avps in
-    short-or (grammar_refusal vendors avps) (option_or values groups) (short-then (refused_by avps) (short-by avps) (grammar_fault vendors avps))
+    short-or (grammar_refusal vendors avps) (option_or values groups) (short-then (refusal_by_fault avps) (short-by avps) (grammar_fault vendors avps))
     (short-or values groups (short-values command_values avps) (short-first (group_refusal vendors) (short-group vendors) avps))
 
 -- ---- the view
@@ -187,21 +187,21 @@ short-request vendors avps =
 abbrev ShortErr : Result CcRequest Refusal → Type 0
 ShortErr view = IfErr view IsShortIn
 
-short-content : (within : Bool) (request : CcRequest) → ShortErr (cond within (Ok request) (Err (refused UnableToComply)))
+short-content : (within : Bool) (request : CcRequest) → ShortErr (cond within (Ok request) (Err (refusal_with UnableToComply)))
 short-content true request = tt
 short-content false request = tt
 
-short-avps : (much : Bool) (refusal : Option Refusal) (content : Result CcRequest Refusal) → Short refusal → ShortErr content → ShortErr (cond much (Err (refused UnableToComply)) (unless_refused refusal content))
+short-avps : (much : Bool) (refusal : Option Refusal) (content : Result CcRequest Refusal) → Short refusal → ShortErr content → ShortErr (cond much (Err (refusal_with UnableToComply)) (unless_refused refusal content))
 short-avps true refusal content p q = tt
 short-avps false (Some refusal) content p q = p
 short-avps false None content p q = q
 
-short-list : (vendors octets : List ℕ) (s : Result (List RawAvp) AvpFault) → ShortErr (view_of_list vendors (listed_by octets s))
+short-list : (vendors octets : List ℕ) (s : Result (List RawAvp) AvpFault) → ShortErr (view_of_list vendors (avps_by octets s))
 short-list vendors octets (Err fault) = short-octets octets fault
 short-list vendors octets (Ok avps) =
     short-avps (carries_too_much avps) (request_refusal vendors avps) (content_of avps) (short-request vendors avps) (short-content (are_within_limits (services_in avps)) (request_in avps))
 
-short-header : (application command : Bool) (view : Result CcRequest Refusal) → ShortErr view → ShortErr (cond (not application) (Err (refused ApplicationUnsupported)) (cond (not command) (Err (refused CommandUnsupported)) view))
+short-header : (application command : Bool) (view : Result CcRequest Refusal) → ShortErr view → ShortErr (cond (not application) (Err (refusal_with ApplicationUnsupported)) (cond (not command) (Err (refusal_with CommandUnsupported)) view))
 short-header true true view p = p
 short-header true false view p = tt
 short-header false command view p = tt
@@ -209,7 +209,7 @@ short-header false command view p = tt
 short-view : (vendors : List ℕ) (message : Message) → ShortErr (view_of vendors message)
 unfolding view_of
 short-view vendors message =
-    short-header (eqb message.header.application 4) (eqb message.header.command 272) (view_of_list vendors (listed_in message.body)) (short-list vendors message.body (split_of message.body))
+    short-header (eqb message.header.application 4) (eqb message.header.command 272) (view_of_list vendors (avps_of message.body)) (short-list vendors message.body (split_of message.body))
 
 pub failed-short : (vendors : List ℕ) (message : Message) (refusal : Refusal) → view_of vendors message ≡ Err refusal → IfSome refusal.failed (λ avp. length_of avp ≤ 8192)
 failed-short vendors message refusal e = subst ShortErr e (short-view vendors message)

@@ -8,8 +8,8 @@ use Rattle.dia_avp.specs.AvpList.{Reads, Answers}
 use Rattle.dia_avp.specs.AvpReading.{split_of}
 use Rattle.dia_avp.proofs.Splitting.{Reads-only}
 use Rattle.cc_view.specs.declared.refusal.Refusal.{Refusal}
-use Rattle.cc_view.specs.Refusing.{listed_by, listed_in, refused_octets}
-use Rattle.cc_view.specs.Splitting.{readable_of}
+use Rattle.cc_view.specs.Refusal.{avps_by, avps_of, refusal_of_octets}
+use Rattle.cc_view.specs.RequestView.Splitting.{readable_of}
 
 abbrev read : List RawAvp → Result (List RawAvp) AvpFault
 read avps = Ok avps
@@ -37,16 +37,16 @@ split-unreadable octets (Err TooDeep) h e = (TooDeep, sym (Reads-only octets (Er
 abbrev listed : List RawAvp → Result (List RawAvp) Refusal
 listed avps = Ok avps
 
-unlisted : (octets : List ℕ) (fault given : AvpFault) → Err fault ≡ split_of octets → fault ≡ given → listed_in octets ≡ Err (refused_octets octets given)
-unlisted octets fault given is same = ap (listed_by octets) (sym is) ∙ ap (λ (x : AvpFault). listed_by octets (Err x)) same
+unlisted : (octets : List ℕ) (fault given : AvpFault) → Err fault ≡ split_of octets → fault ≡ given → avps_of octets ≡ Err (refusal_of_octets octets given)
+unlisted octets fault given is same = ap (avps_by octets) (sym is) ∙ ap (λ (x : AvpFault). avps_by octets (Err x)) same
 
 -- the AVPs of a split are the list
-pub listed-ok : (octets : List ℕ) (r : Result (Vec RawAvp) AvpFault) (avps : Vec RawAvp) → Answers (Reads octets) r → r ≡ Ok avps → listed_in octets ≡ Ok avps.items
-listed-ok octets (Ok found) avps h e = let same : found ≡ avps = cc in ap (listed_by octets) (sym (Reads-only octets (Ok found.items) h)) ∙ ap (λ (v : Vec RawAvp). listed v.items) same
+pub listed-ok : (octets : List ℕ) (r : Result (Vec RawAvp) AvpFault) (avps : Vec RawAvp) → Answers (Reads octets) r → r ≡ Ok avps → avps_of octets ≡ Ok avps.items
+listed-ok octets (Ok found) avps h e = let same : found ≡ avps = cc in ap (avps_by octets) (sym (Reads-only octets (Ok found.items) h)) ∙ ap (λ (v : Vec RawAvp). listed v.items) same
 listed-ok octets (Err fault) avps h e = absurd cc
 
 -- a fault of the octets is their refusal
-pub listed-err : (octets : List ℕ) (r : Result (Vec RawAvp) AvpFault) (fault : AvpFault) → Answers (Reads octets) r → r ≡ Err fault → fault ≢ OutOfMemory → listed_in octets ≡ Err (refused_octets octets fault)
+pub listed-err : (octets : List ℕ) (r : Result (Vec RawAvp) AvpFault) (fault : AvpFault) → Answers (Reads octets) r → r ≡ Err fault → fault ≢ OutOfMemory → avps_of octets ≡ Err (refusal_of_octets octets fault)
 listed-err octets (Ok found) fault h e other = absurd cc
 listed-err octets (Err OutOfMemory) fault h e other = absurd (other (cc))
 listed-err octets (Err (ShortHeader at)) fault h e other = unlisted octets (ShortHeader at) fault (Reads-only octets (Err (ShortHeader at)) h) (cc)

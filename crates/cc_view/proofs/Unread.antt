@@ -2,48 +2,47 @@
 use Rattle.std.proofs.Common.{◌≡◌, ℕ, zero, suc, ◌<◌, Bool, true, false, not, ◌&&◌, ◌||◌, cond, eqb, eq-eqb, List, [], ◌∷◌, ◌++◌, length, get_or, map, Option, Some, None, option_map, Result, Ok, Err, refl, ap, sym, subst, ◌∙◌, arith}
 use Rattle.std.specs.List.{filter, find, list_any, sum_by}
 use Rattle.std.specs.Option.{option_and_then, option_or, unwrap_or}
-use Rattle.std.proofs.lemmas.Bool.{eqb-true}
+use Rattle.std.proofs.lemmas.Bool.{and_parts, eqb-true, false_from_ne_true, not-false, or_from}
 use Rattle.std.proofs.lemmas.List.Folds.{Any-from_list_any, list_any-append, list_any_at}
 use Rattle.byteorder.specs.Endian.{big_number}
 use Rattle.dia_avp.specs.declared.avp.RawAvp.{RawAvp}
 use Rattle.dia_avp.specs.declared.fault.AvpFault.{AvpFault}
 use Rattle.dia_message.specs.declared.message.Message.{Message}
-use Rattle.dia_grammar.specs.Codes.{cc_request_number, cc_request_type, requested_action, requested_service_unit, service_identifier, session_id}
-use Rattle.dia_grammar.specs.Grammar.{has_avp, has_row, is_among, is_event_type, is_mandatory, is_of, is_second, is_standard, is_unknown_mandatory, missing_of, required_codes, required_in, single_codes}
-use Rattle.dia_grammar.proofs.Finding.{and_first, and_second, neither, not_false, not_true}
+use Rattle.dia_base.specs.Codes.{cc_request_number, cc_request_type, requested_action, requested_service_unit, service_identifier, session_id, multiple_services, subscription_id, used_service_unit}
+use Rattle.dia_grammar.specs.Grammar.{begins_with_session, has_avp, has_row, is_among, is_event_type, is_mandatory, is_of, is_second, is_standard, is_unknown_mandatory, missing_of, required_codes, required_in, single_codes}
 use Rattle.cc_view.specs.declared.code.ResultCode.TheVariants.{ApplicationUnsupported, CommandUnsupported, UnableToComply}
 use Rattle.cc_view.specs.declared.refusal.Refusal.{Refusal}
 use Rattle.cc_view.specs.declared.request.CcRequest.{CcRequest}
 use Rattle.cc_view.specs.declared.request.Service.{Service}
-use Rattle.cc_view.specs.Carried.{carries_too_much}
-use Rattle.cc_view.specs.Checking.{command_values, first_refusal, group_refusal, groups_refusal, is_units, service_refusal, subscription_refusal, units_refusal, value_refusal, value_refusal_among, values_refusal}
-use Rattle.cc_view.specs.Codes.{multiple_services, subscription_id, used_service_unit}
-use Rattle.cc_view.specs.Content.{action_by, are_within_limits, content_of, is_own, kind_by, own_services_in, service_of, services_by, services_in, subscription_of}
-use Rattle.cc_view.specs.Refusing.{grammar_refusal, listed_by, listed_in, refused, unless_refused}
-use Rattle.cc_view.specs.RequestView.{request_refusal, view_of, view_of_avps, view_of_list}
-use Rattle.cc_view.specs.Units.{counts_of, octets_of, time_of, u32_value, units_of}
-use Rattle.cc_view.specs.Unread.{DifferUnread, is_read, read_of, unread_codes}
+use Rattle.cc_view.specs.Answer.Carried.{carries_too_much}
+use Rattle.cc_view.specs.RequestView.Checking.{command_values, group_refusal, groups_refusal, is_units, service_refusal, subscription_refusal, units_refusal, value_refusal, value_refusal_among, values_refusal}
+use Rattle.cc_view.specs.RequestView.Content.{action_by, are_within_limits, content_of, is_own, kind_by, own_services_in, service_of, services_by, services_in, subscription_of}
+use Rattle.cc_view.specs.Refusal.{avps_by, avps_of, refusal_with, unless_refused}
+use Rattle.cc_view.specs.RequestView.{view_of, view_of_avps, view_of_list}
+use Rattle.cc_view.specs.RequestView.Counts.{counts_of, octets_of, time_of, u32_value, units_of}
+use Rattle.cc_view.specs.RequestView.UnreadAvps.{DifferUnread, is_read, read_of, unread_codes}
+use Rattle.cc_view.proofs.Kept.{MissesBy, filter-filter, find-filter, first_refusal-filter, list_any-filter}
 use Rattle.cc_view.proofs.Places.{grammar-is, grammar_by, second_in}
 
 -- ---- tests that no unread AVP passes
 
-abbrev Misses : (RawAvp → Bool) → Type 0
-Misses test = (avp : RawAvp) → is_read avp ≡ false → test avp ≡ false
+abbrev pub Misses : (RawAvp → Bool) → Type 0
+Misses test = MissesBy is_read test
 
 not_both : (b : Bool) → not b ≡ true → b ≡ true → ⊥
 not_both true e f = absurd cc
 not_both false e f = absurd cc
 
-code_is : (code : ℕ) (avp : RawAvp) → is_of code avp ≡ true → avp.code ≡ code
-code_is code avp e = eqb-true avp.code code (and_second (eqb avp.vendor 0) (eqb avp.code code) e)
+pub code_is : (code : ℕ) (avp : RawAvp) → is_of code avp ≡ true → avp.code ≡ code
+code_is code avp e = eqb-true avp.code code (and_parts (eqb avp.vendor 0) (eqb avp.code code) e).1
 
 -- a code that is none of the unread ones
-abbrev is_other : ℕ → Bool
+abbrev pub is_other : ℕ → Bool
 is_other code = not (list_any (λ unread. eqb unread code) unread_codes)
 
-misses-one : (code : ℕ) → is_other code ≡ true → Misses (is_of code)
-misses-one code other avp unread = not_true (is_of code avp) (λ e.
-    let some = Any-from_list_any (λ (c : ℕ). is_of c avp) unread_codes (not_false (is_among unread_codes avp) unread) in
+pub misses-one : (code : ℕ) → is_other code ≡ true → Misses (is_of code)
+misses-one code other avp unread = false_from_ne_true (is_of code avp) (λ e.
+    let some = Any-from_list_any (λ (c : ℕ). is_of c avp) unread_codes (not-false (is_among unread_codes avp) unread) in
     let same : some.1 ≡ code = sym (code_is some.1 avp some.4) ∙ code_is code avp e in
     let found : list_any (λ (c : ℕ). eqb c code) unread_codes ≡ true =
     list_any_at (λ (c : ℕ). eqb c code) unread_codes some.0 some.1 some.2 (subst (λ (c : ℕ). eqb c code ≡ true) (sym some.3) (eq-eqb some.1 code same)) in
@@ -56,69 +55,23 @@ are_other (code ∷ codes) = is_other code && are_other codes
 misses-among : (codes : List ℕ) → are_other codes ≡ true → Misses (is_among codes)
 misses-among [] other avp unread = refl
 misses-among (code ∷ codes) other avp unread =
-    neither (is_of code avp) (is_among codes avp) (misses-one code (and_first (is_other code) (are_other codes) other) avp unread)
-    (misses-among codes (and_second (is_other code) (are_other codes) other) avp unread)
+    or_from (is_of code avp) (is_among codes avp) (misses-one code (and_parts (is_other code) (are_other codes) other).0 avp unread)
+    (misses-among codes (and_parts (is_other code) (are_other codes) other).1 avp unread)
 
 misses-either : (p q : RawAvp → Bool) → Misses p → Misses q → Misses (λ avp. p avp || q avp)
-misses-either p q misses others avp unread = neither (p avp) (q avp) (misses avp unread) (others avp unread)
-
--- ---- what is found among the AVPs that are read
-
-find_here : (b : Bool) (test : RawAvp → Bool) (x : RawAvp) (ys xs : List RawAvp) → (b ≡ false → test x ≡ false) → find test ys ≡ find test xs → find test (cond b (x ∷ ys) ys) ≡ find test (x ∷ xs)
-find_here true test x ys xs misses same = ap (λ (o : Option RawAvp). cond (test x) (Some x) o) same
-find_here false test x ys xs misses same = same ∙ sym (ap (λ (b : Bool). cond b (Some x) (find test xs)) (misses refl))
-
-find-read : (test : RawAvp → Bool) → Misses test → (avps : List RawAvp) → find test (read_of avps) ≡ find test avps
-find-read test misses [] = refl
-find-read test misses (x ∷ xs) = find_here (is_read x) test x (read_of xs) xs (misses x) (find-read test misses xs)
-
-any_here : (b : Bool) (test : RawAvp → Bool) (x : RawAvp) (ys xs : List RawAvp) → (b ≡ false → test x ≡ false) → list_any test ys ≡ list_any test xs → list_any test (cond b (x ∷ ys) ys) ≡ list_any test (x ∷ xs)
-any_here true test x ys xs misses same = ap (λ (o : Bool). test x || o) same
-any_here false test x ys xs misses same = same ∙ sym (ap (λ (b : Bool). b || list_any test xs) (misses refl))
-
-any-read : (test : RawAvp → Bool) → Misses test → (avps : List RawAvp) → list_any test (read_of avps) ≡ list_any test avps
-any-read test misses [] = refl
-any-read test misses (x ∷ xs) = any_here (is_read x) test x (read_of xs) xs (misses x) (any-read test misses xs)
-
-filter_here : (b : Bool) (test : RawAvp → Bool) (x : RawAvp) (ys xs : List RawAvp) → (b ≡ false → test x ≡ false) → filter test ys ≡ filter test xs → filter test (cond b (x ∷ ys) ys) ≡ filter test (x ∷ xs)
-filter_here true test x ys xs misses same = ap (λ (zs : List RawAvp). cond (test x) (x ∷ zs) zs) same
-filter_here false test x ys xs misses same = same ∙ sym (ap (λ (b : Bool). cond b (x ∷ filter test xs) (filter test xs)) (misses refl))
-
-filter-read : (test : RawAvp → Bool) → Misses test → (avps : List RawAvp) → filter test (read_of avps) ≡ filter test avps
-filter-read test misses [] = refl
-filter-read test misses (x ∷ xs) = filter_here (is_read x) test x (read_of xs) xs (misses x) (filter-read test misses xs)
-
-refusal_here : (b : Bool) (test : RawAvp → Option Refusal) (x : RawAvp) (ys xs : List RawAvp) → (b ≡ false → test x ≡ None) → first_refusal test ys ≡ first_refusal test xs
-    → first_refusal test (cond b (x ∷ ys) ys) ≡ first_refusal test (x ∷ xs)
-refusal_here true test x ys xs misses same = ap (λ (o : Option Refusal). option_or (test x) o) same
-refusal_here false test x ys xs misses same = same ∙ sym (ap (λ (o : Option Refusal). option_or o (first_refusal test xs)) (misses refl))
-
-refusal-read : (test : RawAvp → Option Refusal) → ((avp : RawAvp) → is_read avp ≡ false → test avp ≡ None) → (avps : List RawAvp) → first_refusal test (read_of avps) ≡ first_refusal test avps
-refusal-read test misses [] = refl
-refusal-read test misses (x ∷ xs) = refusal_here (is_read x) test x (read_of xs) xs (misses x) (refusal-read test misses xs)
-
--- ---- the same behind a first AVP
-
-find-behind : (test : RawAvp → Bool) → Misses test → (first : RawAvp) (avps : List RawAvp) → find test (first ∷ read_of avps) ≡ find test (first ∷ avps)
-find-behind test misses first avps = ap (λ (o : Option RawAvp). cond (test first) (Some first) o) (find-read test misses avps)
-
-any-behind : (test : RawAvp → Bool) → Misses test → (first : RawAvp) (avps : List RawAvp) → list_any test (first ∷ read_of avps) ≡ list_any test (first ∷ avps)
-any-behind test misses first avps = ap (λ (b : Bool). test first || b) (any-read test misses avps)
-
-filter-behind : (test : RawAvp → Bool) → Misses test → (first : RawAvp) (avps : List RawAvp) → filter test (first ∷ read_of avps) ≡ filter test (first ∷ avps)
-filter-behind test misses first avps = ap (λ (zs : List RawAvp). cond (test first) (first ∷ zs) zs) (filter-read test misses avps)
+misses-either p q misses others avp unread = or_from (p avp) (q avp) (misses avp unread) (others avp unread)
 
 -- ---- the grammar
 
 known : (code : ℕ) (avp : RawAvp) → is_of code avp ≡ true → is_standard code 0 ≡ true → is_standard avp.code avp.vendor ≡ true
 known code avp e standard =
     subst (λ (c : ℕ). is_standard c avp.vendor ≡ true) (sym (code_is code avp e))
-    (subst (λ (v : ℕ). is_standard code v ≡ true) (sym (eqb-true avp.vendor 0 (and_first (eqb avp.vendor 0) (eqb avp.code code) e))) standard)
+    (subst (λ (v : ℕ). is_standard code v ≡ true) (sym (eqb-true avp.vendor 0 (and_parts (eqb avp.vendor 0) (eqb avp.code code) e).0)) standard)
 
 -- each unread code is a standard one
 unread-standard : (avp : RawAvp) → is_read avp ≡ false → is_standard avp.code avp.vendor ≡ true
 unread-standard avp unread =
-    let some = Any-from_list_any (λ (c : ℕ). is_of c avp) unread_codes (not_false (is_among unread_codes avp) unread) in
+    let some = Any-from_list_any (λ (c : ℕ). is_of c avp) unread_codes (not-false (is_among unread_codes avp) unread) in
     known some.1 avp some.4 (subst (λ (c : ℕ). is_standard c 0 ≡ true) some.3 (all_standard some.0 some.1 some.2))
   where
     all_standard : (k d : ℕ) → k < length unread_codes → is_standard (get_or unread_codes k d) 0 ≡ true
@@ -156,7 +109,7 @@ alike-both codes before others x alike avp among =
     list_any-append (is_of avp.code) before (x ∷ []) ∙ ap (λ (b : Bool). b || (is_of avp.code x || false)) (alike avp among) ∙ sym (list_any-append (is_of avp.code) others (x ∷ []))
 
 none_of : (codes : List ℕ) (x : RawAvp) (k d : ℕ) → is_among codes x ≡ false → k < length codes → is_of (get_or codes k d) x ≡ false
-none_of codes x k d none lt = not_true (is_of (get_or codes k d) x) (λ e. let some = list_any_at (λ (c : ℕ). is_of c x) codes k d lt e in absurd cc)
+none_of codes x k d none lt = false_from_ne_true (is_of (get_or codes k d) x) (λ e. let some = list_any_at (λ (c : ℕ). is_of c x) codes k d lt e in absurd cc)
 
 alike-unread : (codes : List ℕ) (before others : List RawAvp) (x : RawAvp) → is_among codes x ≡ false → Alike codes before others → Alike codes (before ++ x ∷ []) others
 alike-unread codes before others x none alike avp among =
@@ -179,14 +132,11 @@ second-read codes other [] before others alike = refl
 second-read codes other (x ∷ xs) before others alike =
     second_here (is_read x) codes before others x (read_of xs) xs (misses-among codes other x) alike (λ fronts backs same. second-read codes other xs fronts backs same)
 
-second-behind : (first : RawAvp) (avps : List RawAvp) → second_in single_codes [] (first ∷ read_of avps) ≡ second_in single_codes [] (first ∷ avps)
-second-behind first avps = ap (λ (o : Option RawAvp). cond (is_second single_codes [] first) (Some first) o) (sym (second-read single_codes refl avps (first ∷ []) (first ∷ []) (λ avp among. refl)))
-
-missing-behind : (codes : List ℕ) → are_other codes ≡ true → (first : RawAvp) (avps : List RawAvp) → missing_of codes (first ∷ read_of avps) ≡ missing_of codes (first ∷ avps)
-missing-behind [] other first avps = refl
-missing-behind (code ∷ codes) other first avps =
-    ap (λ (b : Bool). cond (not b) (Some code) (missing_of codes (first ∷ read_of avps))) (any-behind (is_of code) (misses-one code (and_first (is_other code) (are_other codes) other)) first avps)
-    ∙ ap (λ (o : Option ℕ). cond (not (has_avp code (first ∷ avps))) (Some code) o) (missing-behind codes (and_second (is_other code) (are_other codes) other) first avps)
+missing-read : (codes : List ℕ) → are_other codes ≡ true → (avps : List RawAvp) → missing_of codes (read_of avps) ≡ missing_of codes avps
+missing-read [] other avps = refl
+missing-read (code ∷ codes) other avps =
+    ap (λ (b : Bool). cond (not b) (Some code) (missing_of codes (read_of avps))) (list_any-filter is_read (is_of code) (misses-one code (and_parts (is_other code) (are_other codes) other).0) avps)
+    ∙ ap (λ (o : Option ℕ). cond (not (has_avp code avps)) (Some code) o) (missing-read codes (and_parts (is_other code) (are_other codes) other).1 avps)
 
 misses-event : Misses is_event_type
 misses-event avp unread = ap (λ (b : Bool). b && eqb (length avp.value) 4 && eqb (big_number 4 avp.value) 4) (misses-one cc_request_type refl avp unread)
@@ -195,28 +145,29 @@ required_others : (event : Bool) → are_other (cond event (required_codes ++ re
 required_others true = refl
 required_others false = refl
 
-required-behind : (first : RawAvp) (avps : List RawAvp) → missing_of (required_in (first ∷ read_of avps)) (first ∷ read_of avps) ≡ missing_of (required_in (first ∷ avps)) (first ∷ avps)
-required-behind first avps =
-    ap (λ (b : Bool). missing_of (cond b (required_codes ++ requested_action ∷ []) required_codes) (first ∷ read_of avps)) (any-behind is_event_type misses-event first avps)
-    ∙ missing-behind (required_in (first ∷ avps)) (required_others (list_any is_event_type (first ∷ avps))) first avps
+required-read : (avps : List RawAvp) → missing_of (required_in (read_of avps)) (read_of avps) ≡ missing_of (required_in avps) avps
+required-read avps =
+    ap (λ (b : Bool). missing_of (cond b (required_codes ++ requested_action ∷ []) required_codes) (read_of avps)) (list_any-filter is_read is_event_type misses-event avps)
+    ∙ missing-read (required_in avps) (required_others (list_any is_event_type avps)) avps
 
-grammar-read : (vendors : List ℕ) (first : RawAvp) (avps : List RawAvp) → grammar_refusal vendors (first ∷ read_of avps) ≡ grammar_refusal vendors (first ∷ avps)
-grammar-read vendors first avps =
-    let kept = first ∷ read_of avps in
-    let begins = is_of session_id first in
+-- the refusal by the grammar, where it is given whether a Session-Id comes first
+abbrev grammar_from : List ℕ → Bool → List RawAvp → Option Refusal
+grammar_from vendors begins avps =
+    grammar_by (has_avp session_id avps) begins (find (is_unknown_mandatory vendors) avps) (second_in single_codes [] avps) (missing_of (required_in avps) avps)
+
+grammar-read : (vendors : List ℕ) (begins : Bool) (avps : List RawAvp) → grammar_from vendors begins (read_of avps) ≡ grammar_from vendors begins avps
+grammar-read vendors begins avps =
+    let kept = read_of avps in
     let unknown = find (is_unknown_mandatory vendors) in
-    grammar-is vendors first (read_of avps)
-    ∙ ap (λ (b : Bool). grammar_by b begins (unknown kept) (second_in single_codes [] kept) (missing_of (required_in kept) kept)) (any-behind (is_of session_id) (misses-one session_id refl) first avps)
-    ∙ ap (λ (o : Option RawAvp). grammar_by (has_avp session_id (first ∷ avps)) begins o (second_in single_codes [] kept) (missing_of (required_in kept) kept)) (find-behind (is_unknown_mandatory vendors) (misses-unknown vendors) first avps)
-    ∙ ap (λ (o : Option RawAvp). grammar_by (has_avp session_id (first ∷ avps)) begins (unknown (first ∷ avps)) o (missing_of (required_in kept) kept)) (second-behind first avps)
-    ∙ ap (λ (o : Option ℕ). grammar_by (has_avp session_id (first ∷ avps)) begins (unknown (first ∷ avps)) (second_in single_codes [] (first ∷ avps)) o) (required-behind first avps)
-    ∙ sym (grammar-is vendors first avps)
+    ap (λ (b : Bool). grammar_by b begins (unknown kept) (second_in single_codes [] kept) (missing_of (required_in kept) kept)) (list_any-filter is_read (is_of session_id) (misses-one session_id refl) avps)
+    ∙ ap (λ (o : Option RawAvp). grammar_by (has_avp session_id avps) begins o (second_in single_codes [] kept) (missing_of (required_in kept) kept)) (find-filter is_read (is_unknown_mandatory vendors) (misses-unknown vendors) avps)
+    ∙ ap (λ (o : Option RawAvp). grammar_by (has_avp session_id avps) begins (unknown avps) o (missing_of (required_in kept) kept)) (sym (second-read single_codes refl avps [] [] (λ avp among. refl)))
+    ∙ ap (λ (o : Option ℕ). grammar_by (has_avp session_id avps) begins (unknown avps) (second_in single_codes [] avps) o) (required-read avps)
 
 -- ---- values and groups
 
-values-read : (first : RawAvp) (avps : List RawAvp) → values_refusal command_values (first ∷ read_of avps) ≡ values_refusal command_values (first ∷ avps)
-values-read first avps = ap (λ (o : Option Refusal). option_or (value_refusal_among command_values first) o)
-    (refusal-read (value_refusal_among command_values) (λ avp unread. ap (λ (b : Bool). cond b (value_refusal avp) None) (misses-among command_values refl avp unread)) avps)
+values-read : (avps : List RawAvp) → values_refusal command_values (read_of avps) ≡ values_refusal command_values avps
+values-read avps = first_refusal-filter is_read (value_refusal_among command_values) (λ avp unread. ap (λ (b : Bool). cond b (value_refusal avp) None) (misses-among command_values refl avp unread)) avps
 
 misses-units : Misses is_units
 misses-units = misses-either (is_of requested_service_unit) (is_of used_service_unit) (misses-one requested_service_unit refl) (misses-one used_service_unit refl)
@@ -233,20 +184,23 @@ group-unread vendors avp unread =
     (subscription_refusal vendors avp) (units_refusal vendors avp) (service_refusal vendors avp)
     (misses-one subscription_id refl avp unread) (misses-units avp unread) (misses-one multiple_services refl avp unread)
 
-groups-read : (vendors : List ℕ) (first : RawAvp) (avps : List RawAvp) → groups_refusal vendors (first ∷ read_of avps) ≡ groups_refusal vendors (first ∷ avps)
-groups-read vendors first avps = ap (λ (o : Option Refusal). option_or (group_refusal vendors first) o) (refusal-read (group_refusal vendors) (group-unread vendors) avps)
+groups-read : (vendors : List ℕ) (avps : List RawAvp) → groups_refusal vendors (read_of avps) ≡ groups_refusal vendors avps
+groups-read vendors avps = first_refusal-filter is_read (group_refusal vendors) (group-unread vendors) avps
 
-refused-read : (vendors : List ℕ) (first : RawAvp) (avps : List RawAvp) → request_refusal vendors (first ∷ read_of avps) ≡ request_refusal vendors (first ∷ avps)
-refused-read vendors first avps =
-    ap (λ (o : Option Refusal). option_or o (option_or (values_refusal command_values (first ∷ read_of avps)) (groups_refusal vendors (first ∷ read_of avps)))) (grammar-read vendors first avps)
-    ∙ ap (λ (o : Option Refusal). option_or (grammar_refusal vendors (first ∷ avps)) (option_or o (groups_refusal vendors (first ∷ read_of avps)))) (values-read first avps)
-    ∙ ap (λ (o : Option Refusal). option_or (grammar_refusal vendors (first ∷ avps)) (option_or (values_refusal command_values (first ∷ avps)) o)) (groups-read vendors first avps)
+abbrev refusal_from : List ℕ → Bool → List RawAvp → Option Refusal
+refusal_from vendors begins avps = option_or (grammar_from vendors begins avps) (option_or (values_refusal command_values avps) (groups_refusal vendors avps))
+
+refusal_from-read : (vendors : List ℕ) (begins : Bool) (avps : List RawAvp) → refusal_from vendors begins (read_of avps) ≡ refusal_from vendors begins avps
+refusal_from-read vendors begins avps =
+    ap (λ (o : Option Refusal). option_or o (option_or (values_refusal command_values (read_of avps)) (groups_refusal vendors (read_of avps)))) (grammar-read vendors begins avps)
+    ∙ ap (λ (o : Option Refusal). option_or (grammar_from vendors begins avps) (option_or o (groups_refusal vendors (read_of avps)))) (values-read avps)
+    ∙ ap (λ (o : Option Refusal). option_or (grammar_from vendors begins avps) (option_or (values_refusal command_values avps) o)) (groups-read vendors avps)
 
 -- ---- the content
 
 misses-own : Misses is_own
 misses-own avp unread =
-    neither (is_units avp) (is_of service_identifier avp) (misses-units avp unread) (misses-one service_identifier refl avp unread)
+    or_from (is_units avp) (is_of service_identifier avp) (misses-units avp unread) (misses-one service_identifier refl avp unread)
 
 services_by-same : (avps others : List RawAvp) (services : List Service) → own_services_in avps ≡ own_services_in others → services_by avps services ≡ services_by others services
 services_by-same avps others [] same = same
@@ -263,18 +217,18 @@ abbrev own_by : Bool → Option RawAvp → Option RawAvp → List RawAvp → Lis
 own_by own ident asked used =
     cond own (record { group = None; ident = option_and_then u32_value ident; bare = true; asked = option_map counts_of asked; used = sums_of used } ∷ []) []
 
-own-behind : (first : RawAvp) (avps : List RawAvp) → own_services_in (first ∷ read_of avps) ≡ own_services_in (first ∷ avps)
-own-behind first avps =
-    let kept = first ∷ read_of avps in
-    ap (λ (b : Bool). own_by b (find (is_of service_identifier) kept) (find (is_of requested_service_unit) kept) (filter (is_of used_service_unit) kept)) (any-behind is_own misses-own first avps)
-    ∙ ap (λ (o : Option RawAvp). own_by (list_any is_own (first ∷ avps)) o (find (is_of requested_service_unit) kept) (filter (is_of used_service_unit) kept)) (find-behind (is_of service_identifier) (misses-one service_identifier refl) first avps)
-    ∙ ap (λ (o : Option RawAvp). own_by (list_any is_own (first ∷ avps)) (find (is_of service_identifier) (first ∷ avps)) o (filter (is_of used_service_unit) kept)) (find-behind (is_of requested_service_unit) (misses-one requested_service_unit refl) first avps)
-    ∙ ap (λ (xs : List RawAvp). own_by (list_any is_own (first ∷ avps)) (find (is_of service_identifier) (first ∷ avps)) (find (is_of requested_service_unit) (first ∷ avps)) xs) (filter-behind (is_of used_service_unit) (misses-one used_service_unit refl) first avps)
+own-read : (avps : List RawAvp) → own_services_in (read_of avps) ≡ own_services_in avps
+own-read avps =
+    let kept = read_of avps in
+    ap (λ (b : Bool). own_by b (find (is_of service_identifier) kept) (find (is_of requested_service_unit) kept) (filter (is_of used_service_unit) kept)) (list_any-filter is_read is_own misses-own avps)
+    ∙ ap (λ (o : Option RawAvp). own_by (list_any is_own avps) o (find (is_of requested_service_unit) kept) (filter (is_of used_service_unit) kept)) (find-filter is_read (is_of service_identifier) (misses-one service_identifier refl) avps)
+    ∙ ap (λ (o : Option RawAvp). own_by (list_any is_own avps) (find (is_of service_identifier) avps) o (filter (is_of used_service_unit) kept)) (find-filter is_read (is_of requested_service_unit) (misses-one requested_service_unit refl) avps)
+    ∙ ap (λ (xs : List RawAvp). own_by (list_any is_own avps) (find (is_of service_identifier) avps) (find (is_of requested_service_unit) avps) xs) (filter-filter is_read (is_of used_service_unit) (misses-one used_service_unit refl) avps)
 
-services-behind : (first : RawAvp) (avps : List RawAvp) → services_in (first ∷ read_of avps) ≡ services_in (first ∷ avps)
-services-behind first avps =
-    services_by-same (first ∷ read_of avps) (first ∷ avps) (map service_of (filter (is_of multiple_services) (first ∷ read_of avps))) (own-behind first avps)
-    ∙ ap (λ (xs : List RawAvp). services_by (first ∷ avps) (map service_of xs)) (filter-behind (is_of multiple_services) (misses-one multiple_services refl) first avps)
+services-read : (avps : List RawAvp) → services_in (read_of avps) ≡ services_in avps
+services-read avps =
+    services_by-same (read_of avps) avps (map service_of (filter (is_of multiple_services) (read_of avps))) (own-read avps)
+    ∙ ap (λ (xs : List RawAvp). services_by avps (map service_of xs)) (filter-filter is_read (is_of multiple_services) (misses-one multiple_services refl) avps)
 
 -- the content by what is found
 abbrev content_by : Option RawAvp → Option RawAvp → Option RawAvp → Option RawAvp → List RawAvp → List Service → Result CcRequest Refusal
@@ -286,48 +240,57 @@ content_by session number kind action subscriptions services =
       action = option_map action_by (option_and_then u32_value action);
       subscriptions = map subscription_of subscriptions;
       services = services;
-    })) (Err (refused UnableToComply))
+    })) (Err (refusal_with UnableToComply))
 
-content-read : (first : RawAvp) (avps : List RawAvp) → content_of (first ∷ read_of avps) ≡ content_of (first ∷ avps)
-content-read first avps =
-    let kept = first ∷ read_of avps in
-    let whole = first ∷ avps in
-    ap (λ (o : Option RawAvp). content_by o (find (is_of cc_request_number) kept) (find (is_of cc_request_type) kept) (find (is_of requested_action) kept) (filter (is_of subscription_id) kept) (services_in kept)) (find-behind (is_of session_id) (misses-one session_id refl) first avps)
-    ∙ ap (λ (o : Option RawAvp). content_by (find (is_of session_id) whole) o (find (is_of cc_request_type) kept) (find (is_of requested_action) kept) (filter (is_of subscription_id) kept) (services_in kept)) (find-behind (is_of cc_request_number) (misses-one cc_request_number refl) first avps)
-    ∙ ap (λ (o : Option RawAvp). content_by (find (is_of session_id) whole) (find (is_of cc_request_number) whole) o (find (is_of requested_action) kept) (filter (is_of subscription_id) kept) (services_in kept)) (find-behind (is_of cc_request_type) (misses-one cc_request_type refl) first avps)
-    ∙ ap (λ (o : Option RawAvp). content_by (find (is_of session_id) whole) (find (is_of cc_request_number) whole) (find (is_of cc_request_type) whole) o (filter (is_of subscription_id) kept) (services_in kept)) (find-behind (is_of requested_action) (misses-one requested_action refl) first avps)
-    ∙ ap (λ (xs : List RawAvp). content_by (find (is_of session_id) whole) (find (is_of cc_request_number) whole) (find (is_of cc_request_type) whole) (find (is_of requested_action) whole) xs (services_in kept)) (filter-behind (is_of subscription_id) (misses-one subscription_id refl) first avps)
-    ∙ ap (λ (xs : List Service). content_by (find (is_of session_id) whole) (find (is_of cc_request_number) whole) (find (is_of cc_request_type) whole) (find (is_of requested_action) whole) (filter (is_of subscription_id) whole) xs) (services-behind first avps)
+content-read : (avps : List RawAvp) → content_of (read_of avps) ≡ content_of avps
+content-read avps =
+    let kept = read_of avps in
+    ap (λ (o : Option RawAvp). content_by o (find (is_of cc_request_number) kept) (find (is_of cc_request_type) kept) (find (is_of requested_action) kept) (filter (is_of subscription_id) kept) (services_in kept)) (find-filter is_read (is_of session_id) (misses-one session_id refl) avps)
+    ∙ ap (λ (o : Option RawAvp). content_by (find (is_of session_id) avps) o (find (is_of cc_request_type) kept) (find (is_of requested_action) kept) (filter (is_of subscription_id) kept) (services_in kept)) (find-filter is_read (is_of cc_request_number) (misses-one cc_request_number refl) avps)
+    ∙ ap (λ (o : Option RawAvp). content_by (find (is_of session_id) avps) (find (is_of cc_request_number) avps) o (find (is_of requested_action) kept) (filter (is_of subscription_id) kept) (services_in kept)) (find-filter is_read (is_of cc_request_type) (misses-one cc_request_type refl) avps)
+    ∙ ap (λ (o : Option RawAvp). content_by (find (is_of session_id) avps) (find (is_of cc_request_number) avps) (find (is_of cc_request_type) avps) o (filter (is_of subscription_id) kept) (services_in kept)) (find-filter is_read (is_of requested_action) (misses-one requested_action refl) avps)
+    ∙ ap (λ (xs : List RawAvp). content_by (find (is_of session_id) avps) (find (is_of cc_request_number) avps) (find (is_of cc_request_type) avps) (find (is_of requested_action) avps) xs (services_in kept)) (filter-filter is_read (is_of subscription_id) (misses-one subscription_id refl) avps)
+    ∙ ap (λ (xs : List Service). content_by (find (is_of session_id) avps) (find (is_of cc_request_number) avps) (find (is_of cc_request_type) avps) (find (is_of requested_action) avps) (filter (is_of subscription_id) avps) xs) (services-read avps)
 
 -- ---- the view
 
 abbrev view_by : Bool → Option Refusal → Result CcRequest Refusal → Result CcRequest Refusal
-view_by much refusal content = cond much (Err (refused UnableToComply)) (unless_refused refusal content)
+view_by much refusal content = cond much (Err (refusal_with UnableToComply)) (unless_refused refusal content)
 
--- the view of AVPs of which as much is carried
-view-read : (vendors : List ℕ) (first : RawAvp) (avps : List RawAvp) → view_by (carries_too_much (first ∷ avps)) (request_refusal vendors (first ∷ read_of avps)) (content_of (first ∷ read_of avps)) ≡ view_of_avps vendors (first ∷ avps)
-view-read vendors first avps =
-    ap (λ (o : Option Refusal). view_by (carries_too_much (first ∷ avps)) o (content_of (first ∷ read_of avps))) (refused-read vendors first avps)
-    ∙ ap (λ (r : Result CcRequest Refusal). view_by (carries_too_much (first ∷ avps)) (request_refusal vendors (first ∷ avps)) r) (content-read first avps)
+-- the view, where it is given whether a Session-Id comes first and whether too much is carried
+abbrev view_with : List ℕ → Bool → Bool → List RawAvp → Result CcRequest Refusal
+view_with vendors begins much avps = view_by much (refusal_from vendors begins avps) (content_of avps)
 
-alike-view : (vendors : List ℕ) (first : RawAvp) (avps others : List RawAvp) → read_of avps ≡ read_of others → carries_too_much (first ∷ avps) ≡ carries_too_much (first ∷ others)
-    → view_of_avps vendors (first ∷ avps) ≡ view_of_avps vendors (first ∷ others)
-alike-view vendors first avps others read carried =
-    sym (view-read vendors first avps)
-    ∙ ap (λ (b : Bool). view_by b (request_refusal vendors (first ∷ read_of avps)) (content_of (first ∷ read_of avps))) carried
-    ∙ ap (λ (xs : List RawAvp). view_by (carries_too_much (first ∷ others)) (request_refusal vendors (first ∷ xs)) (content_of (first ∷ xs))) read
-    ∙ view-read vendors first others
+view_with-is : (vendors : List ℕ) (avps : List RawAvp) → view_of_avps vendors avps ≡ view_with vendors (begins_with_session avps) (carries_too_much avps) avps
+view_with-is vendors avps =
+    ap (λ (o : Option Refusal). view_by (carries_too_much avps) (option_or o (option_or (values_refusal command_values avps) (groups_refusal vendors avps))) (content_of avps)) (grammar-is vendors avps)
+
+view_with-read : (vendors : List ℕ) (begins much : Bool) (avps : List RawAvp) → view_with vendors begins much (read_of avps) ≡ view_with vendors begins much avps
+view_with-read vendors begins much avps =
+    ap (λ (o : Option Refusal). view_by much o (content_of (read_of avps))) (refusal_from-read vendors begins avps)
+    ∙ ap (λ (r : Result CcRequest Refusal). view_by much (refusal_from vendors begins avps) r) (content-read avps)
+
+alike-view : (vendors : List ℕ) (avps others : List RawAvp) → read_of avps ≡ read_of others → begins_with_session avps ≡ begins_with_session others → carries_too_much avps ≡ carries_too_much others
+    → view_of_avps vendors avps ≡ view_of_avps vendors others
+alike-view vendors avps others read begins carried =
+    view_with-is vendors avps
+    ∙ sym (view_with-read vendors (begins_with_session avps) (carries_too_much avps) avps)
+    ∙ ap (view_with vendors (begins_with_session avps) (carries_too_much avps)) read
+    ∙ view_with-read vendors (begins_with_session avps) (carries_too_much avps) others
+    ∙ ap (λ (b : Bool). view_with vendors b (carries_too_much avps) others) begins
+    ∙ ap (λ (b : Bool). view_with vendors (begins_with_session others) b others) carried
+    ∙ sym (view_with-is vendors others)
 
 abbrev view_from : List ℕ → ℕ → ℕ → Result CcRequest Refusal → Result CcRequest Refusal
 view_from vendors application command view =
-    cond (not (eqb application 4)) (Err (refused ApplicationUnsupported)) (cond (not (eqb command 272)) (Err (refused CommandUnsupported)) view)
+    cond (not (eqb application 4)) (Err (refusal_with ApplicationUnsupported)) (cond (not (eqb command 272)) (Err (refusal_with CommandUnsupported)) view)
 
 pub view-unread : (vendors : List ℕ) (message other : Message) → DifferUnread message other → view_of vendors message ≡ view_of vendors other
 unfolding view_of
 view-unread vendors message other d =
-    ap (λ (n : ℕ). view_from vendors n message.header.command (view_of_list vendors (listed_in message.body))) d.application
-    ∙ ap (λ (n : ℕ). view_from vendors other.header.application n (view_of_list vendors (listed_in message.body))) d.command
+    ap (λ (n : ℕ). view_from vendors n message.header.command (view_of_list vendors (avps_of message.body))) d.application
+    ∙ ap (λ (n : ℕ). view_from vendors other.header.application n (view_of_list vendors (avps_of message.body))) d.command
     ∙ ap (view_from vendors other.header.application other.header.command)
-    (ap (λ (s : Result (List RawAvp) AvpFault). view_of_list vendors (listed_by message.body s)) d.body
-    ∙ alike-view vendors d.first d.avps d.others d.read d.carried
-    ∙ sym (ap (λ (s : Result (List RawAvp) AvpFault). view_of_list vendors (listed_by other.body s)) d.other_body))
+    (ap (λ (s : Result (List RawAvp) AvpFault). view_of_list vendors (avps_by message.body s)) d.body
+    ∙ alike-view vendors d.avps d.others d.read d.first d.carried
+    ∙ sym (ap (λ (s : Result (List RawAvp) AvpFault). view_of_list vendors (avps_by other.body s)) d.other_body))

@@ -10,22 +10,22 @@ use Rattle.cc_view.specs.declared.refusal.Refusal.{Refusal}
 use Rattle.cc_view.specs.declared.request.CcRequest.{CcRequest}
 use Rattle.cc_view.specs.Answer.{session_part}
 use Rattle.dia_grammar.specs.Grammar.{is_of}
-use Rattle.cc_view.specs.Carried.{carries_too_much}
-use Rattle.dia_grammar.specs.Codes.{session_id}
-use Rattle.cc_view.specs.Content.{are_within_limits, content_of, octets_in, request_in, services_in}
-use Rattle.cc_view.specs.Refusing.{refused, listed_by, listed_in, unless_refused}
+use Rattle.cc_view.specs.Answer.Carried.{carries_too_much}
+use Rattle.dia_base.specs.Codes.{session_id}
+use Rattle.cc_view.specs.RequestView.Content.{are_within_limits, content_of, octets_in, request_in, services_in}
+use Rattle.cc_view.specs.Refusal.{refusal_with, avps_by, avps_of, unless_refused}
 use Rattle.cc_view.specs.RequestView.{request_refusal, view_of_list, view_of}
-use Rattle.cc_view.specs.Writing.{octets_avp}
+use Rattle.cc_view.specs.Answer.Writing.{octets_avp}
 use Rattle.cc_view.proofs.Carrying.{length-carried}
 
 -- what is read where nothing is refused
-unrefused : (much : Bool) (refusal : Option Refusal) (found : Result CcRequest Refusal) (request : CcRequest)
-    → cond much (Err (refused UnableToComply)) (unless_refused refusal found) ≡ Ok request → (much ≡ false) × (found ≡ Ok request)
+pub unrefused : (much : Bool) (refusal : Option Refusal) (found : Result CcRequest Refusal) (request : CcRequest)
+    → cond much (Err (refusal_with UnableToComply)) (unless_refused refusal found) ≡ Ok request → (much ≡ false) × (found ≡ Ok request)
 unrefused true refusal found request e = absurd cc
 unrefused false (Some given) found request e = absurd cc
 unrefused false None found request e = (refl, e)
 
-within : (limits : Bool) (content request : CcRequest) → cond limits (Ok content) (Err (refused UnableToComply)) ≡ Ok request → content ≡ request
+within : (limits : Bool) (content request : CcRequest) → cond limits (Ok content) (Err (refusal_with UnableToComply)) ≡ Ok request → content ≡ request
 within true content request e = cc
 within false content request e = absurd cc
 
@@ -43,8 +43,8 @@ short_session vendors (Ok avps) request e =
     let short : 8 + length (octets_in session_id avps) ≤ 49152 = short_found avps (find (is_of session_id) avps) parts.0 refl in
     omega (arith, ap (λ (r : CcRequest). length r.session) same)
 
-viewed : (vendors : List ℕ) (application command : Bool) (s : Result (List RawAvp) Refusal) (request : CcRequest)
-    → cond (not application) (Err (refused ApplicationUnsupported)) (cond (not command) (Err (refused CommandUnsupported)) (view_of_list vendors s)) ≡ Ok request → view_of_list vendors s ≡ Ok request
+pub viewed : (vendors : List ℕ) (application command : Bool) (s : Result (List RawAvp) Refusal) (request : CcRequest)
+    → cond (not application) (Err (refusal_with ApplicationUnsupported)) (cond (not command) (Err (refusal_with CommandUnsupported)) (view_of_list vendors s)) ≡ Ok request → view_of_list vendors s ≡ Ok request
 viewed vendors true true s request e = e
 viewed vendors true false s request e = absurd cc
 viewed vendors false command s request e = absurd cc
@@ -53,10 +53,10 @@ viewed vendors false command s request e = absurd cc
 pub session_part-viewed : (vendors : List ℕ) (m : Message) (request : CcRequest) → view_of vendors m ≡ Ok request → session_part request.session ≡ octets_avp session_id request.session ∷ []
 unfolding view_of
 session_part-viewed vendors m request e =
-    let short : 8 + length request.session ≤ 49152 = short_session vendors (listed_in m.body) request (viewed vendors (eqb m.header.application 4) (eqb m.header.command 272) (listed_in m.body) request e) in
+    let short : 8 + length request.session ≤ 49152 = short_session vendors (avps_of m.body) request (viewed vendors (eqb m.header.application 4) (eqb m.header.command 272) (avps_of m.body) request e) in
     ap (λ (b : Bool). cond b (octets_avp session_id request.session ∷ []) []) (le-leb (length request.session) 49144 (omega arith))
 
-listed_avps : (vendors : List ℕ) (body : List ℕ) (request : CcRequest) (s : Result (List RawAvp) AvpFault) → split_of body ≡ s → view_of_list vendors (listed_by body s) ≡ Ok request
+listed_avps : (vendors : List ℕ) (body : List ℕ) (request : CcRequest) (s : Result (List RawAvp) AvpFault) → split_of body ≡ s → view_of_list vendors (avps_by body s) ≡ Ok request
     → (avps : List RawAvp) × (split_of body ≡ Ok avps) × (carries_too_much avps ≡ false) × (request_in avps ≡ request)
 listed_avps vendors body request (Err fault) is e = absurd cc
 listed_avps vendors body request (Ok avps) is e =
@@ -68,4 +68,4 @@ pub viewed_avps : (vendors : List ℕ) (m : Message) (request : CcRequest) → v
     → (avps : List RawAvp) × (split_of m.body ≡ Ok avps) × (carries_too_much avps ≡ false) × (request_in avps ≡ request)
 unfolding view_of
 viewed_avps vendors m request e =
-    listed_avps vendors m.body request (split_of m.body) refl (viewed vendors (eqb m.header.application 4) (eqb m.header.command 272) (listed_in m.body) request e)
+    listed_avps vendors m.body request (split_of m.body) refl (viewed vendors (eqb m.header.application 4) (eqb m.header.command 272) (avps_of m.body) request e)

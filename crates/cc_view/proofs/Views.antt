@@ -5,39 +5,39 @@ use Rattle.dia_avp.specs.declared.avp.RawAvp.{RawAvp}
 use Rattle.dia_message.specs.declared.message.Message.{Message}
 use Rattle.cc_view.specs.declared.code.ResultCode.TheVariants.{ApplicationUnsupported, CommandUnsupported, UnableToComply}
 use Rattle.cc_view.specs.declared.refusal.Refusal.{Refusal}
-use Rattle.cc_view.specs.declared.reading.ViewError.{ViewError}
-use Rattle.cc_view.specs.declared.reading.ViewError.TheVariants.{Refused, OutOfMemory}
+use Rattle.cc_view.specs.declared.view.ViewError.{ViewError}
+use Rattle.cc_view.specs.declared.view.ViewError.TheVariants.{Refused, OutOfMemory}
 use Rattle.cc_view.specs.declared.request.CcRequest.{CcRequest}
-use Rattle.cc_view.specs.Carried.{carries_too_much}
-use Rattle.cc_view.specs.Content.{content_of}
+use Rattle.cc_view.specs.Answer.Carried.{carries_too_much}
+use Rattle.cc_view.specs.RequestView.Content.{content_of}
 use Rattle.cc_view.specs.Finding.{Gives, GivesAll, Passes}
-use Rattle.cc_view.specs.Refusing.{refused, listed_in, unless_refused}
+use Rattle.cc_view.specs.Refusal.{refusal_with, avps_of, unless_refused}
 use Rattle.cc_view.specs.RequestView.{request_refusal, view_of_avps, view_of_list, view_of, IsView}
 
 abbrev view_by : List ℕ → Bool → Bool → Result (List RawAvp) Refusal → Result CcRequest Refusal
-view_by vendors application command s = cond (not application) (Err (refused ApplicationUnsupported)) (cond (not command) (Err (refused CommandUnsupported)) (view_of_list vendors s))
+view_by vendors application command s = cond (not application) (Err (refusal_with ApplicationUnsupported)) (cond (not command) (Err (refusal_with CommandUnsupported)) (view_of_list vendors s))
 
-pub view_of-application : (vendors : List ℕ) (m : Message) → (m.header.application ≡ 4 → ⊥) → view_of vendors m ≡ Err (refused ApplicationUnsupported)
+pub view_of-application : (vendors : List ℕ) (m : Message) → (m.header.application ≡ 4 → ⊥) → view_of vendors m ≡ Err (refusal_with ApplicationUnsupported)
 unfolding view_of
-view_of-application vendors m h = ap (λ (b : Bool). view_by vendors b (eqb m.header.command 272) (listed_in m.body)) (ne_eqb m.header.application 4 h)
+view_of-application vendors m h = ap (λ (b : Bool). view_by vendors b (eqb m.header.command 272) (avps_of m.body)) (ne_eqb m.header.application 4 h)
 
-pub view_of-command : (vendors : List ℕ) (m : Message) → m.header.application ≡ 4 → (m.header.command ≡ 272 → ⊥) → view_of vendors m ≡ Err (refused CommandUnsupported)
+pub view_of-command : (vendors : List ℕ) (m : Message) → m.header.application ≡ 4 → (m.header.command ≡ 272 → ⊥) → view_of vendors m ≡ Err (refusal_with CommandUnsupported)
 unfolding view_of
 view_of-command vendors m a h =
-    ap (λ (b : Bool). view_by vendors b (eqb m.header.command 272) (listed_in m.body)) (eq-eqb m.header.application 4 a)
-    ∙ ap (λ (b : Bool). view_by vendors true b (listed_in m.body)) (ne_eqb m.header.command 272 h)
+    ap (λ (b : Bool). view_by vendors b (eqb m.header.command 272) (avps_of m.body)) (eq-eqb m.header.application 4 a)
+    ∙ ap (λ (b : Bool). view_by vendors true b (avps_of m.body)) (ne_eqb m.header.command 272 h)
 
-pub view_of-list : (vendors : List ℕ) (m : Message) (s : Result (List RawAvp) Refusal) → m.header.application ≡ 4 → m.header.command ≡ 272 → listed_in m.body ≡ s → view_of vendors m ≡ view_of_list vendors s
+pub view_of-list : (vendors : List ℕ) (m : Message) (s : Result (List RawAvp) Refusal) → m.header.application ≡ 4 → m.header.command ≡ 272 → avps_of m.body ≡ s → view_of vendors m ≡ view_of_list vendors s
 unfolding view_of
 view_of-list vendors m s a c e =
-    ap (λ (b : Bool). view_by vendors b (eqb m.header.command 272) (listed_in m.body)) (eq-eqb m.header.application 4 a)
-    ∙ ap (λ (b : Bool). view_by vendors true b (listed_in m.body)) (eq-eqb m.header.command 272 c)
+    ap (λ (b : Bool). view_by vendors b (eqb m.header.command 272) (avps_of m.body)) (eq-eqb m.header.application 4 a)
+    ∙ ap (λ (b : Bool). view_by vendors true b (avps_of m.body)) (eq-eqb m.header.command 272 c)
     ∙ ap (view_of_list vendors) e
 
 abbrev view_in : List RawAvp → Bool → Option Refusal → Result CcRequest Refusal
-view_in avps much refusal = cond much (Err (refused UnableToComply)) (unless_refused refusal (content_of avps))
+view_in avps much refusal = cond much (Err (refusal_with UnableToComply)) (unless_refused refusal (content_of avps))
 
-pub view_of_avps-much : (vendors : List ℕ) (avps : List RawAvp) → carries_too_much avps ≡ true → view_of_avps vendors avps ≡ Err (refused UnableToComply)
+pub view_of_avps-much : (vendors : List ℕ) (avps : List RawAvp) → carries_too_much avps ≡ true → view_of_avps vendors avps ≡ Err (refusal_with UnableToComply)
 view_of_avps-much vendors avps much = ap (λ (b : Bool). view_in avps b (request_refusal vendors avps)) much
 
 pub view_of_avps-few : (vendors : List ℕ) (avps : List RawAvp) (refusal : Option Refusal) → carries_too_much avps ≡ false → request_refusal vendors avps ≡ refusal

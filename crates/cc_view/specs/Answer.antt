@@ -1,4 +1,8 @@
 -- What is answered to a Credit-Control-Request (RFC 8506, section 3.2), and to a request that is refused.
+pub mod Carried
+pub mod Fitting
+pub mod Short
+pub mod Writing
 use Rattle.std.specs.Prelude.{ℕ, List, [], ◌∷◌, ◌++◌, map, filter, find, length, Bool, true, false, not, min, nat_le, ◌==◌, if◌then◌else◌, Option, Some, None, option_map, option_to_list}
 use Rattle.dia_base.specs.declared.number.Code.{Code}
 use Rattle.dia_avp.specs.declared.avp.RawAvp.{RawAvp}
@@ -14,13 +18,12 @@ use Rattle.cc_view.specs.declared.refusal.Refusal.{Refusal}
 use Rattle.cc_view.specs.declared.request.CcRequest.{CcRequest}
 use Rattle.cc_view.specs.declared.request.RequestKind.{RequestKind}
 use Rattle.cc_view.specs.declared.request.RequestKind.TheVariants.{Initial}
-use Rattle.cc_view.specs.Carried.{carriable, session_in, proxies_in}
-use Rattle.dia_grammar.specs.Codes.{auth_application_id, session_id, origin_host, origin_realm, cc_request_number, cc_request_type, service_identifier}
-use Rattle.cc_view.specs.Codes.{credit_control_application, result_code, cc_session_failover, cc_time, check_balance_result, cost_information, currency_code, exponent, final_unit_action, final_unit_indication, granted_service_unit, multiple_services, rating_group, unit_value, value_digits, validity_time}
-use Rattle.cc_view.specs.FailedAvp.{failed_part}
-use Rattle.cc_view.specs.RequestNumber.{kind_number}
+use Rattle.cc_view.specs.Answer.Carried.{carriable_avps, session_in, proxies_in}
+use Rattle.dia_base.specs.Codes.{auth_application_id, session_id, origin_host, origin_realm, cc_request_number, cc_request_type, service_identifier, credit_control_application, result_code, cc_session_failover, cc_time, check_balance_result, cost_information, currency_code, exponent, final_unit_action, final_unit_indication, granted_service_unit, multiple_services, rating_group, unit_value, value_digits, validity_time}
+use Rattle.cc_view.specs.Refusal.FailedAvp.{failed_part}
+use Rattle.cc_view.specs.Request.Number.{kind_number}
 use Rattle.cc_view.specs.ResultNumber.{number_of}
-use Rattle.cc_view.specs.Writing.{octets_avp, u32_avp, u64_avp, i32_avp, i64_avp, group_avp, spelled}
+use Rattle.cc_view.specs.Answer.Writing.{octets_avp, u32_avp, u64_avp, i32_avp, i64_avp, group_avp, spelling_of}
 
 -- ---- parts that several answers have
 
@@ -119,29 +122,29 @@ units_part reply =
 
 abbrev pub answer_avps : List ℕ → List ℕ → Message → CcRequest → CcReply → List RawAvp
 answer_avps front realm message request reply =
-    command_part front realm request reply.code ++ units_part reply ++ proxies_in (carriable (split_of message.body))
+    command_part front realm request reply.code ++ units_part reply ++ proxies_in (carriable_avps (split_of message.body))
 
 -- the answer of a front of this realm to a message that asks this request, with this reply
 unfoldable pub answer_to : List ℕ → List ℕ → Message → CcRequest → CcReply → Message
 answer_to front realm message request reply = record {
   header = answer_header false message.header;
-  body = spelled (answer_avps front realm message request reply);
+  body = spelling_of (answer_avps front realm message request reply);
 }
 
 -- ---- refusals
 
 abbrev pub refusal_avps : List ℕ → List ℕ → Message → Refusal → List RawAvp
 refusal_avps node realm message refusal =
-    session_in (carriable (split_of message.body))
+    session_in (carriable_avps (split_of message.body))
     ++ origin_part node realm
     ++ u32_avp result_code (number_of refusal.code) ∷ []
     ++ failed_part refusal.failed
-    ++ proxies_in (carriable (split_of message.body))
+    ++ proxies_in (carriable_avps (split_of message.body))
 
 -- The refusal of a message by a node of this realm. E is set, since it does not keep to the grammar
 -- of the command's answer (RFC 6733, section 7.2).
 unfoldable pub refusal_of : List ℕ → List ℕ → Message → Refusal → Message
 refusal_of node realm message refusal = record {
   header = answer_header true message.header;
-  body = spelled (refusal_avps node realm message refusal);
+  body = spelling_of (refusal_avps node realm message refusal);
 }

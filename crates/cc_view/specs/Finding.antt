@@ -2,8 +2,8 @@
 use Rattle.std.specs.Prelude.{◌≡◌, List, Option, Some, None, Result, Ok, Err}
 use Rattle.std.specs.Global.{Vec}
 use Rattle.cc_view.specs.declared.refusal.Refusal.{Refusal}
-use Rattle.cc_view.specs.declared.reading.ViewError.{ViewError}
-use Rattle.cc_view.specs.declared.reading.ViewError.TheVariants.{Refused, OutOfMemory}
+use Rattle.cc_view.specs.declared.view.ViewError.{ViewError}
+use Rattle.cc_view.specs.declared.view.ViewError.TheVariants.{Refused, OutOfMemory}
 
 -- a test passed where there is no refusal, and gave the refusal where there is one, unless memory ran out
 abbrev pub Passes : Option Refusal → Result (Unit {0}) ViewError → Type 0

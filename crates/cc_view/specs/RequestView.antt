@@ -1,18 +1,25 @@
 -- What a credit-control server reads in a request (RFC 8506, section 3.1).
+pub mod Checking
+pub mod Content
+pub mod Counts
+pub mod Readable
+pub mod Splitting
+pub mod UnreadAvps
 use Rattle.std.specs.Prelude.{◌≡◌, ℕ, List, not, ◌==◌, if◌then◌else◌, Option, Result, Ok, Err}
 use Rattle.std.specs.Option.{option_or}
 use Rattle.dia_avp.specs.declared.avp.RawAvp.{RawAvp}
+use Rattle.dia_message.specs.declared.header.Header.{Header}
 use Rattle.dia_message.specs.declared.message.Message.{Message}
 use Rattle.cc_view.specs.declared.code.ResultCode.TheVariants.{ApplicationUnsupported, CommandUnsupported, UnableToComply}
 use Rattle.cc_view.specs.declared.refusal.Refusal.{Refusal}
-use Rattle.cc_view.specs.declared.reading.ViewError.{ViewError}
-use Rattle.cc_view.specs.declared.reading.ViewError.TheVariants.{Refused, OutOfMemory}
+use Rattle.cc_view.specs.declared.view.ViewError.{ViewError}
+use Rattle.cc_view.specs.declared.view.ViewError.TheVariants.{Refused, OutOfMemory}
 use Rattle.cc_view.specs.declared.request.CcRequest.{CcRequest}
-use Rattle.cc_view.specs.Carried.{carries_too_much}
-use Rattle.cc_view.specs.Checking.{command_values, groups_refusal, values_refusal}
-use Rattle.cc_view.specs.Codes.{credit_control, credit_control_application}
-use Rattle.cc_view.specs.Content.{content_of}
-use Rattle.cc_view.specs.Refusing.{refused, grammar_refusal, listed_in, unless_refused}
+use Rattle.cc_view.specs.Answer.Carried.{carries_too_much}
+use Rattle.cc_view.specs.RequestView.Checking.{command_values, groups_refusal, values_refusal}
+use Rattle.dia_base.specs.Codes.{credit_control_command, credit_control_application}
+use Rattle.cc_view.specs.RequestView.Content.{content_of}
+use Rattle.cc_view.specs.Refusal.{refusal_with, grammar_refusal, avps_of, unless_refused}
 
 -- Why the AVPs of a request are refused: for the grammar, then for a value, then for a group.
 abbrev pub request_refusal : List ℕ → List RawAvp → Option Refusal
@@ -21,7 +28,7 @@ request_refusal vendors avps =
 
 abbrev pub view_of_avps : List ℕ → List RawAvp → Result CcRequest Refusal
 view_of_avps vendors avps =
-    if carries_too_much avps then Err (refused UnableToComply)
+    if carries_too_much avps then Err (refusal_with UnableToComply)
     else unless_refused (request_refusal vendors avps) (content_of avps)
 
 abbrev pub view_of_list : List ℕ → Result (List RawAvp) Refusal → Result CcRequest Refusal
@@ -32,9 +39,13 @@ view_of_list vendors (Err refusal) = Err refusal
 -- applies. Of the header only the Application-ID and the Command Code are read.
 unfoldable pub view_of : List ℕ → Message → Result CcRequest Refusal
 view_of vendors message =
-    if not (message.header.application == credit_control_application) then Err (refused ApplicationUnsupported)
-    else if not (message.header.command == credit_control) then Err (refused CommandUnsupported)
-    else view_of_list vendors (listed_in message.body)
+    if not (message.header.application == credit_control_application) then Err (refusal_with ApplicationUnsupported)
+    else if not (message.header.command == credit_control_command) then Err (refusal_with CommandUnsupported)
+    else view_of_list vendors (avps_of message.body)
+
+-- it is of Credit-Control, by its Application-ID and Command Code
+abbrev pub IsCreditControl : Header → Type 0
+IsCreditControl header = (header.application ≡ credit_control_application) × (header.command ≡ credit_control_command)
 
 -- a call answered with this view, unless memory ran out
 abbrev pub IsView : Result CcRequest Refusal → Result CcRequest ViewError → Type 0

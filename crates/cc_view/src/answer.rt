@@ -1,20 +1,25 @@
 //! The answer to a Credit-Control-Request (RFC 8506, section 3.2).
 
 ghost use Rattle.std.specs.Prelude.{◌≡◌, ◌++◌, IfOk, OnOk, false};
-ghost use Rattle.cc_view.specs.Answer.{answer_header as header_of, answer_to, command_part, failover_part, session_part};
+ghost use Rattle.cc_view.specs.Answer.{answer_header, answer_to, command_part, failover_part, session_part};
 
-use crate::carried::{carriable, push_proxies};
+pub(crate) mod carried;
+pub(crate) mod draft;
+pub(crate) mod failed_avp;
+pub(crate) mod units;
+
+use crate::answer::carried::{carriable_avps, push_proxies};
+use crate::answer::draft::Draft;
+use crate::answer::units::push_units;
 use crate::code::ResultCode;
-use crate::draft::Draft;
-use crate::names::{
+use crate::reply::CcReply;
+use crate::request::{CcRequest, RequestKind};
+use dia_avp::{Octets, Wire};
+use dia_base::Identity;
+use dia_base::codes::{
     AUTH_APPLICATION_ID, CC_REQUEST_NUMBER, CC_REQUEST_TYPE, CC_SESSION_FAILOVER,
     CREDIT_CONTROL_APPLICATION, RESULT_CODE, SESSION_ID,
 };
-use crate::reply::CcReply;
-use crate::request::{CcRequest, RequestKind};
-use crate::units::push_units;
-use dia_avp::{Octets, Wire};
-use dia_base::Identity;
 use dia_message::{Header, Message};
 use std::alloc::{AllocError, Global};
 
@@ -35,7 +40,7 @@ pub fn answer_bytes<W: Wire>(
 ) -> Result<Message, AllocError>
     ensures { IfOk result (λ answer. answer ≡ answer_to front.now realm.now message.now request.now reply.now) }
 {
-    let carried = carriable::<W>(alloc, &message.body)?;
+    let carried = carriable_avps::<W>(alloc, &message.body)?;
     let mut draft = Draft::new(alloc);
     push_command(&mut draft, front, realm, request, reply.code)?;
     push_units::<W>(alloc, &mut draft, reply)?;
@@ -48,7 +53,7 @@ pub fn answer_bytes<W: Wire>(
 
 /// The header of an answer to a request: R and T are clear.
 pub(crate) fn answer_header(request: &Header, error: bool) -> Header
-    ensures { result ≡ header_of error request.now }
+    ensures { result ≡ answer_header error request.now }
 {
     Header {
         request: false,

@@ -6,13 +6,20 @@ ghost use Rattle.dia_avp.specs.AvpList.{AreOctets, length_of};
 ghost use Rattle.dia_message.specs.Header.{HasOctets};
 ghost use Rattle.dia_message.specs.declared.message.Message.{Message};
 ghost use Rattle.cc_view.specs.Answer.{answer_avps, answer_to, refusal_avps, refusal_of, session_part};
-ghost use Rattle.dia_grammar.specs.Codes.{session_id};
+ghost use Rattle.dia_base.specs.Codes.{session_id};
 ghost use Rattle.cc_view.specs.FirstDebit.{answer_message, debit_message, debit_reply, debit_request, front_name, realm_name};
-ghost use Rattle.cc_view.specs.Fitting.{Fits, IsReadBack};
+ghost use Rattle.cc_view.specs.Answer.Fitting.{Fits, IsReadBack};
+ghost use Rattle.cc_view.specs.Forwarding.{CarryAlike, IsForwarded, with_hop};
 ghost use Rattle.cc_view.specs.Readdressing.{sent_again, with_identifiers};
+ghost use Rattle.cc_view.specs.Refusal.{avps_of};
+ghost use Rattle.cc_view.specs.Refusal.FaultyAvps.{IsFaultOf};
+ghost use Rattle.cc_view.specs.RefusalByCode.{refusal_by_code};
 ghost use Rattle.cc_view.specs.RequestView.{view_of};
-ghost use Rattle.cc_view.specs.Unread.{DifferUnread};
-ghost use Rattle.cc_view.specs.Writing.{octets_avp};
+ghost use Rattle.cc_view.specs.RequestView.Readable.{IsReadable};
+ghost use Rattle.cc_view.specs.RequestView.UnreadAvps.{DifferUnread};
+ghost use Rattle.cc_view.specs.Answer.Writing.{octets_avp};
+ghost use Rattle.cc_view.specs.declared.code.ResultCode.{ResultCode};
+ghost use Rattle.cc_view.specs.declared.code.ResultCode.TheVariants.{InvalidAvpLength};
 ghost use Rattle.cc_view.specs.declared.refusal.Refusal.{Refusal};
 ghost use Rattle.cc_view.specs.declared.reply.CcReply.{CcReply};
 ghost use Rattle.cc_view.specs.declared.request.CcRequest.{CcRequest};
@@ -23,8 +30,9 @@ pub fn view_without_identifiers()
 {}
 
 /// Nor does it read Route-Record, Proxy-Info, Destination-Host or Event-Timestamp: where one of them is
-/// added, dropped or changed behind the first AVP, the view is the same, be it a request or a refusal.
-/// The octets of Proxy-Info count for the limit on what is carried.
+/// added, dropped or changed, the view is the same, be it a request or a refusal. What it depends on is
+/// the AVPs that it reads, in order, whether a Session-Id comes first, and whether Session-Id and
+/// Proxy-Info together pass the limit on what is carried.
 pub fn view_without_unread_avps()
     ensures { (vendors : List ℕ) (message other : Message) → DifferUnread message other → view_of vendors message ≡ view_of vendors other }
 {}
@@ -39,6 +47,36 @@ pub fn answer_without_identifiers()
 pub fn refusal_without_identifiers()
     ensures { (node realm : List ℕ) (message : Message) (refusal : Refusal) (hop end : ℕ) (resent : Bool) →
         refusal_of node realm (sent_again hop end resent message) refusal ≡ with_identifiers hop end (refusal_of node realm message refusal) }
+{}
+
+/// An answer depends on its request by the header, without the Hop-by-Hop Identifier and the flag T, and by
+/// what it carries back, Session-Id and Proxy-Info.
+pub fn answer_by_what_is_carried()
+    ensures { (front realm : List ℕ) (message other : Message) (request : CcRequest) (reply : CcReply) → CarryAlike message other →
+        answer_to front realm other request reply ≡ with_hop other.header.hop (answer_to front realm message request reply) }
+{}
+
+/// The same for a refusal.
+pub fn refusal_by_what_is_carried()
+    ensures { (node realm : List ℕ) (message other : Message) (refusal : Refusal) → CarryAlike message other →
+        refusal_of node realm other refusal ≡ with_hop other.header.hop (refusal_of node realm message refusal) }
+{}
+
+/// A request that a relay forwarded, with a Route-Record behind it, has the view of the request, and its
+/// answer and its refusal are those of the request by the Hop-by-Hop Identifier alone.
+pub fn forwarded_requests()
+    ensures view { (vendors : List ℕ) (request forwarded : Message) → IsForwarded request forwarded → view_of vendors forwarded ≡ view_of vendors request }
+    ensures by_code { (vendors : List ℕ) (code : ResultCode) (request forwarded : Message) → IsForwarded request forwarded → refusal_by_code vendors code forwarded ≡ refusal_by_code vendors code request }
+    ensures answer { (front realm : List ℕ) (request forwarded : Message) (content : CcRequest) (reply : CcReply) → IsForwarded request forwarded →
+        answer_to front realm forwarded content reply ≡ with_hop forwarded.header.hop (answer_to front realm request content reply) }
+    ensures refusal { (node realm : List ℕ) (request forwarded : Message) (refusal : Refusal) → IsForwarded request forwarded →
+        refusal_of node realm forwarded refusal ≡ with_hop forwarded.header.hop (refusal_of node realm request refusal) }
+{}
+
+/// A view is a request only where the body and every group that is looked at is a list of AVPs, every value
+/// that is looked at is one of its kind, and no two services have one name.
+pub fn requests_are_readable()
+    ensures { (vendors : List ℕ) (message : Message) (request : CcRequest) → view_of vendors message ≡ Ok request → IsReadable message }
 {}
 
 /// The answer to what was viewed begins with its Session-Id, which is never too long to be written.
@@ -65,6 +103,19 @@ pub fn refusals_are_read_back()
 /// The AVP that a view names as the one at fault takes at most 8,192 octets: Failed-AVP always holds it.
 pub fn failed_avps_are_short()
     ensures { (vendors : List ℕ) (message : Message) (refusal : Refusal) → view_of vendors message ≡ Err refusal → IfSome refusal.failed (λ avp. length_of avp ≤ 8192) }
+{}
+
+/// A refusal is known by its code: by the code of its view it is what the view says, and of a body that is
+/// no list of AVPs it is the body's, whatever the view says of the header.
+pub fn refusals_by_code()
+    ensures view { (vendors : List ℕ) (message : Message) (refusal : Refusal) → view_of vendors message ≡ Err refusal → refusal_by_code vendors refusal.code message ≡ refusal }
+    ensures body { (vendors : List ℕ) (message : Message) (refusal : Refusal) → avps_of message.body ≡ Err refusal → refusal_by_code vendors InvalidAvpLength message ≡ refusal }
+{}
+
+/// The AVP that a view names is one of the request's, at whatever depth, as it was received or in its least
+/// form; or one that is missing; or the one at which a list of AVPs is cut off.
+pub fn failed_avps_are_of_the_request()
+    ensures { (vendors : List ℕ) (message : Message) (refusal : Refusal) → view_of vendors message ≡ Err refusal → IfSome refusal.failed (IsFaultOf message.body) }
 {}
 
 /// The worked example: the direct debit of 3200 octets, and its answer.

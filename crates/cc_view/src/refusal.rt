@@ -4,13 +4,13 @@ ghost use Rattle.std.specs.Prelude.{◌≡◌, IfOk};
 ghost use Rattle.cc_view.specs.Answer.{refusal_of};
 
 use crate::answer::answer_header;
-use crate::carried::{carriable, push_proxies, push_session};
+use crate::answer::carried::{carriable_avps, push_proxies, push_session};
+use crate::answer::draft::Draft;
+use crate::answer::failed_avp::push_failed;
 use crate::code::ResultCode;
-use crate::draft::Draft;
-use crate::failed::push_failed;
-use crate::names::RESULT_CODE;
 use dia_avp::{RawAvp, Wire};
 use dia_base::Identity;
+use dia_base::codes::RESULT_CODE;
 use dia_message::Message;
 use std::alloc::{AllocError, Global};
 
@@ -32,7 +32,7 @@ pub fn refusal_bytes<W: Wire>(
 ) -> Result<Message, AllocError>
     ensures { IfOk result (λ answer. answer ≡ refusal_of node.now realm.now message.now refusal.now) }
 {
-    let carried = carriable::<W>(alloc, &message.body)?;
+    let carried = carriable_avps::<W>(alloc, &message.body)?;
     let mut draft = Draft::new(alloc);
     push_session(&mut draft, &carried)?;
     draft.push_origin(node, realm)?;

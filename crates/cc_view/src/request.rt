@@ -1,10 +1,11 @@
 //! What is read in a Credit-Control-Request (RFC 8506, section 3.1).
 
 ghost use Rattle.std.specs.Prelude.{◌≡◌, ◌≤◌, ◌<◌, ◌^◌, length, All};
-ghost use Rattle.cc_view.specs.ServiceLimits.{WithinLimits};
+ghost use Rattle.cc_view.specs.Request.ServiceLimits.{WithinLimits};
 
 use dia_avp::Octets;
 use dia_base::Listing;
+use std::alloc::AllocError;
 use std::marker::Model;
 
 /// CC-Request-Type (RFC 8506, section 8.3).
@@ -17,7 +18,7 @@ pub enum RequestKind {
 }
 
 impl RequestKind {
-    ghost use Rattle.cc_view.specs.RequestNumber.{kind_number};
+    ghost use Rattle.cc_view.specs.Request.Number.{kind_number};
 
     /// The number that stands in a CC-Request-Type AVP.
     pub fn number(self) -> u32
@@ -37,7 +38,7 @@ pub enum RequestedAction {
 }
 
 impl RequestedAction {
-    ghost use Rattle.cc_view.specs.RequestNumber.{action_number};
+    ghost use Rattle.cc_view.specs.Request.Number.{action_number};
 
     /// The number that stands in a Requested-Action AVP.
     pub fn number(self) -> u32
@@ -76,7 +77,7 @@ pub struct Service {
     pub used: [u128; 3],
 }
 
-/// The services of a request: at most 32, with each sum of used units below 2^78.
+/// The services of a request: at most 32, no two of one name, with each sum of used units below 2^78.
 #[derive(Debug, Drop)]
 pub struct Services {
     services: Vec<Service>,
@@ -85,7 +86,7 @@ pub struct Services {
 impl Model for Services {
     ghost use Rattle.std.specs.Prelude.{List};
     ghost use Rattle.cc_view.specs.declared.request.Service.{Service};
-    ghost use Rattle.cc_view.specs.ServiceLimits.{WithinLimits};
+    ghost use Rattle.cc_view.specs.Request.ServiceLimits.{WithinLimits};
 
     ghost Value = { List Service };
 
@@ -112,6 +113,16 @@ impl Services {
     }
 }
 
+impl Clone for Services {
+    ghost is_clone = { λ a b. a ≡ b };
+
+    fn clone(&self) -> Result<Self, AllocError> {
+        Ok(Services {
+            services: self.services.clone()?,
+        })
+    }
+}
+
 /// What a request asks: all that decides what is charged and answered.
 #[derive(Debug, Drop)]
 pub struct CcRequest {
@@ -125,4 +136,19 @@ pub struct CcRequest {
     pub action: Option<RequestedAction>,
     pub subscriptions: Listing<Subscription>,
     pub services: Services,
+}
+
+impl Clone for CcRequest {
+    ghost is_clone = { λ a b. a ≡ b };
+
+    fn clone(&self) -> Result<Self, AllocError> {
+        Ok(CcRequest {
+            session: self.session.clone()?,
+            number: self.number,
+            kind: self.kind,
+            action: self.action,
+            subscriptions: self.subscriptions.clone()?,
+            services: self.services.clone()?,
+        })
+    }
 }

@@ -7,8 +7,10 @@ use std::test::Fail;
 
 mod answers;
 mod groups;
+mod limits;
 mod refusals;
 mod requests;
+mod sessions;
 
 // The debit of 3200 octets for Rating-Group 10, an AVP a piece.
 const SESSION: &str = "000001074000000e63313b313b310000";
@@ -64,7 +66,7 @@ fn header(application: u32, command: u32) -> Header {
 fn message(alloc: Global, header: Header, pieces: &[&str]) -> Result<Message, Fail> {
     Ok(Message {
         header,
-        body: Octets::from_vec(octets_of(alloc, pieces)?),
+        body: Octets::from_vec(octets_of(alloc, pieces)?)?,
     })
 }
 

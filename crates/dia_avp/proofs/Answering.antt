@@ -4,11 +4,11 @@ use Rattle.std.specs.Global.{Vec}
 use Rattle.dia_avp.specs.declared.avp.RawAvp.{RawAvp}
 use Rattle.dia_avp.specs.declared.fault.AvpFault.{AvpFault}
 use Rattle.dia_avp.specs.declared.fault.AvpFault.TheVariants.{ShortHeader, LengthTooSmall, Overrun, TooLong, TooDeep, OutOfMemory}
-use Rattle.dia_avp.specs.AvpList.{Reads, Answers, IsSpelling, HasSpelling, written, written_list}
+use Rattle.dia_avp.specs.AvpList.{Reads, Answers, IsSpelling, HasSpelling, with_avp, written, written_list}
 use Rattle.dia_avp.specs.AvpReading.{split_of, IsAnswer}
 use Rattle.dia_avp.proofs.Splitting.{Reads-only, split_of-reads}
 use Rattle.dia_avp.proofs.ReadBack.{BeginsWith-written, Begins-written_list}
-use Rattle.dia_avp.proofs.Appending.{Begins-append, Begins-then}
+use Rattle.dia_avp.proofs.Appending.{Begins-append, Begins-then, IsSpelling-with_avp}
 
 -- what the function gives, by the relation
 pub Reads-of : (octets : List ℕ) (r : Result (List RawAvp) AvpFault) → split_of octets ≡ r → Reads octets r
@@ -76,3 +76,8 @@ split_of-written_list front rest avps has e =
 pub split_of-append : (octets more : List ℕ) (avps others : List RawAvp) → length octets % 4 ≡ 0 → split_of octets ≡ Ok avps → split_of more ≡ Ok others → split_of (octets ++ more) ≡ Ok (avps ++ others)
 split_of-append octets more avps others even a b =
     sym (Reads-only (octets ++ more) (Ok (avps ++ others)) (Begins-then (octets ++ more) avps others more [] (Begins-append octets more avps [] even (Reads-of octets (Ok avps) a)) (Reads-of more (Ok others) b)))
+
+-- octets of AVPs with one AVP more
+pub split_of-with_avp : (octets : List ℕ) (avps : List RawAvp) (avp : RawAvp) → split_of octets ≡ Ok avps → HasSpelling avp → split_of (with_avp octets avp) ≡ Ok (avps ++ avp ∷ [])
+split_of-with_avp octets avps avp e has =
+    sym (Reads-only (with_avp octets avp) (Ok (avps ++ avp ∷ [])) (IsSpelling-with_avp octets avps avp (Reads-of octets (Ok avps) e) has))

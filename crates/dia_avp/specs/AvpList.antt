@@ -1,7 +1,9 @@
 -- AVPs as octets (RFC 6733, section 4.1). A number stands in network order, the highest octet first.
-use Rattle.std.specs.Prelude.{◌≡◌, ◌≢◌, ℕ, ◌+◌, ◌-◌, ◌%◌, ◌≤◌, ◌<◌, ◌^◌, List, [], ◌∷◌, ◌++◌, length, drop, slice_range, replicate, flat_map, All, bit_and, not, slice_index, Bool, false, ◌==◌, nat_lt, if◌then◌else◌, Option, Some, None, Result, Ok, Err}
+use Rattle.std.specs.Prelude.{◌≡◌, ◌≢◌, ℕ, ◌+◌, ◌-◌, ◌%◌, ◌≤◌, ◌<◌, ◌^◌, List, [], ◌∷◌, ◌++◌, length, drop, slice_range, replicate, flat_map, All, bit_and, not, slice_index, Bool, true, false, ◌==◌, nat_lt, if◌then◌else◌, Option, Some, None, Result, Ok, Err}
 use Rattle.std.specs.Global.{Vec}
+use Rattle.std.specs.Result.{result_map_both}
 use Rattle.byteorder.specs.Endian.{big_number, big_bytes}
+use Rattle.dia_base.specs.Answering.{Gives}
 use Rattle.dia_avp.specs.declared.avp.RawAvp.{RawAvp}
 use Rattle.dia_avp.specs.declared.fault.AvpFault.{AvpFault}
 use Rattle.dia_avp.specs.declared.fault.AvpFault.TheVariants.{ShortHeader, LengthTooSmall, Overrun, OutOfMemory}
@@ -80,11 +82,17 @@ abbrev pub Reads : List ℕ → Result (List RawAvp) AvpFault → Type 0
 Reads octets (Ok avps) = IsSpelling octets avps
 Reads octets (Err fault) = IsFirstFault octets fault
 
+abbrev pub lacks_memory : AvpFault → Bool
+lacks_memory OutOfMemory = true
+lacks_memory _ = false
+
+-- a result with the AVPs as a list
+abbrev pub items_of : Result (Vec RawAvp) AvpFault → Result (List RawAvp) AvpFault
+items_of result = result_map_both (λ avps. avps.items) (λ fault. fault) result
+
 -- a call answered with a reading that P takes, unless memory ran out
 abbrev pub Answers : (Result (List RawAvp) AvpFault → Type 0) → Result (Vec RawAvp) AvpFault → Type 0
-Answers P (Ok avps) = P (Ok avps.items)
-Answers P (Err OutOfMemory) = Unit {0}
-Answers P (Err fault) = P (Err fault)
+Answers P result = Gives lacks_memory P (items_of result)
 
 -- ---- how an AVP is written
 
@@ -103,6 +111,10 @@ unpadded avp = big_bytes 4 avp.code ++ (avp.flags ∷ big_bytes 3 (length_of avp
 abbrev pub written : RawAvp → List ℕ
 written avp = unpadded avp ++ replicate (padding_of (length_of avp)) 0
 
+-- the AVP with these parts
+abbrev pub raw_avp : ℕ → ℕ → ℕ → List ℕ → RawAvp
+raw_avp code flags vendor value = record { code = code; flags = flags; vendor = vendor; value = value }
+
 -- the written spellings of AVPs, one after the other
 abbrev pub written_list : List RawAvp → List ℕ
 written_list avps = flat_map written avps
@@ -113,6 +125,14 @@ pub record HasSpelling (avp : RawAvp) : Type 0 where
   pub vendor : avp.vendor < 2 ^ 32
   pub no_vendor : has_vendor avp.flags ≡ false → avp.vendor ≡ 0
   pub long : length_of avp < 2 ^ 24
+
+-- octets of AVPs with the padding that the last one may lack: zeros up to a multiple of 4
+abbrev pub with_padding : List ℕ → List ℕ
+with_padding octets = octets ++ replicate (padding_of (length octets)) 0
+
+-- octets of AVPs with one AVP more behind them
+abbrev pub with_avp : List ℕ → RawAvp → List ℕ
+with_avp octets avp = with_padding octets ++ written avp
 
 -- ---- which octets spell one AVP
 

@@ -1,10 +1,10 @@
 -- The reading of octets as a function (RFC 6733, section 4.1). `split_of` is the one reading: the law stands on `one_reading`.
-use Rattle.std.specs.Prelude.{◌≡◌, ℕ, zero, suc, ◌+◌, ◌-◌, List, [], ◌∷◌, length, drop, slice_range, if◌then◌else◌, Option, Some, None, Result, Ok, Err}
+use Rattle.std.specs.Prelude.{ℕ, zero, suc, ◌+◌, ◌-◌, List, [], ◌∷◌, length, drop, slice_range, if◌then◌else◌, Option, Some, None, Result, Ok, Err}
 use Rattle.std.specs.Global.{Vec}
+use Rattle.dia_base.specs.Answering.{Answers}
 use Rattle.dia_avp.specs.declared.avp.RawAvp.{RawAvp}
 use Rattle.dia_avp.specs.declared.fault.AvpFault.{AvpFault}
-use Rattle.dia_avp.specs.declared.fault.AvpFault.TheVariants.{OutOfMemory}
-use Rattle.dia_avp.specs.AvpList.{code_in, flags_in, length_in, vendor_in, has_vendor, header_len, padding_of, fault_at}
+use Rattle.dia_avp.specs.AvpList.{code_in, flags_in, length_in, vendor_in, has_vendor, header_len, padding_of, fault_at, lacks_memory, items_of}
 
 -- the AVP that the octets begin with, where they begin with one
 abbrev pub avp_at : List ℕ → RawAvp
@@ -37,6 +37,4 @@ split_of octets = split_from (length octets) (length octets) octets
 
 -- a call answered with this reading, unless memory ran out
 abbrev pub IsAnswer : Result (List RawAvp) AvpFault → Result (Vec RawAvp) AvpFault → Type 0
-IsAnswer reading (Ok avps) = reading ≡ Ok avps.items
-IsAnswer reading (Err OutOfMemory) = Unit {0}
-IsAnswer reading (Err fault) = reading ≡ Err fault
+IsAnswer reading result = Answers lacks_memory reading (items_of result)

@@ -1,10 +1,10 @@
 //! Laws of the spelling of AVPs (RFC 6733, section 4.1). Each is the contract of a function without a body.
 
-ghost use Rattle.std.specs.Prelude.{◌≡◌, ◌↔◌, ◌∷◌, ◌++◌, ◌%◌, ℕ, List, length, All, Result};
+ghost use Rattle.std.specs.Prelude.{◌≡◌, ◌↔◌, ◌∷◌, ◌++◌, ◌%◌, ℕ, List, [], length, All, Result};
 ghost use Rattle.std.specs.Global.{Vec};
 ghost use Rattle.dia_avp.specs.declared.avp.RawAvp.{RawAvp};
 ghost use Rattle.dia_avp.specs.declared.fault.AvpFault.{AvpFault};
-ghost use Rattle.dia_avp.specs.AvpList.{AreOctets, BeginsWith, HasPadding, Reads, Answers, HasSpelling, IsSpelling, written, written_list};
+ghost use Rattle.dia_avp.specs.AvpList.{AreOctets, BeginsWith, HasPadding, Reads, Answers, HasSpelling, IsSpelling, with_avp, with_padding, written, written_list};
 ghost use Rattle.dia_avp.specs.AvpReading.{split_of, IsAnswer};
 
 /// Octets have one reading: one list of AVPs, or one first fault.
@@ -35,6 +35,14 @@ pub fn written_list_is_read()
 /// Behind octets of whole AVPs with all of their padding, more AVPs may stand.
 pub fn more_avps()
     ensures { (octets more : List ℕ) (avps others : List RawAvp) → length octets % 4 ≡ 0 → IsSpelling octets avps → IsSpelling more others → IsSpelling (octets ++ more) (avps ++ others) }
+{}
+
+/// Octets that spell AVPs spell them still with the padding that the last one may lack, and a whole AVP
+/// may stand behind that.
+pub fn one_avp_more()
+    ensures padding { (octets : List ℕ) (avps : List RawAvp) → IsSpelling octets avps → IsSpelling (with_padding octets) avps }
+    ensures avp { (octets : List ℕ) (avps : List RawAvp) (avp : RawAvp) → IsSpelling octets avps → HasSpelling avp → IsSpelling (with_avp octets avp) (avps ++ avp ∷ []) }
+    ensures read { (octets : List ℕ) (avps : List RawAvp) (avp : RawAvp) → split_of octets ≡ Ok avps → HasSpelling avp → split_of (with_avp octets avp) ≡ Ok (avps ++ avp ∷ []) }
 {}
 
 /// Octets that begin with an AVP are its octets as they are written, padding, and the rest: two

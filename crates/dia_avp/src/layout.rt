@@ -1,7 +1,7 @@
 //! How the octets of an AVP are laid out (RFC 6733, section 4.1): flags, header and padding.
 
 ghost use Rattle.std.specs.Prelude.{◌≡◌, ◌≤◌, ◌<◌};
-ghost use Rattle.dia_avp.specs.AvpList.{has_vendor as vendor_flag, is_mandatory as has_flag_m, header_len as header_len_of, padding_of as padding_len};
+ghost use Rattle.dia_avp.specs.AvpList.{has_vendor, header_len, is_mandatory, padding_of};
 
 /// The flag V: a Vendor-ID follows the length.
 pub const VENDOR: u8 = 0x80;
@@ -11,21 +11,21 @@ pub const MANDATORY: u8 = 0x40;
 
 /// Whether who does not know the AVP refuses the message.
 pub fn is_mandatory(flags: u8) -> bool
-    ensures { result ≡ has_flag_m flags }
+    ensures { result ≡ is_mandatory flags }
 {
     flags & MANDATORY != 0
 }
 
 /// Whether a Vendor-ID follows the length.
 pub fn has_vendor(flags: u8) -> bool
-    ensures { result ≡ vendor_flag flags }
+    ensures { result ≡ has_vendor flags }
 {
     flags & VENDOR != 0
 }
 
 /// The octets before the value: 12 with a Vendor-ID, 8 without.
 pub fn header_len(flags: u8) -> usize
-    ensures value { result ≡ header_len_of flags }
+    ensures value { result ≡ header_len flags }
     ensures least { 8 ≤ result }
     ensures most { result ≤ 12 }
 {
@@ -34,7 +34,7 @@ pub fn header_len(flags: u8) -> usize
 
 /// The octets from this length up to the next multiple of 4, which the length does not count.
 pub fn padding_of(len: usize) -> usize
-    ensures value { result ≡ padding_len len }
+    ensures value { result ≡ padding_of len }
     ensures most { result < 4 }
 {
     (4 - len % 4) % 4

@@ -2,6 +2,7 @@
 //!
 //! - [`Wire`]: reads and writes lists of AVPs. Its contract says which list or which fault octets
 //!   read as and how an AVP is written, for any body; [`PlainWire`] is the plain one, with copies.
+//! - [`write_avp`]: the one writer of an AVP, for any value; [`with_avp`]: a body with one AVP more.
 //! - [`RawAvp`]: an AVP whose value is not looked at. [`u32_of`], [`u64_of`], [`i32_of`] and
 //!   [`i64_of`] read a value as a number. [`Octets`] are octets that contracts see as a list.
 //! - [`layout`]: the flags, the lengths of header and padding.
@@ -17,7 +18,20 @@
 //! [`one_answer`], [`one_list`]); what is written is read back ([`written_is_read`],
 //! [`written_list_is_read`]) and what was read can be written ([`read_is_writable`]); spellings
 //! differ in their padding alone ([`only_padding_differs`]); and more AVPs may stand behind whole
-//! ones ([`more_avps`]).
+//! ones ([`more_avps`]), or behind any with the padding that the last one may lack ([`one_avp_more`]).
+//!
+//! ```
+//! use dia_avp::{Octets, PlainWire, Wire, u32_of, with_avp};
+//!
+//! /// The body with its first AVP once more at its end, where that is an Unsigned32.
+//! fn again<W: Wire>(alloc: Global, body: Octets) -> Result<Octets, AvpFault> {
+//!     let avps = W::split(alloc, &body)?;
+//!     match avps.first() {
+//!         Some(avp) if u32_of(avp).is_some() => with_avp(alloc, &body, avp),
+//!         _ => Ok(body),
+//!     }
+//! }
+//! ```
 #![tactic(auto)]
 
 mod avp;
@@ -28,17 +42,19 @@ mod number;
 mod octets;
 mod plain;
 mod wire;
+mod writer;
 
 pub use avp::RawAvp;
 pub use fault::AvpFault;
 pub use laws::{
-    more_avps, one_answer, one_list, one_reading, only_padding_differs, read_is_writable,
-    written_is_read, written_list_is_read,
+    more_avps, one_answer, one_avp_more, one_list, one_reading, only_padding_differs,
+    read_is_writable, written_is_read, written_list_is_read,
 };
 pub use number::{i32_of, i64_of, u32_of, u64_of};
 pub use octets::Octets;
 pub use plain::PlainWire;
 pub use wire::{DEPTH_LIMIT, Wire};
+pub use writer::{with_avp, write_avp};
 
 #[cfg(test)]
 mod tests;

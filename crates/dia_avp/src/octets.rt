@@ -2,10 +2,14 @@
 
 ghost use Rattle.std.specs.Prelude.{◌≡◌, IfOk, nat_eq};
 ghost use Rattle.std.specs.Cmp.{partial_equiv_from_equiv};
+ghost use Rattle.std.specs.Cmp.Rules.{hashing};
+ghost use Rattle.std.specs.Hash as fed;
+ghost use Rattle.std.proofs.Common.{rules};
 ghost use Rattle.std.proofs.lemmas.Cmp.{nat_list_eq_equiv};
 ghost use lib.Pointwise.{pointwise};
 
 use std::alloc::{AllocError, Global};
+use std::hash::{Hash, Hasher};
 use std::marker::Model;
 
 /// Octets that are kept.
@@ -32,11 +36,11 @@ impl Octets {
         })
     }
 
-    /// The octets of the vector, which takes no memory.
-    pub fn from_vec(octets: Vec<u8>) -> Self
-        ensures { result ≡ octets.items }
+    /// The octets of the vector. An error is for octets that are shared: here none comes.
+    pub fn from_vec(octets: Vec<u8>) -> Result<Self, AllocError>
+        ensures { IfOk result (λ kept. kept ≡ octets.items) }
     {
-        Octets { octets }
+        Ok(Octets { octets })
     }
 
     /// The octets themselves.
@@ -69,4 +73,14 @@ impl PartialEq for Octets {
 
 impl Eq for Octets {
     ghost laws = { nat_list_eq_equiv };
+}
+
+impl Hash for Octets {
+    ghost hash_input = { λ o. fed.slice fed.u8 o };
+
+    ghost respects_eq = { Prim.search (hashing, rules) };
+
+    fn hash<H: Hasher>(&self, state: &mut H) {
+        self.octets.hash(state);
+    }
 }

@@ -1,14 +1,14 @@
 //! The plain reading and writing of AVPs: over slices, with copies.
 
-ghost use Rattle.std.specs.Prelude.{◌≡◌, ◌≤◌, ◌<◌, ◌^◌, ◌∷◌, ◌++◌, IfOk, OnOk, OnErr, IsOkUnless, MatchOption};
-ghost use Rattle.byteorder.specs.Endian.{big_bytes};
-ghost use Rattle.dia_avp.specs.AvpList.{Reads, Answers, BeginsWith, fault_at, length_of, written};
+ghost use Rattle.std.specs.Prelude.{◌≡◌, IfOk, IsOkUnless, MatchOption};
+ghost use Rattle.dia_avp.specs.AvpList.{Reads, Answers, BeginsWith, fault_at};
 
 use crate::avp::RawAvp;
 use crate::fault::AvpFault;
 use crate::layout::{has_vendor, header_len, padding_of};
 use crate::octets::Octets;
 use crate::wire::{DEPTH_LIMIT, Wire};
+use crate::writer::write_avp;
 use byteorder::{BigEndian, ByteOrder};
 use std::alloc::Global;
 
@@ -47,19 +47,6 @@ fn front_of<'a>(alloc: Global, at: usize, octets: &'a [u8]) -> Result<(RawAvp, &
     Ok((avp, rest))
 }
 
-/// A header with a vendor. Without V it is the first 8 octets.
-fn header_of(avp: &RawAvp, len: u32) -> [u8; 12]
-    requires { len < 2 ^ 24 }
-    ensures { result ≡ big_bytes 4 avp.now.code ++ (avp.now.flags ∷ big_bytes 3 len) ++ big_bytes 4 avp.now.vendor }
-{
-    let mut header = [0u8; 12];
-    BigEndian::write_u32(&mut header, avp.code);
-    header[4] = avp.flags;
-    BigEndian::write_u24(&mut header[5..], len);
-    BigEndian::write_u32(&mut header[8..], avp.vendor);
-    header
-}
-
 /// The plain reading and writing.
 #[derive(Clone, Copy, Debug, PartialEq, Eq)]
 pub struct PlainWire;
@@ -90,21 +77,6 @@ impl Wire for PlainWire {
     }
 
     fn spell(out: &mut Vec<u8>, avp: &RawAvp) -> Result<(), AvpFault> {
-        let header = header_len(avp.flags);
-        let value = avp.value.as_slice();
-        if value.len() >= TOO_LONG - header {
-            return Err(AvpFault::TooLong);
-        }
-        let len = header + value.len();
-        let padding = padding_of(len);
-        let head = header_of(avp, len as u32);
-        out.reserve(len + padding)?;
-        out.extend_from_slice(&head[..header])?;
-        out.extend_from_slice(value)?;
-        out.extend_from_slice(&[0; 3][..padding])?;
-        Ok(())
+        write_avp(out, avp.code, avp.flags, avp.vendor, avp.value.as_slice())
     }
 }
-
-/// What no AVP's length reaches.
-const TOO_LONG: usize = 0x0100_0000;

@@ -1,6 +1,8 @@
 //! Items in order, which contracts see as a list.
 
 ghost use Rattle.std.specs.Prelude.{◌≡◌, ◌<◌, ◌==◌, [], ◌∷◌, ◌++◌, length, remove, OnOk, OnErr, slice_index_or};
+ghost use Rattle.std.specs.Cmp.Lexicographic.{pointwise, lists_per, lists_equiv};
+ghost use Rattle.std.specs.List.{AllZip};
 
 use std::alloc::{AllocError, Global};
 use std::marker::Model;
@@ -84,4 +86,28 @@ impl<T: Drop> Listing<T> {
         self.items.push(item)?;
         Ok(())
     }
+}
+
+impl<T: Clone> Clone for Listing<T> {
+    ghost is_clone = { λ a b. AllZip T.is_clone a b × (length b ≡ length a) };
+
+    fn clone(&self) -> Result<Self, AllocError> {
+        Ok(Listing {
+            items: self.items.clone()?,
+        })
+    }
+}
+
+impl<T: PartialEq> PartialEq for Listing<T> {
+    ghost eq = { pointwise T.eq };
+
+    ghost laws = { lists_per T.laws };
+
+    fn eq(&self, other: &Listing<T>) -> bool {
+        self.items == other.items
+    }
+}
+
+impl<T: Eq> Eq for Listing<T> {
+    ghost laws = { lists_equiv T.Eq.laws };
 }

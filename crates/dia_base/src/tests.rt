@@ -49,6 +49,8 @@ fn lists(rt: HostRuntime) -> Result<(), Fail> {
     assert_eq!(rt; listing.as_slice(), [NodeNo(2), NodeNo(1)].as_slice());
     assert_eq!(rt; listing.len(), 2);
     assert!(rt; !listing.is_empty());
+    assert!(rt; listing.clone()? == listing);
+    assert!(rt; listing != Listing::empty(rt.alloc()));
     assert_eq!(rt;
         listing.into_vec().as_slice(),
         [NodeNo(2), NodeNo(1)].as_slice()
@@ -58,12 +60,17 @@ fn lists(rt: HostRuntime) -> Result<(), Fail> {
 
 #[test]
 fn texts_of_faults(rt: HostRuntime) -> Result<(), Fail> {
-    let empty = IdentityFault::Empty.to_string(rt.alloc())?;
-    assert_eq!(rt; empty.as_str(), "an identity has at least 1 octet");
-    let bad = IdentityFault::BadOctet { at: 7 }.to_string(rt.alloc())?;
-    assert_eq!(rt;
-        bad.as_str(),
-        "octet 7 of the identity is not visible ASCII"
-    );
+    for (fault, expected) in [
+        (IdentityFault::Empty, "an identity has at least 1 octet"),
+        (IdentityFault::TooLong, "an identity has at most 255 octets"),
+        (
+            IdentityFault::BadOctet { at: 7 },
+            "octet 7 of the identity is not visible ASCII",
+        ),
+        (IdentityFault::OutOfMemory, "out of memory"),
+    ] {
+        let text = fault.to_string(rt.alloc())?;
+        assert_eq!(rt; text.as_str(), expected);
+    }
     Ok(())
 }

@@ -1,6 +1,6 @@
+pub mod Judging
 pub mod Memory
 pub mod Naming
 pub mod ReadBack
 pub mod Texts
 pub mod Unlisted
-pub mod Writing

@@ -26,3 +26,6 @@ text_read code octets h = ap (λ (b : Bool). unless (found code b) (value.Utf8St
 
 pub text_refused : (code : ℕ) (octets : List ℕ) → ¬ (IsUtf8 octets) → reading_as kind.Utf8String code octets ≡ Err (BadUtf8 code)
 text_refused code octets h = ap (λ (b : Bool). unless (found code b) (value.Utf8String octets)) (is_no_text octets h)
+
+pub text_faulty : (code : ℕ) (octets : List ℕ) → ¬ (IsUtf8 octets) → content_fault kind.Utf8String code octets ≡ Some (BadUtf8 code)
+text_faulty code octets h = ap (found code) (is_no_text octets h)

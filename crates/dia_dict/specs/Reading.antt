@@ -1,5 +1,8 @@
 -- AVPs as values of the dictionary, and values as AVPs.
-use Rattle.std.specs.Prelude.{◌≡◌, ℕ, ◌^◌, List, ◌++◌, ◌==◌, nat_le, if◌then◌else◌, Option, Some, None, Result, Ok, Err, IsOk, IsOkUnless, OnOk, OnErr, MatchOption}
+use Rattle.std.specs.Prelude.{◌≡◌, ℕ, Bool, true, false, ◌^◌, List, ◌++◌, ◌==◌, nat_le, if◌then◌else◌, Option, Some, None, Result, Ok, Err, IsOkUnless, OnOk, OnErr, MatchOption}
+use Rattle.std.specs.Result.{result_err}
+use Rattle.dia_base.specs.Answering.{AnswersFor}
+use Rattle.dia_base.specs.Codes.{product_name}
 use Rattle.dia_avp.specs.declared.avp.RawAvp.{RawAvp}
 use Rattle.dia_avp.specs.AvpList.{length_of, written}
 use Rattle.dia_dict.specs.declared.row.Kind.{Kind}
@@ -7,7 +10,7 @@ use Rattle.dia_dict.specs.declared.value.Typed.{Typed}
 use Rattle.dia_dict.specs.declared.fault.DictFault.{DictFault}
 use Rattle.dia_dict.specs.declared.fault.DictFault.TheVariants.{BadLength, NoRow, OutOfMemory}
 use Rattle.dia_dict.specs.Dictionary.{Entry, row_of}
-use Rattle.dia_dict.specs.Values.{value_fault, value_of, kind_in, same_kind, octets_of}
+use Rattle.dia_dict.specs.Values.{TakesMemory, value_fault, value_of, kind_in, same_kind, octets_of}
 
 -- ---- reading
 
@@ -28,17 +31,23 @@ reading_by (Some row) code octets = reading_as row.kind code octets
 abbrev pub reading_of : RawAvp → Result Typed DictFault
 reading_of avp = reading_by (row_of avp.code avp.vendor) avp.code avp.value
 
--- a call answered with the reading, unless memory ran out for the value
+abbrev pub lacks_memory : DictFault → Bool
+lacks_memory OutOfMemory = true
+lacks_memory _ = false
+
+-- why an AVP has no value, if it has none
+abbrev pub reading_fault : RawAvp → Option DictFault
+reading_fault avp = result_err (reading_of avp)
+
+-- a call answered with the reading, unless memory ran out for a value that takes some
 abbrev pub Answers : Result Typed DictFault → Result Typed DictFault → Type 0
-Answers reading (Ok value) = reading ≡ Ok value
-Answers reading (Err OutOfMemory) = IsOk reading
-Answers reading (Err fault) = reading ≡ Err fault
+Answers reading result = AnswersFor lacks_memory TakesMemory reading result
 
 -- ---- writing
 
 -- the flags of a written AVP: M, 40 in hexadecimal, but none for Product-Name (RFC 6733, section 4.5)
 abbrev pub flags_of : ℕ → ℕ
-flags_of code = if code == 269 then 0 else 64
+flags_of code = if code == product_name then 0 else 64
 
 -- the AVP without vendor that has the octets as its value
 abbrev pub avp_with : ℕ → List ℕ → RawAvp

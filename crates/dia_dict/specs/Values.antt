@@ -1,8 +1,9 @@
 -- What values the kinds have, and how they stand as octets (RFC 6733, sections 4.2 to 4.4).
-use Rattle.std.specs.Prelude.{ℕ, ◌<◌, ◌^◌, List, length, Bool, true, false, ◌&&◌, ◌==◌, nat_le, if◌then◌else◌, Option, Some, None, FitsSigned}
+use Rattle.std.specs.Prelude.{ℕ, ◌<◌, ◌^◌, List, length, Bool, true, false, ◌&&◌, ◌==◌, nat_le, if◌then◌else◌, Option, Some, None, FitsSigned, ⊤}
 use Rattle.std.specs.Int.{cast_unsigned, w32, w64}
 use Rattle.std.specs.Str.{is_utf8}
 use Rattle.byteorder.specs.Endian.{big_number, big_bytes, twos_complement}
+use Rattle.dia_base.specs.Codes.{cc_request_type, requested_action}
 use Rattle.dia_dict.specs.declared.row.Kind.{Kind}
 use Rattle.dia_dict.specs.declared.row.Kind.TheVariants as kind
 use Rattle.dia_dict.specs.declared.value.Typed.{Typed}
@@ -33,7 +34,7 @@ has_length kind.Grouped octets = true
 -- the enumerations that have a range: CC-Request-Type and Requested-Action (RFC 8506, sections 8.3 and 8.41)
 abbrev pub in_range : ℕ → ℕ → Bool
 in_range code number =
-    if code == 416 then nat_le 1 number && nat_le number 4 else if code == 436 then nat_le number 3 else true
+    if code == cc_request_type then nat_le 1 number && nat_le number 4 else if code == requested_action then nat_le number 3 else true
 
 -- why octets of a length that the kind has are still no value of it
 abbrev pub content_fault : Kind → ℕ → List ℕ → Option DictFault
@@ -86,6 +87,16 @@ octets_of (value.DiameterIdentity octets) = octets
 octets_of (value.OctetString octets) = octets
 octets_of (value.Address octets) = octets
 octets_of (value.Grouped octets) = octets
+
+-- what is no number is octets, which are kept in memory
+abbrev pub TakesMemory : Typed → Type 0
+TakesMemory (value.Unsigned32 n) = ⊥
+TakesMemory (value.Unsigned64 n) = ⊥
+TakesMemory (value.Integer32 z) = ⊥
+TakesMemory (value.Integer64 z) = ⊥
+TakesMemory (value.Time n) = ⊥
+TakesMemory (value.Enumerated z) = ⊥
+TakesMemory _ = ⊤
 
 -- whether two kinds are the same
 abbrev pub same_kind : Kind → Kind → Bool

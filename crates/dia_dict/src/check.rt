@@ -1,16 +1,13 @@
 //! Which octets are a value of a kind.
 
-ghost use Rattle.std.specs.Prelude.{◌≡◌};
-ghost use Rattle.dia_dict.specs.Values.{is_address, has_length, in_range};
+ghost use Rattle.std.specs.Prelude.{◌≡◌, length};
+ghost use Rattle.dia_dict.specs.Values.{content_fault, is_address, has_length, in_range, value_fault};
 
+use crate::fault::DictFault;
 use crate::row::Kind;
 use byteorder::{BigEndian, ByteOrder};
-
-/// The code of CC-Request-Type (RFC 8506, section 8.3).
-const CC_REQUEST_TYPE: u32 = 416;
-
-/// The code of Requested-Action (RFC 8506, section 8.41).
-const REQUESTED_ACTION: u32 = 436;
+use dia_base::codes::{CC_REQUEST_TYPE, REQUESTED_ACTION};
+use std::str::from_utf8;
 
 /// The address family of IPv4.
 const IPV4: u16 = 1;
@@ -53,5 +50,44 @@ pub(crate) fn is_in_range(code: u32, number: u32) -> bool
         CC_REQUEST_TYPE => 1 <= number && number <= 4,
         REQUESTED_ACTION => number <= 3,
         _ => true,
+    }
+}
+
+/// Why the octets are no text.
+fn text_fault(code: u32, octets: &[u8]) -> Option<DictFault>
+    ensures { result ≡ content_fault Kind.Utf8String code octets.now }
+{
+    match from_utf8(octets) {
+        Ok(_) => None,
+        Err(_) => Some(DictFault::BadUtf8 { code }),
+    }
+}
+
+/// Why the number is none of its enumeration.
+fn range_fault(code: u32, octets: &[u8]) -> Option<DictFault>
+    requires { length octets.now ≡ 4 }
+    ensures { result ≡ content_fault Kind.Enumerated code octets.now }
+{
+    if is_in_range(code, BigEndian::read_u32(octets)) {
+        None
+    } else {
+        Some(DictFault::BadEnumerated { code })
+    }
+}
+
+/// Why the octets are no value of the kind in an AVP of this code, if they are not.
+pub(crate) fn value_fault(kind: Kind, code: u32, octets: &[u8]) -> Option<DictFault>
+    ensures { result ≡ value_fault kind code octets.now }
+{
+    if !has_length(kind, octets) {
+        return Some(DictFault::BadLength { code });
+    }
+    match kind {
+        Kind::Utf8String => text_fault(code, octets),
+        Kind::Enumerated => range_fault(code, octets),
+        Kind::Unsigned32 | Kind::Unsigned64 | Kind::Integer32 | Kind::Integer64 | Kind::Time => {
+            None
+        }
+        Kind::DiameterIdentity | Kind::OctetString | Kind::Address | Kind::Grouped => None,
     }
 }

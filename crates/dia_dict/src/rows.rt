@@ -3,8 +3,9 @@
 ghost use Rattle.std.specs.Prelude.{◌≡◌, ◌++◌, option_map, option_copied, MatchOption, OnOk, OnErr, IsOkUnless};
 ghost use Rattle.dia_avp.specs.AvpList.{written};
 ghost use Rattle.dia_dict.specs.Dictionary.{row_of, name_of, kind_of, code_of_name, entry_of};
-ghost use Rattle.dia_dict.specs.Reading.{Answers, Spells, reading_by, reading_of, avp_of, spelling_fault};
+ghost use Rattle.dia_dict.specs.Reading.{Answers, Spells, reading_by, reading_fault, reading_of, avp_of, spelling_fault};
 
+use crate::check::value_fault;
 use crate::fault::DictFault;
 use crate::reading::value_in;
 use crate::row::{Kind, Row};
@@ -210,7 +211,8 @@ fn value_at(alloc: Global, code: u32, octets: &[u8]) -> Result<Typed, DictFault>
 /// A fault names the AVP's code. `NoRow` comes where the dictionary has no row for code and vendor,
 /// `BadLength` where the value's length is none of the kind's, `BadUtf8` where a text is not UTF-8,
 /// and `BadEnumerated` where CC-Request-Type is not 1 to 4 (RFC 8506, section 8.3) or
-/// Requested-Action not 0 to 3 (section 8.41). `OutOfMemory` comes only where there is a value.
+/// Requested-Action not 0 to 3 (section 8.41). `OutOfMemory` comes only where there is a value, and that is
+/// no number.
 pub fn typed(alloc: Global, avp: &RawAvp) -> Result<Typed, DictFault>
     ensures { Answers (reading_of avp.now) result }
 {
@@ -218,6 +220,17 @@ pub fn typed(alloc: Global, avp: &RawAvp) -> Result<Typed, DictFault>
         return Err(DictFault::NoRow { code: avp.code });
     }
     value_at(alloc, avp.code, avp.value.as_slice())
+}
+
+/// Why the AVP has no value, if it has none: the fault that [`typed`] answers. Nothing is copied, and it
+/// takes no memory.
+pub fn reading_fault(avp: &RawAvp) -> Option<DictFault>
+    ensures { result ≡ reading_fault avp.now }
+{
+    match row_of(Code(avp.code), avp.vendor) {
+        Some(row) => value_fault(row.kind, avp.code, avp.value.as_slice()),
+        None => Some(DictFault::NoRow { code: avp.code }),
+    }
 }
 
 /// Writes the AVP with this code, without vendor and with this value.

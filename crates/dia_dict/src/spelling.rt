@@ -1,10 +1,10 @@
 //! A value as octets.
 
-ghost use Rattle.std.specs.Prelude.{◌≡◌, ◌≤◌, ◌<◌, ◌^◌, ◌∷◌, ◌++◌, MatchOption, OnOk, OnErr, IsOkUnless};
+ghost use Rattle.std.specs.Prelude.{◌≡◌, ◌<◌, ◌++◌, MatchOption, OnOk, OnErr, IsOkUnless};
 ghost use Rattle.byteorder.specs.Endian.{big_bytes};
 ghost use Rattle.dia_avp.specs.AvpList.{written};
 ghost use Rattle.dia_dict.specs.Values.{InRange, content_fault, kind_in, octets_of};
-ghost use Rattle.dia_dict.specs.Reading.{Spells, avp_of, avp_with, flags_of as flags_for, octets_fault, reading_as, spelling_fault_as};
+ghost use Rattle.dia_dict.specs.Reading.{Spells, avp_of, avp_with, flags_of, octets_fault, reading_as, spelling_fault_as};
 
 use crate::check::{has_length, is_in_range};
 use crate::fault::DictFault;
@@ -12,33 +12,14 @@ use crate::row::Kind;
 use crate::value::Typed;
 use byteorder::{BigEndian, ByteOrder};
 use dia_avp::layout::MANDATORY;
+use dia_avp::{AvpFault, write_avp};
+use dia_base::codes::PRODUCT_NAME;
 
-/// The code of Product-Name, which never has M (RFC 6733, section 4.5).
-const PRODUCT_NAME: u32 = 269;
-
-/// The octets of a header without vendor.
-const HEADER_LEN: usize = 8;
-
-/// What no AVP's length reaches.
-const TOO_LONG: usize = 0x0100_0000;
-
-/// The flags of a written AVP.
+/// The flags of a written AVP. Product-Name never has M (RFC 6733, section 4.5).
 fn flags_of(code: u32) -> u8
-    ensures { result ≡ flags_for code }
+    ensures { result ≡ flags_of code }
 {
     if code == PRODUCT_NAME { 0 } else { MANDATORY }
-}
-
-/// The header of an AVP without vendor.
-fn header_of(code: u32, len: u32) -> [u8; HEADER_LEN]
-    requires { len < 2 ^ 24 }
-    ensures { result ≡ big_bytes 4 code ++ (flags_for code ∷ big_bytes 3 len) }
-{
-    let mut header = [0u8; HEADER_LEN];
-    BigEndian::write_u32(&mut header, code);
-    header[4] = flags_of(code);
-    BigEndian::write_u24(&mut header[5..], len);
-    header
 }
 
 /// Writes the AVP that has these octets for a value of the kind.
@@ -48,17 +29,14 @@ fn spell_octets(out: &mut Vec<u8>, kind: Kind, code: u32, octets: &[u8]) -> Resu
     ensures fault { MatchOption (octets_fault kind code octets.now) (IsOkUnless result DictFault.OutOfMemory) (λ f. result ≡ Err f) }
     ensures err { OnErr result (out.new.items ≡ out.old.items) }
 {
-    if octets.len() >= TOO_LONG - HEADER_LEN || !has_length(kind, octets) {
+    if !has_length(kind, octets) {
         return Err(DictFault::BadLength { code });
     }
-    let len = HEADER_LEN + octets.len();
-    let padding = (4 - len % 4) % 4;
-    let header = header_of(code, len as u32);
-    out.reserve(len + padding)?;
-    out.extend_from_slice(&header)?;
-    out.extend_from_slice(octets)?;
-    out.extend_from_slice(&[0; 3][..padding])?;
-    Ok(())
+    match write_avp(out, code, flags_of(code), 0, octets) {
+        Ok(()) => Ok(()),
+        Err(AvpFault::OutOfMemory) => Err(DictFault::OutOfMemory),
+        Err(_) => Err(DictFault::BadLength { code }),
+    }
 }
 
 fn octets_of_u32(number: u32) -> [u8; 4]

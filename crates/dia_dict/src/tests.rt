@@ -116,9 +116,13 @@ fn avp_of(alloc: Global, code: u32, octets: &[u8]) -> Result<RawAvp, AllocError>
     })
 }
 
-fn fault_of(alloc: Global, code: u32, octets: &[u8]) -> Result<Option<DictFault>, AllocError> {
+fn faults_of(
+    alloc: Global,
+    code: u32,
+    octets: &[u8],
+) -> Result<[Option<DictFault>; 2], AllocError> {
     let avp = avp_of(alloc, code, octets)?;
-    Ok(typed(alloc, &avp).err())
+    Ok([typed(alloc, &avp).err(), reading_fault(&avp)])
 }
 
 #[test]
@@ -145,8 +149,8 @@ fn faults(rt: HostRuntime) -> Result<(), Fail> {
         (440, &number, DictFault::NoRow { code: 440 }),
     ] {
         assert_eq!(rt;
-            fault_of(rt.alloc(), code, octets)?,
-            Some(fault),
+            faults_of(rt.alloc(), code, octets)?,
+            [Some(fault), Some(fault)],
             "at {code}"
         );
     }
@@ -164,7 +168,7 @@ fn stands_for(alloc: Global, code: u32, octets: &[u8], value: &Typed) -> Result<
     let avps = PlainWire::split(alloc, &Octets::copy_of(alloc, octets)?)?;
     let mut read = avps.len() == 1;
     for avp in &avps {
-        read = read && typed(alloc, avp)? == *value;
+        read = read && typed(alloc, avp)? == *value && reading_fault(avp).is_none();
     }
     let mut out = Vec::new(alloc);
     spell_typed(&mut out, Code(code), value)?;
@@ -270,5 +274,32 @@ fn not_written(rt: HostRuntime) -> Result<(), Fail> {
         );
     }
     assert_eq!(rt; out.as_slice(), b"kept".as_slice());
+    Ok(())
+}
+
+#[test]
+fn texts_of_faults(rt: HostRuntime) -> Result<(), Fail> {
+    for (fault, expected) in [
+        (
+            DictFault::BadLength { code: 415 },
+            "the value of AVP 415 has a length that its kind has not",
+        ),
+        (
+            DictFault::BadUtf8 { code: 263 },
+            "the text of AVP 263 is not UTF-8",
+        ),
+        (
+            DictFault::BadEnumerated { code: 416 },
+            "the value of AVP 416 is none of its enumeration",
+        ),
+        (
+            DictFault::NoRow { code: 440 },
+            "the dictionary has no AVP 440",
+        ),
+        (DictFault::OutOfMemory, "out of memory"),
+    ] {
+        let text = fault.to_string(rt.alloc())?;
+        assert_eq!(rt; text.as_str(), expected);
+    }
     Ok(())
 }

@@ -7,10 +7,10 @@ use Rattle.std.proofs.lemmas.List.Elements.{Contains-append_left, Contains-appen
 use Rattle.dia_avp.specs.declared.avp.RawAvp.{RawAvp}
 use Rattle.dia_grammar.specs.declared.fault.GrammarFault.{GrammarFault}
 use Rattle.dia_grammar.specs.declared.fault.GrammarFault.TheVariants.{Missing, Twice, UnknownM, FirstNotSessionId}
-use Rattle.dia_grammar.specs.Codes.{session_id}
+use Rattle.dia_base.specs.Codes.{session_id}
 use Rattle.dia_grammar.specs.Grammar.{is_unknown_mandatory, has_avp, unknown_of, second_of, missing_of, begins_with_session, session_fault, single_codes, required_in, first_fault, grammar_fault}
 use Rattle.dia_grammar.specs.Request.{IsUnknownAt, IsFaultOf}
-use Rattle.dia_grammar.proofs.Finding.{none_passes}
+use Rattle.dia_base.proofs.Finding.{none_passes}
 use Rattle.dia_grammar.proofs.Seconds.{second-is}
 
 -- ---- the place of the first one

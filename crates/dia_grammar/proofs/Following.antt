@@ -6,10 +6,10 @@ use Rattle.std.proofs.lemmas.List.Folds.{list_any-append}
 use Rattle.byteorder.specs.Endian.{big_number}
 use Rattle.dia_avp.specs.declared.avp.RawAvp.{RawAvp}
 use Rattle.dia_grammar.specs.declared.fault.GrammarFault.TheVariants.{Missing, FirstNotSessionId}
-use Rattle.dia_grammar.specs.Codes.{session_id, cc_request_type, requested_action, requested_service_unit, service_identifier}
+use Rattle.dia_base.specs.Codes.{session_id, cc_request_type, requested_action, requested_service_unit, service_identifier}
 use Rattle.dia_grammar.specs.Grammar.{is_of, is_among, is_mandatory, is_known, is_unknown_mandatory, has_row, has_avp, unknown_of, is_second, second_behind, second_of, missing_of, session_fault, required_codes, single_codes, is_event_type, required_in, grammar_fault}
 use Rattle.dia_grammar.specs.Request.{route_record}
-use Rattle.dia_grammar.proofs.Finding.{or_first, or_second}
+use Rattle.std.proofs.lemmas.Bool.{or_parts}
 use Rattle.dia_grammar.proofs.Requests.{fault-is}
 
 or_last : (a b : Bool) → b ≡ false → (a || (b || false)) ≡ a
@@ -46,26 +46,26 @@ second_follows codes before (first ∷ avps) avp e =
 missing_follows : (codes : List ℕ) (avps : List RawAvp) (avp : RawAvp) → is_among codes avp ≡ false → missing_of codes (avps ++ avp ∷ []) ≡ missing_of codes avps
 missing_follows [] avps avp e = refl
 missing_follows (code ∷ codes) avps avp e =
-    ap (λ (b : Bool). cond (not b) (Some code) (missing_of codes (avps ++ avp ∷ []))) (any_follows (is_of code) avps avp (or_first (is_of code avp) (is_among codes avp) e))
-    ∙ ap (λ (o : Option ℕ). cond (not (has_avp code avps)) (Some code) o) (missing_follows codes avps avp (or_second (is_of code avp) (is_among codes avp) e))
+    ap (λ (b : Bool). cond (not b) (Some code) (missing_of codes (avps ++ avp ∷ []))) (any_follows (is_of code) avps avp (or_parts (is_of code avp) (is_among codes avp) e).0)
+    ∙ ap (λ (o : Option ℕ). cond (not (has_avp code avps)) (Some code) o) (missing_follows codes avps avp (or_parts (is_of code avp) (is_among codes avp) e).1)
 
 -- ---- the codes of a request
 
 front_lacks : (codes more : List ℕ) (avp : RawAvp) → is_among (codes ++ more) avp ≡ false → is_among codes avp ≡ false
-front_lacks codes more avp e = or_first (is_among codes avp) (is_among more avp) (sym (list_any-append (λ (code : ℕ). is_of code avp) codes more) ∙ e)
+front_lacks codes more avp e = (or_parts (is_among codes avp) (is_among more avp) (sym (list_any-append (λ (code : ℕ). is_of code avp) codes more) ∙ e)).0
 
 not_event_codes : (avp : RawAvp) → is_among single_codes avp ≡ false → is_among (required_codes ++ requested_action ∷ []) avp ≡ false
 not_event_codes avp e =
     front_lacks (required_codes ++ requested_action ∷ []) (requested_service_unit ∷ service_identifier ∷ []) avp
-    (or_second (is_of session_id avp) (is_among ((required_codes ++ requested_action ∷ []) ++ requested_service_unit ∷ service_identifier ∷ []) avp) e)
+    (or_parts (is_of session_id avp) (is_among ((required_codes ++ requested_action ∷ []) ++ requested_service_unit ∷ service_identifier ∷ []) avp) e).1
 
 not_required : (event : Bool) (avp : RawAvp) → is_among single_codes avp ≡ false → is_among (cond event (required_codes ++ requested_action ∷ []) required_codes) avp ≡ false
 not_required true avp e = not_event_codes avp e
 not_required false avp e = front_lacks required_codes (requested_action ∷ []) avp (not_event_codes avp e)
 
 not_of : (codes more : List ℕ) (code : ℕ) (avp : RawAvp) → is_among (codes ++ code ∷ more) avp ≡ false → is_of code avp ≡ false
-not_of [] more code avp e = or_first (is_of code avp) (is_among more avp) e
-not_of (first ∷ codes) more code avp e = not_of codes more code avp (or_second (is_of first avp) (is_among (codes ++ code ∷ more) avp) e)
+not_of [] more code avp e = (or_parts (is_of code avp) (is_among more avp) e).0
+not_of (first ∷ codes) more code avp e = not_of codes more code avp (or_parts (is_of first avp) (is_among (codes ++ code ∷ more) avp) e).1
 
 event_follows : (avps : List RawAvp) (avp : RawAvp) → is_of cc_request_type avp ≡ false → list_any is_event_type (avps ++ avp ∷ []) ≡ list_any is_event_type avps
 event_follows avps avp e = any_follows is_event_type avps avp (ap (λ (b : Bool). b && (length avp.value == 4) && (big_number 4 avp.value == 4)) e)
@@ -84,7 +84,7 @@ pub fault-follows : (vendors : List ℕ) (avps : List RawAvp) (avp : RawAvp) →
 unfolding grammar_fault
 fault-follows vendors avps avp known other =
     fault-is vendors (avps ++ avp ∷ []) (session_fault avps) (unknown_of vendors avps) (second_of single_codes avps) (missing_of (required_in avps) avps)
-    (session_follows avps avp (or_first (is_of session_id avp) _ other))
+    (session_follows avps avp (or_parts (is_of session_id avp) _ other).0)
     (unknown_follows vendors avps avp known)
     (second_follows single_codes [] avps avp other)
     (required_follows avps avp other)

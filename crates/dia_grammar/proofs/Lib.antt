@@ -1,4 +1,3 @@
-pub mod Finding
 pub mod Seconds
 pub mod Requests
 pub mod Faults

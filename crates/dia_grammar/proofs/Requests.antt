@@ -6,10 +6,11 @@ use Rattle.std.proofs.lemmas.List.Folds.{find-append, list_any_none}
 use Rattle.dia_avp.specs.declared.avp.RawAvp.{RawAvp}
 use Rattle.dia_grammar.specs.declared.fault.GrammarFault.{GrammarFault}
 use Rattle.dia_grammar.specs.declared.fault.GrammarFault.TheVariants.{Missing, Twice, UnknownM, FirstNotSessionId}
-use Rattle.dia_grammar.specs.Codes.{session_id, requested_action}
+use Rattle.dia_base.specs.Codes.{session_id, requested_action}
 use Rattle.dia_grammar.specs.Grammar.{is_of, is_mandatory, is_known, is_unknown_mandatory, has_avp, unknown_of, second_of, missing_of, begins_with_session, session_fault, required_codes, single_codes, is_event_type, required_in, first_fault, grammar_fault}
 use Rattle.dia_grammar.specs.Request.{IsRequest}
-use Rattle.dia_grammar.proofs.Finding.{or_true, not_false, not_of_true, none_passes, find-none, none-find, position-none, none-position}
+use Rattle.std.proofs.lemmas.Bool.{not-false, not_from_true, or_left}
+use Rattle.dia_base.proofs.Finding.{none_passes, find-none, none-find, position-none, none-position}
 use Rattle.dia_grammar.proofs.Seconds.{single-from_none, none-from_single}
 
 -- ---- no fault of four
@@ -54,16 +55,16 @@ no_session_fault false first p q = absurd cc
 
 has_first : (avps : List RawAvp) → begins_with_session avps ≡ true → has_avp session_id avps ≡ true
 has_first [] e = absurd cc
-has_first (avp ∷ avps) e = or_true (is_of session_id avp) (has_avp session_id avps) e
+has_first (avp ∷ avps) e = or_left (is_of session_id avp) (has_avp session_id avps) e
 
 -- ---- what is known
 
 known_if : (mandatory known : Bool) → (mandatory && not known) ≡ false → mandatory ≡ true → known ≡ true
-known_if true known e m = not_false known e
+known_if true known e m = not-false known e
 known_if false known e m = absurd cc
 
 passes_if : (mandatory known : Bool) → (mandatory ≡ true → known ≡ true) → (mandatory && not known) ≡ false
-passes_if true known f = not_of_true known (f refl)
+passes_if true known f = not_from_true known (f refl)
 passes_if false known f = refl
 
 all_known : (vendors : List ℕ) (avps : List RawAvp) → unknown_of vendors avps ≡ None → All (λ avp. is_mandatory avp ≡ true → is_known vendors avp ≡ true) avps
@@ -80,13 +81,13 @@ none_unknown vendors avps known =
 
 all_there : (codes : List ℕ) (avps : List RawAvp) → missing_of codes avps ≡ None → All (λ code. has_avp code avps ≡ true) codes
 all_there codes avps none k d lt =
-    not_false (has_avp (get_or codes k d) avps)
+    not-false (has_avp (get_or codes k d) avps)
     (none_passes (λ (code : ℕ). not (has_avp code avps)) codes (find-none (λ (code : ℕ). not (has_avp code avps)) codes none) k d lt)
 
 none_missing : (codes : List ℕ) (avps : List RawAvp) → All (λ code. has_avp code avps ≡ true) codes → missing_of codes avps ≡ None
 none_missing codes avps there =
     none-find (λ (code : ℕ). not (has_avp code avps)) codes
-    (list_any_none (λ (code : ℕ). not (has_avp code avps)) codes (λ k d lt. not_of_true (has_avp (get_or codes k d) avps) (there k d lt)))
+    (list_any_none (λ (code : ℕ). not (has_avp code avps)) codes (λ k d lt. not_from_true (has_avp (get_or codes k d) avps) (there k d lt)))
 
 or_none : (a b : Option ℕ) → option_or a b ≡ None → (a ≡ None) × (b ≡ None)
 or_none None b e = (refl, e)

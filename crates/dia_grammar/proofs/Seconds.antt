@@ -1,14 +1,13 @@
 -- AVPs that are a second one of their code.
 use Rattle.std.proofs.Common.{◌≡◌, ℕ, ◌+◌, ◌<◌, ◌≤◌, ◌==◌, Bool, true, false, ◌&&◌, ◌||◌, cond, List, [], ◌∷◌, ◌++◌, length, get_or, Option, Some, None, refl, ap, sym, subst, ◌∙◌, arith, append_assoc}
 use Rattle.std.specs.List.{All, count_by}
-use Rattle.std.proofs.lemmas.Bool.{eqb-true}
+use Rattle.std.proofs.lemmas.Bool.{and_parts, eqb-true, false_from_ne_true}
 use Rattle.std.proofs.lemmas.List.{append-nil}
 use Rattle.std.proofs.lemmas.List.Folds.{list_any_at, Any-from_list_any}
 use Rattle.std.proofs.lemmas.List.Sums.{sum_by-append, sum_by-cons}
 use Rattle.dia_avp.specs.declared.avp.RawAvp.{RawAvp}
 use Rattle.dia_grammar.specs.Grammar.{is_of, is_among, has_avp, is_second, second_behind, second_of}
 use Rattle.dia_grammar.specs.Request.{IsSecondAt}
-use Rattle.dia_grammar.proofs.Finding.{not_true, and_first, and_second}
 
 -- ---- a step
 
@@ -25,7 +24,7 @@ second_later codes before avps avp e = ap (λ (b : Bool). cond b (Some (length b
 -- ---- how often a code stands there
 
 code_is : (code : ℕ) (avp : RawAvp) → is_of code avp ≡ true → code ≡ avp.code
-code_is code avp e = sym (eqb-true _ _ (and_second (avp.vendor == 0) (avp.code == code) e))
+code_is code avp e = sym (eqb-true _ _ (and_parts (avp.vendor == 0) (avp.code == code) e).1)
 
 count-cons : (code : ℕ) (avp : RawAvp) (avps : List RawAvp) → count_by (is_of code) (avp ∷ avps) ≡ cond (is_of code avp) 1 0 + count_by (is_of code) avps
 count-cons code avp avps = sum_by-cons (λ (a : RawAvp). cond (is_of code a) 1 0) avp avps
@@ -81,15 +80,15 @@ none_twice : (codes : List ℕ) (code : ℕ) → ((avp : RawAvp) → is_of code 
     → count_by (is_of code) (before ++ avps) ≤ 1
 none_twice codes code listed before [] none le = subst (λ (xs : List RawAvp). count_by (is_of code) xs ≤ 1) (sym (append-nil before)) le
 none_twice codes code listed before (avp ∷ avps) none le =
-    let other : is_second codes before avp ≡ false = not_true (is_second codes before avp) (λ e. let some = second_here codes before avps avp e in absurd cc) in
+    let other : is_second codes before avp ≡ false = false_from_ne_true (is_second codes before avp) (λ e. let some = second_here codes before avps avp e in absurd cc) in
     subst (λ (xs : List RawAvp). count_by (is_of code) xs ≤ 1) (regroup before avp avps)
     (none_twice codes code listed (before ++ avp ∷ []) avps (sym (second_later codes before avps avp other) ∙ none) (still_single codes before avp code (listed avp) other le))
 
 twice : (codes : List ℕ) (before : List RawAvp) (avp : RawAvp) (avps : List RawAvp) → is_second codes before avp ≡ true → All (λ code. count_by (is_of code) (before ++ avp ∷ avps) ≤ 1) codes → ⊥
 twice codes before avp avps e single =
-    let some = Any-from_list_any (λ (code : ℕ). is_of code avp) codes (and_first (is_among codes avp) (has_avp avp.code before) e) in
+    let some = Any-from_list_any (λ (code : ℕ). is_of code avp) codes (and_parts (is_among codes avp) (has_avp avp.code before) e).0 in
     let same : some.1 ≡ avp.code = code_is some.1 avp some.4 in
-    let earlier : has_avp some.1 before ≡ true = subst (λ (c : ℕ). has_avp c before ≡ true) (sym same) (and_second (is_among codes avp) (has_avp avp.code before) e) in
+    let earlier : has_avp some.1 before ≡ true = subst (λ (c : ℕ). has_avp c before ≡ true) (sym same) (and_parts (is_among codes avp) (has_avp avp.code before) e).1 in
     let once = subst (λ (c : ℕ). count_by (is_of c) (before ++ avp ∷ avps) ≤ 1) some.3 (single some.0 some.1 some.2) in
     let here : ◌≡◌ {A = ℕ} (cond (is_of some.1 avp) 1 0) 1 = ap (λ (b : Bool). cond {A = ℕ} b 1 0) some.4 in
     omega (arith, once, here, count-some some.1 before earlier, count-append some.1 before (avp ∷ avps), count-cons some.1 avp avps)
@@ -97,7 +96,7 @@ twice codes before avp avps e single =
 once_each : (codes : List ℕ) (before avps : List RawAvp) → All (λ code. count_by (is_of code) (before ++ avps) ≤ 1) codes → second_behind codes before avps ≡ None
 once_each codes before [] single = refl
 once_each codes before (avp ∷ avps) single =
-    let other : is_second codes before avp ≡ false = not_true (is_second codes before avp) (λ e. twice codes before avp avps e single) in
+    let other : is_second codes before avp ≡ false = false_from_ne_true (is_second codes before avp) (λ e. twice codes before avp avps e single) in
     second_later codes before avps avp other
     ∙ once_each codes (before ++ avp ∷ []) avps (subst (λ (xs : List RawAvp). All (λ code. count_by (is_of code) xs ≤ 1) codes) (sym (regroup before avp avps)) single)
 
@@ -111,8 +110,8 @@ none-from_single codes avps single = once_each codes [] avps single
 
 second_is : (codes : List ℕ) (before : List RawAvp) (avp : RawAvp) (avps : List RawAvp) (at : ℕ) → is_second codes before avp ≡ true → length before ≡ at → All (λ code. count_by (is_of code) before ≤ 1) codes → IsSecondAt codes (before ++ avp ∷ avps) at
 second_is codes before avp avps at e place single =
-    let among = and_first (is_among codes avp) (has_avp avp.code before) e in
-    let earlier = and_second (is_among codes avp) (has_avp avp.code before) e in
+    let among = (and_parts (is_among codes avp) (has_avp avp.code before) e).0 in
+    let earlier = (and_parts (is_among codes avp) (has_avp avp.code before) e).1 in
     let some = Any-from_list_any (λ (code : ℕ). is_of code avp) codes among in
     let same : some.1 ≡ avp.code = code_is some.1 avp some.4 in
     let most : count_by (is_of avp.code) before ≤ 1 = subst (λ (c : ℕ). count_by (is_of c) before ≤ 1) (some.3 ∙ same) (single some.0 some.1 some.2) in

@@ -5,7 +5,7 @@ use Rattle.std.proofs.lemmas.Iterator.Adapters.{position_from-zero}
 use Rattle.std.proofs.lemmas.List.{length-map, map-append}
 use Rattle.dia_avp.specs.declared.avp.RawAvp.{RawAvp}
 use Rattle.dia_grammar.specs.declared.fault.GrammarFault.TheVariants.{Missing, FirstNotSessionId}
-use Rattle.dia_grammar.specs.Codes.{session_id, requested_action}
+use Rattle.dia_base.specs.Codes.{session_id, requested_action}
 use Rattle.dia_grammar.specs.Grammar.{is_of, is_among, is_unknown_mandatory, has_avp, unknown_of, is_second, second_behind, second_of, missing_of, session_fault, required_codes, single_codes, is_event_type, required_in, grammar_fault}
 use Rattle.dia_grammar.specs.Request.{shape_of}
 use Rattle.dia_grammar.proofs.Requests.{fault-is}

@@ -7,7 +7,7 @@ use Rattle.dia_avp.specs.AvpList.{is_mandatory as has_flag_m}
 use Rattle.dia_dict.specs.Dictionary.{row_of}
 use Rattle.dia_grammar.specs.declared.fault.GrammarFault.{GrammarFault}
 use Rattle.dia_grammar.specs.declared.fault.GrammarFault.TheVariants.{Missing, Twice, UnknownM, FirstNotSessionId}
-use Rattle.dia_grammar.specs.Codes.{auth_application_id, session_id, origin_host, destination_realm, origin_realm, cc_request_number, cc_request_type, requested_action, requested_service_unit, service_identifier, service_context_id}
+use Rattle.dia_base.specs.Codes.{auth_application_id, session_id, origin_host, destination_realm, origin_realm, cc_request_number, cc_request_type, requested_action, requested_service_unit, service_identifier, service_context_id}
 
 -- ---- one AVP
 

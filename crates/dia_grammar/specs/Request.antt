@@ -4,7 +4,8 @@ use Rattle.std.specs.List.{list_any}
 use Rattle.dia_avp.specs.declared.avp.RawAvp.{RawAvp}
 use Rattle.dia_grammar.specs.declared.fault.GrammarFault.{GrammarFault}
 use Rattle.dia_grammar.specs.declared.fault.GrammarFault.TheVariants.{Missing, Twice, UnknownM, FirstNotSessionId}
-use Rattle.dia_grammar.specs.Codes.{session_id, requested_action}
+use Rattle.dia_base.specs.Codes.{session_id, requested_action}
+use Rattle.dia_base.specs.Codes
 use Rattle.dia_grammar.specs.Grammar.{is_of, is_among, is_mandatory, is_known, is_unknown_mandatory, has_avp, begins_with_session, single_codes, required_codes, is_event_type, required_in}
 
 -- what a Credit-Control-Request is, where these vendors are listed (RFC 8506, section 3.1)
@@ -49,4 +50,4 @@ shape_of avp = record { code = avp.code; flags = avp.flags; vendor = avp.vendor;
 
 -- a Route-Record, whatever its flags and its value (RFC 6733, section 6.7.1)
 abbrev pub route_record : ℕ → List ℕ → RawAvp
-route_record flags value = record { code = 282; flags = flags; vendor = 0; value = value }
+route_record flags value = record { code = Codes.route_record; flags = flags; vendor = 0; value = value }

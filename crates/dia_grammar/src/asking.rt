@@ -1,43 +1,43 @@
 //! What is asked of a list of AVPs, be it that of a message or of a group.
 
 ghost use Rattle.std.specs.Prelude.{◌≡◌, ◌<◌, length, IfSome};
-ghost use Rattle.dia_grammar.specs.Grammar.{has_avp as has_avp_of, is_among as is_one_of, is_known as is_known_avp, is_of as is_of_code, is_second as is_second_of, is_standard as has_standard_code, is_unknown_mandatory as is_unknown_with_m, has_row as is_in_dictionary, missing_of, second_of, unknown_of};
+ghost use Rattle.dia_grammar.specs.Grammar.{has_avp, has_row, is_among, is_known, is_of, is_second, is_standard, is_unknown_mandatory, missing_of, second_of, unknown_of};
 
-use crate::names::SERVICE_CONTEXT_ID;
 use dia_avp::RawAvp;
 use dia_avp::layout::is_mandatory;
 use dia_base::Code;
+use dia_base::codes::SERVICE_CONTEXT_ID;
 use dia_dict::row_of;
 
 /// Whether the AVP has this code and vendor 0.
 pub fn is_of(avp: &RawAvp, code: u32) -> bool
-    ensures { result ≡ is_of_code code avp.now }
+    ensures { result ≡ is_of code avp.now }
 {
     avp.vendor == 0 && avp.code == code
 }
 
 /// Whether the AVP has one of these codes and vendor 0.
 pub fn is_among(avp: &RawAvp, codes: &[u32]) -> bool
-    ensures { result ≡ is_one_of codes.now avp.now }
+    ensures { result ≡ is_among codes.now avp.now }
 {
     codes.iter().any(|code| is_of(avp, *code))
 }
 
 pub(crate) fn has_avp(avps: &[RawAvp], code: u32) -> bool
-    ensures { result ≡ has_avp_of code avps.now }
+    ensures { result ≡ has_avp code avps.now }
 {
     avps.iter().any(|avp| is_of(avp, code))
 }
 
 fn has_row(avp: &RawAvp) -> bool
-    ensures { result ≡ is_in_dictionary avp.now.code avp.now.vendor }
+    ensures { result ≡ has_row avp.now.code avp.now.vendor }
 {
     row_of(Code(avp.code), avp.vendor).is_some()
 }
 
 /// Whether it has one of the codes 1 to 461 of vendor 0.
 fn is_standard(avp: &RawAvp) -> bool
-    ensures { result ≡ has_standard_code avp.now.code avp.now.vendor }
+    ensures { result ≡ is_standard avp.now.code avp.now.vendor }
 {
     avp.vendor == 0 && 1 <= avp.code && avp.code <= SERVICE_CONTEXT_ID
 }
@@ -45,13 +45,13 @@ fn is_standard(avp: &RawAvp) -> bool
 /// Whether the AVP is known: the dictionary has a row for it, or its vendor is 0 and its code one of
 /// 1 to 461, or its vendor is listed.
 pub fn is_known(avp: &RawAvp, vendors: &[u32]) -> bool
-    ensures { result ≡ is_known_avp vendors.now avp.now }
+    ensures { result ≡ is_known vendors.now avp.now }
 {
     has_row(avp) || is_standard(avp) || vendors.contains(&avp.vendor)
 }
 
 fn is_unknown_mandatory(avp: &RawAvp, vendors: &[u32]) -> bool
-    ensures { result ≡ is_unknown_with_m vendors.now avp.now }
+    ensures { result ≡ is_unknown_mandatory vendors.now avp.now }
 {
     is_mandatory(avp.flags) && !is_known(avp, vendors)
 }
@@ -68,7 +68,7 @@ pub fn first_unknown(avps: &[RawAvp], vendors: &[u32]) -> Option<usize>
 
 /// Whether it has one of the codes, and an AVP before it has the same.
 fn is_second(avp: &RawAvp, before: &[RawAvp], codes: &[u32]) -> bool
-    ensures { result ≡ is_second_of codes.now before.now avp.now }
+    ensures { result ≡ is_second codes.now before.now avp.now }
 {
     is_among(avp, codes) && has_avp(before, avp.code)
 }

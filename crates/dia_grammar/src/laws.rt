@@ -1,11 +1,9 @@
 //! Laws of the grammar.
 
-ghost use Rattle.std.specs.Prelude.{◌≡◌, ◌≤◌, ◌++◌, ◌∷◌, ◌↔◌, ℕ, List, [], None, Some, codes, false, map, count_by, All};
+ghost use Rattle.std.specs.Prelude.{◌≡◌, ◌≤◌, ◌++◌, ◌∷◌, ◌↔◌, ℕ, List, [], None, Some, false, map, count_by, All};
 ghost use Rattle.std.specs.List.{list_any};
 ghost use Rattle.dia_avp.specs.declared.avp.RawAvp.{RawAvp};
-ghost use Rattle.dia_dict.specs.Dictionary.{name_of};
 ghost use Rattle.dia_grammar.specs.declared.fault.GrammarFault.{GrammarFault};
-ghost use Rattle.dia_grammar.specs.Codes.{auth_application_id, session_id, origin_host, destination_realm, origin_realm, cc_request_number, cc_request_type, requested_action, requested_service_unit, service_identifier, service_context_id};
 ghost use Rattle.dia_grammar.specs.Grammar.{grammar_fault, is_among, is_event_type, is_of, is_unknown_mandatory, second_of, single_codes};
 ghost use Rattle.dia_grammar.specs.Request.{IsFaultOf, IsRequest, IsSecondAt, route_record, shape_of};
 
@@ -43,13 +41,4 @@ pub fn route_record_may_follow()
 /// Of values only that of CC-Request-Type counts, and of that only whether it is EVENT_REQUEST.
 pub fn values_do_not_count()
     ensures { (vendors : List ℕ) (avps others : List RawAvp) → map shape_of avps ≡ map shape_of others → list_any is_event_type avps ≡ list_any is_event_type others → grammar_fault vendors avps ≡ grammar_fault vendors others }
-{}
-
-/// The codes that are named here are those of the dictionary under these names (RFC 6733, section 4.5;
-/// RFC 8506, section 8).
-pub fn codes_have_names()
-    ensures base { map name_of (auth_application_id ∷ session_id ∷ origin_host ∷ destination_realm ∷ origin_realm ∷ []) ≡
-        map (λ name. Some name) (codes "Auth-Application-Id" ∷ codes "Session-Id" ∷ codes "Origin-Host" ∷ codes "Destination-Realm" ∷ codes "Origin-Realm" ∷ []) }
-    ensures credit_control { map name_of (cc_request_number ∷ cc_request_type ∷ requested_action ∷ requested_service_unit ∷ service_identifier ∷ service_context_id ∷ []) ≡
-        map (λ name. Some name) (codes "CC-Request-Number" ∷ codes "CC-Request-Type" ∷ codes "Requested-Action" ∷ codes "Requested-Service-Unit" ∷ codes "Service-Identifier" ∷ codes "Service-Context-Id" ∷ []) }
 {}

@@ -4,7 +4,6 @@
 //! - [`check`]: the first fault of a request's AVPs, as a [`GrammarFault`] with its code or place.
 //! - [`is_of`], [`is_among`], [`is_known`], [`first_unknown`], [`first_repeated`], [`first_missing`]:
 //!   the same questions of any AVP or list of AVPs, for groups.
-//! - [`names`]: the codes of the AVPs that are named here.
 //!
 //! An AVP that is named by its code is one of vendor 0. A place is one in the list of AVPs, counted
 //! from 0. No call takes memory.
@@ -14,19 +13,32 @@
 //! say what a request is ([`what_a_request_is`]) and what a fault is ([`what_a_fault_is`],
 //! [`what_a_second_one_is`]), and what leaves the answer as it is ([`more_may_follow`],
 //! [`route_record_may_follow`], [`values_do_not_count`]).
+//!
+//! ```
+//! use dia_base::codes::{SUBSCRIPTION_ID_DATA, SUBSCRIPTION_ID_TYPE};
+//! use dia_grammar::{GrammarFault, check, first_missing};
+//!
+//! /// What is wrong with a request, or with the group that is its last AVP.
+//! fn fault(request: &[RawAvp], group: &[RawAvp], vendors: &[u32]) -> Option<GrammarFault> {
+//!     match check(request, vendors) {
+//!         Ok(()) => first_missing(group, &[SUBSCRIPTION_ID_TYPE, SUBSCRIPTION_ID_DATA])
+//!             .map(|code| GrammarFault::Missing { code }),
+//!         Err(fault) => Some(fault),
+//!     }
+//! }
+//! ```
 #![tactic(auto)]
 
 mod asking;
 mod fault;
 mod laws;
-pub mod names;
 mod request;
 
 pub use asking::{first_missing, first_repeated, first_unknown, is_among, is_known, is_of};
 pub use fault::GrammarFault;
 pub use laws::{
-    codes_have_names, more_may_follow, route_record_may_follow, values_do_not_count,
-    what_a_fault_is, what_a_request_is, what_a_second_one_is,
+    more_may_follow, route_record_may_follow, values_do_not_count, what_a_fault_is,
+    what_a_request_is, what_a_second_one_is,
 };
 pub use request::check;
 

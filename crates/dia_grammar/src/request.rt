@@ -3,16 +3,16 @@
 ghost use Rattle.std.specs.Prelude.{◌≡◌, IfErr};
 ghost use Rattle.std.specs.List.{list_any};
 ghost use Rattle.std.specs.Result.{result_err};
-ghost use Rattle.dia_grammar.specs.Grammar.{IsWithin, begins_with_session as begins_with_session_id, grammar_fault, is_event_type as is_event_type_of, missing_of, required_in, session_fault as session_fault_of};
+ghost use Rattle.dia_grammar.specs.Grammar.{IsWithin, begins_with_session, grammar_fault, is_event_type, missing_of, required_in, session_fault};
 
 use crate::asking::{first_missing, first_repeated, first_unknown, has_avp, is_of};
 use crate::fault::GrammarFault;
-use crate::names::{
+use dia_avp::{RawAvp, u32_of};
+use dia_base::codes::{
     AUTH_APPLICATION_ID, CC_REQUEST_NUMBER, CC_REQUEST_TYPE, DESTINATION_REALM, ORIGIN_HOST,
     ORIGIN_REALM, REQUESTED_ACTION, REQUESTED_SERVICE_UNIT, SERVICE_CONTEXT_ID, SERVICE_IDENTIFIER,
     SESSION_ID,
 };
-use dia_avp::{RawAvp, u32_of};
 
 /// What a request has at most once.
 const SINGLE: [u32; 11] = [
@@ -45,7 +45,7 @@ const EVENT_REQUEST: u32 = 4;
 
 /// Whether the first AVP is a Session-Id (RFC 6733, section 8.8).
 fn begins_with_session(avps: &[RawAvp]) -> bool
-    ensures { result ≡ begins_with_session_id avps.now }
+    ensures { result ≡ begins_with_session avps.now }
 {
     match avps {
         [first, ..] => is_of(first, SESSION_ID),
@@ -54,7 +54,7 @@ fn begins_with_session(avps: &[RawAvp]) -> bool
 }
 
 fn session_fault(avps: &[RawAvp]) -> Option<GrammarFault>
-    ensures { result ≡ session_fault_of avps.now }
+    ensures { result ≡ session_fault avps.now }
 {
     if !has_avp(avps, SESSION_ID) {
         Some(GrammarFault::Missing { code: SESSION_ID })
@@ -66,7 +66,7 @@ fn session_fault(avps: &[RawAvp]) -> Option<GrammarFault>
 }
 
 fn is_event_type(avp: &RawAvp) -> bool
-    ensures { result ≡ is_event_type_of avp.now }
+    ensures { result ≡ is_event_type avp.now }
 {
     is_of(avp, CC_REQUEST_TYPE) && u32_of(avp) == Some(EVENT_REQUEST)
 }
@@ -74,7 +74,7 @@ fn is_event_type(avp: &RawAvp) -> bool
 /// Whether the AVPs say that the request is an event. A CC-Request-Type that has not 4 octets does
 /// not.
 fn is_event(avps: &[RawAvp]) -> bool
-    ensures { result ≡ list_any is_event_type_of avps.now }
+    ensures { result ≡ list_any is_event_type avps.now }
 {
     avps.iter().any(is_event_type)
 }

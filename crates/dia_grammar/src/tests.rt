@@ -166,9 +166,23 @@ fn looks_into_a_group(rt: HostRuntime) -> Result<(), Fail> {
 
 #[test]
 fn texts_of_faults(rt: HostRuntime) -> Result<(), Fail> {
-    let missing = GrammarFault::Missing { code: 415 }.to_string(rt.alloc())?;
-    assert_eq!(rt; missing.as_str(), "AVP 415 is missing");
-    let twice = GrammarFault::Twice { at: 3 }.to_string(rt.alloc())?;
-    assert_eq!(rt; twice.as_str(), "AVP number 3 is a second one of its code");
+    for (fault, expected) in [
+        (GrammarFault::Missing { code: 415 }, "AVP 415 is missing"),
+        (
+            GrammarFault::Twice { at: 3 },
+            "AVP number 3 is a second one of its code",
+        ),
+        (
+            GrammarFault::UnknownM { at: 2 },
+            "AVP number 2 has the flag M and is not known",
+        ),
+        (
+            GrammarFault::FirstNotSessionId,
+            "the first AVP is no Session-Id",
+        ),
+    ] {
+        let text = fault.to_string(rt.alloc())?;
+        assert_eq!(rt; text.as_str(), expected);
+    }
     Ok(())
 }

@@ -34,3 +34,7 @@ only_message-whole octets first behind m e f b is_m none =
     ∙ ap (λ (o : List ℕ). only (behind_messages (first_in octets ∷ []) (stream_of o))) empty
     ∙ ap (λ (s : Stream). only (behind_messages (first_in octets ∷ []) s)) (stream_of-unread [] refl)
     ∙ ap (λ (x : Message). Some x) (sym (is_m ∙ ap message_in f))
+
+-- octets that are all one message are some message
+pub only_message-some : (octets first behind : List ℕ) → true ≡ is_whole octets → first ≡ take (length_in octets) octets → behind ≡ behind_in octets → length behind ≡ 0 → only_message octets ≡ None → ⊥
+only_message-some octets first behind e f b empty missing = let some = only_message-whole octets first behind (message_in first) e f b refl empty in cc

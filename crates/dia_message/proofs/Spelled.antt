@@ -3,6 +3,7 @@ use Rattle.std.proofs.Common.{◌≡◌, ℕ, ◌+◌, ◌-◌, ◌%◌, ◌<◌
 use Rattle.std.specs.Prelude.{All}
 use Rattle.std.proofs.lemmas.List.{append-nil, take-append-drop, length-take-le}
 use Rattle.std.proofs.Math.Seq.{take-length}
+use Rattle.dia_base.specs.Limits.{message_limit}
 use Rattle.dia_message.specs.declared.header.Header.{Header}
 use Rattle.dia_message.specs.declared.message.Message.{Message}
 use Rattle.dia_message.specs.Header.{version_in, length_in, header_in, header_octets, without_reserved}
@@ -27,7 +28,7 @@ Whole-spelled octets message s =
       version = s.version;
       least = subst (λ (n : ℕ). 20 ≤ n) s.size s.least;
       even = subst (λ (n : ℕ). n % 4 ≡ 0) s.size s.whole;
-      most = subst (λ (n : ℕ). n ≤ 65536) s.size s.most;
+      most = subst (λ (n : ℕ). n ≤ message_limit) s.size s.most;
       within = omega arith;
     }
 
@@ -63,7 +64,7 @@ Spells-first octets e =
       version = sym first ∙ w.version;
       size = size ∙ same;
       least = omega arith;
-      most = subst (λ (n : ℕ). n ≤ 65536) (sym size) w.most;
+      most = subst (λ (n : ℕ). n ≤ message_limit) (sym size) w.most;
       whole = subst (λ (n : ℕ). n % 4 ≡ 0) (sym size) w.even;
       header = refl;
       body = refl;

@@ -7,6 +7,7 @@ use Rattle.std.proofs.lemmas.List.{drop-append-le}
 use Rattle.std.proofs.Math.ListN.{get_or-append}
 use Rattle.byteorder.specs.Endian.{big_number}
 use Rattle.byteorder.specs.Numbers.{big_from-append}
+use Rattle.dia_base.specs.Limits.{message_limit}
 use Rattle.dia_message.specs.declared.frames.FrameFault.{FrameFault}
 use Rattle.dia_message.specs.declared.frames.FrameFault.TheVariants.{Version, Length, TooLong, OutOfMemory}
 use Rattle.dia_message.specs.Header.{version_in, length_in}
@@ -17,19 +18,19 @@ pub record Whole (octets : List ℕ) : Type 0 where
   pub version : version_in octets ≡ 1
   pub least : 20 ≤ length_in octets
   pub even : length_in octets % 4 ≡ 0
-  pub most : length_in octets ≤ 65536
+  pub most : length_in octets ≤ message_limit
   pub within : length_in octets ≤ length octets
 
 -- the tests over plain numbers
 abbrev faulty : ℕ → ℕ → ℕ → Option FrameFault
 faulty size version len =
-    cond (ltb size 1) None (cond (not (eqb version 1)) (Some Version) (cond (ltb size 4) None (cond (ltb len 20 || not (eqb (len % 4) 0)) (Some Length) (cond (ltb 65536 len) (Some TooLong) None))))
+    cond (ltb size 1) None (cond (not (eqb version 1)) (Some Version) (cond (ltb size 4) None (cond (ltb len 20 || not (eqb (len % 4) 0)) (Some Length) (cond (ltb message_limit len) (Some TooLong) None))))
 
 tests_tell : (size version len : ℕ) → (leb 4 size && is_none (faulty size version len) && leb len size) ≡ true
-    → (version ≡ 1) × (20 ≤ len) × (len % 4 ≡ 0) × (len ≤ 65536) × (len ≤ size)
+    → (version ≡ 1) × (20 ≤ len) × (len % 4 ≡ 0) × (len ≤ message_limit) × (len ≤ size)
 tests_tell size version len e = grind (arith, nat_tests)
 
-tests_pass : (size version len : ℕ) → version ≡ 1 → 20 ≤ len → len % 4 ≡ 0 → len ≤ 65536 → len ≤ size
+tests_pass : (size version len : ℕ) → version ≡ 1 → 20 ≤ len → len % 4 ≡ 0 → len ≤ message_limit → len ≤ size
     → (leb 4 size && is_none (faulty size version len) && leb len size) ≡ true
 tests_pass size version len v l e m w = grind (arith, nat_tests)
 
@@ -60,7 +61,7 @@ Whole-append octets more w =
       version = version_in-append octets more (omega arith) ∙ w.version;
       least = subst (λ (n : ℕ). 20 ≤ n) (sym len) w.least;
       even = subst (λ (n : ℕ). n % 4 ≡ 0) (sym len) w.even;
-      most = subst (λ (n : ℕ). n ≤ 65536) (sym len) w.most;
+      most = subst (λ (n : ℕ). n ≤ message_limit) (sym len) w.most;
       within = subst (λ (n : ℕ). n ≤ length (octets ++ more)) (sym len) (omega arith);
     }
 

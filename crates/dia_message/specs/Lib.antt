@@ -2,3 +2,4 @@ pub mod Header
 pub mod Spelling
 pub mod Stream
 pub mod Feeding
+pub mod Traffic

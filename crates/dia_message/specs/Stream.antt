@@ -1,5 +1,6 @@
 -- The messages of a stream of octets (RFC 6733, section 3).
 use Rattle.std.specs.Prelude.{◌≡◌, ℕ, zero, suc, ◌%◌, List, [], ◌∷◌, ◌++◌, length, take, drop, Bool, true, false, not, ◌&&◌, ◌||◌, ◌==◌, nat_lt, nat_le, is_none, if◌then◌else◌, Option, Some, None}
+use Rattle.dia_base.specs.Limits.{message_limit}
 use Rattle.dia_message.specs.declared.frames.FrameFault.{FrameFault}
 use Rattle.dia_message.specs.declared.frames.FrameFault.TheVariants.{Version, Length, TooLong}
 use Rattle.dia_message.specs.declared.message.Message.{Message}
@@ -20,7 +21,7 @@ fault_at octets =
     else if not (version_in octets == 1) then Some Version
     else if nat_lt (length octets) 4 then None
     else if nat_lt (length_in octets) 20 || not (length_in octets % 4 == 0) then Some Length
-    else if nat_lt 65536 (length_in octets) then Some TooLong else None
+    else if nat_lt message_limit (length_in octets) then Some TooLong else None
 
 -- ---- what the messages of a stream are
 

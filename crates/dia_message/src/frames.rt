@@ -24,7 +24,7 @@ pub enum FrameFault {
     /// Seen with four octets, as is `TooLong`.
     #[error("a message length is below 20 or no multiple of 4")]
     Length,
-    #[error("a message is longer than 65536 octets")]
+    #[error("a message is longer than {limit} octets", limit = MESSAGE_LIMIT)]
     TooLong,
     /// No fault of the stream: the piece was not taken, and may be fed again.
     #[error("out of memory")]
@@ -103,7 +103,10 @@ impl Frames {
 
 /// The message of octets that are one whole message and nothing else (RFC 6733, section 3); else none.
 pub fn whole_message(alloc: Global, octets: &[u8]) -> Result<Option<Message>, AllocError>
-    ensures { IfOk result (λ found. found ≡ only_message octets.now) }
+    ensures found { IfOk result (λ found. found ≡ only_message octets.now) }
+
+    // Octets that are no message take no memory.
+    ensures none { only_message octets.now ≡ None → result ≡ Ok None }
 {
     let Some((first, behind)) = first_of(octets) else {
         return Ok(None);

@@ -1,7 +1,7 @@
 //! The header of a message (RFC 6733, section 3).
 
 ghost use Rattle.std.specs.Prelude.{◌≡◌};
-ghost use Rattle.dia_message.specs.Header.{flag_of, flags_of as written_flags, header_octets, read_in};
+ghost use Rattle.dia_message.specs.Header.{flag_of, flags_of, header_octets, read_in};
 
 use byteorder::{BigEndian, ByteOrder};
 
@@ -79,7 +79,7 @@ fn flag(set: bool, bit: u8) -> u8
 }
 
 fn flags_of(header: &Header) -> u8
-    ensures { result ≡ written_flags header.now }
+    ensures { result ≡ flags_of header.now }
 {
     flag(header.request, REQUEST)
         | flag(header.proxiable, PROXIABLE)

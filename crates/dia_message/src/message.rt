@@ -1,6 +1,6 @@
 //! Messages, and what a node sends.
 
-ghost use Rattle.std.specs.Prelude.{◌≡◌, IfOk};
+ghost use Rattle.std.specs.Prelude.{◌≡◌, [], ◌∷◌, IfOk};
 ghost use Rattle.dia_message.specs.Spelling.{octets_of};
 
 use crate::header::{HEADER_LEN, Header, write_header};
@@ -22,6 +22,26 @@ pub struct Message {
 pub struct Out {
     /// Each message with its connection.
     pub items: Listing<(ConnId, Message)>,
+}
+
+impl Out {
+    /// No messages, which takes no memory.
+    pub fn nothing(alloc: Global) -> Self
+        ensures { result.items ≡ [] }
+    {
+        Out {
+            items: Listing::empty(alloc),
+        }
+    }
+
+    /// One message, and the connection that it goes out on.
+    pub fn of_one(alloc: Global, conn: ConnId, message: Message) -> Result<Self, AllocError>
+        ensures { IfOk result (λ out. out.items ≡ (conn, message) ∷ []) }
+    {
+        let mut items = Listing::empty(alloc);
+        items.push((conn, message))?;
+        Ok(Out { items })
+    }
 }
 
 /// The octets of a message (RFC 6733, section 3). The Message Length is that of header and body, of

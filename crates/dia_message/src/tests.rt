@@ -1,4 +1,7 @@
 use super::*;
+use dia_avp::Octets;
+use dia_base::ConnId;
+use std::alloc::Global;
 use std::test::Fail;
 
 // A Credit-Control request of session `c1;1;1`.
@@ -88,6 +91,72 @@ fn one_message(rt: HostRuntime) -> Result<(), Fail> {
     assert!(rt; whole_message(rt.alloc(), &octets)?.is_none());
     octets.truncate(247);
     assert!(rt; whole_message(rt.alloc(), &octets)?.is_none());
+    Ok(())
+}
+
+/// A message with a body of so many octets, which is read back whole if it is not too long, and what a
+/// stream that begins with it shows.
+fn of_length(alloc: Global, body: usize) -> Result<(bool, Option<FrameFault>), Fail> {
+    let message = Message {
+        header: Header {
+            request: false,
+            proxiable: true,
+            error: false,
+            resent: false,
+            command: 272,
+            application: 4,
+            hop: 7,
+            end: 100,
+        },
+        body: Octets::from_vec(vec![in alloc; 0u8; body]?)?,
+    };
+    let octets = spell_message(alloc, &message)?;
+    let back = whole_message(alloc, &octets)?;
+    let mut frames = Frames::new(alloc);
+    let fault = frames.feed(alloc, &octets).err();
+    Ok((back == Some(message), fault))
+}
+
+#[test]
+fn the_longest_message(rt: HostRuntime) -> Result<(), Fail> {
+    assert_eq!(rt; of_length(rt.alloc(), 65_536 - 20)?, (true, None));
+    assert_eq!(rt;
+        of_length(rt.alloc(), 65_540 - 20)?,
+        (false, Some(FrameFault::TooLong))
+    );
+    Ok(())
+}
+
+#[test]
+fn what_a_node_sends(rt: HostRuntime) -> Result<(), Fail> {
+    let octets = hex::decode(rt.alloc(), ANSWER)?;
+    let answer = whole_message(rt.alloc(), &octets)?.ok_or("one message")?;
+    assert!(rt; Out::nothing(rt.alloc()).items.is_empty());
+    let out = Out::of_one(rt.alloc(), ConnId(7), answer.clone()?)?;
+    assert_eq!(rt; out.items.len(), 1);
+    for (conn, message) in out.items.as_slice() {
+        assert!(rt; *conn == ConnId(7) && *message == answer);
+    }
+    Ok(())
+}
+
+#[test]
+fn texts_of_faults(rt: HostRuntime) -> Result<(), Fail> {
+    for (fault, expected) in [
+        (
+            FrameFault::Version,
+            "a message does not begin with version 1",
+        ),
+        (
+            FrameFault::Length,
+            "a message length is below 20 or no multiple of 4",
+        ),
+        (FrameFault::TooLong, "a message is longer than 65536 octets"),
+        (FrameFault::OutOfMemory, "out of memory"),
+    ] {
+        let text = fault.to_string(rt.alloc())?;
+        assert_eq!(rt; text.as_str(), expected);
+    }
     Ok(())
 }
 

@@ -1,21 +1,3 @@
-pub mod Cutting
-pub mod Digits
-pub mod Examples
-pub mod FrontKeeping
-pub mod FrontLemmas
-pub mod FrontTally
-pub mod Keeping
-pub mod Lines
-pub mod ListLemmas
-pub mod Members
-pub mod Posting
-pub mod Printing
-pub mod Promised
-pub mod Readings
-pub mod Running
-pub mod Standing
-pub mod StepKeeping
-pub mod Streams
-pub mod Tally
-pub mod Turning
-pub mod WordLists
+mod Cutting
+mod Printing
+mod Streams

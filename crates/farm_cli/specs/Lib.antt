@@ -1,14 +1,4 @@
-pub mod Cause
-pub mod FarmStep
-pub mod Lists
+pub mod Ending
 pub mod Output
-pub mod Promise
 pub mod Replay
-pub mod Report
-pub mod Run
-pub mod Schedule
-pub mod Site
-pub mod Status
-pub mod Words
-pub mod World
 pub mod Writing

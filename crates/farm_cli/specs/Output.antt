@@ -7,11 +7,11 @@ use Rattle.dia_base.specs.declared.number.ConnId.{ConnId}
 use Rattle.dia_base.specs.declared.number.NodeNo.{NodeNo}
 use Rattle.dia_message.specs.declared.message.Message.{Message}
 use Rattle.dia_message.specs.Spelling.{octets_of}
-use Rattle.farm_cli.specs.declared.site.Site.{Site}
-use Rattle.farm_cli.specs.declared.site.Node.{Node}
-use Rattle.farm_cli.specs.declared.world.run.Trace.{Trace}
-use Rattle.farm_cli.specs.Report.{line_feed, report_of}
-use Rattle.farm_cli.specs.World.{is_client}
+use Rattle.farm_model.specs.declared.site.Site.{Site}
+use Rattle.farm_model.specs.declared.site.Node.{Node}
+use Rattle.farm_model.specs.declared.state.Trace.{Trace}
+use Rattle.farm_report.specs.Report.{line_feed, report_of}
+use Rattle.farm_model.specs.Nodes.{is_client}
 
 -- the name of a node of the site
 abbrev pub name_in : Option Node → List ℕ

@@ -3,15 +3,14 @@ use Rattle.std.specs.Prelude.{◌≡◌, ℕ, List, length, take, IfSome, Option
 use Rattle.std.specs.Io.KnownBytes.{Consumes}
 use Rattle.farm_cli.specs.declared.replay.ReplayFault.{ReplayFault}
 use Rattle.farm_cli.specs.declared.replay.ReplayFault.TheVariants.{Read, Write, Script, OutOfMemory}
-use Rattle.farm_cli.specs.declared.script.fault.ScriptFault.{ScriptFault}
-use Rattle.farm_cli.specs.declared.script.fault.ScriptFault.TheVariants.{Line}
-use Rattle.farm_cli.specs.declared.script.fault.LineFault.TheVariants.{OutOfMemory as no_memory}
-use Rattle.farm_cli.specs.declared.site.Site.{Site}
-use Rattle.farm_cli.specs.declared.step.Step.{Step}
-use Rattle.farm_cli.specs.declared.world.run.Trace.{Trace}
-use Rattle.farm_cli.specs.Schedule.{steps_of, NoneBefore}
-use Rattle.farm_cli.specs.Promise.{KeepsPromise}
-use Rattle.farm_cli.specs.Run.{IsTrace}
+use Rattle.farm_script.specs.declared.fault.ScriptFault.{ScriptFault}
+use Rattle.farm_script.specs.declared.fault.ScriptFault.TheVariants.{Line}
+use Rattle.farm_script.specs.declared.fault.LineFault.TheVariants.{OutOfMemory as no_memory}
+use Rattle.farm_model.specs.declared.site.Site.{Site}
+use Rattle.farm_model.specs.declared.step.Step.{Step}
+use Rattle.farm_model.specs.declared.state.Trace.{Trace}
+use Rattle.farm_script.specs.Schedule.{steps_of, NoneBefore}
+use Rattle.farm_model.specs.Promise.{IsPromised}
 use Rattle.farm_cli.specs.Output.{output_of}
 
 -- the octets are a schedule, and this is the output of a run of its steps, which keeps what is promised
@@ -19,8 +18,7 @@ pub record Replays (site : Site) (octets printed : List ℕ) : Type 0 where
   pub steps : List Step
   pub spelled : steps_of site octets ≡ Ok steps
   pub trace : Trace
-  pub is_trace : IsTrace site steps trace
-  pub promise : KeepsPromise site steps trace
+  pub promised : IsPromised site steps trace
   pub output : printed ≡ output_of site (length steps) trace
 
 -- the octets are no schedule, by this fault; or memory ran out at a line before which none has a fault
@@ -46,3 +44,10 @@ IsReading Read = Unit {0}
 IsReading OutOfMemory = Unit {0}
 IsReading Write = ⊥
 IsReading (Script fault) = ⊥
+
+-- what comes of a text that was read: neither stream can fail
+abbrev pub IsOfText : ReplayFault → Type 0
+IsOfText (Script fault) = Unit {0}
+IsOfText OutOfMemory = Unit {0}
+IsOfText Read = ⊥
+IsOfText Write = ⊥

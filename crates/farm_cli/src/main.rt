@@ -3,22 +3,19 @@
 
 ghost use Rattle.std.specs.Prelude.{◌≡◌, ◌≢◌, ℕ, List, OnOk, IfErr, IfSome, Err};
 ghost use Rattle.std.specs.Io.KnownBytes.{Keeps, Appends};
-ghost use Rattle.farm_cli.specs.declared.script.fault.ScriptFault.{ScriptFault};
+ghost use Rattle.farm_script.specs.declared.fault.ScriptFault.{ScriptFault};
 ghost use Rattle.farm_cli.specs.Replay.{Replays, IsRefused, ReadsSchedule, WasRead};
-ghost use Rattle.farm_cli.specs.Site.{the_row_site};
+ghost use Rattle.farm_model.specs.RowSite.{the_row_site};
 ghost use Rattle.farm_cli.specs.Writing.{BeginsWriting};
 
+mod ending;
 mod output;
 mod replay;
-mod report;
-mod script;
-mod site;
-mod step;
-mod world;
 
 use dia_avp::PlainWire;
+use ending::Ending;
+use farm_world::row_site;
 use replay::{ReplayFault, replay_io};
-use site::row_site;
 use std::alloc::Global;
 use std::io;
 use std::io::{Read, Write};
@@ -46,13 +43,12 @@ fn replay_row_site<R: Read, W: Write>(
 }
 
 fn main(rt: HostRuntime) -> ExitCode {
-    match replay_row_site(rt.alloc(), &mut rt.reader(), &mut io::writer(&rt)) {
-        Ok(()) => ExitCode::SUCCESS,
-        Err(fault) => {
-            let _ = rt.eprintln(fault);
-            ExitCode::from(fault.status())
-        }
+    let replay = replay_row_site(rt.alloc(), &mut rt.reader(), &mut io::writer(&rt));
+    let ending = Ending::of(replay);
+    if let Some(fault) = ending.fault {
+        let _ = rt.eprintln(fault);
     }
+    ExitCode::from(ending.status)
 }
 
 #[cfg(test)]

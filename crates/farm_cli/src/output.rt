@@ -3,17 +3,16 @@
 ghost use Rattle.std.specs.Prelude.{◌≡◌, ◌∷◌, [], ◌++◌, codes, IfOk, OnOk, length, string_bytes};
 ghost use Rattle.std.specs.List.{concat};
 ghost use Rattle.std.specs.Fmt.{decimal};
-ghost use Rattle.farm_cli.specs.Output.{client_name as client_name_of, name_at as name_of, recv_line, end_line as end_line_of, output_of};
+ghost use Rattle.farm_cli.specs.Output.{client_name, name_at, recv_line, end_line, output_of};
 
-use crate::report::report;
-use crate::site::Site;
-use crate::world::{Trace, is_client};
 use dia_base::{ConnId, NodeNo};
 use dia_message::{Message, spell_message};
+use farm_report::report;
+use farm_world::{Site, Trace, is_client};
 use std::alloc::{AllocError, Global};
 
 fn name_at(site: &Site, node: NodeNo) -> &[u8]
-    ensures { result.now ≡ name_of site.now node }
+    ensures { result.now ≡ name_at site.now node }
 {
     match site.nodes.as_slice().get(node.0 as usize) {
         Some(node) => node.name.as_slice(),
@@ -22,7 +21,7 @@ fn name_at(site: &Site, node: NodeNo) -> &[u8]
 }
 
 fn client_name<'a>(site: &'a Site, ends: &[(NodeNo, NodeNo)], conn: ConnId) -> &'a [u8]
-    ensures { result.now ≡ client_name_of site.now ends.now conn }
+    ensures { result.now ≡ client_name site.now ends.now conn }
 {
     match ends.get(conn.0.saturating_sub(1) as usize) {
         Some((one, other)) => {
@@ -63,7 +62,7 @@ fn number_between_spaces(alloc: Global, conn: ConnId) -> Result<String, AllocErr
 }
 
 fn end_line(alloc: Global, steps: usize, skipped: u64, entries: usize) -> Result<String, AllocError>
-    ensures { IfOk result (λ line. string_bytes line ≡ end_line_of steps skipped entries) }
+    ensures { IfOk result (λ line. string_bytes line ≡ end_line steps skipped entries) }
 {
     format!(in alloc; "end steps {steps} skipped {skipped} entries {entries}\n")
 }

@@ -2,17 +2,16 @@
 
 ghost use Rattle.std.specs.Prelude.{◌≡◌, ◌≢◌, ◌<◌, ◌≤◌, ℕ, List, length, take, IfOk, OnOk, OnErr, IfSome, IfErr, IsOkUnless, Err};
 ghost use Rattle.std.specs.Io.KnownBytes.{Keeps, Appends, Consumes, IsAtEnd};
-ghost use Rattle.farm_cli.specs.declared.script.fault.ScriptFault.{ScriptFault};
-ghost use Rattle.farm_cli.specs.Run.{IsRunnable};
-ghost use Rattle.farm_cli.specs.Replay.{Replays, IsRefused, IsReading, ReadsSchedule, WasRead};
+ghost use Rattle.farm_script.specs.declared.fault.ScriptFault.{ScriptFault};
+ghost use Rattle.farm_model.specs.CheckedSite.{IsChecked};
+ghost use Rattle.farm_cli.specs.Replay.{Replays, IsRefused, IsReading, IsOfText, ReadsSchedule, WasRead};
 ghost use Rattle.farm_cli.specs.Writing.{BeginsWriting};
 
 use crate::output::output;
-use crate::script::{LineFault, ScriptFault, steps_of};
-use crate::site::Site;
-use crate::world::run;
 use dia_avp::Wire;
 use dia_base::SCHEDULE_LIMIT;
+use farm_script::{ScriptFault, steps_of};
+use farm_world::{Site, run};
 use std::alloc::Global;
 use std::io;
 use std::io::{ErrorKind, Read, Write};
@@ -35,28 +34,6 @@ pub enum ReplayFault {
     Script(ScriptFault),
     #[error("out of memory")]
     OutOfMemory,
-}
-
-impl ReplayFault {
-    ghost use Rattle.farm_cli.specs.Status.{status_of};
-
-    /// The exit status: 1 for a stream, 3 for a refused schedule, 4 for want of memory.
-    pub fn status(&self) -> u8
-        ensures { result ≡ status_of self.now }
-    {
-        match self {
-            ReplayFault::Read => 1,
-            ReplayFault::Write => 1,
-            ReplayFault::Script(
-                ScriptFault::Line {
-                    fault: LineFault::OutOfMemory,
-                    ..
-                },
-            ) => 4,
-            ReplayFault::Script(_) => 3,
-            ReplayFault::OutOfMemory => 4,
-        }
-    }
 }
 
 /// One read, which gives nothing only at the end.
@@ -127,6 +104,28 @@ fn write_text<W: Write>(writer: &mut W, text: &[u8]) -> Result<(), ReplayFault>
     writer.flush().map_err(|_| ReplayFault::Write)
 }
 
+/// What the text of a schedule prints, run over the site from an empty history.
+pub fn replay_text<V: Wire>(alloc: Global, site: &Site, text: &[u8]) -> Result<Vec<u8>, ReplayFault>
+    requires { IsChecked site.now }
+
+    // The output of a run of the text's steps; or the first fault of a text that is no schedule.
+    ensures ok { IfOk result (λ printed. Replays site.now text.now printed.items) }
+    ensures script { (fault : ScriptFault) → result ≡ Err (ReplayFault.Script fault) → IsRefused site.now text.now fault }
+    ensures fault { IfErr result IsOfText }
+{
+    let steps = match steps_of(alloc, text, site) {
+        Ok(steps) => steps,
+        Err(fault) => return Err(ReplayFault::Script(fault)),
+    };
+    let Ok(trace) = run::<V>(alloc, site, &steps) else {
+        return Err(ReplayFault::OutOfMemory);
+    };
+    match output(alloc, site, steps.len(), &trace) {
+        Ok(printed) => Ok(printed),
+        Err(_) => Err(ReplayFault::OutOfMemory),
+    }
+}
+
 /// Reads a schedule, runs its steps over the site from an empty history, and writes what the run
 /// prints. Nothing is written before the run is done.
 pub fn replay_io<V: Wire, R: Read, W: Write>(
@@ -135,7 +134,7 @@ pub fn replay_io<V: Wire, R: Read, W: Write>(
     reader: &mut R,
     writer: &mut W,
 ) -> Result<(), ReplayFault>
-    requires { IsRunnable site.now }
+    requires { IsChecked site.now }
 
     // Where reader and writer tell their octets, what is written is the output of a run of the
     // schedule's steps.
@@ -155,15 +154,6 @@ pub fn replay_io<V: Wire, R: Read, W: Write>(
         (printed : List ℕ) × Replays site.now octets printed × BeginsWriting (W.contents writer.old) (W.contents writer.new) printed) }
 {
     let text = read_text(alloc, reader)?;
-    let steps = match steps_of(alloc, &text, site) {
-        Ok(steps) => steps,
-        Err(fault) => return Err(ReplayFault::Script(fault)),
-    };
-    let Ok(trace) = run::<V>(alloc, site, &steps) else {
-        return Err(ReplayFault::OutOfMemory);
-    };
-    let Ok(out) = output(alloc, site, steps.len(), &trace) else {
-        return Err(ReplayFault::OutOfMemory);
-    };
-    write_text(writer, &out)
+    let printed = replay_text::<V>(alloc, site, &text)?;
+    write_text(writer, &printed)
 }

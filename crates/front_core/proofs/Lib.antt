@@ -1,2 +1,7 @@
 pub mod Charges
 pub mod Emitting
+pub mod FrontKeeping
+pub mod FrontPromise
+pub mod FrontRuns
+pub mod FrontTally
+pub mod Standing

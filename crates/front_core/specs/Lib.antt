@@ -1,5 +1,9 @@
 pub mod Answered
 pub mod Cause
 pub mod ChargeCases
+pub mod Charging
+pub mod Counts
+pub mod FrontRun
 pub mod FrontState
 pub mod FrontStep
+pub mod Promise

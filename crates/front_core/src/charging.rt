@@ -1,40 +1,37 @@
 //! The answer to a request that a worker holds.
 
 ghost use Rattle.std.specs.Prelude.{◌≡◌, IfOk, OnOk, OnErr, IsOkUnless};
-ghost use Rattle.cc_view.specs.RequestView.{view_of};
 ghost use Rattle.cc_book.specs.Taking.{answer_of};
-ghost use Rattle.front_core.specs.FrontStep.{answer_by, after_take, answer_in, book_after};
+ghost use Rattle.front_core.specs.Charging.{answer_by, after_take, answer_in, book_after};
+ghost use Rattle.front_core.specs.FrontStep.{preparation_at, too_busy};
 
 use crate::error::FrontError;
+use crate::preparing::{Prepared, prepare};
+use crate::site::FrontSite;
 use cc_book::{Book, BookRefusal};
-use cc_view::{CcRequest, Refusal, ResultCode, ViewError, answer_bytes, refusal_bytes, request_of};
+use cc_view::{CcRequest, Refusal, ResultCode, answer_bytes, refusal_bytes};
 use dia_avp::Wire;
-use dia_base::{Identity, Moment};
+use dia_base::Moment;
 use dia_message::Message;
-use std::alloc::Global;
+use std::alloc::{AllocError, Global};
 
 /// The answer of a front to a message, and the book after it. After an error the book is as it was.
 pub fn charge<W: Wire>(
     alloc: Global,
-    name: &Identity,
-    realm: &Identity,
-    vendors: &[u32],
+    site: &FrontSite,
     message: &Message,
     book: &mut Book,
     moment: Moment,
 ) -> Result<Message, FrontError>
-    ensures answer { IfOk result (λ answer. answer ≡ answer_in name.now realm.now book.old message.now (view_of vendors.now message.now)) }
-    ensures book { OnOk result (book.new ≡ book_after book.old moment (view_of vendors.now message.now)) }
+    ensures answer { IfOk result (λ answer. answer ≡ answer_in site.now book.old message.now (preparation_at site.now message.now)) }
+    ensures book { OnOk result (book.new ≡ book_after book.old moment (preparation_at site.now message.now)) }
     ensures err { OnErr result (book.new ≡ book.old) }
     ensures memory { IsOkUnless result FrontError.OutOfMemory }
 {
-    match request_of::<W>(alloc, message, vendors) {
-        Ok(request) => take::<W>(alloc, name, realm, message, &request, book, moment),
-        Err(ViewError::Refused(refusal)) => {
-            let answer = refusal_bytes::<W>(alloc, name, realm, message, &refusal)?;
-            Ok(answer)
-        }
-        Err(ViewError::OutOfMemory) => Err(FrontError::OutOfMemory),
+    let vendors = site.vendors.as_slice();
+    match prepare::<W>(alloc, &site.name, &site.realm, vendors, message)? {
+        Prepared::Refused(answer) => Ok(answer),
+        Prepared::Ask(request) => take::<W>(alloc, site, message, &request, book, moment),
     }
 }
 
@@ -42,14 +39,13 @@ pub fn charge<W: Wire>(
 /// before the book takes the request, so that an error leaves the book as it was.
 fn take<W: Wire>(
     alloc: Global,
-    name: &Identity,
-    realm: &Identity,
+    site: &FrontSite,
     message: &Message,
     request: &CcRequest,
     book: &mut Book,
     moment: Moment,
 ) -> Result<Message, FrontError>
-    ensures answer { IfOk result (λ answer. answer ≡ answer_by name.now realm.now message.now request.now (answer_of book.old request.now)) }
+    ensures answer { IfOk result (λ answer. answer ≡ answer_by site.now message.now request.now (answer_of book.old request.now)) }
     ensures book { OnOk result (book.new ≡ after_take book.old moment request.now) }
     ensures err { OnErr result (book.new ≡ book.old) }
     ensures memory { IsOkUnless result FrontError.OutOfMemory }
@@ -57,16 +53,19 @@ fn take<W: Wire>(
     let quoted = match book.quote(alloc, moment, request) {
         Ok(quoted) => quoted,
         Err(BookRefusal::Full { .. }) => {
-            let busy = Refusal {
-                code: ResultCode::TooBusy,
-                failed: None,
-            };
-            let answer = refusal_bytes::<W>(alloc, name, realm, message, &busy)?;
+            let answer = too_busy::<W>(alloc, site, message)?;
             return Ok(answer);
         }
         Err(BookRefusal::OutOfMemory) => return Err(FrontError::OutOfMemory),
     };
-    let answer = answer_bytes::<W>(alloc, name, realm, message, request, &quoted.reply)?;
+    let answer = answer_bytes::<W>(
+        alloc,
+        &site.name,
+        &site.realm,
+        message,
+        request,
+        &quoted.reply,
+    )?;
     if !quoted.fresh {
         return Ok(answer);
     }
@@ -74,4 +73,19 @@ fn take<W: Wire>(
         Ok(_) => Ok(answer),
         Err(_) => Err(FrontError::OutOfMemory),
     }
+}
+
+/// The refusal of a request that the front is too busy for: DIAMETER_TOO_BUSY (RFC 6733, section 7.1.3).
+pub fn too_busy<W: Wire>(
+    alloc: Global,
+    site: &FrontSite,
+    message: &Message,
+) -> Result<Message, AllocError>
+    ensures { IfOk result (λ answer. answer ≡ too_busy site.now message.now) }
+{
+    let busy = Refusal {
+        code: ResultCode::TooBusy,
+        failed: None,
+    };
+    refusal_bytes::<W>(alloc, &site.name, &site.realm, message, &busy)
 }

@@ -1,31 +1,27 @@
-//! The events of a front.
+//! A front, its connections, and what comes on them.
 
-ghost use Rattle.std.specs.Prelude.{◌≡◌, ◌↔◌, ◌∷◌, [], IsTrue, IfOk, OnOk, OnErr, IsOk, IsOkUnless, IsSome, IsSomeAnd, IfSome, IfNone, MatchOption, MatchBool, replicate, true, false, Some, None};
-ghost use Rattle.dia_base.specs.declared.number.ConnId.{ConnId};
+ghost use Rattle.std.specs.Prelude.{◌≡◌, length, IfOk, OnOk, OnErr, IsOk, IsOkUnless, MatchBool, replicate, true, false};
 ghost use Rattle.front_core.specs.declared.worker.Worker.TheVariants.{Idle};
-ghost use Rattle.front_core.specs.FrontState.{is_among};
-ghost use Rattle.front_core.specs.FrontStep.{connected, after_arrival, sent_at_arrival, after_pick, after_charge, after_emit, Picks, Charges, Emits};
+ghost use Rattle.front_core.specs.FrontState.{new_front, is_among};
+ghost use Rattle.front_core.specs.FrontStep.{with_connection, without_connection, after_restart, after_arrival, sent_at_arrival};
 
-use crate::charging::charge;
+mod work;
+
+use crate::charging::too_busy;
 use crate::error::FrontError;
+use crate::site::FrontSite;
 use crate::worker::{Job, Worker};
-use cc_book::Book;
-use cc_view::{Refusal, ResultCode, refusal_bytes};
 use dia_avp::Wire;
-use dia_base::{ConnId, Identity, Listing, Moment};
+use dia_base::{ConnId, Identity, Listing};
 use dia_message::{Message, Out};
 use std::alloc::{AllocError, Global};
 use std::collections::VecDeque;
 use std::marker::Model;
-use std::mem;
 
 /// A front node.
 #[derive(Debug, Drop)]
 pub struct Front {
-    name: Identity,
-    realm: Identity,
-    vendors: Listing<u32>,
-    queue_limit: u32,
+    site: FrontSite,
     connections: Vec<ConnId>,
     queue: VecDeque<Job>,
     workers: Vec<Worker>,
@@ -37,10 +33,7 @@ impl Model for Front {
     ghost Value = { FrontState };
 
     ghost view = { λ f. record {
-      name = f.name;
-      realm = f.realm;
-      vendors = f.vendors;
-      queue_limit = f.queue_limit;
+      site = f.site;
       connections = f.connections.items;
       queue = f.queue.items;
       workers = f.workers.items;
@@ -57,22 +50,13 @@ fn idle_workers(alloc: Global, count: u32) -> Result<Vec<Worker>, AllocError>
     Ok(workers)
 }
 
-fn nothing(alloc: Global) -> Out
-    ensures { result.items ≡ [] }
+/// Takes from every worker what it holds.
+fn free(workers: &mut [Worker])
+    ensures { workers.new ≡ replicate (length workers.old) Idle }
 {
-    Out {
-        items: Listing::from_vec(Vec::new(alloc)),
+    for worker in workers.iter_mut() {
+        *worker = Worker::Idle;
     }
-}
-
-fn one_message(alloc: Global, conn: ConnId, message: Message) -> Result<Out, AllocError>
-    ensures { IfOk result (λ out. out.items ≡ (conn, message) ∷ []) }
-{
-    let mut items = Vec::with_capacity(alloc, 1)?;
-    items.push((conn, message))?;
-    Ok(Out {
-        items: Listing::from_vec(items),
-    })
 }
 
 impl Front {
@@ -86,21 +70,16 @@ impl Front {
         workers: u32,
         queue: u32,
     ) -> Result<Self, AllocError>
-        ensures { IfOk result (λ front. front ≡ record {
-          name = name;
-          realm = realm;
-          vendors = vendors;
-          queue_limit = queue;
-          connections = [];
-          queue = [];
-          workers = replicate workers Idle;
-        }) }
+        ensures { IfOk result (λ front. front ≡ new_front (record { name = name; realm = realm; vendors = vendors; workers = workers; queue = queue })) }
     {
         Ok(Front {
-            name,
-            realm,
-            vendors,
-            queue_limit: queue,
+            site: FrontSite {
+                name,
+                realm,
+                vendors,
+                workers,
+                queue,
+            },
             connections: Vec::new(alloc),
             queue: VecDeque::new(alloc),
             workers: idle_workers(alloc, workers)?,
@@ -109,7 +88,7 @@ impl Front {
 
     /// A connection comes up. One that is up already changes nothing.
     pub fn conn_up(&mut self, conn: ConnId) -> Result<(), FrontError>
-        ensures ok { OnOk result (self.new ≡ connected self.old conn) }
+        ensures ok { OnOk result (self.new ≡ with_connection self.old conn) }
         ensures known { is_among self.old.connections conn ≡ true → IsOk result }
         ensures err { OnErr result (self.new ≡ self.old) }
         ensures memory { IsOkUnless result FrontError.OutOfMemory }
@@ -118,6 +97,24 @@ impl Front {
             self.connections.push(conn)?;
         }
         Ok(())
+    }
+
+    /// A connection is lost. Requests that came on it stay where they are: they may still be charged,
+    /// and their answers go nowhere. One that is not up changes nothing. It takes no memory.
+    pub fn conn_lost(&mut self, conn: ConnId)
+        ensures { self.new ≡ without_connection self.old conn }
+    {
+        self.connections.retain(|up| up.0 != conn.0);
+    }
+
+    /// The front restarts: no connection is up, no request waits, and all workers are idle. It takes no
+    /// memory.
+    pub fn restart(&mut self)
+        ensures { self.new ≡ after_restart self.old }
+    {
+        self.connections.clear();
+        self.queue.clear();
+        free(&mut self.workers);
     }
 
     /// A message came on the connection. A request joins the queue, or is answered 3004 at once where
@@ -138,97 +135,16 @@ impl Front {
             return Err(FrontError::UnknownConn { conn });
         }
         if !message.header.request {
-            return Ok(nothing(alloc));
+            return Ok(Out::nothing(alloc));
         }
-        if self.queue.len() < self.queue_limit as usize {
+        if self.queue.len() < self.site.queue as usize {
             self.queue.push_back(Job {
                 conn,
                 request: message,
             })?;
-            return Ok(nothing(alloc));
+            return Ok(Out::nothing(alloc));
         }
-        let busy = Refusal {
-            code: ResultCode::TooBusy,
-            failed: None,
-        };
-        let refusal = refusal_bytes::<W>(alloc, &self.name, &self.realm, &message, &busy)?;
-        Ok(one_message(alloc, conn, refusal)?)
-    }
-
-    /// An idle worker takes the first request of the queue. It answers whether there are both; where
-    /// not, nothing changes. It takes no memory.
-    pub fn pick(&mut self, worker: u64) -> bool
-        ensures { Picks (after_pick self.old worker) result self.old self.new }
-    {
-        let place = worker as usize;
-        let Some(Worker::Idle) = self.workers.get(place) else {
-            return false;
-        };
-        let Some(job) = self.queue.pop_front() else {
-            return false;
-        };
-        let Job { conn, request } = job;
-        self.workers[place] = Worker::Picked { conn, request };
-        true
-    }
-
-    /// A worker that is done sends its answer, if the connection is still up, and is idle again. The
-    /// answer is none where the worker is not done, and then nothing changes.
-    pub fn emit(&mut self, alloc: Global, worker: u64) -> Result<Option<Out>, FrontError>
-        ensures ok { IfOk result (λ out. Emits (after_emit self.old worker) out self.old self.new) }
-        ensures idle { after_emit self.old worker ≡ None → IsOk result }
-        ensures err { OnErr result (self.new ≡ self.old) }
-        ensures memory { IsOkUnless result FrontError.OutOfMemory }
-    {
-        let place = worker as usize;
-        let Some(Worker::Done { .. }) = self.workers.get(place) else {
-            return Ok(None);
-        };
-        let mut items = Vec::with_capacity(alloc, 1)?;
-        let held = mem::replace(&mut self.workers[place], Worker::Idle);
-        let Worker::Done { conn, answer } = held else {
-            unreachable!();
-        };
-        if !self.connections.contains(&conn) {
-            return Ok(Some(nothing(alloc)));
-        }
-        items.push_reserved((conn, answer));
-        Ok(Some(Out {
-            items: Listing::from_vec(items),
-        }))
-    }
-
-    /// A worker charges the request that it holds, and holds its answer then. A message that its view
-    /// refuses is answered without the book; a request that the book has no room for is answered 3004.
-    /// The answer is false where the worker holds no request, and then nothing changes.
-    pub fn charge<W: Wire>(
-        &mut self,
-        alloc: Global,
-        worker: u64,
-        book: &mut Book,
-        moment: Moment,
-    ) -> Result<bool, FrontError>
-        ensures ok { IfOk result (λ applied. Charges (after_charge self.old book.old moment worker) applied self.old book.old self.new book.new) }
-        ensures idle { after_charge self.old book.old moment worker ≡ None → IsOk result }
-        ensures err { OnErr result ((self.new ≡ self.old) × (book.new ≡ book.old)) }
-        ensures memory { IsOkUnless result FrontError.OutOfMemory }
-    {
-        let place = worker as usize;
-        let Some(Worker::Picked { conn, request }) = self.workers.get(place) else {
-            return Ok(false);
-        };
-        let conn = *conn;
-        let vendors = self.vendors.as_slice();
-        let answer = charge::<W>(
-            alloc,
-            &self.name,
-            &self.realm,
-            vendors,
-            request,
-            book,
-            moment,
-        )?;
-        self.workers[place] = Worker::Done { conn, answer };
-        Ok(true)
+        let refusal = too_busy::<W>(alloc, &self.site, &message)?;
+        Ok(Out::of_one(alloc, conn, refusal)?)
     }
 }

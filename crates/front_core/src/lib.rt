@@ -1,17 +1,48 @@
-//! One front of a credit-control server: a queue of requests, and workers that charge them.
+//! One front of a credit-control server: a queue of requests, and workers that charge them in the book.
 //! An event comes in, and what is sent goes out; nothing here waits or reads a clock.
+//!
+//! - `front`: a front, its connections and its queue; `front::work`: what its workers do.
+//! - `preparing`: what a message is before the book is asked; `charging`: the answer after it is.
+//! - `run`: a front over a list of `event`s.
+//! - `laws`: what holds of every charge and every answer.
+//!
+//! Definitions stand in `specs/`: `FrontState` and `FrontStep` (each call), `Charging` and `ChargeCases` (a charge),
+//! `Answered` and `Cause` (what an answer stands on), `FrontRun` (one event after another), `Counts` and `Promise`
+//! (what is promised of every run).
+//!
+//! ```
+//! let mut front = Front::new(alloc, name, realm, vendors, 4, 1024)?;
+//! front.conn_up(conn)?;
+//! let refused = front.on_message::<PlainWire>(alloc, conn, message)?;
+//! post(refused);
+//! if front.pick(0) {
+//!     front.charge::<PlainWire>(alloc, 0, &mut book, now)?;
+//! }
+//! if let Some(out) = front.emit(alloc, 0)? {
+//!     post(out);
+//! }
+//! ```
 #![tactic(auto)]
 
 mod charging;
 mod error;
+mod event;
 mod front;
 mod laws;
+mod preparing;
+mod run;
+mod site;
+#[cfg(test)]
+mod tests;
 mod worker;
 
 pub use error::FrontError;
+pub use event::FrontEvent;
 pub use front::Front;
 pub use laws::{
     a_charge_answers_or_refuses, an_arrival_is_refused_with_cause, answers_stay,
     charges_by_four_cases,
 };
+pub use preparing::{Prepared, prepare};
+pub use site::FrontSite;
 pub use worker::{Job, Worker};

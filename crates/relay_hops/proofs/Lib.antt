@@ -1,5 +1,5 @@
-pub mod Counting
 pub mod Trying
 pub mod Rows
 pub mod Rising
 pub mod LookUps
+pub mod InUse

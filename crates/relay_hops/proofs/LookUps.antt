@@ -8,7 +8,7 @@ use Rattle.dia_base.specs.declared.number.ConnId.{ConnId}
 use Rattle.relay_hops.specs.declared.row.Held.{Held}
 use Rattle.relay_hops.specs.declared.row.Row.{Row}
 use Rattle.relay_hops.specs.PendingTable.{hop_of, is_sent_on, has_key, IsMap, held_at, hops_on, IsWith, IsMoved, without_origin, orphaned}
-use Rattle.relay_hops.proofs.Counting.{one, count-cons, count_none, none_counted, any_found}
+use Rattle.dia_base.proofs.Counting.{one, count-cons, count_none, none_counted, any_found}
 
 abbrev held : Option Row → Option Held
 held o = option_map (λ row. row.held) o

@@ -10,7 +10,7 @@ use Rattle.std.proofs.Math.Dec.{eqb}
 use Rattle.dia_base.specs.declared.number.ConnId.{ConnId}
 use Rattle.relay_hops.specs.declared.row.Row.{Row}
 use Rattle.relay_hops.specs.PendingTable.{hop_of, is_sent_on, has_key, IsMap, hops_on}
-use Rattle.relay_hops.proofs.Counting.{one, count-cons}
+use Rattle.dia_base.proofs.Counting.{one, count-cons}
 
 flips : (x y : ℕ) → eqb x y ≡ eqb y x
 flips x y = nat_eq_equiv.symm x y

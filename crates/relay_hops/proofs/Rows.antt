@@ -9,7 +9,7 @@ use Rattle.std.proofs.lemmas.Option.{slice_get_past, slice_get_read}
 use Rattle.dia_base.specs.declared.number.ConnId.{ConnId}
 use Rattle.relay_hops.specs.declared.row.Row.{Row}
 use Rattle.relay_hops.specs.PendingTable.{hop_of, is_sent_on, has_key, IsMap, held_at, IsWith, IsMoved, resent, orphaned}
-use Rattle.relay_hops.proofs.Counting.{one, count-among, count-map, none_counted, none_any}
+use Rattle.dia_base.proofs.Counting.{one, count-among, count-map, none_counted, none_any}
 
 -- ---- keys
 

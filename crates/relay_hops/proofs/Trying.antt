@@ -6,7 +6,7 @@ use Rattle.std.proofs.lemmas.Bool.{eqb-true, lt-ltb, le-ltb, ltb-true}
 use Rattle.dia_base.specs.declared.number.ConnId.{ConnId}
 use Rattle.relay_hops.specs.declared.row.Row.{Row}
 use Rattle.relay_hops.specs.PendingTable.{hop_of, is_sent_on, has_key}
-use Rattle.relay_hops.proofs.Counting.{one, one-le, count-cons, count-le}
+use Rattle.dia_base.proofs.Counting.{one, one-le, count-cons, count-le}
 
 -- how far an identifier lies behind the first one that was tried
 abbrev pub behind : ℕ → Row → ℕ

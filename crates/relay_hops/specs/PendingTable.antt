@@ -1,5 +1,8 @@
 -- Pending requests (RFC 6733, sections 3 and 6.2): a finite map from connection and Hop-by-Hop Identifier to what is kept of a request. It stands as a list of rows, of which the order says nothing.
-use Rattle.std.specs.Prelude.{◌≡◌, ℕ, ◌≤◌, ◌==◌, ◌&&◌, Bool, true, List, ◌∷◌, ◌++◌, map, filter, find, count_by, Option, Some, None, option_map, if◌then◌else◌}
+use Rattle.std.specs.Prelude.{◌≡◌, ℕ, ◌≤◌, ◌==◌, ◌&&◌, Bool, true, List, ◌∷◌, ◌++◌, map, filter, find, count_by, length, nat_le, Option, Some, None, option_map, is_some, if◌then◌else◌}
+use Rattle.std.specs.List.{list_any}
+use Rattle.std.specs.List.Sorted.{IsStrictlySortedBy}
+use Rattle.std.specs.Ordering.{nat_cmp}
 use Rattle.dia_base.specs.declared.number.ConnId.{ConnId}
 use Rattle.dia_message.specs.declared.message.Message.{Message}
 use Rattle.relay_hops.specs.declared.row.Origin.{Origin}
@@ -33,6 +36,16 @@ held_at rows conn hop = option_map (λ row. row.held) (find (has_key conn hop) r
 -- the identifiers in use on a connection
 abbrev pub hops_on : List Row → ConnId → List ℕ
 hops_on rows conn = map hop_of (filter (is_sent_on conn) rows)
+
+-- These are the identifiers in use on a connection, the least first: something is held under each of
+-- them and under no other, and they rise.
+pub record AreInUse (rows : List Row) (conn : ConnId) (hops : List ℕ) : Type 0 where
+  pub used : (hop : ℕ) → is_some (held_at rows conn hop) ≡ list_any (λ h. h == hop) hops
+  pub rising : IsStrictlySortedBy nat_cmp hops
+
+-- as many requests are pending as there may be
+abbrev pub is_full : PendingTable → Bool
+is_full pending = nat_le pending.limit (length pending.rows)
 
 -- ---- one row more or less
 

@@ -3,7 +3,7 @@
 ghost use Rattle.std.specs.Prelude.{◌≡◌, ◌≤◌, ◌<◌, ◌^◌, [], ◌∷◌, map, length, is_some, Some, None, IfOk, IfErr, OnOk, OnErr, IfSome, IfNone, OnSome, IsSome, IsPermutation, position};
 ghost use Rattle.std.specs.List.Sorted.{IsStrictlyIncreasing};
 ghost use Rattle.std.specs.Option.{option_copied};
-ghost use Rattle.relay_hops.specs.PendingTable.{IsMap, has_key, held_at, hops_on, IsWith, IsMoved, under, resent, orphaned};
+ghost use Rattle.relay_hops.specs.PendingTable.{IsMap, has_key, held_at, hops_on, is_full, AreInUse, IsWith, IsMoved, under, resent, orphaned};
 
 use crate::free::free_hop;
 use crate::row::{Held, Hop, Origin, Row};
@@ -30,7 +30,8 @@ pub struct NotAdded {
 }
 
 /// The requests that were sent and are not answered yet. Contracts see the limit, and the rows in an
-/// order that says nothing.
+/// order that says nothing. The rows stand in a list, which every call but `new`, `clear` and `is_full`
+/// walks: a call takes time in proportion to the requests that are pending.
 #[derive(Debug, Drop)]
 pub struct Pending {
     limit: u32,
@@ -62,6 +63,14 @@ impl Pending {
         })
     }
 
+    /// Whether as many requests are pending as there may be, so that no other one becomes so. It takes
+    /// no memory.
+    pub fn is_full(&self) -> bool
+        ensures { result ≡ is_full self.now }
+    {
+        self.rows.len() >= self.limit as usize
+    }
+
     /// A request goes out on a connection: it is pending there under an identifier that no other
     /// one has. At the limit, and where memory is refused, the table is as it was and the request is
     /// handed back.
@@ -74,7 +83,7 @@ impl Pending {
         ensures err { OnErr result (self.new ≡ self.old) }
         ensures map { IsMap self.new.rows }
     {
-        if self.rows.len() >= self.limit as usize {
+        if self.is_full() {
             let why = PendingRefusal::PendingFull { limit: self.limit };
             return Err(NotAdded { why, request });
         }
@@ -101,6 +110,7 @@ impl Pending {
         ensures free { held_at self.new.rows conn hop ≡ None }
         ensures none { IfNone result (self.new ≡ self.old) }
         ensures limit { self.new.limit ≡ self.old.limit }
+        ensures map_before { IsMap self.old.rows }
         ensures map { IsMap self.new.rows }
     {
         let at = self.place_of(conn, hop)?;
@@ -120,10 +130,12 @@ impl Pending {
     }
 
     /// The identifiers of the requests that are pending on the connection, each above the one
-    /// before.
+    /// before: the order in which they go out again when the connection has ended.
     pub fn sent_to(&self, alloc: Global, conn: ConnId) -> Result<Vec<Hop>, AllocError>
         ensures all { IfOk result (λ hops. IsPermutation (hops_on self.now.rows conn) hops.items) }
         ensures rising { IfOk result (λ hops. IsStrictlyIncreasing hops.items) }
+        ensures in_use { IfOk result (λ hops. AreInUse self.now.rows conn hops.items) }
+        ensures map { IsMap self.now.rows }
     {
         let mut hops = self.hops_on(alloc, conn)?;
         hops.sort_unstable();
@@ -152,6 +164,7 @@ impl Pending {
         ensures moved { IfSome result (λ fresh. IfSome (held_at self.old.rows conn hop) (λ held. IsMoved (record { conn = conn; held = held }) (resent to fresh (record { conn = conn; held = held })) self.old.rows self.new.rows)) }
         ensures none { IfNone result (self.new ≡ self.old) }
         ensures limit { self.new.limit ≡ self.old.limit }
+        ensures map_before { IsMap self.old.rows }
         ensures map { IsMap self.new.rows }
     {
         let at = self.place_of(conn, hop)?;

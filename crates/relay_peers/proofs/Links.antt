@@ -6,7 +6,9 @@ use Rattle.dia_base.specs.declared.number.NodeNo.{NodeNo}
 use Rattle.dia_base.specs.declared.number.ConnId.{ConnId}
 use Rattle.relay_peers.specs.declared.peers.Link.{Link}
 use Rattle.relay_peers.specs.PeerTable.{IsOneToOne, is_of, is_on, conn_in, peer_in, with_link, without_conn, but_for}
-use Rattle.relay_peers.proofs.Finding.{count_push, count-filter, find_push, or_else, found_passes, found_by_both, kept, find-filter}
+use Rattle.dia_base.proofs.Counting.{count_push, count-filter}
+use Rattle.dia_base.proofs.Finding.{found_passes}
+use Rattle.relay_peers.proofs.Finding.{find_push, or_else, found_by_both, kept, find-filter}
 
 abbrev conn_of : Option Link → Option ConnId
 conn_of o = option_map (λ link. link.conn) o

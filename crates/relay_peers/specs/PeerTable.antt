@@ -1,8 +1,9 @@
 -- The peers of a node and their connections (RFC 6733, sections 2.1 and 2.6): a finite map from peers to connections.
-use Rattle.std.specs.Prelude.{◌≤◌, ◌==◌, not, Bool, List, ◌∷◌, [], ◌++◌, filter, find, count_by, Option, Some, None, option_map, if◌then◌else◌}
+use Rattle.std.specs.Prelude.{ℕ, ◌≤◌, ◌==◌, not, Bool, List, ◌∷◌, [], ◌++◌, filter, find, count_by, Option, Some, None, option_map, if◌then◌else◌}
+use Rattle.dia_base.specs.Folding.{same_folded}
 use Rattle.dia_base.specs.declared.number.NodeNo.{NodeNo}
 use Rattle.dia_base.specs.declared.number.ConnId.{ConnId}
-use Rattle.relay_peers.specs.declared.peers.NodeKind.{NodeKind}
+use Rattle.dia_base.specs.declared.node.NodeKind.{NodeKind}
 use Rattle.relay_peers.specs.declared.peers.LinkedPeer.{LinkedPeer}
 use Rattle.relay_peers.specs.declared.peers.Link.{Link}
 
@@ -25,9 +26,16 @@ conn_in links peer = option_map (λ link. link.conn) (find (is_of peer) links)
 abbrev pub peer_in : List Link → ConnId → Option NodeNo
 peer_in links conn = option_map (λ link. link.peer) (find (is_on conn) links)
 
+-- the linked peer of a number, and that of an identity, without case; of several the first counts
+abbrev pub peer_numbered : List LinkedPeer → NodeNo → Option LinkedPeer
+peer_numbered linked peer = find (λ p. p.peer.0 == peer.0) linked
+
+abbrev pub peer_named : List LinkedPeer → List ℕ → Option LinkedPeer
+peer_named linked name = find (λ p. same_folded p.name name) linked
+
 -- what a linked peer is
 abbrev pub kind_in : List LinkedPeer → NodeNo → Option NodeKind
-kind_in linked peer = option_map (λ p. p.kind) (find (λ p. p.peer.0 == peer.0) linked)
+kind_in linked peer = option_map (λ p. p.kind) (peer_numbered linked peer)
 
 -- the links with one more, and the links without those on a connection
 abbrev pub with_link : List Link → NodeNo → ConnId → List Link

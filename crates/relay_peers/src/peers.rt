@@ -1,25 +1,20 @@
 //! The table of peers.
 
 ghost use Rattle.std.specs.Prelude.{◌≡◌, [], IsSome, IsNone, OnOk, OnErr, IsOkUnless};
-ghost use Rattle.relay_peers.specs.PeerTable.{IsOneToOne, conn_in, peer_in, kind_in, with_link, without_conn};
+ghost use Rattle.std.specs.Option.{option_copied};
+ghost use Rattle.relay_peers.specs.PeerTable.{IsOneToOne, conn_in, peer_in, peer_numbered, peer_named, kind_in, with_link, without_conn};
 
-use dia_base::{ConnId, NodeNo};
+use dia_base::{ConnId, Identity, NodeKind, NodeNo};
 use std::alloc::Global;
 use std::marker::Model;
 use thiserror::Error;
 
-/// What a node of the farm is.
-#[derive(Clone, Copy, Debug, PartialEq, Eq)]
-pub enum NodeKind {
-    Relay,
-    Front,
-    Client,
-}
-
-/// A node that the site links with the relay.
-#[derive(Clone, Copy, Debug, PartialEq, Eq)]
+/// A node that the site links with the relay: its number, the identity under which it sends, and what
+/// it is.
+#[derive(Clone, Debug, Drop)]
 pub struct LinkedPeer {
     pub peer: NodeNo,
+    pub name: Identity,
     pub kind: NodeKind,
 }
 
@@ -129,13 +124,36 @@ impl Peers {
             .map(|link| link.peer)
     }
 
+    /// The connection that a peer has once another connection has ended: none where that one was its
+    /// own. It takes no memory.
+    pub fn conn_after(&self, peer: NodeNo, ended: ConnId) -> Option<ConnId>
+        ensures { result ≡ conn_in (without_conn self.now.links ended) peer }
+    {
+        let conn = self.conn_of(peer)?;
+        if conn == ended { None } else { Some(conn) }
+    }
+
+    /// The linked peer of this number. It takes no memory.
+    pub fn numbered(&self, peer: NodeNo) -> Option<&LinkedPeer>
+        ensures { option_copied result ≡ peer_numbered self.now.linked peer }
+    {
+        self.linked.iter().find(|linked| linked.peer == peer)
+    }
+
+    /// The first linked peer of this identity, which is compared whole and without ASCII case. It
+    /// takes no memory.
+    pub fn named(&self, name: &[u8]) -> Option<&LinkedPeer>
+        ensures { option_copied result ≡ peer_named self.now.linked name.now }
+    {
+        self.linked
+            .iter()
+            .find(|linked| linked.name.as_slice().eq_ignore_ascii_case(name))
+    }
+
     /// What a linked peer is. It takes no memory.
     pub fn kind_of(&self, peer: NodeNo) -> Option<NodeKind>
         ensures { result ≡ kind_in self.now.linked peer }
     {
-        self.linked
-            .iter()
-            .find(|linked| linked.peer == peer)
-            .map(|linked| linked.kind)
+        self.numbered(peer).map(|linked| linked.kind)
     }
 }

@@ -1,6 +1,7 @@
 -- What a loop is, and which peers a request may be sent to (RFC 6733, sections 6.1.3, 6.1.6 and 6.1.9). Identities and realms are compared whole, without ASCII case.
 use Rattle.std.specs.Prelude.{◌≡◌, ◌≢◌, ℕ, ◌==◌, ◌&&◌, Bool, true, false, List, ◌∷◌, ◌++◌, find, Any, All, Option, Some, None, Result, Ok, Err}
 use Rattle.std.specs.List.{list_any}
+use Rattle.dia_base.specs.Codes.{route_record}
 use Rattle.dia_base.specs.Folding.{folded_of, same_folded}
 use Rattle.dia_base.specs.declared.number.NodeNo.{NodeNo}
 use Rattle.dia_avp.specs.declared.avp.RawAvp.{RawAvp}
@@ -15,14 +16,14 @@ use Rattle.relay_routes.specs.declared.routes.RouteFault.TheVariants.{RealmUnkno
 
 -- a Route-Record, code 282 of vendor 0, of the node with this identity
 abbrev pub is_record_of : List ℕ → RawAvp → Bool
-is_record_of node avp = (avp.code == 282) && (avp.vendor == 0) && same_folded avp.value node
+is_record_of node avp = (avp.code == route_record) && (avp.vendor == 0) && same_folded avp.value node
 
 abbrev pub names_node : List ℕ → List RawAvp → Bool
 names_node node avps = list_any (is_record_of node) avps
 
 -- the Route-Record that is appended for the peer that sent the request, with the flag M (6.1.9)
 abbrev pub record_of : List ℕ → RawAvp
-record_of peer = record { code = 282; flags = 64; vendor = 0; value = peer }
+record_of peer = record { code = route_record; flags = 64; vendor = 0; value = peer }
 
 -- a request loops at a node where its body spells AVPs, of which one is a Route-Record of the node
 abbrev pub named_in : List ℕ → Result (List RawAvp) AvpFault → Bool
@@ -34,7 +35,7 @@ loops node body = named_in node (split_of body)
 
 -- a Route-Record, code 282 of vendor 0, that is the node's identity
 pub record IsRecordOf (node : List ℕ) (avp : RawAvp) : Type 0 where
-  pub code : avp.code ≡ 282
+  pub code : avp.code ≡ route_record
   pub vendor : avp.vendor ≡ 0
   pub value : folded_of avp.value ≡ folded_of node
 

@@ -6,10 +6,8 @@ ghost use Rattle.relay_routes.specs.Routing.{names_node, is_record_of, record_of
 use dia_avp::layout::MANDATORY;
 use dia_avp::{Octets, RawAvp};
 use dia_base::Identity;
+use dia_base::codes::ROUTE_RECORD;
 use std::alloc::{AllocError, Global};
-
-/// The code of Route-Record.
-const ROUTE_RECORD: u32 = 282;
 
 fn is_record(avp: &RawAvp, node: &Identity) -> bool
     ensures { result ≡ is_record_of node.now avp.now }

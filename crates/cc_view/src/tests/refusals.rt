@@ -129,7 +129,7 @@ fn long_unknown_avps(rt: HostRuntime) -> Result<(), Fail> {
     }
     let long = Message {
         header: header(4, 272),
-        body: Octets::from_vec(body),
+        body: Octets::from_vec(body)?,
     };
     let head = "0100006860000110000000040000000700000064";
     let failed = "00000117400000100000270f40000008";
@@ -242,7 +242,7 @@ fn long_session(alloc: Global, head: &str, letters: usize, behind: &str) -> Resu
     body.extend_from_slice(&octets_of(alloc, &[FRONT, MIDDLE, BACK])?)?;
     Ok(Message {
         header: header(4, 272),
-        body: Octets::from_vec(body),
+        body: Octets::from_vec(body)?,
     })
 }
 
@@ -276,7 +276,7 @@ fn unsupported(alloc: Global, octets: usize) -> Result<Refusal, Fail> {
             code: 9999,
             flags: 0x40,
             vendor: 0,
-            value: Octets::from_vec(value),
+            value: Octets::from_vec(value)?,
         }),
     })
 }

@@ -1,7 +1,7 @@
 use Rattle.std.proofs.Common.{ℕ, List, subst}
 use Rattle.std.specs.Prelude.{OnOk, IfSome}
 use Rattle.std.specs.Io.KnownBytes.{Appends}
-use Rattle.farm_cli.specs.declared.site.Site.{Site}
+use Rattle.farm_model.specs.declared.site.Site.{Site}
 use Rattle.farm_cli.specs.Replay.{Replays, IsRefused}
 use Rattle.farm_cli.specs.Writing.{BeginsWriting}
 use Rattle.farm_cli.proofs.replay_row_site.Goals as goal

@@ -4,7 +4,7 @@ use Rattle.dia_dict.proofs.reading.text.Goals as goal
 
 pub returns-in_err-copy_of-in-Ok : goal.returns-in_err-copy_of-in-Ok
 returns-in_err-copy_of-in-Ok c =
-    no_memory _ c.from_residual.result _ (text_read c.args.code c.args.octets.now c.in-Ok.ensures.cases.1) c.from_residual.ensures.1
+    no_memory _ c.from_residual.result _ tt (text_read c.args.code c.args.octets.now c.in-Ok.ensures.cases.1) c.from_residual.ensures.1
 
 pub returns-in_ok-copy_of-in-Ok : goal.returns-in_ok-copy_of-in-Ok
 returns-in_ok-copy_of-in-Ok c =

@@ -1,7 +1,7 @@
 use Rattle.std.proofs.Common.{Bool, cond, not, ◌∷◌, ◌++◌, [], ap, sym, ◌∙◌}
 use Rattle.std.specs.Option.{is_some}
 use Rattle.std.specs.List.{list_any}
-use Rattle.dia_grammar.specs.Codes.{requested_action}
+use Rattle.dia_base.specs.Codes.{requested_action}
 use Rattle.dia_grammar.specs.Grammar.{is_event_type, missing_of, required_codes}
 use Rattle.dia_grammar.proofs.Requests.{missing_already}
 use Rattle.dia_grammar.proofs.request.missing_in_request.Goals as goal

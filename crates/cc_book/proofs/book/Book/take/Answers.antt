@@ -17,5 +17,5 @@ invariant_of-self c =
     let room : length history < c.self.inside.limit = subst (λ (h : List Entry). length h < c.self.inside.limit) c.deref.ensures.value (subst (λ (b : Bool). OnTrue b (length c.deref.result.now < c.self.inside.limit)) is c.in_ok-answered.ensures.room) in
     let pushed : c.push.new.self.items ≡ history ++ Take c.args.moment c.args.request.now ∷ [] =
     c.in_ok-push.ensures.items ∙ ap (λ (r : CcRequest). history ++ Take c.args.moment r ∷ []) c.in_ok-request.ensures in
-    subst (λ (h : List Entry). KeepsLimits c.self.inside.limit h) (sym pushed)
-    (KeepsLimits-push c.self.inside.limit history c.args.moment c.args.request.now c.self.invariant new room)
+    subst (λ (h : List Entry). KeepsLimits c.self.inside.terms c.self.inside.limit h) (sym pushed)
+    (KeepsLimits-push c.self.inside.terms c.self.inside.limit history c.args.moment c.args.request.now c.self.invariant new room)

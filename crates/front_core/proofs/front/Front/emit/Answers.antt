@@ -1,9 +1,10 @@
 use Rattle.std.proofs.Common.{rules, ◌≡◌, ◌<◌, [], ◌∷◌, ◌++◌, length, ap, ◌∙◌, true, false, Some}
 use Rattle.std.specs.Prelude.{slice_get}
+use Rattle.dia_message.specs.Traffic.{Traffic}
 use Rattle.front_core.specs.declared.worker.Worker.{Worker}
 use Rattle.front_core.specs.declared.worker.Worker.TheVariants.{Done}
 use Rattle.front_core.specs.FrontState.{FrontState, is_among}
-use Rattle.front_core.specs.FrontStep.{Sent, with_worker}
+use Rattle.front_core.specs.FrontStep.{with_worker}
 use Rattle.front_core.proofs.Emitting.{held_at, after_emit-done}
 use Rattle.front_core.proofs.front.Front.emit.Goals as goal
 
@@ -15,10 +16,7 @@ returns-then-not-contains-clause-ok c =
     let held : slice_get workers at ≡ Some (Done c.in-Done.conn c.in-Done.answer) = held_at workers at c.replace-held.result (Done c.in-Done.conn c.in-Done.answer) within (cc) (search rules) in
     let among : is_among c.self.inside.connections.items c.in-Done.conn ≡ false = search rules in
     let front : FrontState = record {
-      name = c.self.inside.name;
-      realm = c.self.inside.realm;
-      vendors = c.self.inside.vendors;
-      queue_limit = c.self.inside.queue_limit;
+      site = c.self.inside.site;
       connections = c.self.inside.connections.items;
       queue = c.self.inside.queue.items;
       workers = workers;
@@ -34,15 +32,12 @@ returns-clause-ok c =
     let held : slice_get workers at ≡ Some (Done c.in-Done.conn c.in-Done.answer) = held_at workers at c.replace-held.result (Done c.in-Done.conn c.in-Done.answer) within (cc) (search rules) in
     let among : is_among c.self.inside.connections.items c.in-Done.conn ≡ true = search rules in
     let front : FrontState = record {
-      name = c.self.inside.name;
-      realm = c.self.inside.realm;
-      vendors = c.self.inside.vendors;
-      queue_limit = c.self.inside.queue_limit;
+      site = c.self.inside.site;
       connections = c.self.inside.connections.items;
       queue = c.self.inside.queue.items;
       workers = workers;
     } in
     rw (← c.self.view_is, after_emit-done front at c.in-Done.conn c.in-Done.answer true held among) (
-      c.from_vec.ensures ∙ (c.push_reserved.ensures.items ∙ ap (λ (xs : Sent). xs ++ (c.in-Done.conn, c.in-Done.answer) ∷ []) c.in_ok-items.ensures.items),
+      c.from_vec.ensures ∙ (c.push_reserved.ensures.items ∙ ap (λ (xs : Traffic). xs ++ (c.in-Done.conn, c.in-Done.answer) ∷ []) c.in_ok-items.ensures.items),
       ap (λ (w : Worker). with_worker front at w) c.replace-held.ensures.after,
     )

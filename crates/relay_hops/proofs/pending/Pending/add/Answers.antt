@@ -2,7 +2,7 @@ use Rattle.std.proofs.Common.{◌≡◌, ◌<◌, arith, rules, length, Some, fa
 use Rattle.std.specs.List.{list_any}
 use Rattle.relay_hops.specs.declared.row.Row.{Row}
 use Rattle.relay_hops.specs.PendingTable.{has_key, IsMap, IsWith, under}
-use Rattle.relay_hops.proofs.Counting.{none_any}
+use Rattle.dia_base.proofs.Counting.{none_any}
 use Rattle.relay_hops.proofs.Rows.{held-none, pushed, length-with, IsMap-more}
 use Rattle.relay_hops.proofs.pending.Pending.add.Goals as goal
 

@@ -3,7 +3,7 @@ use Rattle.std.specs.List.{position, list_any}
 use Rattle.std.proofs.Math.ListN.{length-set}
 use Rattle.relay_hops.specs.declared.row.Row.{Row}
 use Rattle.relay_hops.specs.PendingTable.{PendingTable, has_key, IsMap, IsMoved, resent}
-use Rattle.relay_hops.proofs.Counting.{none_any}
+use Rattle.dia_base.proofs.Counting.{none_any}
 use Rattle.relay_hops.proofs.Rows.{IsPlace, place, no_place, held-found, held-none, moved, IsMap-moved}
 use Rattle.relay_hops.proofs.LookUps.{first-free}
 use Rattle.relay_hops.proofs.pending.Pending.move_to.Goals as goal

@@ -1,0 +1,4 @@
+mod Sharing
+pub mod Costs
+pub mod Faults
+pub mod Grants

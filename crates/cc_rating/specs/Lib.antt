@@ -1,0 +1,3 @@
+pub mod Laws
+pub mod Rating
+pub mod Tariffs

@@ -1,6 +1,0 @@
-use Rattle.std.proofs.Common.{◌≡◌, ◌+◌, take}
-use Rattle.cc_view.specs.Carried.{carried_len}
-use Rattle.cc_view.proofs.carried.carries_too_much.Given as goal
-
-abbrev pub invariant-loop-avp : goal.invariant-loop-avp
-invariant-loop-avp l = l.room + carried_len (take l.avp-index l.avps) ≡ 49152

@@ -1,6 +1,0 @@
-use Rattle.std.proofs.Common.{◌≡◌, ◌++◌, take}
-use Rattle.cc_view.specs.Carried.{proxies_in}
-use Rattle.cc_view.proofs.carried.push_proxies.Given as goal
-
-abbrev pub invariant-loop-avp : goal.invariant-loop-avp
-invariant-loop-avp l = l.draft ≡ l.initial.draft ++ proxies_in (take l.avp-index l.avps)

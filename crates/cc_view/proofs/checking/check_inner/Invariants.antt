@@ -1,6 +1,0 @@
-use Rattle.std.proofs.Common.{◌≡◌, take, None}
-use Rattle.cc_view.specs.Checking.{first_refusal, inner_group_refusal}
-use Rattle.cc_view.proofs.checking.check_inner.Given as goal
-
-abbrev pub invariant-loop-avp : goal.invariant-loop-avp
-invariant-loop-avp g l = first_refusal (inner_group_refusal l.vendors) (take l.avp-index l.avps) ≡ None

@@ -1,6 +1,0 @@
-use Rattle.std.proofs.Common.{◌≡◌, ◌++◌, take}
-use Rattle.cc_view.specs.Answer.{services_part}
-use Rattle.cc_view.proofs.units.push_services.Given as goal
-
-abbrev pub invariant-loop-service : goal.invariant-loop-service
-invariant-loop-service g l = l.draft ≡ l.initial.draft ++ services_part (take l.service-index l.services)

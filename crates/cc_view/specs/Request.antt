@@ -1,0 +1,3 @@
+-- What a Credit-Control-Request is, once it is read.
+pub mod Number
+pub mod ServiceLimits

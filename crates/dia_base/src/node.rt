@@ -1,0 +1,9 @@
+//! What the nodes of the farm are.
+
+/// What a node does.
+#[derive(Clone, Copy, Debug, PartialEq, Eq)]
+pub enum NodeKind {
+    Relay,
+    Front,
+    Client,
+}

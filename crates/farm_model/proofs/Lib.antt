@@ -1,0 +1,13 @@
+pub mod DirectionInvariant
+pub mod FarmStepInvariant
+pub mod FrontInvariant
+pub mod Invariant
+pub mod ListLemmas
+pub mod Members
+pub mod NodeTally
+pub mod Premises
+pub mod PromiseLemmas
+pub mod RowSiteLemmas
+pub mod RunLemmas
+pub mod Tally
+pub mod WorldLemmas

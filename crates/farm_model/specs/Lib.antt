@@ -1,0 +1,9 @@
+pub mod Cause
+pub mod CheckedSite
+pub mod FarmStep
+pub mod Lists
+pub mod Nodes
+pub mod Promise
+pub mod RowSite
+pub mod Run
+pub mod World

@@ -1,0 +1,90 @@
+-- A run of the farm, from the empty history: one step after another, and what is told of it.
+use Rattle.std.specs.Prelude.{◌≡◌, ℕ, ◌+◌, Bool, true, false, not, List, [], ◌∷◌, ◌++◌, map, count_by}
+use Rattle.cc_book.specs.Taking.{Ledger}
+use Rattle.front_core.specs.declared.site.FrontSite.{FrontSite}
+use Rattle.front_core.specs.FrontState.{FrontState, new_front}
+use Rattle.farm_model.specs.declared.site.Site.{Site}
+use Rattle.farm_model.specs.declared.site.Node.{Node}
+use Rattle.dia_base.specs.declared.node.NodeKind.{NodeKind}
+use Rattle.dia_base.specs.declared.node.NodeKind.TheVariants.{Relay, Front, Client}
+use Rattle.farm_model.specs.declared.state.FrontNode.{FrontNode}
+use Rattle.farm_model.specs.declared.state.Trace.{Trace}
+use Rattle.farm_model.specs.declared.step.Step.{Step}
+use Rattle.farm_model.specs.FarmStep.{FarmStep}
+use Rattle.farm_model.specs.World.{WorldState}
+
+-- ---- before the first step
+
+-- what a front of this name is configured with
+abbrev pub front_site : Site → List ℕ → FrontSite
+front_site site name = record { name = name; realm = site.realm; vendors = site.vendors; workers = site.workers; queue = site.queue }
+
+-- a front before its first event
+abbrev pub fresh_front : Site → Node → FrontState
+fresh_front site node = new_front (front_site site node.name)
+
+abbrev pub front_if : Site → ℕ → Node → NodeKind → List FrontNode
+front_if site place node Front = record { node = record { 0 = place }; front = fresh_front site node } ∷ []
+front_if site place node Relay = []
+front_if site place node Client = []
+
+-- the fronts among the nodes from a place on
+abbrev pub fronts_from : Site → ℕ → List Node → List FrontNode
+fronts_from site place [] = []
+fronts_from site place (node ∷ nodes) = front_if site place node node.kind ++ fronts_from site (place + 1) nodes
+
+-- the book with its accounts, and nothing taken
+abbrev pub empty_book : Site → Ledger
+empty_book site = record {
+  terms = record { accounts = site.accounts; tariffs = site.tariffs; validity = site.validity; money = record { currency = site.currency; exponent = site.exponent } };
+  limit = site.limit;
+  history = [];
+}
+
+abbrev pub start : Site → WorldState
+start site = record { directions = []; fronts = fronts_from site 0 site.nodes; book = empty_book site; sent = []; received = []; ends = [] }
+
+-- ---- one step after another
+
+-- a step of a run, with the farm before it and after it
+pub record Transition : Type 0 where
+  pub step : Step
+  pub before : WorldState
+  pub applied : Bool
+  pub after : WorldState
+
+-- the transitions of a run, the first first
+abbrev pub Past : Type 0
+Past = List Transition
+
+-- each transition is a step of the farm, and the next begins where it ends
+abbrev pub Run : Site → WorldState → Past → WorldState → Type 0
+Run site old [] new = new ≡ old
+Run site old (t ∷ past) new = (t.before ≡ old) × FarmStep site t.before t.step t.applied t.after × Run site t.after past new
+
+abbrev pub steps_in : Past → List Step
+steps_in past = map (λ t. t.step) past
+
+-- a step that did not apply is counted
+abbrev pub skips : Bool → ℕ
+skips true = 0
+skips false = 1
+
+-- how many steps did not apply
+abbrev pub skipped_in : Past → ℕ
+skipped_in past = count_by (λ t. not t.applied) past
+
+-- ---- what is told of a run
+
+abbrev pub trace_of : ℕ → WorldState → Trace
+trace_of skipped w = record { sent = w.sent; received = w.received; book = w.book; skipped = skipped; ends = w.ends }
+
+-- what is told of the farm is the same
+abbrev pub TellsSame : WorldState → WorldState → Type 0
+TellsSame old new = (new.sent ≡ old.sent) × (new.received ≡ old.received) × (new.book ≡ old.book) × (new.ends ≡ old.ends)
+
+-- the trace of this run
+pub record IsTrace (site : Site) (past : Past) (trace : Trace) : Type 0 where
+  pub end : WorldState
+  pub run : Run site (start site) past end
+  pub trace_is : trace ≡ trace_of (skipped_in past) end

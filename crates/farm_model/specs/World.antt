@@ -1,0 +1,74 @@
+-- The farm between two steps.
+use Rattle.std.specs.Prelude.{Bool, ◌&&◌, ◌==◌, List, [], ◌∷◌, ◌++◌, Option, Some, None}
+use Rattle.std.specs.List.{find, list_any}
+use Rattle.dia_base.specs.declared.number.ConnId.{ConnId}
+use Rattle.dia_base.specs.declared.number.NodeNo.{NodeNo}
+use Rattle.dia_message.specs.declared.message.Message.{Message}
+use Rattle.dia_message.specs.Traffic.{Traffic}
+use Rattle.cc_book.specs.Taking.{Ledger}
+use Rattle.front_core.specs.FrontState.{FrontState}
+use Rattle.farm_model.specs.declared.state.Direction.{Direction}
+use Rattle.farm_model.specs.declared.state.FrontNode.{FrontNode}
+use Rattle.farm_model.specs.Lists.{replace_first}
+use Rattle.farm_model.specs.Nodes.{is_node}
+
+-- the two nodes of each connection that was made; connections are numbered from 1
+abbrev pub Ends : Type 0
+Ends = List (NodeNo × NodeNo)
+
+pub record WorldState : Type 0 where
+  -- two for each connection
+  pub directions : List Direction
+  pub fronts : List FrontNode
+  pub book : Ledger
+  -- what clients have sent and received
+  pub sent : Traffic
+  pub received : Traffic
+  pub ends : Ends
+
+-- ---- connections
+
+-- whether messages go from the one node to the other
+abbrev pub is_between : NodeNo → NodeNo → Direction → Bool
+is_between from to direction = is_node direction.from from && is_node direction.to to
+
+-- whether a node's messages on a connection go in this direction
+abbrev pub is_outward : NodeNo → ConnId → Direction → Bool
+is_outward node conn direction = is_node direction.from node && (direction.conn.0 == conn.0)
+
+abbrev pub is_connected : List Direction → NodeNo → NodeNo → Bool
+is_connected directions a b = list_any (is_between a b) directions
+
+-- one more message in flight
+abbrev pub with_message : Message → Direction → Direction
+with_message message direction = record direction { messages = direction.messages ++ message ∷ [] }
+
+-- one more message in flight in the first direction that passes; where none does, the message is lost
+abbrev pub with_message_in : (Direction → Bool) → Message → List Direction → Option Direction → List Direction
+with_message_in test message directions None = directions
+with_message_in test message directions (Some direction) = replace_first test (with_message message direction) directions
+
+-- a message that a node sends on a connection joins the list of its direction
+abbrev pub with_message_from : NodeNo → List Direction → ConnId → Message → List Direction
+with_message_from node directions conn message = with_message_in (is_outward node conn) message directions (find (is_outward node conn) directions)
+
+-- what a node sends, one message after the other
+abbrev pub with_traffic_from : NodeNo → List Direction → Traffic → List Direction
+with_traffic_from node directions [] = directions
+with_traffic_from node directions (item ∷ items) = with_traffic_from node (with_message_from node directions item.0 item.1) items
+
+-- ---- fronts
+
+abbrev pub is_front_at : NodeNo → FrontNode → Bool
+is_front_at node at = is_node at.node node
+
+-- a front changed
+abbrev pub with_front : NodeNo → FrontState → List FrontNode → List FrontNode
+with_front node front fronts = replace_first (is_front_at node) (record { node = node; front = front }) fronts
+
+abbrev pub front_of : Option FrontNode → Option FrontState
+front_of None = None
+front_of (Some at) = Some at.front
+
+abbrev pub front_at : NodeNo → List FrontNode → Option FrontState
+front_at node fronts = front_of (find (is_front_at node) fronts)

@@ -1,0 +1,60 @@
+//! The site: its nodes, their links and routes, and what the book is opened with.
+
+use cc_book::Account;
+use cc_rating::Tariff;
+use dia_avp::Octets;
+use dia_base::{Identity, Listing, NodeKind, NodeNo};
+
+/// A node. Its number is its place in the list of nodes.
+#[derive(Debug, Drop)]
+pub struct Node {
+    pub name: Identity,
+    pub kind: NodeKind,
+    /// Where it listens, as `127.0.0.1:3868`.
+    pub address: Option<Octets>,
+}
+
+/// A link: the first connects to the second.
+#[derive(Clone, Copy, Debug, PartialEq, Eq)]
+pub struct Link {
+    pub from: NodeNo,
+    pub to: NodeNo,
+}
+
+/// A route of a relay (RFC 6733, section 2.7): the peers for a realm and an application, the best first.
+#[derive(Debug, Drop)]
+pub struct Route {
+    pub at: NodeNo,
+    pub realm: Identity,
+    /// The Application-ID.
+    pub app: u32,
+    pub peers: Listing<NodeNo>,
+}
+
+/// A site.
+#[derive(Debug, Drop)]
+pub struct Site {
+    /// The Origin-Realm of each relay and front.
+    pub realm: Identity,
+    /// Validity-Time in seconds.
+    pub validity: u32,
+    /// The most entries of the book.
+    pub limit: u64,
+    /// The workers of each front.
+    pub workers: u32,
+    /// The most requests that wait in the queue of a front.
+    pub queue: u32,
+    /// The vendors whose AVPs are known, beside vendor 0.
+    pub vendors: Listing<u32>,
+    /// Currency-Code (ISO 4217).
+    pub currency: u32,
+    /// The power of ten of a minor unit.
+    pub exponent: i32,
+    /// The interval of the watchdog in milliseconds.
+    pub watchdog: u32,
+    pub nodes: Listing<Node>,
+    pub links: Listing<Link>,
+    pub routes: Listing<Route>,
+    pub tariffs: Listing<Tariff>,
+    pub accounts: Listing<Account>,
+}

@@ -1,0 +1,37 @@
+//! What the farm consists of between two steps.
+
+use cc_book::Book;
+use dia_base::{ConnId, Listing, NodeNo};
+use dia_message::Message;
+use front_core::Front;
+
+/// One direction of a connection, with the messages in flight in it. A connection has two.
+#[derive(Debug, Drop)]
+pub struct Direction {
+    pub conn: ConnId,
+    pub from: NodeNo,
+    pub to: NodeNo,
+    /// What is in flight, the first sent first.
+    pub messages: Listing<Message>,
+}
+
+/// A front, with the node that it is.
+#[derive(Debug, Drop)]
+pub struct FrontNode {
+    pub node: NodeNo,
+    pub front: Front,
+}
+
+/// What is told of a run.
+#[derive(Debug, Drop)]
+pub struct Trace {
+    /// What clients have sent, each message with its connection.
+    pub sent: Listing<(ConnId, Message)>,
+    /// What clients have received.
+    pub received: Listing<(ConnId, Message)>,
+    pub book: Book,
+    /// How many steps did not apply.
+    pub skipped: u64,
+    /// The two nodes of connection 1, 2, and so on.
+    pub ends: Listing<(NodeNo, NodeNo)>,
+}

@@ -1,0 +1,5 @@
+mod Digits
+mod Examples
+mod Lines
+mod Readings
+mod WordLists

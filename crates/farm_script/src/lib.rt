@@ -1,0 +1,88 @@
+//! Schedules: a text, one step on a line.
+//!
+//! - [`steps_of`]: the steps that a text spells, or the fault of the first line that spells none.
+//! - [`LineFault`], [`ScriptFault`]: why a text is no schedule, with the words that are printed.
+//!
+//! What a text spells stands in `specs/Schedule` (a step for each line, the first fault of all) and
+//! `specs/Words` (the words of a line, and what each stands for). Inside, `line` parts the text,
+//! `reading` has a function for each form of line, and `word` one for each kind of word.
+//!
+//! ```text
+//! use farm_model::Site;
+//! use farm_script::steps_of;
+//!
+//! fn count(alloc: Global, site: &Site) -> usize {
+//!     match steps_of(alloc, b"up c1.example f1.example\n", site) {
+//!         Ok(read) => read.len(),
+//!         Err(_) => 0,
+//!     }
+//! }
+//! ```
+#![tactic(auto)]
+
+ghost use Rattle.std.specs.Prelude.{◌≡◌, length};
+ghost use Rattle.std.specs.Str.Lines.{lines};
+ghost use Rattle.farm_script.specs.Schedule.{AnswersText, limited, step_of, steps_of};
+ghost use Rattle.farm_script.specs.Words.{Answers, words_of};
+
+mod fault;
+mod line;
+mod reading;
+mod word;
+
+use dia_base::{SCHEDULE_LIMIT, STEP_LIMIT};
+use farm_model::{Site, Step};
+pub use fault::{LineFault, ScriptFault};
+use line::{first_line, is_skipped, words_of};
+use reading::step_of;
+use std::alloc::Global;
+
+/// The steps that a schedule's text spells, or the fault of the first line that spells none.
+///
+/// A line ends with a line feed, which the last may lack, or with a carriage return and a line
+/// feed. Empty lines and lines that begin with `#` are skipped. In a line the faults are looked
+/// for in the order of [`LineFault`]. A text above 16,777,216 octets has the fault `TooLong` alone.
+pub fn steps_of(alloc: Global, text: &[u8], site: &Site) -> Result<Vec<Step>, ScriptFault>
+    ensures { AnswersText (length (lines text.now)) (steps_of site.now text.now) result }
+{
+    if text.len() > SCHEDULE_LIMIT {
+        return Err(ScriptFault::TooLong);
+    }
+    let mut steps = Vec::new(alloc);
+    let mut line = 0u64;
+    let mut rest = text;
+    while !rest.is_empty() {
+        let (first, behind) = first_line(rest);
+        line += 1;
+        if !is_skipped(first) {
+            let step = step_in(alloc, first, site, steps.len()).map_err(|fault| ScriptFault::Line {
+                line,
+                fault,
+            })?;
+            steps.push(step).map_err(|_| no_memory_at(line))?;
+        }
+        rest = behind;
+    }
+    Ok(steps)
+}
+
+/// The step of a line that is not skipped, where so many steps stand before it.
+fn step_in(alloc: Global, line: &[u8], site: &Site, before: usize) -> Result<Step, LineFault>
+    ensures { Answers (limited before (step_of site.now (words_of line.now))) result }
+{
+    let words = words_of(alloc, line)?;
+    let step = step_of(alloc, &words, site)?;
+    if before >= STEP_LIMIT {
+        return Err(LineFault::TooManySteps);
+    }
+    Ok(step)
+}
+
+fn no_memory_at(line: u64) -> ScriptFault
+    ensures { result ≡ ScriptFault.Line line LineFault.OutOfMemory }
+{
+    ScriptFault::Line {
+        line,
+        fault: LineFault::OutOfMemory,
+    }
+}

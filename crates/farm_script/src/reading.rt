@@ -1,0 +1,129 @@
+//! The step that the words of a line spell.
+
+ghost use Rattle.std.specs.Prelude.{◌≡◌, map};
+ghost use Rattle.farm_script.specs.Words.{Answers};
+ghost use Rattle.farm_script.specs.Schedule.{step_of, up_of, send_of, deliver_of, pick_of, charge_of, emit_of};
+
+use crate::fault::LineFault;
+use crate::word::{message_of, node_of, number_of};
+use dia_base::Moment;
+use farm_model::{Site, Step};
+use std::alloc::Global;
+
+const UP: &[u8] = b"up";
+
+const SEND: &[u8] = b"send";
+
+const DELIVER: &[u8] = b"deliver";
+
+const PICK: &[u8] = b"pick";
+
+const CHARGE: &[u8] = b"charge";
+
+const EMIT: &[u8] = b"emit";
+
+/// The step that the words of a line spell, or the line's first fault.
+pub fn step_of(alloc: Global, words: &[&[u8]], site: &Site) -> Result<Step, LineFault>
+    ensures { Answers (step_of site.now (map (λ word. word.now) words.now)) result }
+{
+    let Some((first, words)) = words.split_first() else {
+        return Err(LineFault::UnknownWord);
+    };
+    let verb = *first;
+    if verb == UP {
+        up_of(words, site)
+    } else if verb == SEND {
+        send_of(alloc, words, site)
+    } else if verb == DELIVER {
+        deliver_of(words, site)
+    } else if verb == PICK {
+        pick_of(words, site)
+    } else if verb == CHARGE {
+        charge_of(words, site)
+    } else if verb == EMIT {
+        emit_of(words, site)
+    } else {
+        Err(LineFault::UnknownWord)
+    }
+}
+
+#[tactic(auto, using(crate::proofs::WordLists::two_words))]
+fn up_of(words: &[&[u8]], site: &Site) -> Result<Step, LineFault>
+    ensures { result ≡ up_of site.now (map (λ word. word.now) words.now) }
+{
+    let [a, b] = words else {
+        return Err(LineFault::WrongCount);
+    };
+    Ok(Step::Up {
+        a: node_of(site, a)?,
+        b: node_of(site, b)?,
+    })
+}
+
+#[tactic(auto, using(crate::proofs::WordLists::three_words))]
+fn send_of(alloc: Global, words: &[&[u8]], site: &Site) -> Result<Step, LineFault>
+    ensures { Answers (send_of site.now (map (λ word. word.now) words.now)) result }
+{
+    let [client, to, message] = words else {
+        return Err(LineFault::WrongCount);
+    };
+    Ok(Step::Send {
+        client: node_of(site, client)?,
+        to: node_of(site, to)?,
+        message: message_of(alloc, message)?,
+    })
+}
+
+#[tactic(auto, using(crate::proofs::WordLists::three_words))]
+fn deliver_of(words: &[&[u8]], site: &Site) -> Result<Step, LineFault>
+    ensures { result ≡ deliver_of site.now (map (λ word. word.now) words.now) }
+{
+    let [from, to, place] = words else {
+        return Err(LineFault::WrongCount);
+    };
+    Ok(Step::Deliver {
+        from: node_of(site, from)?,
+        to: node_of(site, to)?,
+        place: number_of(place)?,
+    })
+}
+
+#[tactic(auto, using(crate::proofs::WordLists::two_words))]
+fn pick_of(words: &[&[u8]], site: &Site) -> Result<Step, LineFault>
+    ensures { result ≡ pick_of site.now (map (λ word. word.now) words.now) }
+{
+    let [front, worker] = words else {
+        return Err(LineFault::WrongCount);
+    };
+    Ok(Step::Pick {
+        front: node_of(site, front)?,
+        worker: number_of(worker)?,
+    })
+}
+
+#[tactic(auto, using(crate::proofs::WordLists::three_words))]
+fn charge_of(words: &[&[u8]], site: &Site) -> Result<Step, LineFault>
+    ensures { result ≡ charge_of site.now (map (λ word. word.now) words.now) }
+{
+    let [front, worker, moment] = words else {
+        return Err(LineFault::WrongCount);
+    };
+    Ok(Step::Charge {
+        front: node_of(site, front)?,
+        worker: number_of(worker)?,
+        moment: Moment(number_of(moment)?),
+    })
+}
+
+#[tactic(auto, using(crate::proofs::WordLists::two_words))]
+fn emit_of(words: &[&[u8]], site: &Site) -> Result<Step, LineFault>
+    ensures { result ≡ emit_of site.now (map (λ word. word.now) words.now) }
+{
+    let [front, worker] = words else {
+        return Err(LineFault::WrongCount);
+    };
+    Ok(Step::Emit {
+        front: node_of(site, front)?,
+        worker: number_of(worker)?,
+    })
+}

@@ -1,0 +1,39 @@
+//! The farm as one machine: what it consists of, one step of it, and whole runs.
+//!
+//! - [`run`]: the steps of a schedule over a site, one after the other, from an empty history. Its
+//!   contract carries what is promised of every run: who is answered what, how often, and what the
+//!   book stands on.
+//! - [`row_site`]: the site that a schedule runs over where no site file is given.
+//! - [`Site`], [`Step`], [`Trace`] and the definitions of a step and a run are `farm_model`'s.
+//!
+//! Inside, `World` holds the farm between two steps; `directions` keeps what is in flight, `nodes`
+//! asks the site, `opening` makes the farm before its first step, `turns` has a function for each
+//! word of a schedule, and `runs` goes over the steps.
+//!
+//! ```text
+//! use dia_avp::PlainWire;
+//! use farm_world::{Step, Trace, row_site, run};
+//!
+//! fn entries(alloc: Global, steps: &[Step]) -> Result<usize, AllocError> {
+//!     let site = row_site(alloc)?;
+//!     match run::<PlainWire>(alloc, &site, steps) {
+//!         Ok(trace) => Ok(trace.book.history().len()),
+//!         Err(_) => Err(AllocError),
+//!     }
+//! }
+//! ```
+#![tactic(auto)]
+
+mod directions;
+mod nodes;
+mod opening;
+mod row;
+mod runs;
+mod turns;
+mod world;
+
+pub use dia_base::NodeKind;
+pub use farm_model::{Direction, FrontNode, Link, Node, Route, Site, Step, Trace};
+pub use nodes::is_client;
+pub use row::row_site;
+pub use runs::{RunError, run};

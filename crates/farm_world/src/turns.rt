@@ -1,0 +1,199 @@
+//! One step of the farm.
+
+ghost use Rattle.std.specs.Prelude.{◌≡◌, IfOk, OnOk, OnErr};
+ghost use Rattle.farm_model.specs.FarmStep.{Outcome, can_connect, after_up, after_send, after_arrival_at, after_delivery, after_pick_at, after_charge_at, after_emit_at, FarmStep};
+ghost use Rattle.farm_model.specs.Run.{TellsSame};
+ghost use Rattle.farm_model.specs.World.{front_at};
+
+use crate::directions::{empty_direction, is_connected, place_between, post, put, take_off};
+use crate::nodes::{connect, is_client, is_linked, is_relay, place_of_front};
+use crate::world::World;
+use dia_avp::Wire;
+use dia_base::{ConnId, Moment, NodeNo};
+use dia_message::Message;
+use farm_model::{Site, Step};
+use front_core::FrontError;
+use std::alloc::{AllocError, Global};
+
+impl World {
+    fn can_connect(&self, site: &Site, a: NodeNo, b: NodeNo) -> bool
+        ensures { result ≡ can_connect site.now self.now a b }
+    {
+        is_linked(site, a, b)
+            && !is_relay(site, a)
+            && !is_relay(site, b)
+            && !is_connected(&self.directions, a, b)
+    }
+
+    /// A new connection, which both nodes learn.
+    pub fn up(
+        &mut self,
+        alloc: Global,
+        site: &Site,
+        a: NodeNo,
+        b: NodeNo,
+    ) -> Result<bool, AllocError>
+        ensures ok { IfOk result (λ applied. Outcome (after_up site.now self.old a b) applied self.old self.new) }
+        ensures err { OnErr result (TellsSame self.old self.new) }
+    {
+        if !self.can_connect(site, a, b) {
+            return Ok(false);
+        }
+        let conn = ConnId(self.ends.len() as u64 + 1);
+        self.directions.push(empty_direction(alloc, conn, a, b))?;
+        self.directions.push(empty_direction(alloc, conn, b, a))?;
+        connect(&mut self.fronts, a, conn)?;
+        connect(&mut self.fronts, b, conn)?;
+        self.ends.push((a, b))?;
+        Ok(true)
+    }
+
+    /// A client sends a message.
+    pub fn send(
+        &mut self,
+        site: &Site,
+        client: NodeNo,
+        to: NodeNo,
+        message: &Message,
+    ) -> Result<bool, AllocError>
+        ensures ok { IfOk result (λ applied. Outcome (after_send site.now self.old client to message.now) applied self.old self.new) }
+        ensures err { OnErr result (TellsSame self.old self.new) }
+    {
+        if !is_client(site, client) {
+            return Ok(false);
+        }
+        let Some(place) = place_between(&self.directions, client, to) else {
+            return Ok(false);
+        };
+        let direction = &mut self.directions[place];
+        let conn = direction.conn;
+        put(direction, message.clone()?)?;
+        self.sent.push((conn, message.clone()?))?;
+        Ok(true)
+    }
+
+    /// What a node does with a message that comes to it.
+    fn arrive<W: Wire>(
+        &mut self,
+        alloc: Global,
+        site: &Site,
+        node: NodeNo,
+        conn: ConnId,
+        message: Message,
+    ) -> Result<(), AllocError>
+        ensures ok { OnOk result (self.new ≡ after_arrival_at site.now self.old node conn message) }
+        ensures err { OnErr result (TellsSame self.old self.new) }
+    {
+        if is_client(site, node) {
+            self.received.push((conn, message))?;
+            return Ok(());
+        }
+        let Some(place) = place_of_front(&self.fronts, node) else {
+            return Ok(());
+        };
+        match self.fronts[place]
+            .front
+            .on_message::<W>(alloc, conn, message)
+        {
+            Ok(out) => post(&mut self.directions, node, out),
+            Err(FrontError::UnknownConn { .. }) => Ok(()),
+            Err(FrontError::OutOfMemory) => Err(AllocError),
+        }
+    }
+
+    /// A message in flight arrives.
+    pub fn deliver<W: Wire>(
+        &mut self,
+        alloc: Global,
+        site: &Site,
+        from: NodeNo,
+        to: NodeNo,
+        place: u64,
+    ) -> Result<bool, AllocError>
+        ensures ok { IfOk result (λ applied. Outcome (after_delivery site.now self.old from to place) applied self.old self.new) }
+        ensures err { OnErr result (TellsSame self.old self.new) }
+    {
+        let Some((conn, message)) = take_off(&mut self.directions, from, to, place) else {
+            return Ok(false);
+        };
+        self.arrive::<W>(alloc, site, to, conn, message)?;
+        Ok(true)
+    }
+
+    /// An idle worker of a front takes a request.
+    pub fn pick(&mut self, front: NodeNo, worker: u64) -> bool
+        ensures { Outcome (after_pick_at self.old front worker (front_at front self.old.fronts)) result self.old self.new }
+    {
+        match place_of_front(&self.fronts, front) {
+            Some(place) => self.fronts[place].front.pick(worker),
+            None => false,
+        }
+    }
+
+    /// A worker of a front sends its answer.
+    pub fn emit(&mut self, alloc: Global, front: NodeNo, worker: u64) -> Result<bool, AllocError>
+        ensures ok { IfOk result (λ applied. Outcome (after_emit_at self.old front worker (front_at front self.old.fronts)) applied self.old self.new) }
+        ensures err { OnErr result (TellsSame self.old self.new) }
+    {
+        let Some(place) = place_of_front(&self.fronts, front) else {
+            return Ok(false);
+        };
+        match self.fronts[place].front.emit(alloc, worker) {
+            Ok(Some(out)) => {
+                post(&mut self.directions, front, out)?;
+                Ok(true)
+            }
+            Ok(None) => Ok(false),
+            Err(_) => Err(AllocError),
+        }
+    }
+
+    /// A worker of a front charges its request in the book.
+    pub fn charge<W: Wire>(
+        &mut self,
+        alloc: Global,
+        front: NodeNo,
+        worker: u64,
+        moment: Moment,
+    ) -> Result<bool, AllocError>
+        ensures ok { IfOk result (λ applied. Outcome (after_charge_at self.old front worker moment (front_at front self.old.fronts)) applied self.old self.new) }
+        ensures err { OnErr result (TellsSame self.old self.new) }
+    {
+        let Some(place) = place_of_front(&self.fronts, front) else {
+            return Ok(false);
+        };
+        let at = &mut self.fronts[place];
+        let Ok(applied) = at.front.charge::<W>(alloc, worker, &mut self.book, moment) else {
+            return Err(AllocError);
+        };
+        Ok(applied)
+    }
+
+    /// One step. The answer is whether it applied.
+    pub fn step<W: Wire>(
+        &mut self,
+        alloc: Global,
+        site: &Site,
+        step: &Step,
+    ) -> Result<bool, AllocError>
+        ensures ok { IfOk result (λ applied. FarmStep site.now self.old step.now applied self.new) }
+        ensures err { OnErr result (TellsSame self.old self.new) }
+    {
+        match step {
+            Step::Up { a, b } => self.up(alloc, site, *a, *b),
+            Step::Send {
+                client,
+                to,
+                message,
+            } => self.send(site, *client, *to, message),
+            Step::Deliver { from, to, place } => self.deliver::<W>(alloc, site, *from, *to, *place),
+            Step::Pick { front, worker } => Ok(self.pick(*front, *worker)),
+            Step::Charge {
+                front,
+                worker,
+                moment,
+            } => self.charge::<W>(alloc, *front, *worker, *moment),
+            Step::Emit { front, worker } => self.emit(alloc, *front, *worker),
+        }
+    }
+}

@@ -1,0 +1,110 @@
+//! A front over a list of events.
+
+ghost use Rattle.std.specs.Prelude.{◌≡◌, [], map, IfOk, IsOkUnless, OnOk, if◌then◌else◌};
+ghost use Rattle.front_core.specs.FrontRun.{after_event, run_of};
+ghost use Rattle.front_core.specs.FrontState.{new_front, is_among};
+ghost use Rattle.front_core.specs.FrontStep.{after_arrival, sent_at_arrival};
+ghost use Rattle.front_core.specs.Promise.{KeepsPromise};
+
+use crate::error::FrontError;
+use crate::event::FrontEvent;
+use crate::front::Front;
+use crate::site::FrontSite;
+use cc_book::Book;
+use dia_avp::Wire;
+use dia_base::ConnId;
+use dia_message::{Message, Out};
+use std::alloc::{AllocError, Global};
+
+/// A front of this site, of which it copies what it keeps.
+fn front_of(alloc: Global, site: &FrontSite) -> Result<Front, AllocError>
+    ensures { IfOk result (λ front. front ≡ new_front site.now) }
+{
+    Front::new(
+        alloc,
+        site.name.clone()?,
+        site.realm.clone()?,
+        site.vendors.clone()?,
+        site.workers,
+        site.queue,
+    )
+}
+
+/// What is sent where a message comes. One on a connection that is not up is lost.
+fn on_message<W: Wire>(
+    alloc: Global,
+    front: &mut Front,
+    conn: ConnId,
+    message: &Message,
+) -> Result<Out, FrontError>
+    ensures front { OnOk result (front.new ≡ (if is_among front.old.connections conn then after_arrival front.old conn message.now else front.old)) }
+    ensures sent { IfOk result (λ out. out.items ≡ (if is_among front.old.connections conn then sent_at_arrival front.old conn message.now else [])) }
+    ensures memory { IsOkUnless result FrontError.OutOfMemory }
+{
+    match front.on_message::<W>(alloc, conn, message.clone()?) {
+        Err(FrontError::UnknownConn { .. }) => Ok(Out::nothing(alloc)),
+        result => result,
+    }
+}
+
+/// What is sent at an event. A step that does not apply sends nothing.
+fn on_event<W: Wire>(
+    alloc: Global,
+    front: &mut Front,
+    book: &mut Book,
+    event: &FrontEvent,
+) -> Result<Out, FrontError>
+    ensures front { OnOk result (front.new ≡ (after_event front.old book.old event.now).front) }
+    ensures book { OnOk result (book.new ≡ (after_event front.old book.old event.now).ledger) }
+    ensures sent { IfOk result (λ out. out.items ≡ (after_event front.old book.old event.now).sent) }
+    ensures memory { IsOkUnless result FrontError.OutOfMemory }
+{
+    match event {
+        FrontEvent::Up { conn } => front.conn_up(*conn)?,
+        FrontEvent::Message { conn, message } => {
+            return on_message::<W>(alloc, front, *conn, message);
+        }
+        FrontEvent::Pick { worker } => {
+            front.pick(*worker);
+        }
+        FrontEvent::Charge { worker, moment } => {
+            front.charge::<W>(alloc, *worker, book, *moment)?;
+        }
+        FrontEvent::Refuse { worker } => {
+            front.refuse::<W>(alloc, *worker)?;
+        }
+        FrontEvent::Emit { worker } => {
+            if let Some(out) = front.emit(alloc, *worker)? {
+                return Ok(out);
+            }
+        }
+        FrontEvent::Lost { conn } => front.conn_lost(*conn),
+        FrontEvent::Restart => front.restart(),
+    }
+    Ok(Out::nothing(alloc))
+}
+
+impl Front {
+    /// Runs a front of this site over the events, from no connection and with this book: what is sent
+    /// at each event, and the book after the last. A step that does not apply sends nothing, nor does a
+    /// message on a connection that is not up. Want of memory ends the run, and the book is given up.
+    pub fn run<W: Wire>(
+        alloc: Global,
+        site: &FrontSite,
+        book: Book,
+        events: &[FrontEvent],
+    ) -> Result<(Vec<Out>, Book), FrontError>
+        ensures sent { IfOk result (λ ran. map (λ out. out.items) ran.0.items ≡ (run_of site.now book events.now).sent) }
+        ensures book { IfOk result (λ ran. ran.1 ≡ (run_of site.now book events.now).ledger) }
+        ensures promise { IfOk result (λ ran. KeepsPromise site.now book events.now (map (λ out. out.items) ran.0.items) ran.1) }
+        ensures memory { IsOkUnless result FrontError.OutOfMemory }
+    {
+        let mut book = book;
+        let mut front = front_of(alloc, site)?;
+        let mut outs = Vec::new(alloc);
+        for event in events {
+            outs.push(on_event::<W>(alloc, &mut front, &mut book, event)?)?;
+        }
+        Ok((outs, book))
+    }
+}

@@ -1,0 +1,219 @@
+-- A run of a relay keeps the promise.
+use Rattle.std.proofs.Common.{◌≡◌, ℕ, ◌≤◌, ◌==◌, ◌&&◌, not, Bool, true, false, cond, is_some, MatchBool, MatchOption, List, [], ◌∷◌, Option, Some, None, Result, Ok, Err, refl, ap, sym, subst, ◌∙◌, arith}
+use Rattle.std.specs.List.{count_by}
+use Rattle.std.proofs.lemmas.Bool.{eq-eqb}
+use Rattle.dia_base.specs.declared.number.ConnId.{ConnId}
+use Rattle.dia_base.specs.declared.number.NodeNo.{NodeNo}
+use Rattle.dia_avp.specs.declared.avp.RawAvp.{RawAvp}
+use Rattle.dia_avp.specs.declared.fault.AvpFault.{AvpFault}
+use Rattle.dia_avp.specs.AvpReading.{split_of}
+use Rattle.dia_message.specs.declared.message.Message.{Message}
+use Rattle.dia_message.specs.declared.message.Out.{Out}
+use Rattle.dia_message.specs.Traffic.{Traffic}
+use Rattle.cc_view.specs.Refusal.{avps_by, refusal_with}
+use Rattle.cc_view.specs.declared.code.ResultCode.TheVariants.{LoopDetected}
+use Rattle.cc_view.specs.declared.refusal.Refusal.{Refusal}
+use Rattle.relay_routes.specs.Routing.{names_node, named_in, IsLoop}
+use Rattle.relay_routes.proofs.Loops.{test-from_IsLoop}
+use Rattle.relay_hops.specs.declared.row.Row.{Row}
+use Rattle.relay_hops.specs.PendingTable.{has_key}
+use Rattle.relay_peers.specs.declared.peers.LinkedPeer.{LinkedPeer}
+use Rattle.relay_peers.specs.PeerTable.{peer_in}
+use Rattle.relay_core.specs.declared.error.RelayError.{RelayError}
+use Rattle.relay_core.specs.declared.node.RelayNode.{RelayNode}
+use Rattle.relay_core.specs.declared.node.RelaySite.{RelaySite}
+use Rattle.relay_core.specs.declared.run.RelayEvent.{RelayEvent}
+use Rattle.relay_core.specs.declared.run.RelayEvent.TheVariants.{Up, Received, Lost, Restart}
+use Rattle.relay_core.specs.Acts.{Act, happened, acts_with, acts_of, is_in_use}
+use Rattle.relay_core.specs.Connecting.{new_relay, up_fault, after_up, after_restart}
+use Rattle.relay_core.specs.Failover.{OnConnLost, after_end, without_origins}
+use Rattle.relay_core.specs.Promise.{RefusesLoop, RefusesLoops, KeepsPromise}
+use Rattle.relay_core.specs.RelayRun.{IsIdle, OnEvent, RelayStep, IsRun, not_begun, one_more}
+use Rattle.relay_core.specs.RelayState.{RelayState, peer_on}
+use Rattle.relay_core.specs.RelayStep.{OnRequest, refused, forwarded, OnAnswer, sent_back, dropped, ignored, OnMessage, refusal_to}
+use Rattle.relay_core.specs.Verdict.{verdict, decision}
+use Rattle.relay_core.proofs.Holding.{is_from, holding-event, holding-orphans, counted-event, counted-orphans}
+use Rattle.relay_core.proofs.Promising.{Kept, kept-request, kept-answer, kept-failover}
+use Rattle.relay_core.proofs.Reaching.{none_on}
+
+-- ---- a request in which the relay finds itself
+
+first_rule : (b : Bool) (refusal : Refusal) (rest : Result ConnId Refusal) → b ≡ true → cond b (Err refusal) rest ≡ Err refusal
+first_rule true refusal rest e = refl
+first_rule false refusal rest e = absurd cc
+
+verdict-loop : (relay : RelayState) (sender : List ℕ) (request : Message) (r : Result (List RawAvp) AvpFault) → named_in relay.node.name r ≡ true
+    → verdict relay sender request (avps_by request.body r) ≡ Err (refusal_with LoopDetected)
+verdict-loop relay sender request (Ok avps) e = first_rule (names_node relay.node.name avps) (refusal_with LoopDetected) _ e
+verdict-loop relay sender request (Err fault) e = absurd cc
+
+refused-loop : {relay : RelayState} {conn : ConnId} {sender : List ℕ} {request : Message} {items : Traffic} {next : RelayState} → decision relay sender request ≡ Err (refusal_with LoopDetected)
+    → OnRequest relay conn sender request items next → (items ≡ refusal_to relay.node conn request (refusal_with LoopDetected)) × (next ≡ relay)
+refused-loop {relay = relay} {conn = conn} {request = request} d (refused refusal e) =
+    let same : refusal ≡ refusal_with LoopDetected = cc in
+    (ap (λ (x : Refusal). refusal_to relay.node conn request x) same, refl)
+refused-loop d (forwarded to hop rows e free more) = absurd cc
+
+pub loop-refused : (relay : RelayState) (conn : ConnId) (sender : List ℕ) (request : Message) (items : Traffic) (next : RelayState) → IsLoop relay.node.name request.body
+    → OnRequest relay conn sender request items next → (items ≡ refusal_to relay.node conn request (refusal_with LoopDetected)) × (next ≡ relay)
+loop-refused relay conn sender request items next loop step =
+    refused-loop (verdict-loop relay sender request (split_of request.body) (test-from_IsLoop relay.node.name request.body loop)) step
+
+of_some : {X : Type 0} (o : Option X) (P : Type 0) (Q : X → Type 0) → is_some o ≡ true → MatchOption o P Q → (x : X) × Q x
+of_some None P Q e m = absurd cc
+of_some (Some x) P Q e m = (x, m)
+
+of_true : (b : Bool) (P Q : Type 0) → b ≡ true → MatchBool b P Q → P
+of_true true P Q e m = m
+of_true false P Q e m = absurd cc
+
+loop_step : (before : RelayState) (event : RelayEvent) (items : Traffic) (after : RelayState) → OnEvent before event items after → RefusesLoop (record { before = before; event = event; sent = items; after = after })
+loop_step before event items after step = λ conn request is flag up loop.
+    let came : OnEvent before (Received conn request) items after = subst (λ (e : RelayEvent). OnEvent before e items after) is step in
+    let sender = of_some (peer_on before.node conn) (IsIdle before items after) (λ sender. OnMessage before conn sender.name request items after) up came in
+    loop-refused before conn sender.0.name request items after loop
+    (of_true request.header.request (OnRequest before conn sender.0.name request items after) (OnAnswer before conn request items after) flag sender.1)
+
+-- ---- an event
+
+record Stands (name realm : List ℕ) (past : List RelayStep) (relay : RelayState) : Type 0 where
+  name_is : relay.node.name ≡ name
+  realm_is : relay.node.realm ≡ realm
+  kept : Kept name realm (acts_of past) relay.pending.rows
+  loops : RefusesLoops past
+
+record After (name realm : List ℕ) (acts : List Act) (relay : RelayState) : Type 0 where
+  name_is : relay.node.name ≡ name
+  realm_is : relay.node.realm ≡ realm
+  kept : Kept name realm acts relay.pending.rows
+
+-- nothing is sent, and the pending requests stay
+quiet : (name realm : List ℕ) (event : RelayEvent) (acts : List Act) (relay next after : RelayState) (items : Traffic) → items ≡ [] → after ≡ next → next.node.name ≡ name → next.node.realm ≡ realm
+    → next.pending.rows ≡ relay.pending.rows → Kept name realm acts relay.pending.rows → After name realm (acts_with items (happened event ∷ acts)) after
+quiet name realm event acts relay next after items none is n r same k =
+    subst (λ (s : RelayState). After name realm (acts_with items (happened event ∷ acts)) s) (sym is)
+    (subst (λ (xs : Traffic). After name realm (acts_with xs (happened event ∷ acts)) next) (sym none) (record {
+      name_is = n;
+      realm_is = r;
+      kept = subst (λ (rows : List Row). Kept name realm (happened event ∷ acts) rows) (sym same) (record {
+        holding = holding-event event acts relay.pending.rows k.holding;
+        counted = counted-event event acts relay.pending.rows k.counted;
+        right = (tt, k.right);
+      });
+    }))
+
+idle : (name realm : List ℕ) (event : RelayEvent) (acts : List Act) (relay after : RelayState) (items : Traffic) → IsIdle relay items after → relay.node.name ≡ name → relay.node.realm ≡ realm
+    → Kept name realm acts relay.pending.rows → After name realm (acts_with items (happened event ∷ acts)) after
+idle name realm event acts relay after items i n r k = quiet name realm event acts relay relay after items i.0 i.1 n r refl k
+
+up_step : (name realm : List ℕ) (event : RelayEvent) (acts : List Act) (relay next after : RelayState) (items : Traffic) (fault : Option RelayError) → MatchOption fault ((items ≡ []) × (after ≡ next)) (λ _. IsIdle relay items after)
+    → next.node.name ≡ name → next.node.realm ≡ realm → next.pending.rows ≡ relay.pending.rows → relay.node.name ≡ name → relay.node.realm ≡ realm
+    → Kept name realm acts relay.pending.rows → After name realm (acts_with items (happened event ∷ acts)) after
+up_step name realm event acts relay next after items None m n r same p q k = quiet name realm event acts relay next after items m.0 m.1 n r same k
+up_step name realm event acts relay next after items (Some fault) m n r same p q k = idle name realm event acts relay after items m p q k
+
+-- a message leaves the peers as they are
+request_node : {relay : RelayState} {conn : ConnId} {sender : List ℕ} {request : Message} {items : Traffic} {after : RelayState} → OnRequest relay conn sender request items after → after.node ≡ relay.node
+request_node (refused refusal e) = refl
+request_node (forwarded to hop rows e free more) = refl
+
+answer_node : {relay : RelayState} {conn : ConnId} {answer : Message} {items : Traffic} {after : RelayState} → OnAnswer relay conn answer items after → after.node ≡ relay.node
+answer_node (sent_back held origin rows e f w) = refl
+answer_node (dropped held rows e f w) = refl
+answer_node (ignored e) = refl
+
+message_step : (name realm : List ℕ) (acts : List Act) (relay after : RelayState) (conn : ConnId) (sender : List ℕ) (message : Message) (items : Traffic) (flag : Bool) → message.header.request ≡ flag
+    → MatchBool flag (OnRequest relay conn sender message items after) (OnAnswer relay conn message items after) → relay.node.name ≡ name → relay.node.realm ≡ realm
+    → Kept name realm acts relay.pending.rows → After name realm (acts_with items (happened (Received conn message) ∷ acts)) after
+message_step name realm acts relay after conn sender message items true is step n r k = record {
+  name_is = ap (λ (x : RelayNode). x.name) (request_node step) ∙ n;
+  realm_is = ap (λ (x : RelayNode). x.realm) (request_node step) ∙ r;
+  kept = kept-request name realm relay after conn sender message items acts n r is step k;
+}
+message_step name realm acts relay after conn sender message items false is step n r k = record {
+  name_is = ap (λ (x : RelayNode). x.name) (answer_node step) ∙ n;
+  realm_is = ap (λ (x : RelayNode). x.realm) (answer_node step) ∙ r;
+  kept = kept-answer name realm relay after conn message items acts is step k;
+}
+
+received_step : (name realm : List ℕ) (acts : List Act) (relay after : RelayState) (conn : ConnId) (message : Message) (items : Traffic) (peer : Option LinkedPeer)
+    → MatchOption peer (IsIdle relay items after) (λ sender. OnMessage relay conn sender.name message items after) → relay.node.name ≡ name → relay.node.realm ≡ realm
+    → Kept name realm acts relay.pending.rows → After name realm (acts_with items (happened (Received conn message) ∷ acts)) after
+received_step name realm acts relay after conn message items None m n r k = idle name realm (Received conn message) acts relay after items m n r k
+received_step name realm acts relay after conn message items (Some sender) m n r k = message_step name realm acts relay after conn sender.name message items message.header.request refl m n r k
+
+ended : (conn : ConnId) (rest : Bool) → (not (conn.0 == conn.0) && rest) ≡ false
+ended conn rest = ap (λ (b : Bool). not b && rest) (eq-eqb conn.0 conn.0 refl)
+
+lost_step : (name realm : List ℕ) (acts : List Act) (relay after : RelayState) (conn : ConnId) (items : Traffic) → OnConnLost relay conn items after → relay.node.name ≡ name → relay.node.realm ≡ realm
+    → Kept name realm acts relay.pending.rows → After name realm (acts_with items (happened (Lost conn) ∷ acts)) after
+lost_step name realm acts relay after conn items step n r k =
+    let before = happened (Lost conn) ∷ acts in
+    let start : Kept name realm before (without_origins conn relay.pending.rows) = record {
+      holding = holding-orphans conn before relay.pending.rows (holding-event (Lost conn) acts relay.pending.rows k.holding);
+      counted = counted-orphans conn before relay.pending.rows (counted-event (Lost conn) acts relay.pending.rows k.counted);
+      right = (tt, k.right);
+    } in
+    let all : Kept name realm (acts_with items before) step.rows =
+    kept-failover name realm (after_end conn relay.node) conn before n r (none_on relay.node.peers.links conn) step.failover start (λ hop. ended conn (is_in_use conn hop acts)) in
+    subst (λ (s : RelayState). After name realm (acts_with items before) s) (sym step.after) (record { name_is = n; realm_is = r; kept = all })
+
+maybe_lost : (name realm : List ℕ) (acts : List Act) (relay after : RelayState) (conn : ConnId) (items : Traffic) (peer : Option NodeNo)
+    → MatchOption peer (IsIdle relay items after) (λ _. OnConnLost relay conn items after) → relay.node.name ≡ name → relay.node.realm ≡ realm
+    → Kept name realm acts relay.pending.rows → After name realm (acts_with items (happened (Lost conn) ∷ acts)) after
+maybe_lost name realm acts relay after conn items None m n r k = idle name realm (Lost conn) acts relay after items m n r k
+maybe_lost name realm acts relay after conn items (Some peer) m n r k = lost_step name realm acts relay after conn items m n r k
+
+nothing_counted : (p : Row → Bool) → count_by p [] ≤ 1
+nothing_counted p = let zero_rows : count_by p [] ≡ 0 = refl in omega arith
+
+no_rows : (name realm : List ℕ) (acts : List Act) (rows : List Row) → Kept name realm acts rows → Kept name realm (happened Restart ∷ acts) []
+no_rows name realm acts rows k = record {
+  holding = record { map = record { single = λ conn hop. nothing_counted (has_key conn hop) }; causes = tt; used = λ to hop e. absurd cc };
+  counted = λ to hop. let le = k.counted to hop in let zero_rows : count_by (is_from to hop) [] ≡ 0 = refl in omega arith;
+  right = (tt, k.right);
+}
+
+restart_step : (name realm : List ℕ) (acts : List Act) (relay after : RelayState) (items : Traffic) → items ≡ [] → after ≡ after_restart relay → relay.node.name ≡ name → relay.node.realm ≡ realm
+    → Kept name realm acts relay.pending.rows → After name realm (acts_with items (happened Restart ∷ acts)) after
+restart_step name realm acts relay after items none is n r k =
+    subst (λ (s : RelayState). After name realm (acts_with items (happened Restart ∷ acts)) s) (sym is)
+    (subst (λ (xs : Traffic). After name realm (acts_with xs (happened Restart ∷ acts)) (after_restart relay)) (sym none)
+    (record { name_is = n; realm_is = r; kept = no_rows name realm acts relay.pending.rows k }))
+
+step_kept : (name realm : List ℕ) (event : RelayEvent) (acts : List Act) (relay after : RelayState) (items : Traffic) → OnEvent relay event items after → relay.node.name ≡ name → relay.node.realm ≡ realm
+    → Kept name realm acts relay.pending.rows → After name realm (acts_with items (happened event ∷ acts)) after
+step_kept name realm (Up peer conn) acts relay after items step n r k = up_step name realm (Up peer conn) acts relay (after_up relay peer conn) after items (up_fault relay peer conn) step n r refl n r k
+step_kept name realm (Received conn message) acts relay after items step n r k = received_step name realm acts relay after conn message items (peer_on relay.node conn) step n r k
+step_kept name realm (Lost conn) acts relay after items step n r k = maybe_lost name realm acts relay after conn items (peer_in relay.node.peers.links conn) step n r k
+step_kept name realm Restart acts relay after items step n r k = restart_step name realm acts relay after items step.0 step.1 n r k
+
+-- ---- a run
+
+begins : (site : RelaySite) → Stands site.name site.realm [] (new_relay site)
+begins site = record {
+  name_is = refl;
+  realm_is = refl;
+  kept = record {
+    holding = record { map = record { single = λ conn hop. nothing_counted (has_key conn hop) }; causes = tt; used = λ to hop e. absurd cc };
+    counted = λ to hop. let zero_rows : count_by (is_from to hop) [] ≡ 0 = refl in omega arith;
+    right = tt;
+  };
+  loops = tt;
+}
+
+goes_on : (site : RelaySite) {events : List RelayEvent} {outs : List Out} {past : List RelayStep} {last : RelayState} → IsRun (new_relay site) events outs past last → Stands site.name site.realm past last
+goes_on site not_begun = begins site
+goes_on site (one_more events event outs out past before after run step) =
+    let s = goes_on site run in
+    let a = step_kept site.name site.realm event (acts_of past) before after out.items step s.name_is s.realm_is s.kept in
+    record { name_is = a.name_is; realm_is = a.realm_is; kept = a.kept; loops = (loop_step before event out.items after step, s.loops) }
+
+pub promise-kept : (site : RelaySite) {events : List RelayEvent} {outs : List Out} {past : List RelayStep} {last : RelayState} → IsRun (new_relay site) events outs past last → KeepsPromise site.name site.realm past
+promise-kept site {past = past} {last = last} run =
+    let s = goes_on site run in
+    record {
+      right = s.kept.right;
+      once = λ conn hop. let le = s.kept.counted conn hop in omega arith;
+      loops = s.loops;
+    }

@@ -1,0 +1,10 @@
+pub mod Cases
+pub mod Descending
+pub mod Holding
+pub mod Keeping
+pub mod Losing
+pub mod Planning
+pub mod Promising
+pub mod Reaching
+pub mod Rules
+pub mod Running

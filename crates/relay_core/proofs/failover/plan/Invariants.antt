@@ -1,0 +1,8 @@
+use Rattle.std.proofs.Common.{◌≡◌, map, take}
+use Rattle.relay_core.specs.Failover.{after_end, without_origins}
+use Rattle.relay_core.specs.FailoverPlan.{planned_for}
+use Rattle.relay_core.proofs.failover.plan.Given as goal
+
+-- those before the index are planned
+abbrev pub invariant-loop-hop : goal.invariant-loop-hop
+invariant-loop-hop g l = l.plan.items ≡ map (planned_for (after_end l.lost l.node) l.lost (without_origins l.lost l.pending.rows)) (take l.hop-index l.hop-items)

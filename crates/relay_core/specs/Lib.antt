@@ -1,0 +1,11 @@
+pub mod RelayState
+pub mod Forwarding
+pub mod NextHop
+pub mod Verdict
+pub mod RelayStep
+pub mod Failover
+pub mod FailoverPlan
+pub mod Connecting
+pub mod RelayRun
+pub mod Acts
+pub mod Promise

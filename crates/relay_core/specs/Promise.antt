@@ -1,0 +1,78 @@
+-- What a relay promises over any list of events (RFC 6733, sections 5.5.4, 6.1 and 6.2).
+use Rattle.std.specs.Prelude.{◌≡◌, ℕ, ◌≤◌, true, false, List, [], ◌∷◌, IsSome, MatchBool}
+use Rattle.dia_base.specs.declared.number.ConnId.{ConnId}
+use Rattle.dia_message.specs.declared.message.Message.{Message}
+use Rattle.cc_view.specs.Answer.{refusal_of}
+use Rattle.cc_view.specs.Refusal.{refusal_with}
+use Rattle.cc_view.specs.declared.code.ResultCode.{ResultCode}
+use Rattle.cc_view.specs.declared.code.ResultCode.TheVariants.{LoopDetected}
+use Rattle.cc_view.specs.declared.refusal.Refusal.{Refusal}
+use Rattle.relay_routes.specs.Routing.{IsLoop}
+use Rattle.relay_hops.specs.PendingTable.{under, again}
+use Rattle.relay_core.specs.declared.run.RelayEvent.TheVariants.{Received}
+use Rattle.relay_core.specs.Acts.{Act, happened, sent, acts_of, IsAmong, is_in_use, requests_in, answers_in}
+use Rattle.relay_core.specs.Forwarding.{Descends}
+use Rattle.relay_core.specs.RelayRun.{RelayStep}
+use Rattle.relay_core.specs.RelayState.{peer_on}
+use Rattle.relay_core.specs.RelayStep.{refusal_to}
+
+-- ---- a request that a relay sends
+
+-- a request came on the connection
+pub record HasCome (acts : List Act) (conn : ConnId) (request : Message) : Type 0 where
+  pub among : IsAmong (happened (Received conn request)) acts
+  pub flag : request.header.request ≡ true
+
+-- Why a relay sends a request, by the acts before.
+pub data RequestCause (acts : List Act) (message : Message) : Type 0 where
+  -- a request has just come, it descends from that, and T stays
+  forwarded : (conn : ConnId) (request : Message) (before : List Act) → acts ≡ happened (Received conn request) ∷ before → request.header.request ≡ true →
+      Descends request message → message.header.resent ≡ request.header.resent → RequestCause acts message
+  -- it was sent before on another connection, and T is set; it descends from a request that came
+  sent_again : (conn lost : ConnId) (request earlier : Message) → HasCome acts conn request → IsAmong (sent lost earlier) acts → message ≡ again message.header.hop earlier →
+      Descends request message → message.header.resent ≡ true → RequestCause acts message
+
+-- ---- an answer that a relay sends
+
+-- Why a relay of this name and realm sends an answer on a connection, by the acts before.
+pub data AnswerCause (name realm : List ℕ) (acts : List Act) (to : ConnId) (answer : Message) : Type 0 where
+  -- An answer has just come to what was sent for a request that came there: but for the identifier of the request it is unchanged.
+  sent_back : (conn : ConnId) (came request earlier : Message) (before : List Act) → acts ≡ happened (Received conn came) ∷ before →
+      HasCome before to request → IsAmong (sent conn earlier) before → earlier.header.hop ≡ came.header.hop → Descends request earlier →
+      answer ≡ under request.header.hop came → AnswerCause name realm acts to answer
+  -- a request has just come there, and is refused
+  refused : (request : Message) (refusal : Refusal) (before : List Act) → acts ≡ happened (Received to request) ∷ before → request.header.request ≡ true →
+      answer ≡ refusal_of name realm request refusal → AnswerCause name realm acts to answer
+  -- what was sent for a request that came there goes nowhere any more
+  given_up : (lost : ConnId) (request earlier : Message) (code : ResultCode) → HasCome acts to request → IsAmong (sent lost earlier) acts → Descends request earlier →
+      answer ≡ under request.header.hop (refusal_of name realm earlier (refusal_with code)) → AnswerCause name realm acts to answer
+
+-- ---- the promise
+
+-- A request that is sent has its cause, and its identifier is not in use there. An answer has its cause.
+abbrev pub IsRightAct : List ℕ → List ℕ → List Act → Act → Type 0
+IsRightAct name realm acts (happened event) = Unit {0}
+IsRightAct name realm acts (sent conn message) =
+    MatchBool message.header.request (RequestCause acts message × (is_in_use conn message.header.hop acts ≡ false)) (AnswerCause name realm acts conn message)
+
+-- each act is right by those before it
+abbrev pub AreRightActs : List ℕ → List ℕ → List Act → Type 0
+AreRightActs name realm [] = Unit {0}
+AreRightActs name realm (act ∷ acts) = IsRightAct name realm acts act × AreRightActs name realm acts
+
+-- A request in which the relay finds itself, from a peer that is up, is answered DIAMETER_LOOP_DETECTED there, and nothing else happens (6.1.3).
+abbrev pub RefusesLoop : RelayStep → Type 0
+RefusesLoop step = (conn : ConnId) (request : Message) → step.event ≡ Received conn request → request.header.request ≡ true → IsSome (peer_on step.before.node conn) →
+    IsLoop step.before.node.name request.body → (step.sent ≡ refusal_to step.before.node conn request (refusal_with LoopDetected)) × (step.after ≡ step.before)
+
+abbrev pub RefusesLoops : List RelayStep → Type 0
+RefusesLoops [] = Unit {0}
+RefusesLoops (step ∷ past) = RefusesLoop step × RefusesLoops past
+
+-- What a relay of this name and realm promises of the steps of a run, of which the last one stands first.
+pub record KeepsPromise (name realm : List ℕ) (past : List RelayStep) : Type 0 where
+  -- each message that is sent has its cause, and no identifier in use is given to another request
+  pub right : AreRightActs name realm (acts_of past)
+  -- on each connection no more answers go out under an identifier than requests came with it
+  pub once : (conn : ConnId) (hop : ℕ) → answers_in conn hop (acts_of past) ≤ requests_in conn hop (acts_of past)
+  pub loops : RefusesLoops past

@@ -1,0 +1,163 @@
+//! What becomes of a request, rule by rule (RFC 6733, sections 6.1.1 to 6.1.6).
+
+ghost use Rattle.std.specs.Prelude.{◌≡◌, Ok};
+ghost use Rattle.std.specs.Option.{option_copied};
+ghost use Rattle.relay_peers.specs.PeerTable.{conn_in};
+ghost use Rattle.relay_core.specs.RelayState.{links_but, node_but};
+ghost use Rattle.relay_core.specs.NextHop.{candidates_for, deliverable, first_up, hop_by_host, hop_by_realm, hop_to_host, next_hop};
+ghost use Rattle.relay_core.specs.Verdict.{is_for_itself, verdict, with_no_avp};
+
+use crate::node::RelayNode;
+use crate::reading::value_of;
+use crate::recording::is_too_long;
+use cc_view::ResultCode;
+use dia_avp::RawAvp;
+use dia_base::codes::{DESTINATION_HOST, DESTINATION_REALM};
+use dia_base::{ConnId, Identity, NodeKind, NodeNo};
+use dia_message::Message;
+use relay_hops::Pending;
+use relay_peers::{LinkedPeer, Peers};
+use relay_routes::RouteFault;
+use relay_routes::loop_check::names_me;
+
+/// What becomes of a request of this sender with these AVPs: the connection that it is forwarded on, or
+/// the code that it is refused with. The rules stand in the order in which they decide. It takes no
+/// memory.
+pub(crate) fn verdict(
+    node: &RelayNode,
+    pending: &Pending,
+    sender: &Identity,
+    request: &Message,
+    avps: &[RawAvp],
+) -> Result<ConnId, ResultCode>
+    ensures { with_no_avp result ≡ verdict (record { node = node.now; pending = pending.now }) sender.now request.now (Ok avps.now) }
+{
+    let host = value_of(avps, DESTINATION_HOST);
+    let realm = value_of(avps, DESTINATION_REALM);
+    if names_me(&node.name, avps) {
+        return Err(ResultCode::LoopDetected);
+    }
+    if !request.header.proxiable {
+        return Err(ResultCode::CommandUnsupported);
+    }
+    if host.is_some() && realm.is_none() {
+        return Err(ResultCode::UnableToDeliver);
+    }
+    if is_for_itself(&node.name, host, realm) {
+        return Err(ResultCode::ApplicationUnsupported);
+    }
+    if is_too_long(sender, &request.body) {
+        return Err(ResultCode::UnableToDeliver);
+    }
+    let conn = next_hop(node, None, avps, request.header.application)?;
+    if pending.is_full() {
+        return Err(ResultCode::TooBusy);
+    }
+    Ok(conn)
+}
+
+/// Whether a request is for the relay itself: it names it, or nobody.
+fn is_for_itself(name: &Identity, host: Option<&[u8]>, realm: Option<&[u8]>) -> bool
+    ensures { result ≡ is_for_itself name.now (option_copied host.entry) (option_copied realm.entry) }
+{
+    match host {
+        Some(host) => name.as_slice().eq_ignore_ascii_case(host),
+        None => realm.is_none(),
+    }
+}
+
+/// The connection that a request with these AVPs goes out on, by the peers that are up, but for one on a
+/// connection that ends. It takes no memory.
+pub(crate) fn next_hop(
+    node: &RelayNode,
+    ended: Option<ConnId>,
+    avps: &[RawAvp],
+    app: u32,
+) -> Result<ConnId, ResultCode>
+    ensures { result ≡ next_hop (node_but ended node.now) avps.now app }
+{
+    let host = match value_of(avps, DESTINATION_HOST) {
+        Some(host) => node.peers.named(host),
+        None => None,
+    };
+    hop_by_host(node, ended, host, value_of(avps, DESTINATION_REALM), app)
+}
+
+fn hop_by_host(
+    node: &RelayNode,
+    ended: Option<ConnId>,
+    host: Option<&LinkedPeer>,
+    realm: Option<&[u8]>,
+    app: u32,
+) -> Result<ConnId, ResultCode>
+    ensures { result ≡ hop_by_host (node_but ended node.now) (option_copied host.entry) (option_copied realm.entry) app }
+{
+    match host {
+        Some(peer) => hop_to_host(&node.peers, ended, peer.peer, peer.kind),
+        None => hop_by_realm(node, ended, realm, app),
+    }
+}
+
+/// A linked peer is named as the host: no request goes to a client.
+fn hop_to_host(
+    peers: &Peers,
+    ended: Option<ConnId>,
+    peer: NodeNo,
+    kind: NodeKind,
+) -> Result<ConnId, ResultCode>
+    ensures { result ≡ hop_to_host (links_but ended peers.now.links) peer kind }
+{
+    match kind {
+        NodeKind::Client => Err(ResultCode::UnableToDeliver),
+        NodeKind::Relay | NodeKind::Front => deliverable(conn_to(peers, ended, peer)),
+    }
+}
+
+/// The candidates are those of the realm and the application.
+fn hop_by_realm(
+    node: &RelayNode,
+    ended: Option<ConnId>,
+    realm: Option<&[u8]>,
+    app: u32,
+) -> Result<ConnId, ResultCode>
+    ensures { result ≡ hop_by_realm (links_but ended node.now.peers.links) (candidates_for node.now (option_copied realm.entry) app) }
+{
+    let Some(realm) = realm else {
+        return Err(ResultCode::RealmNotServed);
+    };
+    match node.routes.candidates(realm, app) {
+        Err(RouteFault::RealmUnknown) => Err(ResultCode::RealmNotServed),
+        Err(RouteFault::NoApplication) => Err(ResultCode::UnableToDeliver),
+        Ok(peers) => deliverable(first_up(&node.peers, ended, peers)),
+    }
+}
+
+fn deliverable(conn: Option<ConnId>) -> Result<ConnId, ResultCode>
+    ensures { result ≡ deliverable conn }
+{
+    match conn {
+        Some(conn) => Ok(conn),
+        None => Err(ResultCode::UnableToDeliver),
+    }
+}
+
+/// The connection of the first of these peers that is up.
+fn first_up(peers: &Peers, ended: Option<ConnId>, candidates: &[NodeNo]) -> Option<ConnId>
+    ensures { result ≡ first_up (links_but ended peers.now.links) candidates.now }
+{
+    for peer in candidates {
+        if let Some(conn) = conn_to(peers, ended, *peer) {
+            return Some(conn);
+        }
+    }
+    None
+}
+
+fn conn_to(peers: &Peers, ended: Option<ConnId>, peer: NodeNo) -> Option<ConnId>
+    ensures { result ≡ conn_in (links_but ended peers.now.links) peer }
+{
+    match ended {
+        Some(ended) => peers.conn_after(peer, ended),
+        None => peers.conn_of(peer),
+    }
+}

@@ -1,0 +1,58 @@
+//! Laws of what relays pass on: what a server reads in a request, and what it is answered, does not depend
+//! on the relays on its way (RFC 6733, section 6.1.9).
+
+ghost use Rattle.std.specs.Prelude.{◌≡◌, ℕ, List, false, Ok};
+ghost use Rattle.dia_base.specs.declared.number.ConnId.{ConnId};
+ghost use Rattle.dia_avp.specs.declared.avp.RawAvp.{RawAvp};
+ghost use Rattle.dia_avp.specs.AvpReading.{split_of};
+ghost use Rattle.dia_message.specs.declared.message.Message.{Message};
+ghost use Rattle.dia_message.specs.Traffic.{Traffic};
+ghost use Rattle.cc_view.specs.Answer.{answer_to, refusal_of};
+ghost use Rattle.cc_view.specs.Forwarding.{with_hop};
+ghost use Rattle.cc_view.specs.Refusal.{refusal_with};
+ghost use Rattle.cc_view.specs.RequestView.{view_of};
+ghost use Rattle.cc_view.specs.declared.code.ResultCode.TheVariants.{LoopDetected};
+ghost use Rattle.cc_view.specs.declared.refusal.Refusal.{Refusal};
+ghost use Rattle.cc_view.specs.declared.reply.CcReply.{CcReply};
+ghost use Rattle.cc_view.specs.declared.request.CcRequest.{CcRequest};
+ghost use Rattle.relay_routes.specs.Routing.{loops, IsLoop};
+ghost use Rattle.relay_core.specs.Forwarding.{Descends};
+ghost use Rattle.relay_core.specs.RelayState.{RelayState};
+ghost use Rattle.relay_core.specs.RelayStep.{OnRequest, refusal_to};
+ghost use Rattle.relay_core.specs.Verdict.{decision};
+
+use cc_view::{forwarded_requests, view_without_identifiers};
+use dia_avp::one_avp_more;
+
+/// What descends from a message that descends from another one descends from that.
+pub fn descending_goes_on()
+    ensures { (request passed last : Message) → Descends request passed → Descends passed last → Descends request last }
+{}
+
+/// A message that descends from one whose body is a list of AVPs has its End-to-End Identifier and its
+/// view, and its answers and refusals are those of the other by the Hop-by-Hop Identifier alone.
+pub fn what_descends_reads_alike()
+    ensures end { (request passed : Message) → Descends request passed → passed.header.end ≡ request.header.end }
+    ensures view { (vendors : List ℕ) (request passed : Message) (avps : List RawAvp) → split_of request.body ≡ Ok avps → Descends request passed → view_of vendors passed ≡ view_of vendors request }
+    ensures answer { (front realm : List ℕ) (request passed : Message) (content : CcRequest) (reply : CcReply) (avps : List RawAvp) → split_of request.body ≡ Ok avps → Descends request passed →
+        answer_to front realm passed content reply ≡ with_hop passed.header.hop (answer_to front realm request content reply) }
+    ensures refusal { (node realm : List ℕ) (request passed : Message) (refusal : Refusal) (avps : List RawAvp) → split_of request.body ≡ Ok avps → Descends request passed →
+        refusal_of node realm passed refusal ≡ with_hop passed.header.hop (refusal_of node realm request refusal) }
+{
+    forwarded_requests();
+    view_without_identifiers();
+    one_avp_more();
+}
+
+/// A relay forwards no request that has its own identity in a Route-Record (RFC 6733, section 6.1.3).
+pub fn loops_are_not_forwarded()
+    ensures { (relay : RelayState) (sender : List ℕ) (request : Message) (to : ConnId) → decision relay sender request ≡ Ok to → loops relay.node.name request.body ≡ false }
+{}
+
+/// A request in which a relay finds itself is answered DIAMETER_LOOP_DETECTED where it came from, and
+/// nothing else happens.
+pub fn loops_are_refused()
+    ensures { (relay : RelayState) (conn : ConnId) (sender : List ℕ) (request : Message) (sent : Traffic) (next : RelayState) →
+        IsLoop relay.node.name request.body → OnRequest relay conn sender request sent next →
+        (sent ≡ refusal_to relay.node conn request (refusal_with LoopDetected)) × (next ≡ relay) }
+{}

@@ -1,0 +1,121 @@
+//! A relay and its events.
+
+ghost use Rattle.std.specs.Prelude.{◌≡◌, IsSome, IsNone, IfOk, IfSome, OnOk, OnErr, IsOkUnless, MatchOption};
+ghost use Rattle.relay_peers.specs.PeerTable.{peer_in};
+ghost use Rattle.relay_core.specs.Connecting.{new_relay, up_fault, after_up, after_restart};
+ghost use Rattle.relay_core.specs.RelayState.{peer_on};
+ghost use Rattle.relay_core.specs.RelayStep.{OnMessage};
+ghost use Rattle.relay_core.specs.Failover.{OnConnLost};
+
+use crate::answering::on_answer;
+use crate::error::RelayError;
+use crate::failover::{fail_over, plan};
+use crate::forwarding::on_request;
+use crate::node::{RelayNode, RelaySite};
+use dia_avp::Wire;
+use dia_base::{ConnId, NodeNo, PENDING_LIMIT};
+use dia_message::{Message, Out};
+use relay_hops::Pending;
+use relay_peers::UpFault;
+use std::alloc::{AllocError, Global};
+use std::marker::Model;
+
+/// A relay: itself with its peers and routes, and the requests that it has sent and that are not answered
+/// (RFC 6733, section 2.8.1).
+#[derive(Debug, Drop)]
+pub struct Relay {
+    node: RelayNode,
+    pending: Pending,
+}
+
+impl Model for Relay {
+    ghost use Rattle.relay_core.specs.RelayState.{RelayState};
+
+    ghost Value = { RelayState };
+
+    ghost view = { λ r. record { node = r.node; pending = r.pending } };
+}
+
+impl Relay {
+    /// A relay with no connection and nothing pending.
+    pub fn new(alloc: Global, site: RelaySite) -> Result<Self, AllocError>
+        ensures { IfOk result (λ relay. relay ≡ new_relay site) }
+    {
+        Ok(Relay {
+            node: RelayNode::new(alloc, site),
+            pending: Pending::new(alloc, PENDING_LIMIT)?,
+        })
+    }
+
+    /// A peer's connection is made. A peer that is not linked is refused first, `UnknownPeer`, then one
+    /// that is up or whose connection another peer has, `PeerUp`. A refusal leaves the relay as it was.
+    pub fn conn_up(&mut self, peer: NodeNo, conn: ConnId) -> Result<(), RelayError>
+        ensures answer { MatchOption (up_fault self.old peer conn) (IsOkUnless result RelayError.OutOfMemory) (λ fault. result ≡ Err fault) }
+        ensures ok { OnOk result (self.new ≡ after_up self.old peer conn) }
+        ensures err { OnErr result (self.new ≡ self.old) }
+    {
+        match self.node.peers.up(peer, conn) {
+            Ok(()) => Ok(()),
+            Err(UpFault::PeerUp) => Err(RelayError::PeerUp { peer }),
+            Err(UpFault::UnknownPeer) => Err(RelayError::UnknownPeer { peer }),
+            Err(UpFault::OutOfMemory) => Err(RelayError::OutOfMemory),
+        }
+    }
+
+    /// A message came on a connection. A request is refused or forwarded (RFC 6733, section 6.1), and an
+    /// answer goes back to where its request came from (section 6.2); an answer to none is ignored. A
+    /// connection that no peer is up on is refused, `UnknownConn`. A refusal leaves the relay as it was.
+    pub fn on_message<W: Wire>(
+        &mut self,
+        alloc: Global,
+        conn: ConnId,
+        message: Message,
+    ) -> Result<Out, RelayError>
+        ensures known { MatchOption (peer_on self.old.node conn) (result ≡ Err (RelayError.UnknownConn conn)) (λ sender. IsOkUnless result RelayError.OutOfMemory) }
+        ensures ok { IfSome (peer_on self.old.node conn) (λ sender. IfOk result (λ out. OnMessage self.old conn sender.name message out.items self.new)) }
+        ensures err { OnErr result (self.new ≡ self.old) }
+    {
+        let Some(sender) = self.node.peer_on(conn) else {
+            return Err(RelayError::UnknownConn { conn });
+        };
+        if message.header.request {
+            on_request::<W>(
+                alloc,
+                &self.node,
+                &mut self.pending,
+                conn,
+                &sender.name,
+                message,
+            )
+        } else {
+            on_answer(alloc, &mut self.pending, conn, message)
+        }
+    }
+
+    /// A connection has ended: its peer is down, what came on it has nowhere to be answered to, and what
+    /// was sent on it goes out again where another peer is up for it (RFC 6733, section 5.5.4). A
+    /// connection that no peer is up on is refused, `UnknownConn`. A refusal leaves the relay as it was.
+    pub fn conn_lost<W: Wire>(&mut self, alloc: Global, conn: ConnId) -> Result<Out, RelayError>
+        ensures unknown { IsNone (peer_in self.old.node.peers.links conn) → result ≡ Err (RelayError.UnknownConn conn) }
+        ensures known { IsSome (peer_in self.old.node.peers.links conn) → IsOkUnless result RelayError.OutOfMemory }
+        ensures ok { IfOk result (λ out. OnConnLost self.old conn out.items self.new) }
+        ensures err { OnErr result (self.new ≡ self.old) }
+    {
+        if self.node.peers.peer_of(conn).is_none() {
+            return Err(RelayError::UnknownConn { conn });
+        }
+        let plan = plan::<W>(alloc, &self.node, &self.pending, conn)?;
+        let room = Vec::with_capacity(alloc, plan.len())?;
+        self.node.peers.down(conn);
+        self.pending.orphan(conn);
+        Ok(fail_over(&mut self.pending, conn, plan, room))
+    }
+
+    /// Everything is forgotten: no peer is up, and nothing is pending. It takes no memory.
+    pub fn restart(&mut self)
+        ensures { self.new ≡ after_restart self.old }
+    {
+        self.node.peers.all_down();
+        self.pending.clear();
+    }
+}

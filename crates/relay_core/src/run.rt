@@ -1,0 +1,121 @@
+//! A relay over a list of events.
+
+ghost use Rattle.std.specs.Prelude.{◌≡◌, ◌≢◌, [], List, IfOk, IsOkUnless};
+ghost use Rattle.relay_core.specs.Connecting.{new_relay};
+ghost use Rattle.relay_core.specs.Promise.{KeepsPromise};
+ghost use Rattle.relay_core.specs.RelayRun.{OnEvent, IsRun, RelayStep};
+ghost use Rattle.relay_core.specs.RelayState.{RelayState};
+
+use crate::error::RelayError;
+use crate::node::RelaySite;
+use crate::relay::Relay;
+use dia_avp::Wire;
+use dia_base::{ConnId, NodeNo};
+use dia_message::{Message, Out};
+use std::alloc::Global;
+
+/// What happens to a relay.
+#[derive(Debug, Drop)]
+pub enum RelayEvent {
+    /// A peer's connection is made.
+    Up { peer: NodeNo, conn: ConnId },
+    /// A message came on a connection.
+    Received { conn: ConnId, message: Message },
+    /// A connection has ended.
+    Lost { conn: ConnId },
+    /// The relay begins anew.
+    Restart,
+}
+
+impl Relay {
+    /// The events one after the other, at a relay of this site with no connection, with what is sent at
+    /// each: nothing where its call is refused. Want of memory ends it.
+    ///
+    /// Over any list of events the relay keeps its promise: each request that it sends descends from one
+    /// that came, and has T set if it was sent before; each answer goes to the connection of its request
+    /// with the identifier of that, otherwise unchanged, and no more answers go there than requests came;
+    /// an identifier in use on a connection is given to no other request; and a request in which the relay
+    /// finds itself is answered DIAMETER_LOOP_DETECTED, and nothing else happens.
+    pub fn run<W: Wire>(
+        alloc: Global,
+        site: &RelaySite,
+        events: &[RelayEvent],
+    ) -> Result<Vec<Out>, RelayError>
+        ensures run { IfOk result (λ outs. (past : List RelayStep) × (last : RelayState) × IsRun (new_relay site.now) events.now outs.items past last × KeepsPromise site.now.name site.now.realm past) }
+        ensures memory { IsOkUnless result RelayError.OutOfMemory }
+    {
+        let mut relay = Relay::new(alloc, site.copied(alloc)?)?;
+        let mut outs = Vec::new(alloc);
+        for event in events {
+            let out = on_event::<W>(&mut relay, alloc, event)?;
+            outs.push(out)?;
+        }
+        Ok(outs)
+    }
+}
+
+fn on_event<W: Wire>(
+    relay: &mut Relay,
+    alloc: Global,
+    event: &RelayEvent,
+) -> Result<Out, RelayError>
+    ensures ok { IfOk result (λ out. OnEvent relay.old event.now out.items relay.new) }
+    ensures memory { IsOkUnless result RelayError.OutOfMemory }
+{
+    match event {
+        RelayEvent::Up { peer, conn } => on_up(relay, alloc, *peer, *conn),
+        RelayEvent::Received { conn, message } => on_received::<W>(relay, alloc, *conn, message),
+        RelayEvent::Lost { conn } => on_lost::<W>(relay, alloc, *conn),
+        RelayEvent::Restart => {
+            relay.restart();
+            Ok(Out::nothing(alloc))
+        }
+    }
+}
+
+fn on_up(relay: &mut Relay, alloc: Global, peer: NodeNo, conn: ConnId) -> Result<Out, RelayError>
+    ensures ok { IfOk result (λ out. OnEvent relay.old (RelayEvent.Up peer conn) out.items relay.new) }
+    ensures memory { IsOkUnless result RelayError.OutOfMemory }
+{
+    match relay.conn_up(peer, conn) {
+        Ok(()) => Ok(Out::nothing(alloc)),
+        Err(fault) => nothing_unless_memory(alloc, fault),
+    }
+}
+
+fn on_received<W: Wire>(
+    relay: &mut Relay,
+    alloc: Global,
+    conn: ConnId,
+    message: &Message,
+) -> Result<Out, RelayError>
+    ensures ok { IfOk result (λ out. OnEvent relay.old (RelayEvent.Received conn message.now) out.items relay.new) }
+    ensures memory { IsOkUnless result RelayError.OutOfMemory }
+{
+    let message = message.clone()?;
+    match relay.on_message::<W>(alloc, conn, message) {
+        Ok(out) => Ok(out),
+        Err(fault) => nothing_unless_memory(alloc, fault),
+    }
+}
+
+fn on_lost<W: Wire>(relay: &mut Relay, alloc: Global, conn: ConnId) -> Result<Out, RelayError>
+    ensures ok { IfOk result (λ out. OnEvent relay.old (RelayEvent.Lost conn) out.items relay.new) }
+    ensures memory { IsOkUnless result RelayError.OutOfMemory }
+{
+    match relay.conn_lost::<W>(alloc, conn) {
+        Ok(out) => Ok(out),
+        Err(fault) => nothing_unless_memory(alloc, fault),
+    }
+}
+
+/// What is sent where a call is refused for another reason than memory.
+fn nothing_unless_memory(alloc: Global, fault: RelayError) -> Result<Out, RelayError>
+    ensures refused { IfOk result (λ out. (out.items ≡ []) × (fault ≢ RelayError.OutOfMemory)) }
+    ensures memory { IsOkUnless result RelayError.OutOfMemory }
+{
+    match fault {
+        RelayError::OutOfMemory => Err(RelayError::OutOfMemory),
+        _ => Ok(Out::nothing(alloc)),
+    }
+}
