@@ -1,6 +1,5 @@
 //! The worked rows: what a relay does with a debit, and with changes of it.
 
-mod failing_over;
 mod forwarding;
 
 use super::*;
