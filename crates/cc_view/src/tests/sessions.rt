@@ -40,6 +40,29 @@ fn services_are_answered(
     is_answered(alloc, kind, number, &reply, expected)
 }
 
+/// The same for an opening session: a header and the AVPs of the two services follow their places.
+fn opening_is_answered(
+    alloc: Global,
+    services: &[ServiceReply],
+    head: &str,
+    groups: [&str; 2],
+) -> Result<bool, Fail> {
+    let [first, second] = groups;
+    let expected = [
+        head,
+        SESSION,
+        SUCCESS,
+        ORIGIN,
+        APPLICATION,
+        INITIAL,
+        NUMBER,
+        FAILOVER,
+        first,
+        second,
+    ];
+    services_are_answered(alloc, RequestKind::Initial, 0, services, &expected)
+}
+
 /// The same for a reply without services.
 fn result_is_answered(
     alloc: Global,
@@ -56,6 +79,27 @@ fn result_is_answered(
         check,
     };
     is_answered(alloc, kind, 0, &reply, expected)
+}
+
+/// The same for a reply that says no more than a result, which is this AVP.
+fn result_alone_is_answered(
+    alloc: Global,
+    kind: RequestKind,
+    code: ResultCode,
+    result_code: &str,
+    command: &str,
+) -> Result<bool, Fail> {
+    let head = "0100007c40000110000000040000000700000064";
+    let expected = [
+        head,
+        SESSION,
+        result_code,
+        ORIGIN,
+        APPLICATION,
+        command,
+        NUMBER,
+    ];
+    result_is_answered(alloc, kind, code, None, None, &expected)
 }
 
 /// Rating-Group 10 with so many octets for 600 seconds.
@@ -139,20 +183,8 @@ fn sessions_that_open(rt: HostRuntime) -> Result<(), Fail> {
         (none, "010000a840000110000000040000000700000064", NO_CREDIT),
     ];
     for (i, (service, head, group)) in rows.iter().enumerate() {
-        let expected = [
-            *head,
-            SESSION,
-            SUCCESS,
-            ORIGIN,
-            APPLICATION,
-            INITIAL,
-            NUMBER,
-            FAILOVER,
-            *group,
-        ];
-        let kind = RequestKind::Initial;
         assert!(rt;
-            services_are_answered(alloc, kind, 0, &[*service], &expected)?,
+            opening_is_answered(alloc, &[*service], head, [*group, ""])?,
             "row {i}"
         );
     }
@@ -177,21 +209,8 @@ fn two_services(rt: HostRuntime) -> Result<(), Fail> {
     ];
     for (i, (second, head, group)) in rows.iter().enumerate() {
         let services = [grant(5000, false), *second];
-        let expected = [
-            *head,
-            SESSION,
-            SUCCESS,
-            ORIGIN,
-            APPLICATION,
-            INITIAL,
-            NUMBER,
-            FAILOVER,
-            GRANTED_5000,
-            *group,
-        ];
-        let kind = RequestKind::Initial;
         assert!(rt;
-            services_are_answered(alloc, kind, 0, &services, &expected)?,
+            opening_is_answered(alloc, &services, head, [GRANTED_5000, *group])?,
             "row {i}"
         );
     }
@@ -275,19 +294,9 @@ fn results_alone(rt: HostRuntime) -> Result<(), Fail> {
         ),
         (RequestKind::Event, ResultCode::Success, SUCCESS, KIND),
     ];
-    let head = "0100007c40000110000000040000000700000064";
     for (i, (kind, code, result, command)) in rows.iter().enumerate() {
-        let expected = [
-            head,
-            SESSION,
-            *result,
-            ORIGIN,
-            APPLICATION,
-            *command,
-            NUMBER,
-        ];
         assert!(rt;
-            result_is_answered(alloc, *kind, *code, None, None, &expected)?,
+            result_alone_is_answered(alloc, *kind, *code, result, command)?,
             "row {i}"
         );
     }
