@@ -1,5 +1,6 @@
 -- What a relay does with a message, as cases: a request is refused or forwarded, and an answer goes back to where its request came from (RFC 6733, sections 6.1 and 6.2).
-use Rattle.std.specs.Prelude.{◌≡◌, ℕ, List, [], ◌∷◌, Some, None, Ok, Err, MatchBool}
+use Rattle.std.specs.Prelude.{◌≡◌, ℕ, List, [], ◌∷◌, Option, Some, None, Ok, Err, MatchBool}
+use Rattle.std.specs.Option.{option_and_then}
 use Rattle.dia_base.specs.declared.number.ConnId.{ConnId}
 use Rattle.dia_message.specs.declared.message.Message.{Message}
 use Rattle.dia_message.specs.Traffic.{Traffic}
@@ -24,6 +25,10 @@ row_of conn held = record { conn = conn; held = held }
 -- what is kept of a request that came on a connection and was sent
 abbrev pub held_for : ConnId → Message → Message → Held
 held_for conn request sent = record { origin = Some (record { conn = conn; hop = request.header.hop }); request = sent }
+
+-- where the request came from that was sent on a connection under an identifier, if that connection stands
+abbrev pub asker_of : List Row → ConnId → ℕ → Option Origin
+asker_of rows conn hop = option_and_then (λ held. held.origin) (held_at rows conn hop)
 
 -- What a relay sends, and what it is afterwards, when a request of this sender came on a connection.
 pub data OnRequest (relay : RelayState) (conn : ConnId) (sender : List ℕ) (request : Message) : Traffic → RelayState → Type 0 where

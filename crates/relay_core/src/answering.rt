@@ -1,8 +1,8 @@
 //! An answer comes: it goes back to where its request came from (RFC 6733, section 6.2).
 
-ghost use Rattle.std.specs.Prelude.{◌≡◌, IfOk, OnErr, IsOkUnless};
+ghost use Rattle.std.specs.Prelude.{◌≡◌, None, IfOk, OnErr, IsOk, IsOkUnless};
 ghost use Rattle.relay_core.specs.declared.node.RelayNode.{RelayNode};
-ghost use Rattle.relay_core.specs.RelayStep.{OnAnswer};
+ghost use Rattle.relay_core.specs.RelayStep.{OnAnswer, asker_of};
 
 use crate::error::RelayError;
 use dia_base::ConnId;
@@ -10,7 +10,8 @@ use dia_message::{Message, Out};
 use relay_hops::Pending;
 use std::alloc::Global;
 
-/// An answer goes back to where its request came from, if that connection stands.
+/// An answer goes back to where its request came from, if that connection stands. Where none waits for it, it
+/// takes no memory.
 pub(crate) fn on_answer(
     alloc: Global,
     pending: &mut Pending,
@@ -18,6 +19,7 @@ pub(crate) fn on_answer(
     answer: Message,
 ) -> Result<Out, RelayError>
     ensures ok { (node : RelayNode) → IfOk result (λ out. OnAnswer (record { node = node; pending = pending.old }) conn answer out.items (record { node = node; pending = pending.new })) }
+    ensures dropped { asker_of pending.old.rows conn answer.header.hop ≡ None → IsOk result }
     ensures err { OnErr result (pending.new ≡ pending.old) }
     ensures memory { IsOkUnless result RelayError.OutOfMemory }
 {

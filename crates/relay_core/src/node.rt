@@ -28,20 +28,10 @@ impl RelaySite {
         Ok(RelaySite {
             name: self.name.clone()?,
             realm: self.realm.clone()?,
-            peers: copied_peers(alloc, self.peers.as_slice())?,
+            peers: self.peers.clone()?,
             routes: copied_routes(alloc, self.routes.as_slice())?,
         })
     }
-}
-
-fn copied_peers(alloc: Global, peers: &[LinkedPeer]) -> Result<Listing<LinkedPeer>, AllocError>
-    ensures { IfOk result (λ copies. copies ≡ peers.now) }
-{
-    let mut copies = Vec::new(alloc);
-    for peer in peers {
-        copies.push(peer.clone()?)?;
-    }
-    Ok(Listing::from_vec(copies))
 }
 
 fn copied_routes(alloc: Global, routes: &[Route]) -> Result<Listing<Route>, AllocError>

@@ -4,8 +4,8 @@ ghost use Rattle.std.specs.Prelude.{◌≡◌, IfOk};
 ghost use Rattle.relay_core.specs.Forwarding.{recorded, is_too_long};
 
 use dia_avp::layout::padding_of;
-use dia_avp::{Octets, with_avp};
-use dia_base::{Identity, MESSAGE_LIMIT};
+use dia_avp::{AvpFault, Octets, with_avp};
+use dia_base::{IDENTITY_LIMIT, Identity, MESSAGE_LIMIT};
 use dia_message::HEADER_LEN;
 use relay_routes::loop_check::route_record;
 use std::alloc::{AllocError, Global};
@@ -18,7 +18,12 @@ pub(crate) fn recorded(alloc: Global, peer: &Identity, body: &Octets) -> Result<
     ensures { IfOk result (λ octets. octets ≡ recorded peer.now body.now) }
 {
     let record = route_record(alloc, peer)?;
-    with_avp(alloc, body, &record).map_err(|_| AllocError)
+    prove!(peer.as_slice().len() <= IDENTITY_LIMIT);
+    match with_avp(alloc, body, &record) {
+        Ok(octets) => Ok(octets),
+        Err(AvpFault::OutOfMemory) => Err(AllocError),
+        Err(_) => unreachable!(),
+    }
 }
 
 /// Whether the message would be too long with the Route-Record of a peer.

@@ -1,10 +1,10 @@
 //! A relay and its events.
 
-ghost use Rattle.std.specs.Prelude.{◌≡◌, IsSome, IsNone, IfOk, IfSome, OnOk, OnErr, IsOkUnless, MatchOption};
+ghost use Rattle.std.specs.Prelude.{◌≡◌, IsSome, IsNone, IsOk, IfOk, IfSome, None, OnOk, OnErr, IsOkUnless, MatchOption, false};
 ghost use Rattle.relay_peers.specs.PeerTable.{peer_in};
 ghost use Rattle.relay_core.specs.Connecting.{new_relay, up_fault, after_up, after_restart};
 ghost use Rattle.relay_core.specs.RelayState.{peer_on};
-ghost use Rattle.relay_core.specs.RelayStep.{OnMessage};
+ghost use Rattle.relay_core.specs.RelayStep.{OnMessage, asker_of};
 ghost use Rattle.relay_core.specs.Failover.{OnConnLost};
 
 use crate::answering::on_answer;
@@ -63,8 +63,9 @@ impl Relay {
     }
 
     /// A message came on a connection. A request is refused or forwarded (RFC 6733, section 6.1), and an
-    /// answer goes back to where its request came from (section 6.2); an answer to none is ignored. A
-    /// connection that no peer is up on is refused, `UnknownConn`. A refusal leaves the relay as it was.
+    /// answer goes back to where its request came from (section 6.2); an answer that none waits for is
+    /// dropped, which takes no memory. A connection that no peer is up on is refused, `UnknownConn`. A
+    /// refusal leaves the relay as it was.
     pub fn on_message<W: Wire>(
         &mut self,
         alloc: Global,
@@ -73,6 +74,7 @@ impl Relay {
     ) -> Result<Out, RelayError>
         ensures known { MatchOption (peer_on self.old.node conn) (result ≡ Err (RelayError.UnknownConn conn)) (λ sender. IsOkUnless result RelayError.OutOfMemory) }
         ensures ok { IfSome (peer_on self.old.node conn) (λ sender. IfOk result (λ out. OnMessage self.old conn sender.name message out.items self.new)) }
+        ensures dropped { IsSome (peer_on self.old.node conn) → message.header.request ≡ false → asker_of self.old.pending.rows conn message.header.hop ≡ None → IsOk result }
         ensures err { OnErr result (self.new ≡ self.old) }
     {
         let Some(sender) = self.node.peer_on(conn) else {
