@@ -1,7 +1,7 @@
 -- What is so of the pending requests at each point of a run, by the acts before.
 use Rattle.std.proofs.Common.{◌≡◌, ℕ, ◌+◌, ◌≤◌, ◌==◌, ◌&&◌, ◌||◌, not, ◌⊎◌, inl, inr, Bool, true, false, cond, is_some, List, [], ◌∷◌, ◌++◌, Option, Some, None, option_map, refl, ap, sym, subst, ◌∙◌, arith}
-use Rattle.std.specs.List.{AllByRecursion, count_by}
-use Rattle.std.proofs.lemmas.Bool.{and_parts}
+use Rattle.std.specs.List.{AllByRecursion, count_by, find}
+use Rattle.std.proofs.lemmas.Bool.{and_parts, eq-eqb, eqb-true}
 use Rattle.dia_base.proofs.Counting.{count-among, count-map, count-le}
 use Rattle.dia_base.specs.declared.number.ConnId.{ConnId}
 use Rattle.dia_message.specs.declared.message.Message.{Message}
@@ -13,7 +13,7 @@ use Rattle.relay_hops.proofs.InUse.{held-without}
 use Rattle.relay_hops.proofs.LookUps.{held-with, held-orphaned, count-free}
 use Rattle.relay_hops.proofs.Rows.{IsMap-less, IsMap-more, IsMap-orphaned}
 use Rattle.relay_core.specs.declared.run.RelayEvent.{RelayEvent}
-use Rattle.relay_core.specs.Acts.{Act, happened, sent, IsAmong, ends, is_under, is_in_use, one, requests_in, answers_in}
+use Rattle.relay_core.specs.Acts.{Act, happened, sent, ends, is_under, is_in_use, last_sent, one, requests_in, answers_in}
 use Rattle.relay_core.specs.Failover.{without_origins}
 use Rattle.relay_core.specs.Forwarding.{Descends}
 use Rattle.relay_core.specs.Promise.{HasCome}
@@ -26,26 +26,78 @@ pub record RowCause (acts : List Act) (row : Row) : Type 0 where
   pub came : HasCome acts conn request
   pub descends : Descends request row.held.request
   pub flag : row.held.request.header.request ≡ true
-  pub was_sent : IsAmong (sent row.conn row.held.request) acts
+  pub last : last_sent row.conn (hop_of row) acts ≡ Some row.held.request
   pub origin : (row.held.origin ≡ None) ⊎ (row.held.origin ≡ Some (record { conn = conn; hop = request.header.hop }))
 
 pub come_more : (act : Act) (acts : List Act) (conn : ConnId) (request : Message) → HasCome acts conn request → HasCome (act ∷ acts) conn request
 come_more act acts conn request h = record { among = inr h.among; flag = h.flag }
 
-cause_more : (act : Act) (acts : List Act) (row : Row) → RowCause acts row → RowCause (act ∷ acts) row
-cause_more act acts row c = record {
+-- an act leaves as it was what was sent last under the identifier of a row
+abbrev Stays : Act → List Act → Row → Type 0
+Stays act acts row = last_sent row.conn (hop_of row) (act ∷ acts) ≡ last_sent row.conn (hop_of row) acts
+
+cause_more : (act : Act) (acts : List Act) (row : Row) → Stays act acts row → RowCause acts row → RowCause (act ∷ acts) row
+cause_more act acts row stays c = record {
   conn = c.conn;
   request = c.request;
   came = come_more act acts c.conn c.request c.came;
   descends = c.descends;
   flag = c.flag;
-  was_sent = inr c.was_sent;
+  last = stays ∙ c.last;
   origin = c.origin;
 }
 
-causes_more : (act : Act) (acts : List Act) (rows : List Row) → AllByRecursion (RowCause acts) rows → AllByRecursion (RowCause (act ∷ acts)) rows
-causes_more act acts [] all = tt
-causes_more act acts (row ∷ rows) all = (cause_more act acts row all.0, causes_more act acts rows all.1)
+causes_more : (act : Act) (acts : List Act) (rows : List Row) → ((row : Row) → Stays act acts row) → AllByRecursion (RowCause acts) rows → AllByRecursion (RowCause (act ∷ acts)) rows
+causes_more act acts [] stays all = tt
+causes_more act acts (row ∷ rows) stays all = (cause_more act acts row (stays row) all.0, causes_more act acts rows stays all.1)
+
+-- an answer is no request
+no_request : (flag b : Bool) (message last : Option Message) → flag ≡ false → cond (flag && b) message last ≡ last
+no_request true b message last e = absurd cc
+no_request false b message last e = refl
+
+-- a request under another identifier
+other_request : (flag b : Bool) (message last : Option Message) → b ≡ false → cond (flag && b) message last ≡ last
+other_request true true message last e = absurd cc
+other_request true false message last e = refl
+other_request false b message last e = refl
+
+eq_flips : (a b : ℕ) → (a == b) ≡ (b == a)
+eq_flips a b = here (a == b) refl (b == a) refl
+  where
+    here : (x : Bool) → (a == b) ≡ x → (y : Bool) → (b == a) ≡ y → (a == b) ≡ (b == a)
+    here true e true f = e ∙ sym f
+    here false e false f = e ∙ sym f
+    here true e false f = absurd (let yes : (b == a) ≡ true = eq-eqb b a (sym (eqb-true a b e)) in cc)
+    here false e true f = absurd (let yes : (a == b) ≡ true = eq-eqb a b (sym (eqb-true b a f)) in cc)
+
+flips : (a b : ConnId) (n m : ℕ) → ((a.0 == b.0) && (n == m)) ≡ ((b.0 == a.0) && (m == n))
+flips a b n m = ap (λ (x : Bool). x && (n == m)) (eq_flips a.0 b.0) ∙ ap (λ (x : Bool). (b.0 == a.0) && x) (eq_flips n m)
+
+free_here : (b : Bool) (row : Row) (rest : Option Row) → option_map (λ (r : Row). r.held) (cond b (Some row) rest) ≡ None → (b ≡ false) × (option_map (λ (r : Row). r.held) rest ≡ None)
+free_here true row rest e = absurd cc
+free_here false row rest e = (refl, e)
+
+-- a request is sent under an identifier that no row has
+causes_sent : (to : ConnId) (message : Message) (acts : List Act) (rows : List Row) → held_at rows to message.header.hop ≡ None → AllByRecursion (RowCause acts) rows → AllByRecursion (RowCause (sent to message ∷ acts)) rows
+causes_sent to message acts [] free all = tt
+causes_sent to message acts (row ∷ rows) free all =
+    let apart = free_here (has_key to message.header.hop row) row (find (has_key to message.header.hop) rows) free in
+    let under_none : is_under row.conn (hop_of row) to message ≡ false = flips to row.conn message.header.hop (hop_of row) ∙ apart.0 in (
+      cause_more (sent to message) acts row (other_request message.header.request (is_under row.conn (hop_of row) to message) (Some message) (last_sent row.conn (hop_of row) acts) under_none) all.0,
+      causes_sent to message acts rows apart.1 all.1,
+    )
+
+all_three : (a b c : Bool) → a ≡ true → b ≡ true → c ≡ true → (a && (b && c)) ≡ true
+all_three true true true e f g = refl
+all_three true true false e f g = absurd cc
+all_three true false c e f g = absurd cc
+all_three false b c e f g = absurd cc
+
+pub last_is_sent : (to : ConnId) (message : Message) (acts : List Act) → message.header.request ≡ true → last_sent to message.header.hop (sent to message ∷ acts) ≡ Some message
+last_is_sent to message acts flag =
+    ap (λ (b : Bool). cond b (Some message) (last_sent to message.header.hop acts))
+    (all_three message.header.request (to.0 == to.0) (message.header.hop == message.header.hop) flag (eq-eqb to.0 to.0 refl) (eq-eqb message.header.hop message.header.hop refl))
 
 -- ---- all rows, with one more or less
 
@@ -80,7 +132,7 @@ cause_of acts row others rows h w = (all_without (RowCause acts) row others rows
 pub holding-event : (event : RelayEvent) (acts : List Act) (rows : List Row) → Holding acts rows → Holding (happened event ∷ acts) rows
 holding-event event acts rows h = record {
   map = h.map;
-  causes = causes_more (happened event) acts rows h.causes;
+  causes = causes_more (happened event) acts rows (λ row. refl) h.causes;
   used = λ to hop e. h.used to hop (and_parts (not (ends to hop event)) (is_in_use to hop acts) e).1;
 }
 
@@ -92,7 +144,7 @@ no_flag false b rest e f = f
 pub holding-answer : (conn : ConnId) (answer : Message) (acts : List Act) (rows : List Row) → answer.header.request ≡ false → Holding acts rows → Holding (sent conn answer ∷ acts) rows
 holding-answer conn answer acts rows flag h = record {
   map = h.map;
-  causes = causes_more (sent conn answer) acts rows h.causes;
+  causes = causes_more (sent conn answer) acts rows (λ row. no_request answer.header.request (is_under row.conn (hop_of row) conn answer) (Some answer) (last_sent row.conn (hop_of row) acts) flag) h.causes;
   used = λ to hop e. h.used to hop (no_flag answer.header.request (is_under to hop conn answer) (is_in_use to hop acts) flag e);
 }
 
@@ -127,7 +179,7 @@ holding-more row others rows acts w free cause h =
     let whole = IsMap-more row others rows w (count-free others row.conn (hop_of row) free) h.map in
     record {
       map = whole;
-      causes = all_with (RowCause (sent row.conn row.held.request ∷ acts)) row others rows w (causes_more (sent row.conn row.held.request) acts others h.causes) cause;
+      causes = all_with (RowCause (sent row.conn row.held.request ∷ acts)) row others rows w (causes_sent row.conn row.held.request acts others free h.causes) cause;
       used = λ to hop e.
           ap is_some (held-with row others rows to hop w whole)
           ∙ some_either (has_key to hop row) row.held (held_at others to hop) (shown to hop (either row.held.request.header.request (is_under to hop row.conn row.held.request) (is_in_use to hop acts) e));
@@ -159,7 +211,7 @@ orphan_causes ended acts (row ∷ rows) all = (
     came = all.0.came;
     descends = all.0.descends;
     flag = all.0.flag;
-    was_sent = all.0.was_sent;
+    last = all.0.last;
     origin = orphan_origin ended row.held.origin (record { conn = all.0.conn; hop = all.0.request.header.hop }) all.0.origin;
   },
   orphan_causes ended acts rows all.1,

@@ -18,7 +18,7 @@ use Rattle.relay_hops.proofs.InUse.{held-without}
 use Rattle.relay_peers.specs.PeerTable.{peer_in}
 use Rattle.relay_core.specs.declared.node.RelayNode.{RelayNode}
 use Rattle.relay_core.specs.declared.run.RelayEvent.TheVariants.{Received}
-use Rattle.relay_core.specs.Acts.{Act, happened, sent, acts_with, is_under, is_in_use, one}
+use Rattle.relay_core.specs.Acts.{Act, happened, sent, acts_with, is_under, is_in_use, last_sent, one}
 use Rattle.relay_core.specs.Failover.{RequestFailover, forgotten, sent_again, given_up, Failover, none_left, least_first, avps_in}
 use Rattle.relay_core.specs.Forwarding.{recorded, is_too_long, with_record, Descends, renumbered, recorded_by}
 use Rattle.relay_routes.specs.Routing.{record_of}
@@ -28,7 +28,7 @@ use Rattle.dia_avp.proofs.ReadBack.{length_spelling}
 use Rattle.relay_core.specs.Promise.{HasCome, RequestCause, AnswerCause, AreRightActs}
 use Rattle.relay_core.specs.RelayState.{RelayState}
 use Rattle.relay_core.specs.RelayStep.{OnRequest, OnAnswer, refused, forwarded, sent_back, dropped, ignored, row_of, held_for}
-use Rattle.relay_core.proofs.Holding.{Holding, Counted, is_from, comes_from, come_more, cause_of, count-with, holding-event, holding-answer, holding-less, holding-more, counted-event, counted-request, counted-same, counted-answer}
+use Rattle.relay_core.proofs.Holding.{Holding, Counted, is_from, comes_from, come_more, cause_of, count-with, last_is_sent, holding-event, holding-answer, holding-less, holding-more, counted-event, counted-request, counted-same, counted-answer}
 use Rattle.relay_core.proofs.Reaching.{next_hop-never}
 use Rattle.relay_core.proofs.Rules.{forwarded-by}
 
@@ -127,7 +127,7 @@ kept-request name realm relay next conn sender request items acts n r flag step 
         let descends : Descends request message = renumbered hop (recorded_by sender (record_spelled sender request.body (forwarded-by relay sender request (avps_of request.body) to e).1) Descends.same) in
         record {
           holding = holding-more row relay.pending.rows rows before w free
-              (record { conn = conn; request = request; came = come_more (sent to message) before conn request came; descends = descends; flag = flag; was_sent = inl refl; origin = inr refl })
+              (record { conn = conn; request = request; came = come_more (sent to message) before conn request came; descends = descends; flag = flag; last = last_is_sent to message before flag; origin = inr refl })
               holding;
           counted = counted-came conn to request message row acts relay.pending.rows rows flag flag refl w k.counted;
           right = (
@@ -185,7 +185,7 @@ kept-answer name realm relay next conn answer items acts flag step k = kept step
           right = (
             at_false answer.header.request (RequestCause before (under origin.hop answer) × (is_in_use origin.conn origin.hop before ≡ false)) (AnswerCause name realm before origin.conn (under origin.hop answer)) flag
                 (subst (λ (o : Origin). AnswerCause name realm before o.conn (under o.hop answer)) (sym same)
-                (AnswerCause.sent_back conn answer cause.request held.request acts refl cause.came cause.was_sent its cause.descends refl)),
+                (AnswerCause.sent_back conn answer cause.request held.request acts refl cause.came (sym (ap (λ (h : ℕ). last_sent conn h acts) its) ∙ cause.last) cause.descends refl)),
             (tt, k.right),
           );
         }
@@ -250,12 +250,12 @@ kept-failover_one name realm node lost held rows left items acts n r down step k
         let descends : Descends cause.request message = Descends.sent_again hop cause.descends in (
           record {
             holding = holding-more row parts.0 after acts parts.2 (still_free (has_key to hop (row_of lost held)) (held_at parts.0 to hop) (held_at rows to hop) (held-without (row_of lost held) parts.0 rows to hop parts.1 k.holding.map) free)
-                (record { conn = cause.conn; request = cause.request; came = come_more (sent to message) acts cause.conn cause.request cause.came; descends = descends; flag = cause.flag; was_sent = inl refl; origin = cause.origin })
+                (record { conn = cause.conn; request = cause.request; came = come_more (sent to message) acts cause.conn cause.request cause.came; descends = descends; flag = cause.flag; last = last_is_sent to message acts cause.flag; origin = cause.origin })
                 (less parts.0 parts.1);
             counted = counted-request to message acts after cause.flag (counted-same acts rows after (same_count parts.0 after parts.1 parts.2) k.counted);
             right = (
               at_true message.header.request (RequestCause acts message × (is_in_use to hop acts ≡ false)) (AnswerCause name realm acts to message) cause.flag (
-                RequestCause.sent_again cause.conn lost cause.request held.request cause.came cause.was_sent refl descends refl,
+                RequestCause.sent_again cause.conn lost cause.request held.request cause.came cause.last refl descends refl,
                 free_is_unused (is_in_use to hop acts) (held_at rows to hop) (k.holding.used to hop) free,
               ),
               k.right,
@@ -284,7 +284,7 @@ kept-failover_one name realm node lost held rows left items acts n r down step k
             right = (
               at_false answer.header.request (RequestCause acts answer × (is_in_use origin.conn origin.hop acts ≡ false)) (AnswerCause name realm acts origin.conn answer) its
                   (subst (λ (o : Origin). AnswerCause name realm acts o.conn (under o.hop (refusal_of node.name node.realm held.request (refusal_with code)))) (sym same)
-                  (AnswerCause.given_up lost cause.request held.request code cause.came cause.was_sent cause.descends
+                  (AnswerCause.given_up lost cause.request held.request code cause.came cause.last cause.descends
                   (ap (λ (h : List ℕ). under cause.request.header.hop (refusal_of h node.realm held.request (refusal_with code))) n ∙ ap (λ (h : List ℕ). under cause.request.header.hop (refusal_of name h held.request (refusal_with code))) r))),
               k.right,
             );

@@ -1,5 +1,5 @@
 -- A run of a relay as one list of acts, what came and what was sent, the last one first; and what can be counted in it.
-use Rattle.std.specs.Prelude.{◌≡◌, ℕ, ◌+◌, ◌==◌, ◌&&◌, ◌||◌, not, Bool, true, false, List, [], ◌∷◌, ◌⊎◌, if◌then◌else◌}
+use Rattle.std.specs.Prelude.{◌≡◌, ℕ, ◌+◌, ◌==◌, ◌&&◌, ◌||◌, not, Bool, true, false, List, [], ◌∷◌, ◌⊎◌, Option, Some, None, if◌then◌else◌}
 use Rattle.dia_base.specs.declared.number.ConnId.{ConnId}
 use Rattle.dia_message.specs.declared.message.Message.{Message}
 use Rattle.dia_message.specs.Traffic.{Traffic}
@@ -44,6 +44,12 @@ abbrev pub is_in_use : ConnId → ℕ → List Act → Bool
 is_in_use to hop [] = false
 is_in_use to hop (happened event ∷ acts) = not (ends to hop event) && is_in_use to hop acts
 is_in_use to hop (sent conn message ∷ acts) = (message.header.request && is_under to hop conn message) || is_in_use to hop acts
+
+-- the last request that went out on the connection under the identifier
+abbrev pub last_sent : ConnId → ℕ → List Act → Option Message
+last_sent to hop [] = None
+last_sent to hop (happened event ∷ acts) = last_sent to hop acts
+last_sent to hop (sent conn message ∷ acts) = if message.header.request && is_under to hop conn message then Some message else last_sent to hop acts
 
 -- ---- requests and answers
 

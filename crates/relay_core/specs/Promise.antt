@@ -1,5 +1,5 @@
 -- What a relay promises over any list of events (RFC 6733, sections 5.5.4, 6.1 and 6.2).
-use Rattle.std.specs.Prelude.{◌≡◌, ℕ, ◌≤◌, true, false, List, [], ◌∷◌, IsSome, MatchBool}
+use Rattle.std.specs.Prelude.{◌≡◌, ℕ, ◌≤◌, true, false, List, [], ◌∷◌, Some, IsSome, MatchBool}
 use Rattle.dia_base.specs.declared.number.ConnId.{ConnId}
 use Rattle.dia_message.specs.declared.message.Message.{Message}
 use Rattle.cc_view.specs.Answer.{refusal_of}
@@ -10,7 +10,7 @@ use Rattle.cc_view.specs.declared.refusal.Refusal.{Refusal}
 use Rattle.relay_routes.specs.Routing.{IsLoop}
 use Rattle.relay_hops.specs.PendingTable.{under, again}
 use Rattle.relay_core.specs.declared.run.RelayEvent.TheVariants.{Received}
-use Rattle.relay_core.specs.Acts.{Act, happened, sent, acts_of, IsAmong, is_in_use, requests_in, answers_in}
+use Rattle.relay_core.specs.Acts.{Act, happened, sent, acts_of, IsAmong, is_in_use, last_sent, requests_in, answers_in}
 use Rattle.relay_core.specs.Forwarding.{Descends}
 use Rattle.relay_core.specs.RelayRun.{RelayStep}
 use Rattle.relay_core.specs.RelayState.{peer_on}
@@ -28,23 +28,23 @@ pub data RequestCause (acts : List Act) (message : Message) : Type 0 where
   -- a request has just come, it descends from that, and T stays
   forwarded : (conn : ConnId) (request : Message) (before : List Act) → acts ≡ happened (Received conn request) ∷ before → request.header.request ≡ true →
       Descends request message → message.header.resent ≡ request.header.resent → RequestCause acts message
-  -- it was sent before on another connection, and T is set; it descends from a request that came
-  sent_again : (conn lost : ConnId) (request earlier : Message) → HasCome acts conn request → IsAmong (sent lost earlier) acts → message ≡ again message.header.hop earlier →
+  -- it was sent before on another connection, the last one there under its identifier, and T is set; it descends from a request that came
+  sent_again : (conn lost : ConnId) (request earlier : Message) → HasCome acts conn request → last_sent lost earlier.header.hop acts ≡ Some earlier → message ≡ again message.header.hop earlier →
       Descends request message → message.header.resent ≡ true → RequestCause acts message
 
 -- ---- an answer that a relay sends
 
 -- Why a relay of this name and realm sends an answer on a connection, by the acts before.
 pub data AnswerCause (name realm : List ℕ) (acts : List Act) (to : ConnId) (answer : Message) : Type 0 where
-  -- An answer has just come to what was sent for a request that came there: but for the identifier of the request it is unchanged.
+  -- An answer has just come, and the last request that went out under its identifier where it came from was sent for a request that came there: but for the identifier of that it is unchanged.
   sent_back : (conn : ConnId) (came request earlier : Message) (before : List Act) → acts ≡ happened (Received conn came) ∷ before →
-      HasCome before to request → IsAmong (sent conn earlier) before → earlier.header.hop ≡ came.header.hop → Descends request earlier →
+      HasCome before to request → last_sent conn came.header.hop before ≡ Some earlier → Descends request earlier →
       answer ≡ under request.header.hop came → AnswerCause name realm acts to answer
   -- a request has just come there, and is refused
   refused : (request : Message) (refusal : Refusal) (before : List Act) → acts ≡ happened (Received to request) ∷ before → request.header.request ≡ true →
       answer ≡ refusal_of name realm request refusal → AnswerCause name realm acts to answer
   -- what was sent for a request that came there goes nowhere any more
-  given_up : (lost : ConnId) (request earlier : Message) (code : ResultCode) → HasCome acts to request → IsAmong (sent lost earlier) acts → Descends request earlier →
+  given_up : (lost : ConnId) (request earlier : Message) (code : ResultCode) → HasCome acts to request → last_sent lost earlier.header.hop acts ≡ Some earlier → Descends request earlier →
       answer ≡ under request.header.hop (refusal_of name realm earlier (refusal_with code)) → AnswerCause name realm acts to answer
 
 -- ---- the promise
