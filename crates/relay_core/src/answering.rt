@@ -10,8 +10,8 @@ use dia_message::{Message, Out};
 use relay_hops::Pending;
 use std::alloc::Global;
 
-/// An answer goes back to where its request came from, if that connection stands. Where none waits for it, it
-/// takes no memory.
+/// An answer goes back to where its request came from, if that connection stands. One that none waits
+/// for is dropped, and takes no memory.
 pub(crate) fn on_answer(
     alloc: Global,
     pending: &mut Pending,
