@@ -1,5 +1,5 @@
 -- Requests with a key, and the replies that are kept for them.
-use Rattle.std.proofs.Common.{◌≡◌, ◌≢◌, ℕ, zero, suc, ◌+◌, ◌^◌, ◌<◌, ◌≤◌, Bool, true, false, cond, not, ◌&&◌, eqb, ltb, List, [], ◌∷◌, ◌++◌, length, take, Option, Some, None, inl, inr, refl, sym, subst, ap, ◌∙◌, arith, rules, append_assoc}
+use Rattle.std.proofs.Common.{◌≡◌, ◌≢◌, ℕ, zero, suc, ◌+◌, ◌<◌, Bool, true, false, cond, not, ◌&&◌, eqb, ltb, List, [], ◌∷◌, ◌++◌, length, take, Option, Some, None, inl, inr, refl, sym, subst, ap, ◌∙◌, arith, rules, append_assoc}
 use Rattle.std.specs.Prelude.{◌⊎◌, slice_get}
 use Rattle.std.specs.List.{position_or_len, list_all, IsDistinct, AllByRecursion}
 use Rattle.std.proofs.lemmas.List.{append-nil}
@@ -13,12 +13,8 @@ use Rattle.cc_book.specs.AccountMachine.{reply_to, reply_at, kept_from, kept_rep
 use Rattle.cc_book.specs.Duplicate.{Key, key_of, same_session, same_key, has_key}
 use Rattle.cc_book.specs.History.{keys_of, ended_sessions, IsLegal, place_of, IsNew, IsKeptAt}
 use Rattle.cc_book.specs.Laws.{RepliesToEntry}
-use Rattle.cc_book.specs.Taking.{KeepsLimits}
 use Rattle.std.proofs.lemmas.Bool.{and_parts}
-
-both : (a b : Bool) → a ≡ true → b ≡ true → (a && b) ≡ true
-both true b p q = q
-both false b p q = absurd cc
+use Rattle.cc_book.proofs.Sessions.{both, same_number, same_session-self}
 
 not_true : (b : Bool) → not b ≡ true → b ≡ false
 not_true true e = absurd cc
@@ -199,17 +195,7 @@ pub IsLegal-empty : (terms : Terms) → IsLegal terms []
 unfolding IsDistinct
 IsLegal-empty terms = record { distinct = tt; sweeps = λ before after moment e. absurd (not_empty before after (Sweep moment) (sym e)) }
 
-pub KeepsLimits-empty : (terms : Terms) (limit : ℕ) → limit ≤ 2 ^ 20 → KeepsLimits terms limit []
-KeepsLimits-empty terms limit most = record { legal = IsLegal-empty terms; within = omega arith; most = most }
-
 -- ---- laws
-
-same_number : (n : ℕ) → eqb n n ≡ true
-same_number n = search rules
-
-same_session-self : (xs : List ℕ) → same_session xs xs ≡ true
-same_session-self [] = refl
-same_session-self (x ∷ xs) = both (eqb x x) (same_session xs xs) (same_number x) (same_session-self xs)
 
 same_key-self : (key : Key) → same_key key key ≡ true
 same_key-self key = both (eqb key.number key.number) (same_session key.session key.session) (same_number key.number) (same_session-self key.session)

@@ -1,6 +1,20 @@
+mod Ending
+mod Granting
+mod Greatest
+mod Holding
 mod Paying
+mod Refusing
+pub mod Alive
+pub mod Amounts
+pub mod Books
+pub mod ByKind
+pub mod Changes
+pub mod Deeds
+pub mod InOrder
 pub mod Keys
 pub mod Looking
 pub mod Postings
 pub mod Replies
+pub mod Sessions
+pub mod Stands
 pub mod Sums

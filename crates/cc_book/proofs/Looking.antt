@@ -1,12 +1,14 @@
 -- Looking through lists from the front on.
-use Rattle.std.proofs.Common.{◌≡◌, ℕ, zero, suc, ◌+◌, ◌<◌, List, [], ◌∷◌, length, drop, get_or, refl, sym, ap, ◌∙◌, arith, add-one}
+use Rattle.std.proofs.Common.{◌≡◌, ℕ, zero, suc, ◌+◌, ◌<◌, Bool, true, false, cond, ltb, Option, Some, None, rules, List, [], ◌∷◌, length, drop, get_or, refl, sym, ap, ◌∙◌, arith, add-one}
+use Rattle.std.specs.List.{position_or_len}
 use Rattle.std.specs.Option.{option_or}
+use Rattle.std.specs.Prelude.{MatchOption}
 use Rattle.std.proofs.Math.Seq.{drop-cons}
 use Rattle.cc_view.specs.declared.request.Service.{Service}
 use Rattle.cc_view.specs.declared.request.Subscription.{Subscription}
 use Rattle.cc_book.specs.declared.account.Account.{Account}
 use Rattle.cc_rating.specs.declared.tariff.Tariff.{Tariff}
-use Rattle.cc_book.specs.AccountMachine.{account_of, account_with, opening_at, add, service_cost, sum_of_costs}
+use Rattle.cc_book.specs.AccountMachine.{account_of, account_with, opening_at, add, owns, service_cost, sum_of_costs}
 
 pub account_of-at : (accounts : List Account) (xs : List Subscription) (i : ℕ) (d : Subscription) → i < length xs → account_of accounts (drop i xs) ≡ option_or (account_with accounts (get_or xs i d)) (account_of accounts (drop (i + 1) xs))
 account_of-at accounts xs i d lt =
@@ -22,3 +24,20 @@ pub opening_at-get : (accounts : List Account) (i : ℕ) (d : Account) → i < l
 opening_at-get [] i d lt = absurd (omega arith)
 opening_at-get (x ∷ xs) zero d lt = refl
 opening_at-get (x ∷ xs) (suc i) d lt = opening_at-get xs i d (omega arith)
+
+-- ---- an account is one of the site's
+
+position-within : (n len : ℕ) → MatchOption (cond (ltb n len) (Some n) None) (Unit {0}) (λ a. a < len)
+position-within n len = by (ltb n len) refl where
+  by : (b : Bool) → ltb n len ≡ b → MatchOption (cond b (Some n) None) (Unit {0}) (λ a. a < len)
+  by true e = search rules
+  by false e = tt
+
+or_within : (first second : Option ℕ) (n : ℕ) → MatchOption first (Unit {0}) (λ a. a < n) → MatchOption second (Unit {0}) (λ a. a < n) → MatchOption (option_or first second) (Unit {0}) (λ a. a < n)
+or_within None second n p q = q
+or_within (Some a) second n p q = p
+
+pub account_of-within : (accounts : List Account) (subscriptions : List Subscription) → MatchOption (account_of accounts subscriptions) (Unit {0}) (λ a. a < length accounts)
+account_of-within accounts [] = tt
+account_of-within accounts (s ∷ subscriptions) =
+    or_within (account_with accounts s) (account_of accounts subscriptions) (length accounts) (position-within (position_or_len (owns s) accounts) (length accounts)) (account_of-within accounts subscriptions)

@@ -1,9 +1,7 @@
 -- What a debit pays for.
-use Rattle.std.proofs.Common.{◌≡◌, ℕ, ◌+◌, ◌<◌, ◌≤◌, ◌^◌, Bool, true, false, ◌||◌, ◌&&◌, cond, ltb, List, [], ◌∷◌, length, map, All, find, Option, Some, None, option_map, refl, sym, ap, subst, ◌∙◌, arith, lit≤}
+use Rattle.std.proofs.Common.{◌≡◌, ℕ, suc, ◌+◌, ◌<◌, ◌≤◌, ◌^◌, Bool, true, false, ◌&&◌, cond, ltb, List, [], ◌∷◌, length, map, All, Option, Some, None, option_map, refl, sym, ap, subst, ◌∙◌, arith, lit≤}
 use Rattle.std.specs.Prelude.{ℤ, pos, ◌-ℤ◌, ◌≤ℤ◌, int_le, is_none, unwrap_or, sum_by, IfSome}
-use Rattle.std.specs.List.{list_all}
 use Rattle.std.specs.Option.{option_and_then}
-use Rattle.std.proofs.lemmas.Bool.{and_parts, eqb-true}
 use Rattle.std.proofs.lemmas.Int.{ints}
 use Rattle.std.proofs.lemmas.List.{length-map}
 use Rattle.std.proofs.lemmas.List.Elements.{All-cons, All-nil}
@@ -11,8 +9,9 @@ use Rattle.std.proofs.lemmas.List.Sums.{sum_by-cons}
 use Rattle.cc_view.specs.Answer.Fitting.{Fits, HasUnitCode}
 use Rattle.cc_view.specs.Request.ServiceLimits.{WithinLimits}
 use Rattle.cc_view.specs.declared.code.ResultCode.{ResultCode}
-use Rattle.cc_view.specs.declared.code.ResultCode.TheVariants.{Success, CreditLimitReached, UnableToComply, UserUnknown, RatingFailed}
+use Rattle.cc_view.specs.declared.code.ResultCode.TheVariants.{Success, CreditLimitReached, UnableToComply, UnknownSessionId, UserUnknown, RatingFailed}
 use Rattle.cc_view.specs.declared.reply.CcReply.{CcReply}
+use Rattle.cc_view.specs.declared.reply.ServiceReply.{ServiceReply}
 use Rattle.cc_view.specs.declared.request.CcRequest.{CcRequest}
 use Rattle.cc_view.specs.declared.request.RequestKind.{RequestKind}
 use Rattle.cc_view.specs.declared.request.RequestKind.TheVariants.{Initial, Update, Termination, Event}
@@ -23,15 +22,15 @@ use Rattle.cc_book.specs.declared.account.Money.{Money}
 use Rattle.cc_book.specs.declared.entry.Entry.{Entry}
 use Rattle.cc_rating.specs.declared.tariff.Tariff.{Tariff}
 use Rattle.cc_book.specs.declared.terms.Terms.{Terms}
-use Rattle.cc_book.specs.AccountMachine.{account_of, action_debit, add, check_reply, code_alone, debit_after, debit_by, event_reply, free_after, free_for, granted, granted_all, needs_account, postings_of, price_reply, rated_reply, reply_after, reply_by, reply_to, service_cost, sum_of_costs, total_of}
-use Rattle.cc_book.specs.Balance.{balance_of, debit_of}
+use Rattle.cc_book.specs.AccountMachine.{account_of, action_debit, add, check_reply, closing_reply, code_alone, debit_after, debit_by, event_reply, free_after, free_behind, free_for, free_to_grant, grant_to, granted, granted_all, granting_reply, needs_account, postings_of, price_reply, rated_reply, replies_from, reply_after, reply_by, reply_to, service_cost, settled_reply, settles_after, sum_of_costs, total_of, unsettled_code}
+use Rattle.cc_book.specs.Balance.{debit_of}
 use Rattle.cc_book.specs.Laws.{cost_of_reply, granted_cost}
 use Rattle.cc_book.specs.Posting.{Posting}
 use Rattle.cc_rating.specs.Rating.{cost_of}
 use Rattle.cc_book.specs.ServiceRating.{asked_of, asking_cost, tariff_of, unit_code}
 use Rattle.cc_rating.specs.declared.tariff.UnitKind.{UnitKind}
 use Rattle.cc_rating.specs.declared.tariff.UnitKind.TheVariants.{Time, Octets, Units}
-use Rattle.cc_book.proofs.Postings.{free_after-is}
+use Rattle.cc_book.specs.Session.{is_open}
 use Rattle.cc_book.proofs.Sums.{checks_nothing, prices_nothing}
 
 -- ---- costs
@@ -76,28 +75,34 @@ paid-total : (terms : Terms) (services : List Service) (free : ℤ) (total : Opt
 paid-total terms services free None e = refl
 paid-total terms services free (Some total) e = paid-room terms.tariffs services (int_le (pos total) free) total e
 
-paid-account : (terms : Terms) (before : List Posting) (services : List Service) (account : Option ℕ) → paid_for terms.tariffs (unwrap_or (total_of terms.tariffs services) 0) (event_reply terms before services account (Some DirectDebiting))
-paid-account terms before services None = refl
-paid-account terms before services (Some account) = paid-total terms services (free_after terms before account) (total_of terms.tariffs services) refl
+paid-account : (terms : Terms) (services : List Service) (account : Option ℕ) (free : ℤ) → paid_for terms.tariffs (unwrap_or (total_of terms.tariffs services) 0) (event_reply terms services account free (Some DirectDebiting))
+paid-account terms services None free = refl
+paid-account terms services (Some account) free = paid-total terms services free (total_of terms.tariffs services) refl
+
+-- the reply to an EVENT with this action
+replied : Terms → List Posting → CcRequest → Option RequestedAction → CcReply
+replied terms before request action =
+    event_reply terms request.services (account_of terms.accounts request.subscriptions) (free_for terms before (account_of terms.accounts request.subscriptions)) action
 
 debit_of-event : (terms : Terms) (before : List Posting) (request : CcRequest) (action : Option RequestedAction) → request.kind ≡ Event → request.action ≡ action
-    → debit_after terms before request
-    ≡ action_debit (unwrap_or (total_of terms.tariffs request.services) 0) (event_reply terms before request.services (account_of terms.accounts request.subscriptions) action).code action
+    → debit_after terms before request ≡ action_debit (unwrap_or (total_of terms.tariffs request.services) 0) (replied terms before request action).code action
+unfolding replied
 debit_of-event terms before request action event is =
     ap (debit_by terms before request) event
-    ∙ ap (λ (a : Option RequestedAction). action_debit (unwrap_or (total_of terms.tariffs request.services) 0) (event_reply terms before request.services (account_of terms.accounts request.subscriptions) a).code a) is
+    ∙ ap (λ (a : Option RequestedAction). action_debit (unwrap_or (total_of terms.tariffs request.services) 0) (replied terms before request a).code a) is
 
 reply-event : (terms : Terms) (before : List Posting) (request : CcRequest) (action : Option RequestedAction) → request.kind ≡ Event → request.action ≡ action
-    → reply_after terms before request ≡ event_reply terms before request.services (account_of terms.accounts request.subscriptions) action
-reply-event terms before request action event is =
-    ap (reply_by terms before request) event ∙ ap (λ (a : Option RequestedAction). event_reply terms before request.services (account_of terms.accounts request.subscriptions) a) is
+    → reply_after terms before request ≡ replied terms before request action
+unfolding replied
+reply-event terms before request action event is = ap (reply_by terms before request) event ∙ ap (replied terms before request) is
 
 pub paid : (terms : Terms) (history : List Entry) (request : CcRequest) → request.kind ≡ Event → request.action ≡ Some DirectDebiting → debit_of terms history request ≡ pos (cost_of_reply terms.tariffs (reply_to terms history request))
-unfolding debit_of reply_to
+unfolding debit_of reply_to replied
 paid terms history request event debits =
     let before = postings_of terms history in
+    let account = account_of terms.accounts request.subscriptions in
     debit_of-event terms before request (Some DirectDebiting) event debits
-    ∙ paid-account terms before request.services (account_of terms.accounts request.subscriptions)
+    ∙ paid-account terms request.services account (free_for terms before account)
     ∙ sym (ap (λ (r : CcReply). pos (cost_of_reply terms.tariffs r)) (reply-event terms before request (Some DirectDebiting) event debits))
 
 -- ---- what is covered
@@ -114,23 +119,22 @@ covered-total terms services free None e = absurd cc
 covered-total terms services free (Some total) e = test_le (pos total) free (covered-room terms.tariffs services (int_le (pos total) free) e)
 
 pub covered : (terms : Terms) (history : List Entry) (request : CcRequest) (account : ℕ) → request.kind ≡ Event → request.action ≡ Some DirectDebiting → account_of terms.accounts request.subscriptions ≡ Some account
-    → (reply_to terms history request).code ≡ Success → debit_of terms history request ≤ℤ balance_of terms history account
-unfolding debit_of reply_to
+    → (reply_to terms history request).code ≡ Success → debit_of terms history request ≤ℤ free_after terms (postings_of terms history) account
+unfolding debit_of reply_to replied
 covered terms history request account event debits is_account e =
     let before = postings_of terms history in
     let free = free_after terms before account in
     let total = total_of terms.tariffs request.services in
     let reply = rated_reply terms request.services total free DirectDebiting in
-    let is : event_reply terms before request.services (account_of terms.accounts request.subscriptions) (Some DirectDebiting) ≡ reply =
-    ap (λ (a : Option ℕ). event_reply terms before request.services a (Some DirectDebiting)) is_account in
+    let is : replied terms before request (Some DirectDebiting) ≡ reply =
+    ap (λ (a : Option ℕ). event_reply terms request.services a (free_for terms before a) (Some DirectDebiting)) is_account in
     let same : reply_after terms before request ≡ reply = reply-event terms before request (Some DirectDebiting) event debits ∙ is in
     let success : reply.code ≡ Success = sym (ap (λ (r : CcReply). r.code) same) ∙ e in
     let debit : debit_after terms before request ≡ pos (unwrap_or total 0) =
     debit_of-event terms before request (Some DirectDebiting) event debits
     ∙ ap (λ (r : CcReply). action_debit (unwrap_or total 0) r.code (Some DirectDebiting)) is
     ∙ ap (λ (code : ResultCode). action_debit (unwrap_or total 0) code (Some DirectDebiting)) success in
-    subst (λ (z : ℤ). z ≤ℤ balance_of terms history account) (sym debit)
-    (subst (λ (z : ℤ). pos (unwrap_or total 0) ≤ℤ z) (free_after-is terms history account) (covered-total terms request.services free total success))
+    subst (λ (z : ℤ). z ≤ℤ free) (sym debit) (covered-total terms request.services free total success)
 
 -- ---- refunds, and what moves nothing
 
@@ -139,8 +143,7 @@ pub refunded : (terms : Terms) (history : List Entry) (request : CcRequest) (tot
 unfolding debit_of reply_to
 refunded terms history request total event refunds e is =
     let before = postings_of terms history in
-    let reply = event_reply terms before request.services (account_of terms.accounts request.subscriptions) (Some RefundAccount) in
-    let success : reply.code ≡ Success = sym (ap (λ (r : CcReply). r.code) (reply-event terms before request (Some RefundAccount) event refunds)) ∙ e in
+    let success : (replied terms before request (Some RefundAccount)).code ≡ Success = sym (ap (λ (r : CcReply). r.code) (reply-event terms before request (Some RefundAccount) event refunds)) ∙ e in
     debit_of-event terms before request (Some RefundAccount) event refunds
     ∙ ap (λ (code : ResultCode). action_debit (unwrap_or (total_of terms.tariffs request.services) 0) code (Some RefundAccount)) success
     ∙ ap (λ (t : Option ℕ). pos 0 -ℤ pos (unwrap_or t 0)) is
@@ -148,12 +151,12 @@ refunded terms history request total event refunds e is =
 pub checked : (terms : Terms) (history : List Entry) (request : CcRequest) → request.kind ≡ Event → request.action ≡ Some CheckBalance → debit_of terms history request ≡ pos 0
 unfolding debit_of
 checked terms history request event checks = debit_of-event terms (postings_of terms history) request (Some CheckBalance) event checks
-    ∙ checks_nothing (unwrap_or (total_of terms.tariffs request.services) 0) (event_reply terms (postings_of terms history) request.services (account_of terms.accounts request.subscriptions) (Some CheckBalance)).code
+    ∙ checks_nothing (unwrap_or (total_of terms.tariffs request.services) 0) (replied terms (postings_of terms history) request (Some CheckBalance)).code
 
 pub enquired : (terms : Terms) (history : List Entry) (request : CcRequest) → request.kind ≡ Event → request.action ≡ Some PriceEnquiry → debit_of terms history request ≡ pos 0
 unfolding debit_of
 enquired terms history request event asks = debit_of-event terms (postings_of terms history) request (Some PriceEnquiry) event asks
-    ∙ prices_nothing (unwrap_or (total_of terms.tariffs request.services) 0) (event_reply terms (postings_of terms history) request.services (account_of terms.accounts request.subscriptions) (Some PriceEnquiry)).code
+    ∙ prices_nothing (unwrap_or (total_of terms.tariffs request.services) 0) (replied terms (postings_of terms history) request (Some PriceEnquiry)).code
 
 -- ---- what fits
 
@@ -199,17 +202,55 @@ fits-test : (b : Bool) (one other : CcReply) → Fits one → Fits other → Fit
 fits-test true one other p q = p
 fits-test false one other p q = q
 
-fits-event : (terms : Terms) (before : List Posting) (services : List Service) (account : Option ℕ) (action : Option RequestedAction) → length services ≤ 32 → Fits (event_reply terms before services account action)
-fits-event terms before services account None few = fits-alone UnableToComply
-fits-event terms before services account (Some action) few =
-    fits-test (needs_account action && is_none account) (code_alone UserUnknown) (rated_reply terms services (total_of terms.tariffs services) (free_for terms before account) action)
-    (fits-alone UserUnknown) (fits-rated terms services (free_for terms before account) (total_of terms.tariffs services) action few)
+fits-event : (terms : Terms) (services : List Service) (account : Option ℕ) (free : ℤ) (action : Option RequestedAction) → length services ≤ 32 → Fits (event_reply terms services account free action)
+fits-event terms services account free None few = fits-alone UnableToComply
+fits-event terms services account free (Some action) few =
+    fits-test (needs_account action && is_none account) (code_alone UserUnknown) (rated_reply terms services (total_of terms.tariffs services) free action)
+    (fits-alone UserUnknown) (fits-rated terms services free (total_of terms.tariffs services) action few)
+
+-- each service of a session has one reply
+replies_from-length : (terms : Terms) (free : ℤ) (services : List Service) → length (replies_from terms free services) ≡ length services
+replies_from-length terms free [] = refl
+replies_from-length terms free (service ∷ services) = ap suc (replies_from-length terms (free_behind free (grant_to terms.tariffs free service)) services)
+
+replies_from-codes : (terms : Terms) (free : ℤ) (services : List Service) → All HasUnitCode (replies_from terms free services)
+replies_from-codes terms free [] = All-nil HasUnitCode
+replies_from-codes terms free (service ∷ services) =
+    let grant = grant_to terms.tariffs free service in
+    All-cons HasUnitCode (settled_reply terms service grant) (replies_from terms (free_behind free grant) services)
+    (granted-code (tariff_of terms.tariffs service)) (replies_from-codes terms (free_behind free grant) services)
+
+closed : Terms → Service → ServiceReply
+closed terms service = settled_reply terms service None
+
+closed-codes : (terms : Terms) (services : List Service) → All HasUnitCode (map (closed terms) services)
+unfolding closed
+closed-codes terms [] = All-nil HasUnitCode
+closed-codes terms (service ∷ services) =
+    All-cons HasUnitCode (closed terms service) (map (closed terms) services) (granted-code (tariff_of terms.tariffs service)) (closed-codes terms services)
+
+fits-granting : (terms : Terms) (free : ℤ) (services : List Service) → length services ≤ 32 → Fits (granting_reply terms free services)
+fits-granting terms free services few =
+    record { few = subst (λ (n : ℕ). n ≤ 32) (sym (replies_from-length terms free services)) few; codes = replies_from-codes terms free services }
+
+fits-closing : (terms : Terms) (services : List Service) → length services ≤ 32 → Fits (closing_reply terms services)
+unfolding closed
+fits-closing terms services few = record { few = subst (λ (n : ℕ). n ≤ 32) (sym (length-map services (closed terms))) few; codes = closed-codes terms services }
 
 pub fits : (terms : Terms) (history : List Entry) (request : CcRequest) → WithinLimits request.services → Fits (reply_to terms history request)
 unfolding reply_to
 fits terms history request limits = by request.kind where
-  by : (kind : RequestKind) → Fits (reply_by terms (postings_of terms history) request kind)
-  by Event = fits-event terms (postings_of terms history) request.services (account_of terms.accounts request.subscriptions) request.action limits.few
-  by Initial = fits-alone UnableToComply
-  by Update = fits-alone UnableToComply
-  by Termination = fits-alone UnableToComply
+  before : List Posting
+  before = postings_of terms history
+
+  granting : (code : ResultCode) → Fits (cond (settles_after terms before request) (granting_reply terms (free_to_grant terms before request) request.services) (code_alone code))
+  granting code =
+      fits-test (settles_after terms before request) (granting_reply terms (free_to_grant terms before request) request.services) (code_alone code)
+      (fits-granting terms (free_to_grant terms before request) request.services limits.few) (fits-alone code)
+
+  by : (kind : RequestKind) → Fits (reply_by terms before request kind)
+  by Event = fits-event terms request.services (account_of terms.accounts request.subscriptions) (free_for terms before (account_of terms.accounts request.subscriptions)) request.action limits.few
+  by Initial = granting (unsettled_code Initial (is_open terms.validity request.session before))
+  by Update = granting UnknownSessionId
+  by Termination =
+      fits-test (settles_after terms before request) (closing_reply terms request.services) (code_alone UnknownSessionId) (fits-closing terms request.services limits.few) (fits-alone UnknownSessionId)

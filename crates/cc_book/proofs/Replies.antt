@@ -1,20 +1,16 @@
 -- What the account machine replies, and what the book answers.
-use Rattle.std.proofs.Common.{◌≡◌, ℕ, ◌<◌, ◌≤◌, Bool, true, false, cond, leb, List, [], ◌∷◌, ◌++◌, length, take, Option, Some, Result, Ok, Err, sym, ap, ◌∙◌, arith, rules, length-append}
+use Rattle.std.proofs.Common.{◌≡◌, ℕ, ◌<◌, ◌≤◌, Bool, true, false, cond, leb, length, take, Option, Result, Ok, Err, sym, ap, ◌∙◌, arith, rules}
 use Rattle.std.specs.Prelude.{unwrap_or}
-use Rattle.dia_base.specs.declared.number.Moment.{Moment}
 use Rattle.cc_view.specs.declared.reply.CcReply.{CcReply}
 use Rattle.cc_view.specs.declared.request.CcRequest.{CcRequest}
 use Rattle.cc_book.specs.declared.book.Answered.{Answered}
 use Rattle.cc_book.specs.declared.book.BookRefusal.{BookRefusal}
 use Rattle.cc_book.specs.declared.book.BookRefusal.TheVariants.{Full}
-use Rattle.cc_book.specs.declared.entry.Entry.{Entry}
-use Rattle.cc_book.specs.declared.entry.Entry.TheVariants.{Take}
-use Rattle.cc_book.specs.declared.terms.Terms.{Terms}
 use Rattle.cc_book.specs.AccountMachine.{reply_to, kept_reply}
 use Rattle.cc_book.specs.Duplicate.{key_of}
 use Rattle.cc_book.specs.History.{place_of, IsNew, IsKeptAt}
-use Rattle.cc_book.specs.Taking.{Ledger, answer_new, answer_by, answer_of, KeepsLimits}
-use Rattle.cc_book.proofs.Keys.{kept_reply-at, kept_reply-new, place_of-at, IsLegal-push}
+use Rattle.cc_book.specs.Taking.{Ledger, answer_new, answer_by, answer_of}
+use Rattle.cc_book.proofs.Keys.{kept_reply-at, kept_reply-new, place_of-at}
 
 answered : CcReply → ℕ → Bool → Result Answered BookRefusal
 answered reply place fresh = Ok (record { reply = reply; place = place; fresh = fresh })
@@ -55,8 +51,3 @@ answer_of-fresh ledger request place reply new at room is =
     ∙ ap (λ (b : Bool). cond b (full ledger.limit) (answered (reply_to ledger.terms ledger.history request) (length ledger.history) true)) (room_test ledger.limit (length ledger.history) less)
     ∙ ap (λ (r : CcReply). answered r (length ledger.history) true) (sym is)
     ∙ ap (λ (p : ℕ). answered reply p true) (sym at)
-
-pub KeepsLimits-push : (terms : Terms) (limit : ℕ) (history : List Entry) (moment : Moment) (request : CcRequest) → KeepsLimits terms limit history → IsNew history (key_of request) → length history < limit → KeepsLimits terms limit (history ++ Take moment request ∷ [])
-KeepsLimits-push terms limit history moment request keeps new room =
-    let all = length-append history (Take moment request ∷ []) in
-    record { legal = IsLegal-push terms history moment request keeps.legal new; within = omega arith; most = keeps.most }

@@ -1,8 +1,8 @@
 -- Each debit is of one account.
-use Rattle.std.proofs.Common.{◌≡◌, ℕ, zero, suc, ◌<◌, ◌≤◌, Bool, true, false, cond, ◌&&◌, eqb, leb, ltb, List, [], ◌∷◌, ◌++◌, length, Option, Some, None, refl, sym, ap, ◌∙◌, arith, rules}
-use Rattle.std.specs.Prelude.{ℤ, pos, ◌+ℤ◌, ◌-ℤ◌, unwrap_or, MatchOption}
-use Rattle.std.specs.List.{fold, position_or_len, AllByRecursion}
-use Rattle.std.specs.Option.{option_and_then, option_or}
+use Rattle.std.proofs.Common.{◌≡◌, ℕ, zero, suc, ◌<◌, ◌≤◌, Bool, true, false, cond, not, ◌&&◌, eqb, leb, ltb, List, [], ◌∷◌, length, Option, Some, None, refl, sym, ap, ◌∙◌, arith, rules}
+use Rattle.std.specs.Prelude.{ℤ, pos, ◌+ℤ◌, ◌-ℤ◌, is_some, unwrap_or, MatchOption}
+use Rattle.std.specs.List.{fold, AllByRecursion}
+use Rattle.std.specs.Option.{option_and_then}
 use Rattle.std.proofs.lemmas.Int.{ints}
 use Rattle.cc_view.specs.declared.code.ResultCode.{ResultCode}
 use Rattle.cc_view.specs.declared.code.ResultCode.TheVariants.{Success}
@@ -12,17 +12,18 @@ use Rattle.cc_view.specs.declared.request.RequestKind.TheVariants.{Initial, Upda
 use Rattle.cc_view.specs.declared.request.RequestedAction.{RequestedAction}
 use Rattle.cc_view.specs.declared.request.RequestedAction.TheVariants.{DirectDebiting, RefundAccount, CheckBalance, PriceEnquiry}
 use Rattle.cc_view.specs.declared.request.Service.{Service}
-use Rattle.cc_view.specs.declared.request.Subscription.{Subscription}
-use Rattle.cc_book.specs.declared.account.Account.{Account}
 use Rattle.cc_book.specs.declared.entry.Entry.{Entry}
 use Rattle.cc_book.specs.declared.entry.Entry.TheVariants.{Take, Sweep}
 use Rattle.cc_book.specs.declared.terms.Terms.{Terms}
-use Rattle.cc_book.specs.AccountMachine.{owns, account_with, account_of, account_by, action_debit, charged_account, opener_account, opening_at, total_of, debit_after, debit_by, event_reply, post, posting_of, postings_of}
+use Rattle.cc_book.specs.AccountMachine.{account_of, account_by, action_debit, charged_account, opener_account, opening_at, total_of, debit_after, debit_by, event_reply, free_for, posting_of, postings_of, reply_after, settles_after, settles_by}
 use Rattle.cc_book.specs.Balance.{balance_of, spent_by}
 use Rattle.cc_book.specs.Duplicate.{same_session}
 use Rattle.cc_book.specs.Laws.{total_below, debits_of}
 use Rattle.cc_book.specs.Posting.{Posting, is_account, debit_to, debits_to}
-use Rattle.cc_book.specs.Session.{Opened, is_of, left_after, moment_of, next_session, opened_at, opens, session_after, session_by, session_of}
+use Rattle.cc_book.specs.ServiceRating.{used_total}
+use Rattle.cc_book.specs.Session.{Opened, deadline_at, is_initial_kind, is_of, is_success, left_after, moment_of, next_session, opens, session_after, session_by, session_of}
+use Rattle.cc_book.proofs.Postings.{postings_all}
+use Rattle.cc_book.proofs.Looking.{account_of-within}
 
 -- ---- sums over accounts
 
@@ -78,52 +79,34 @@ only-one : (n account : ℕ) (amount : ℤ) → account < n → total_below n (o
 only-one zero account amount lt = absurd (omega arith)
 only-one (suc n) account amount lt = only-one-by n account amount (ltb account n) refl lt (only-one n account amount)
 
--- ---- each posting charges one account, or debits nothing
+-- ---- each posting charges one account, or debits nothing and opens no session
 
 abbrev Placed : ℕ → Posting → Type 0
-Placed n posting = MatchOption posting.account (posting.debit ≡ pos 0) (λ account. account < n)
+Placed n posting = MatchOption posting.account ((posting.debit ≡ pos 0) × (opens posting ≡ false)) (λ account. account < n)
 
-placed_total : (n : ℕ) (account : Option ℕ) (debit : ℤ) → MatchOption account (debit ≡ pos 0) (λ a. a < n) → total_below n (λ (a : ℕ). cond (is_account a account) debit (pos 0)) ≡ debit
-placed_total n None debit none = total_below-zero n ∙ sym none
-placed_total n (Some account) debit lt = only-one n account debit lt
+placed_total : (n : ℕ) (account : Option ℕ) (debit : ℤ) (opened : Bool) → MatchOption account ((debit ≡ pos 0) × (opened ≡ false)) (λ a. a < n)
+    → total_below n (λ (a : ℕ). cond (is_account a account) debit (pos 0)) ≡ debit
+placed_total n None debit opened none = total_below-zero n ∙ sym none.0
+placed_total n (Some account) debit opened lt = only-one n account debit lt
 
 debits_total : (n : ℕ) (postings : List Posting) → AllByRecursion (Placed n) postings → total_below n (λ (a : ℕ). debits_to a postings) ≡ debits_of postings
 debits_total n [] all = total_below-zero n
 debits_total n (p ∷ postings) all =
     let sum = total_below-add n (λ (a : ℕ). debit_to a p) (λ (a : ℕ). debits_to a postings) in
-    let here = placed_total n p.account p.debit all.0 in
+    let here = placed_total n p.account p.debit (opens p) all.0 in
     let more = debits_total n postings all.1 in
     omega (arith, ints)
 
 -- ---- the postings of a history do
 
-position-within : (n len : ℕ) → MatchOption (cond (ltb n len) (Some n) None) (Unit {0}) (λ a. a < len)
-position-within n len = by (ltb n len) refl where
-  by : (b : Bool) → ltb n len ≡ b → MatchOption (cond b (Some n) None) (Unit {0}) (λ a. a < len)
-  by true e = search rules
-  by false e = tt
-
-or_within : (first second : Option ℕ) (n : ℕ) → MatchOption first (Unit {0}) (λ a. a < n) → MatchOption second (Unit {0}) (λ a. a < n) → MatchOption (option_or first second) (Unit {0}) (λ a. a < n)
-or_within None second n p q = q
-or_within (Some a) second n p q = p
-
-account_of-within : (accounts : List Account) (subscriptions : List Subscription) → MatchOption (account_of accounts subscriptions) (Unit {0}) (λ a. a < length accounts)
-account_of-within accounts [] = tt
-account_of-within accounts (s ∷ subscriptions) =
-    or_within (account_with accounts s) (account_of accounts subscriptions) (length accounts) (position-within (position_or_len (owns s) accounts) (length accounts)) (account_of-within accounts subscriptions)
-
--- the account of a session is one of those of the postings
-abbrev IsWithin : ℕ → Option ℕ → Type 0
-IsWithin n account = MatchOption account (Unit {0}) (λ a. a < n)
-
-placed-within : (n : ℕ) (account : Option ℕ) (debit : ℤ) → MatchOption account (debit ≡ pos 0) (λ a. a < n) → IsWithin n account
-placed-within n None debit p = tt
-placed-within n (Some a) debit p = p
+-- an open session has an account, which is one of the site's
+abbrev IsKnown : ℕ → Option ℕ → Type 0
+IsKnown n account = MatchOption account ⊥ (λ a. a < n)
 
 abbrev HasPlace : ℕ → Option Opened → Type 0
-HasPlace n opened = MatchOption opened (Unit {0}) (λ now. IsWithin n now.account)
+HasPlace n opened = MatchOption opened (Unit {0}) (λ now. IsKnown n now.account)
 
-session_by-place : (n validity moment : ℕ) (opened : Opened) (kind : RequestKind) → IsWithin n opened.account → HasPlace n (session_by validity opened moment kind)
+session_by-place : (n validity moment : ℕ) (opened : Opened) (kind : RequestKind) → IsKnown n opened.account → HasPlace n (session_by validity opened moment kind)
 session_by-place n validity moment opened Initial p = p
 session_by-place n validity moment opened Update p = p
 session_by-place n validity moment opened Termination p = tt
@@ -140,16 +123,38 @@ left_after-place n validity session (Some opened) posting p = by posting.entry w
   by (Take moment request) = place_by n (same_session request.session session) (session_by validity opened moment.0 request.kind) (Some opened) (session_by-place n validity moment.0 opened request.kind p) p
   by (Sweep moment) = place_by n (leb opened.deadline moment.0) None (Some opened) tt p
 
+-- a posting that opens a session charges an account
+opened-place : (n : ℕ) (account : Option ℕ) (debit : ℤ) (deadline : ℕ) (opened own : Bool) (left : Option Opened) → MatchOption account ((debit ≡ pos 0) × (opened ≡ false)) (λ a. a < n)
+    → HasPlace n left → HasPlace n (cond (opened && own) (Some (record { account = account; deadline = deadline })) left)
+opened-place n account debit deadline false own left p q = q
+opened-place n account debit deadline true false left p q = q
+opened-place n None debit deadline true true left p q = absurd (let no : true ≡ false = p.1 in cc)
+opened-place n (Some a) debit deadline true true left p q = p
+
 session_of-place : (n validity : ℕ) (session : List ℕ) (opened : Option Opened) (postings : List Posting) → HasPlace n opened → AllByRecursion (Placed n) postings → HasPlace n (fold (next_session validity session) opened postings)
 session_of-place n validity session opened [] p all = p
 session_of-place n validity session opened (posting ∷ postings) p all =
     session_of-place n validity session (next_session validity session opened posting) postings
-    (place_by n (opens posting && is_of session posting.entry) (Some (opened_at validity posting.account (moment_of posting.entry))) (left_after validity session opened posting)
-    (placed-within n posting.account posting.debit all.0) (left_after-place n validity session opened posting p)) all.1
+    (opened-place n posting.account posting.debit (deadline_at validity (moment_of posting.entry)) (opens posting) (is_of session posting.entry) (left_after validity session opened posting)
+    all.0 (left_after-place n validity session opened posting p)) all.1
+
+abbrev IsWithin : ℕ → Option ℕ → Type 0
+IsWithin n account = MatchOption account (Unit {0}) (λ a. a < n)
 
 opener-place : (n : ℕ) (opened : Option Opened) → HasPlace n opened → IsWithin n (option_and_then (λ (now : Opened). now.account) opened)
 opener-place n None p = tt
-opener-place n (Some opened) p = p
+opener-place n (Some opened) p = by opened.account p where
+  by : (account : Option ℕ) → IsKnown n account → IsWithin n account
+  by None p = absurd p
+  by (Some a) p = p
+
+-- a session with no account is not open
+opener-closed : (n : ℕ) (opened : Option Opened) → HasPlace n opened → option_and_then (λ (now : Opened). now.account) opened ≡ None → is_some opened ≡ false
+opener-closed n None p none = refl
+opener-closed n (Some opened) p none = by opened.account p none where
+  by : (account : Option ℕ) → IsKnown n account → account ≡ None → true ≡ false
+  by None p e = absurd p
+  by (Some a) p e = absurd cc
 
 account_by-within : (n : ℕ) (kind : RequestKind) (own opener : Option ℕ) → IsWithin n own → IsWithin n opener → IsWithin n (account_by kind own opener)
 account_by-within n Initial own opener p q = p
@@ -157,11 +162,16 @@ account_by-within n Update own opener p q = q
 account_by-within n Termination own opener p q = q
 account_by-within n Event own opener p q = p
 
+session-place : (terms : Terms) (before : List Posting) (session : List ℕ) → AllByRecursion (Placed (length terms.accounts)) before → HasPlace (length terms.accounts) (session_of terms.validity session before)
+session-place terms before session all = session_of-place (length terms.accounts) terms.validity session None before tt all
+
 pub charged_account-within : (terms : Terms) (before : List Posting) (request : CcRequest) → AllByRecursion (Placed (length terms.accounts)) before → IsWithin (length terms.accounts) (charged_account terms before request)
 charged_account-within terms before request all =
     account_by-within (length terms.accounts) request.kind (account_of terms.accounts request.subscriptions) (opener_account terms.validity before request.session)
     (account_of-within terms.accounts request.subscriptions)
-    (opener-place (length terms.accounts) (session_of terms.validity request.session before) (session_of-place (length terms.accounts) terms.validity request.session None before tt all))
+    (opener-place (length terms.accounts) (session_of terms.validity request.session before) (session-place terms before request.session all))
+
+-- ---- a request without an account does nothing
 
 -- an action that moves no money debits nothing, whatever is answered
 pub checks_nothing : (amount : ℕ) (code : ResultCode) → action_debit amount code (Some CheckBalance) ≡ pos 0
@@ -173,47 +183,57 @@ prices_nothing amount Success = refl
 prices_nothing amount _ = refl
 
 -- without an account no action debits
-action-none : (terms : Terms) (before : List Posting) (services : List Service) (amount : ℕ) (total : Option ℕ) (action : Option RequestedAction)
-    → total_of terms.tariffs services ≡ total → action_debit amount (event_reply terms before services None action).code action ≡ pos 0
-action-none terms before services amount total None e = refl
-action-none terms before services amount total (Some DirectDebiting) e = refl
-action-none terms before services amount total (Some RefundAccount) e = refl
-action-none terms before services amount total (Some CheckBalance) e = refl
-action-none terms before services amount total (Some PriceEnquiry) e = prices_nothing amount (event_reply terms before services None (Some PriceEnquiry)).code
+action-none : (terms : Terms) (services : List Service) (amount : ℕ) (free : ℤ) (action : Option RequestedAction) → action_debit amount (event_reply terms services None free action).code action ≡ pos 0
+action-none terms services amount free None = refl
+action-none terms services amount free (Some DirectDebiting) = refl
+action-none terms services amount free (Some RefundAccount) = refl
+action-none terms services amount free (Some CheckBalance) = refl
+action-none terms services amount free (Some PriceEnquiry) = prices_nothing amount (event_reply terms services None free (Some PriceEnquiry)).code
 
--- a request that debits charges the account that it names
-debit-none : (terms : Terms) (before : List Posting) (request : CcRequest) → charged_account terms before request ≡ None → debit_after terms before request ≡ pos 0
-debit-none terms before request none = by request.kind none where
+and_false : (b : Bool) → (b && false) ≡ false
+and_false true = refl
+and_false false = refl
+
+-- without an account no services are settled
+settles-none : (n : ℕ) (kind : RequestKind) (own : Option ℕ) (opened : Option Opened) → HasPlace n opened → account_by kind own (option_and_then (λ (now : Opened). now.account) opened) ≡ None
+    → settles_by kind (is_some opened) (is_some own) ≡ false
+settles-none n Initial own opened p none = ap (λ (a : Option ℕ). not (is_some opened) && is_some a) none ∙ and_false (not (is_some opened))
+settles-none n Update own opened p none = opener-closed n opened p none
+settles-none n Termination own opened p none = opener-closed n opened p none
+settles-none n Event own opened p none = refl
+
+debit-none : (terms : Terms) (before : List Posting) (request : CcRequest) → charged_account terms before request ≡ None → settles_after terms before request ≡ false → debit_after terms before request ≡ pos 0
+debit-none terms before request none unsettled = by request.kind none where
+  used : debit_by terms before request Initial ≡ pos 0
+  used = ap (λ (b : Bool). cond b (pos (used_total terms.tariffs request.services)) (pos 0)) unsettled
+
   by : (kind : RequestKind) → account_by kind (account_of terms.accounts request.subscriptions) (opener_account terms.validity before request.session) ≡ None → debit_by terms before request kind ≡ pos 0
   by Event none =
       let amount : ℕ = unwrap_or (total_of terms.tariffs request.services) 0 in
-      ap (λ (account : Option ℕ). action_debit amount (event_reply terms before request.services account request.action).code request.action) none
-      ∙ action-none terms before request.services amount (total_of terms.tariffs request.services) request.action refl
-  by Initial none = refl
-  by Update none = refl
-  by Termination none = refl
+      ap (λ (account : Option ℕ). action_debit amount (event_reply terms request.services account (free_for terms before account) request.action).code request.action) none
+      ∙ action-none terms request.services amount (pos 0) request.action
+  by Initial none = used
+  by Update none = used
+  by Termination none = used
 
-placed_by : (n : ℕ) (account : Option ℕ) (debit : ℤ) → IsWithin n account → (account ≡ None → debit ≡ pos 0) → MatchOption account (debit ≡ pos 0) (λ a. a < n)
-placed_by n None debit within none = none refl
-placed_by n (Some a) debit within none = within
+placed_by : (n : ℕ) (account : Option ℕ) (debit : ℤ) (opened : Bool) → IsWithin n account → (account ≡ None → (debit ≡ pos 0) × (opened ≡ false)) → MatchOption account ((debit ≡ pos 0) × (opened ≡ false)) (λ a. a < n)
+placed_by n None debit opened within none = none refl
+placed_by n (Some a) debit opened within none = within
 
 placed : (terms : Terms) (before : List Posting) (entry : Entry) → AllByRecursion (Placed (length terms.accounts)) before → Placed (length terms.accounts) (posting_of terms before entry)
 placed terms before (Take moment request) all =
-    placed_by (length terms.accounts) (charged_account terms before request) (debit_after terms before request) (charged_account-within terms before request all) (debit-none terms before request)
-placed terms before (Sweep moment) all = refl
+    placed_by (length terms.accounts) (charged_account terms before request) (debit_after terms before request) (opens (posting_of terms before (Take moment request)))
+    (charged_account-within terms before request all) nothing
+  where
+    nothing : charged_account terms before request ≡ None → (debit_after terms before request ≡ pos 0) × (opens (posting_of terms before (Take moment request)) ≡ false)
+    nothing none =
+        let unsettled : settles_after terms before request ≡ false =
+        settles-none (length terms.accounts) request.kind (account_of terms.accounts request.subscriptions) (session_of terms.validity request.session before) (session-place terms before request.session all) none in
+        (debit-none terms before request none unsettled, ap (λ (b : Bool). b && (is_initial_kind request.kind && is_success (reply_after terms before request).code)) unsettled)
+placed terms before (Sweep moment) all = (refl, refl)
 
-placed_push : (n : ℕ) (xs : List Posting) (x : Posting) → AllByRecursion (Placed n) xs → Placed n x → AllByRecursion (Placed n) (xs ++ x ∷ [])
-placed_push n [] x all one = (one, tt)
-placed_push n (y ∷ ys) x all one = (all.0, placed_push n ys x all.1 one)
-
-placed_fold : (terms : Terms) (before : List Posting) (history : List Entry) → AllByRecursion (Placed (length terms.accounts)) before → AllByRecursion (Placed (length terms.accounts)) (fold (post terms) before history)
-placed_fold terms before [] all = all
-placed_fold terms before (entry ∷ history) all =
-    placed_fold terms (post terms before entry) history (placed_push (length terms.accounts) before (posting_of terms before entry) all (placed terms before entry all))
-
-all_placed : (terms : Terms) (history : List Entry) → AllByRecursion (Placed (length terms.accounts)) (postings_of terms history)
-unfolding postings_of
-all_placed terms history = placed_fold terms [] history tt
+pub all_placed : (terms : Terms) (history : List Entry) → AllByRecursion (Placed (length terms.accounts)) (postings_of terms history)
+all_placed terms history = postings_all (Placed (length terms.accounts)) (λ entry. Unit {0}) terms history (λ before entry all any. placed terms before entry all) (λ k d lt. tt)
 
 -- the balances of all accounts are their opening amounts less all debits
 pub balances_total : (terms : Terms) (history : List Entry) → total_below (length terms.accounts) (λ (a : ℕ). balance_of terms history a) ≡ total_below (length terms.accounts) (λ (a : ℕ). opening_at terms.accounts a) -ℤ debits_of (postings_of terms history)

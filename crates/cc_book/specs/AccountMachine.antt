@@ -1,31 +1,35 @@
 -- The account machine: the reply to a request as a function of the entries before it, and of nothing else
--- (RFC 8506, sections 6 and 8.41). An EVENT is answered whole. All other requests are answered
--- DIAMETER_UNABLE_TO_COMPLY, and settle no session.
-use Rattle.std.specs.Prelude.{ℕ, zero, suc, ◌+◌, ◌^◌, List, [], ◌∷◌, ◌++◌, map, Bool, true, false, if◌then◌else◌, Option, Some, None, is_none, unwrap_or, ℤ, pos, ◌-ℤ◌, int_le, nat_lt, ◌&&◌, ◌==◌}
+-- (RFC 8506, sections 5, 6 and 8.41). A request of a session first ends the reservations of the services that it
+-- names and debits what they used; then grants are made in order. An EVENT touches no session.
+use Rattle.std.specs.Prelude.{ℕ, zero, suc, ◌+◌, ◌^◌, List, [], ◌∷◌, ◌++◌, find, map, Bool, true, false, not, if◌then◌else◌, Option, Some, None, is_none, is_some, unwrap_or, ℤ, pos, ◌-ℤ◌, int_le, nat_lt, ◌&&◌, ◌==◌}
 use Rattle.std.specs.List.{fold, position}
-use Rattle.std.specs.Option.{option_map, option_or, option_and_then}
+use Rattle.std.specs.Option.{option_map, option_map_or, option_or, option_and_then}
 use Rattle.cc_view.specs.declared.code.ResultCode.{ResultCode}
-use Rattle.cc_view.specs.declared.code.ResultCode.TheVariants.{Success, CreditLimitReached, UnableToComply, UserUnknown, RatingFailed}
+use Rattle.cc_view.specs.declared.code.ResultCode.TheVariants.{Success, CreditLimitReached, UnknownSessionId, UnableToComply, UserUnknown, RatingFailed}
 use Rattle.cc_view.specs.declared.reply.CcReply.{CcReply}
 use Rattle.cc_view.specs.declared.reply.ServiceReply.{ServiceReply}
 use Rattle.cc_view.specs.declared.request.CcRequest.{CcRequest}
 use Rattle.cc_view.specs.declared.request.RequestKind.{RequestKind}
-use Rattle.cc_view.specs.declared.request.RequestKind.TheVariants.{Update, Termination, Event}
+use Rattle.cc_view.specs.declared.request.RequestKind.TheVariants.{Initial, Update, Termination, Event}
 use Rattle.cc_view.specs.declared.request.RequestedAction.{RequestedAction}
 use Rattle.cc_view.specs.declared.request.RequestedAction.TheVariants.{DirectDebiting, RefundAccount, CheckBalance, PriceEnquiry}
 use Rattle.cc_view.specs.declared.request.Service.{Service}
 use Rattle.cc_view.specs.declared.request.Subscription.{Subscription}
+use Rattle.cc_view.specs.Request.ServiceLimits.{name_of}
+use Rattle.cc_rating.specs.declared.tariff.Grant.{Grant}
+use Rattle.cc_rating.specs.Rating.{grant_of}
 use Rattle.cc_book.specs.declared.account.Account.{Account}
 use Rattle.cc_book.specs.declared.account.Money.{Money}
+use Rattle.cc_book.specs.declared.session.Hold.{Hold}
 use Rattle.cc_book.specs.declared.entry.Entry.{Entry}
 use Rattle.cc_book.specs.declared.entry.Entry.TheVariants.{Take, Sweep}
 use Rattle.cc_rating.specs.declared.tariff.Tariff.{Tariff}
 use Rattle.cc_book.specs.declared.terms.Terms.{Terms}
 use Rattle.cc_book.specs.Duplicate.{Key, has_key, key_of, same_session}
-use Rattle.cc_book.specs.Posting.{Hold, Posting, debits_to}
-use Rattle.cc_book.specs.ServiceRating.{asked_of, asking_cost, tariff_of, unit_code}
+use Rattle.cc_book.specs.Posting.{Posting, debits_to}
+use Rattle.cc_book.specs.ServiceRating.{asked_of, asking_cost, tariff_of, unit_code, used_total}
 use Rattle.cc_book.specs.Reservation.{reserved_by}
-use Rattle.cc_book.specs.Session.{session_of}
+use Rattle.cc_book.specs.Session.{is_open, is_success, session_of}
 
 -- ---- the account
 
@@ -102,7 +106,7 @@ code_alone code = record { code = code; services = []; cost = None; check = None
 -- a service that is shown what it asked as granted
 abbrev pub granted : List Tariff → Service → ServiceReply
 granted tariffs service = record {
-  name = record { group = service.group; ident = service.ident };
+  name = name_of service;
   bare = service.bare;
   code = Success;
   kind = option_map (λ tariff. unit_code tariff.kind) (tariff_of tariffs service);
@@ -145,12 +149,12 @@ abbrev pub rated_reply : Terms → List Service → Option ℕ → ℤ → Reque
 rated_reply terms services None free action = code_alone RatingFailed
 rated_reply terms services (Some total) free action = action_reply terms services total free action
 
--- the reply to an EVENT (RFC 8506, section 8.41)
-abbrev pub event_reply : Terms → List Posting → List Service → Option ℕ → Option RequestedAction → CcReply
-event_reply terms before services account None = code_alone UnableToComply
-event_reply terms before services account (Some action) =
+-- the reply to an EVENT on an account, where so much is free (RFC 8506, section 8.41)
+abbrev pub event_reply : Terms → List Service → Option ℕ → ℤ → Option RequestedAction → CcReply
+event_reply terms services account free None = code_alone UnableToComply
+event_reply terms services account free (Some action) =
     if needs_account action && is_none account then code_alone UserUnknown
-    else rated_reply terms services (total_of terms.tariffs services) (free_for terms before account) action
+    else rated_reply terms services (total_of terms.tariffs services) free action
 
 -- what an action debits, where it was answered so: a DIRECT_DEBITING its total, a REFUND_ACCOUNT the total below 0
 abbrev pub action_debit : ℕ → ResultCode → Option RequestedAction → ℤ
@@ -158,40 +162,154 @@ action_debit total Success (Some DirectDebiting) = pos total
 action_debit total Success (Some RefundAccount) = pos 0 -ℤ pos total
 action_debit total _ _ = pos 0
 
--- the same by what is free: a DIRECT_DEBITING is answered so where its total is free, a REFUND_ACCOUNT always
-abbrev pub amount_of : Option RequestedAction → ℕ → ℤ → ℤ
-amount_of (Some DirectDebiting) total free = if int_le (pos total) free then pos total else pos 0
-amount_of (Some RefundAccount) total free = pos 0 -ℤ pos total
-amount_of _ total free = pos 0
+-- the reply to an EVENT after postings
+abbrev pub event_after : Terms → List Posting → CcRequest → CcReply
+event_after terms before request =
+    event_reply terms request.services (account_of terms.accounts request.subscriptions)
+    (free_for terms before (account_of terms.accounts request.subscriptions)) request.action
+
+-- ---- what settles services
+
+-- whether a request of this kind settles services, where its session is open or not, and its account known
+abbrev pub settles_by : RequestKind → Bool → Bool → Bool
+settles_by Initial opened known = not opened && known
+settles_by Update opened known = opened
+settles_by Termination opened known = opened
+settles_by Event opened known = false
+
+abbrev pub settles_after : Terms → List Posting → CcRequest → Bool
+settles_after terms before request =
+    settles_by request.kind (is_open terms.validity request.session before) (is_some (account_of terms.accounts request.subscriptions))
+
+-- what a request debits of the account that it charges: where it settles services, what their used units cost
+abbrev pub debit_by : Terms → List Posting → CcRequest → RequestKind → ℤ
+debit_by terms before request Event =
+    action_debit (unwrap_or (total_of terms.tariffs request.services) 0) (event_after terms before request).code request.action
+debit_by terms before request _ = if settles_after terms before request then pos (used_total terms.tariffs request.services) else pos 0
+
+abbrev pub debit_after : Terms → List Posting → CcRequest → ℤ
+debit_after terms before request = debit_by terms before request request.kind
+
+-- ---- what is granted to a session
+
+-- The posting of a request with its debit, before anything is granted to it. Its moment does not matter for what is
+-- free behind it.
+abbrev pub settling_posting : Terms → List Posting → CcRequest → Posting
+settling_posting terms before request = record {
+  entry = Take (record { 0 = 0 }) request;
+  account = charged_account terms before request;
+  debit = debit_after terms before request;
+  settles = settles_after terms before request;
+  grants = [];
+  reply = None;
+}
+
+-- what is free for the first grant of a request: it has ended the reservations of the services that it names, and
+-- debited what they used
+abbrev pub free_to_grant : Terms → List Posting → CcRequest → ℤ
+free_to_grant terms before request = free_for terms (before ++ settling_posting terms before request ∷ []) (charged_account terms before request)
+
+-- the grant for a service, where so much is free: none without a tariff or a Requested-Service-Unit
+abbrev pub grant_to : List Tariff → ℤ → Service → Option Grant
+grant_to tariffs free service = option_and_then (λ tariff. option_map (grant_of tariff free) (asked_of tariff service)) (tariff_of tariffs service)
+
+-- a last grant of no units is none
+abbrev pub is_refused : Grant → Bool
+is_refused grant = grant.last && (grant.units == 0)
+
+-- what is free for the next grant
+abbrev pub free_behind : ℤ → Option Grant → ℤ
+free_behind free None = free
+free_behind free (Some grant) = free -ℤ pos grant.held
+
+-- the code of a service, by its grant
+abbrev pub code_of_grant : Option Grant → ResultCode
+code_of_grant None = Success
+code_of_grant (Some grant) = if is_refused grant then CreditLimitReached else Success
+
+abbrev pub made_grant : Option Grant → Option Grant
+made_grant None = None
+made_grant (Some grant) = if is_refused grant then None else Some grant
+
+-- the reply for a service with a tariff, by its grant
+abbrev pub settled_reply : Terms → Service → Option Grant → ServiceReply
+settled_reply terms service grant = record {
+  name = name_of service;
+  bare = service.bare;
+  code = if is_some (tariff_of terms.tariffs service) then code_of_grant grant else RatingFailed;
+  kind = option_map (λ tariff. unit_code tariff.kind) (tariff_of terms.tariffs service);
+  granted = option_map (λ made. made.units) (made_grant grant);
+  validity = option_map (λ made. terms.validity) (made_grant grant);
+  last = option_map_or (λ made. made.last) (made_grant grant) false;
+}
+
+-- the replies for services, each granted of what the grants before it leave free
+abbrev pub replies_from : Terms → ℤ → List Service → List ServiceReply
+replies_from terms free [] = []
+replies_from terms free (service ∷ services) =
+    settled_reply terms service (grant_to terms.tariffs free service)
+    ∷ replies_from terms (free_behind free (grant_to terms.tariffs free service)) services
+
+abbrev pub hold_of : Service → Option Grant → List Hold
+hold_of service None = []
+hold_of service (Some grant) = record { service = name_of service; cost = grant.held } ∷ []
+
+-- what is reserved for services, each of what the grants before it leave free
+abbrev pub holds_from : List Tariff → ℤ → List Service → List Hold
+holds_from tariffs free [] = []
+holds_from tariffs free (service ∷ services) =
+    hold_of service (made_grant (grant_to tariffs free service))
+    ++ holds_from tariffs (free_behind free (grant_to tariffs free service)) services
+
+-- the Result-Code of a command is that of its bare service, where it has one
+abbrev pub command_code : List ServiceReply → ResultCode
+command_code replies = option_map_or (λ reply. reply.code) (find (λ reply. reply.bare) replies) Success
+
+abbrev pub session_reply : List ServiceReply → CcReply
+session_reply replies = record { code = command_code replies; services = replies; cost = None; check = None }
+
+-- a TERMINATION is granted nothing
+abbrev pub closing_reply : Terms → List Service → CcReply
+closing_reply terms services = session_reply (map (λ service. settled_reply terms service None) services)
+
+-- INITIAL and UPDATE are granted what is free
+abbrev pub granting_reply : Terms → ℤ → List Service → CcReply
+granting_reply terms free services = session_reply (replies_from terms free services)
 
 -- ---- the reply
 
+-- why a request of a session is not settled
+abbrev pub unsettled_code : RequestKind → Bool → ResultCode
+unsettled_code Initial opened = if opened then UnableToComply else UserUnknown
+unsettled_code _ opened = UnknownSessionId
+
 abbrev pub reply_by : Terms → List Posting → CcRequest → RequestKind → CcReply
-reply_by terms before request Event = event_reply terms before request.services (account_of terms.accounts request.subscriptions) request.action
-reply_by terms before request _ = code_alone UnableToComply
+reply_by terms before request Event = event_after terms before request
+reply_by terms before request Termination =
+    if settles_after terms before request then closing_reply terms request.services else code_alone UnknownSessionId
+reply_by terms before request kind =
+    if settles_after terms before request then granting_reply terms (free_to_grant terms before request) request.services
+    else code_alone (unsettled_code kind (is_open terms.validity request.session before))
 
 abbrev pub reply_after : Terms → List Posting → CcRequest → CcReply
 reply_after terms before request = reply_by terms before request request.kind
 
 -- ---- what a request does
 
-abbrev pub debit_by : Terms → List Posting → CcRequest → RequestKind → ℤ
-debit_by terms before request Event =
-    action_debit (unwrap_or (total_of terms.tariffs request.services) 0)
-    (event_reply terms before request.services (account_of terms.accounts request.subscriptions) request.action).code request.action
-debit_by terms before request _ = pos 0
+-- the reservations that come with a reply: none where an INITIAL did not open its session
+abbrev pub grants_with : RequestKind → ResultCode → List Hold → List Hold
+grants_with Initial code holds = if is_success code then holds else []
+grants_with Update code holds = holds
+grants_with _ code holds = []
 
--- what a request debits of the account that it charges
-abbrev pub debit_after : Terms → List Posting → CcRequest → ℤ
-debit_after terms before request = debit_by terms before request request.kind
-
--- whether a request settles services of a session
-abbrev pub settles_after : Terms → List Posting → CcRequest → Bool
-settles_after terms before request = false
+abbrev pub grants_by : Terms → List Posting → CcRequest → Bool → List Hold
+grants_by terms before request true =
+    grants_with request.kind (reply_after terms before request).code (holds_from terms.tariffs (free_to_grant terms before request) request.services)
+grants_by terms before request false = []
 
 -- what a request reserves
 abbrev pub grants_after : Terms → List Posting → CcRequest → List Hold
-grants_after terms before request = []
+grants_after terms before request = grants_by terms before request (settles_after terms before request)
 
 abbrev pub posting_of : Terms → List Posting → Entry → Posting
 posting_of terms before (Take moment request) = record {

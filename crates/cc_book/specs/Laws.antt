@@ -1,17 +1,23 @@
 -- What the laws of the book speak of.
-use Rattle.std.specs.Prelude.{◌≡◌, ℕ, zero, suc, ◌+◌, ◌*◌, ◌<◌, ◌≤◌, List, [], ◌∷◌, ◌++◌, All, IsTrue, ◌&&◌, false, count_by, Option, is_some, ℤ, pos, ◌+ℤ◌, find, sum_by, unwrap_or}
+use Rattle.std.specs.Prelude.{◌≡◌, ℕ, zero, suc, ◌+◌, List, [], ◌∷◌, ◌++◌, IsTrue, count_by, ◌&&◌, if◌then◌else◌, ℤ, pos, ◌+ℤ◌, find, sum_by, unwrap_or}
 use Rattle.std.specs.Option.{option_and_then, option_map}
 use Rattle.dia_base.specs.declared.number.Moment.{Moment}
+use Rattle.cc_view.specs.declared.code.ResultCode.{ResultCode}
 use Rattle.cc_view.specs.declared.reply.CcReply.{CcReply}
 use Rattle.cc_view.specs.declared.reply.ServiceReply.{ServiceReply}
+use Rattle.cc_view.specs.Request.ServiceLimits.{WithinLimits}
 use Rattle.cc_view.specs.declared.request.CcRequest.{CcRequest}
+use Rattle.cc_view.specs.declared.request.ServiceName.{ServiceName}
 use Rattle.cc_book.specs.declared.entry.Entry.{Entry}
-use Rattle.cc_book.specs.declared.entry.Entry.TheVariants.{Take}
+use Rattle.cc_book.specs.declared.entry.Entry.TheVariants.{Take, Sweep}
 use Rattle.cc_rating.specs.declared.tariff.Tariff.{Tariff}
 use Rattle.cc_book.specs.declared.terms.Terms.{Terms}
-use Rattle.cc_book.specs.AccountMachine.{reply_to}
+use Rattle.cc_book.specs.AccountMachine.{code_alone, grants_after, postings_of, reply_to}
+use Rattle.cc_book.specs.Balance.{debit_of}
 use Rattle.cc_book.specs.Duplicate.{key_of, same_key}
 use Rattle.cc_book.specs.Posting.{Posting}
+use Rattle.cc_book.specs.Reservation.{is_alive, same_name}
+use Rattle.cc_book.specs.Session.{is_of}
 use Rattle.cc_rating.specs.Rating.{cost_of}
 use Rattle.cc_rating.specs.Tariffs.{rates}
 
@@ -44,3 +50,21 @@ granted_cost tariffs service =
 -- what all units cost that a reply grants
 abbrev pub cost_of_reply : List Tariff → CcReply → ℕ
 cost_of_reply tariffs reply = sum_by (granted_cost tariffs) reply.services
+
+-- how many grants of a session and a service are alive after postings
+abbrev pub grants_alive : ℕ → List ℕ → ServiceName → List Posting → ℕ
+grants_alive validity session name [] = 0
+grants_alive validity session name (posting ∷ after) =
+    (if is_of session posting.entry then count_by (λ grant. same_name grant.service name && is_alive validity posting.entry name after) posting.grants else 0)
+    + grants_alive validity session name after
+
+-- the services of an entry's request are within their limits
+abbrev pub HasLimits : Entry → Type 0
+HasLimits (Take moment request) = WithinLimits request.services
+HasLimits (Sweep moment) = Unit {0}
+
+-- a request that is refused with this Result-Code: nothing is debited, and nothing reserved
+pub record IsRefused (terms : Terms) (history : List Entry) (request : CcRequest) (code : ResultCode) : Type 0 where
+  pub reply : reply_to terms history request ≡ code_alone code
+  pub debit : debit_of terms history request ≡ pos 0
+  pub grants : grants_after terms (postings_of terms history) request ≡ []

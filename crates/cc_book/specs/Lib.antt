@@ -9,4 +9,5 @@ pub mod RowExample
 pub mod ServiceRating
 pub mod Session
 pub mod SessionExample
+pub mod Standing
 pub mod Taking

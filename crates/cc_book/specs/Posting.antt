@@ -1,13 +1,8 @@
 -- What an entry of the history did to the accounts, given the entries before it.
 use Rattle.std.specs.Prelude.{ℕ, List, [], ◌∷◌, Bool, false, ◌==◌, if◌then◌else◌, Option, Some, None, ℤ, pos, ◌+ℤ◌}
 use Rattle.cc_view.specs.declared.reply.CcReply.{CcReply}
-use Rattle.cc_view.specs.declared.request.ServiceName.{ServiceName}
+use Rattle.cc_book.specs.declared.session.Hold.{Hold}
 use Rattle.cc_book.specs.declared.entry.Entry.{Entry}
-
--- a reservation that is made for a service: what its granted units cost
-pub record Hold : Type 0 where
-  pub service : ServiceName
-  pub cost : ℕ
 
 pub record Posting : Type 0 where
   pub entry : Entry

@@ -4,9 +4,10 @@ use Rattle.std.specs.List.{list_any, sum_by}
 use Rattle.std.specs.Option.{option_eq}
 use Rattle.cc_view.specs.declared.request.Service.{Service}
 use Rattle.cc_view.specs.declared.request.ServiceName.{ServiceName}
+use Rattle.cc_book.specs.declared.session.Hold.{Hold}
 use Rattle.cc_book.specs.declared.entry.Entry.{Entry}
 use Rattle.cc_book.specs.declared.entry.Entry.TheVariants.{Take, Sweep}
-use Rattle.cc_book.specs.Posting.{Hold, Posting, is_account}
+use Rattle.cc_book.specs.Posting.{Posting, is_account}
 use Rattle.cc_book.specs.Session.{is_of, outlasts}
 
 abbrev pub same_name : ServiceName → ServiceName → Bool

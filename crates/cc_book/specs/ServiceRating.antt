@@ -1,6 +1,5 @@
 -- What the services of a request ask and have used, by the tariffs (RFC 8506, sections 8.18 and 8.19).
-use Rattle.std.specs.Prelude.{ℕ, ◌+◌, List, [], ◌∷◌, slice_index_or, Option, Some, None, unwrap_or, find}
-use Rattle.std.specs.List.{sum_by}
+use Rattle.std.specs.Prelude.{ℕ, ◌+◌, List, [], ◌∷◌, slice_index_or, Option, None, unwrap_or, find}
 use Rattle.std.specs.Option.{option_map}
 use Rattle.dia_base.specs.declared.number.Code.{Code}
 use Rattle.cc_rating.specs.declared.tariff.Tariff.{Tariff}
@@ -35,3 +34,16 @@ asked_of tariff service = option_map (λ counts. unwrap_or (slice_index_or count
 -- what the asked units cost, 0 where none are asked
 abbrev pub asking_cost : Tariff → Service → ℕ
 asking_cost tariff service = unwrap_or (option_map (cost_of tariff) (asked_of tariff service)) 0
+
+-- the units that a service has used, in all its Used-Service-Units
+abbrev pub used_of : Tariff → Service → ℕ
+used_of tariff service = slice_index_or service.used (count_place tariff.kind) 0
+
+-- what the used units of a service cost, 0 without a tariff
+abbrev pub used_cost : List Tariff → Service → ℕ
+used_cost tariffs service = unwrap_or (option_map (λ tariff. cost_of tariff (used_of tariff service)) (tariff_of tariffs service)) 0
+
+-- what the used units of services cost
+abbrev pub used_total : List Tariff → List Service → ℕ
+used_total tariffs [] = 0
+used_total tariffs (service ∷ services) = used_cost tariffs service + used_total tariffs services

@@ -34,6 +34,11 @@ abbrev pub is_of : List ℕ → Entry → Bool
 is_of session (Take moment request) = same_session request.session session
 is_of session (Sweep moment) = false
 
+-- the Session-Id of an entry's request
+abbrev pub session_in : Entry → List ℕ
+session_in (Take moment request) = request.session
+session_in (Sweep moment) = []
+
 -- whether a posting opens its session: an INITIAL that is settled and answered 2001
 abbrev pub opens : Posting → Bool
 opens posting = posting.settles && (is_initial posting.entry && replies_success posting.reply)

@@ -7,10 +7,11 @@ use Rattle.cc_view.specs.declared.request.RequestKind.{RequestKind}
 use Rattle.cc_view.specs.declared.request.RequestKind.TheVariants.{Initial, Update, Termination, Event}
 use Rattle.cc_view.specs.declared.request.Service.{Service}
 use Rattle.cc_view.specs.declared.request.ServiceName.{ServiceName}
+use Rattle.cc_book.specs.declared.session.Hold.{Hold}
 use Rattle.cc_book.specs.declared.entry.Entry.TheVariants.{Take, Sweep}
 use Rattle.cc_book.specs.declared.terms.Terms.{Terms}
 use Rattle.cc_book.specs.AccountMachine.{code_alone}
-use Rattle.cc_book.specs.Posting.{Hold, Posting}
+use Rattle.cc_book.specs.Posting.{Posting}
 
 -- the octets of a Session-Id, and of another one
 abbrev pub session : List ℕ
@@ -55,11 +56,11 @@ abbrev pub opening : Posting
 opening = settled 0 0 Initial (service 1 None ∷ []) (hold (service_name 1 None) 25 ∷ [])
 
 -- after one second the service is settled again, and 10 are reserved for it
-abbrev pub update : Posting
-update = settled 1000 1 Update (service 1 None ∷ []) (hold (service_name 1 None) 10 ∷ [])
+abbrev pub first_update : Posting
+first_update = settled 1000 1 Update (service 1 None ∷ []) (hold (service_name 1 None) 10 ∷ [])
 
-abbrev pub termination : Posting
-termination = settled 2000 2 Termination [] []
+abbrev pub first_termination : Posting
+first_termination = settled 2000 2 Termination [] []
 
 -- then it opens anew, and asks for nothing
 abbrev pub reopening : Posting
@@ -80,8 +81,8 @@ abbrev pub second_opening : Posting
 second_opening = posting session 500000 5 Initial false UnableToComply (service 1 None ∷ []) []
 
 -- an EVENT under the Session-Id touches nothing of the session
-abbrev pub event : Posting
-event = posting session 900000 7 Event false Success (service 1 None ∷ []) []
+abbrev pub unrelated_event : Posting
+unrelated_event = posting session 900000 7 Event false Success (service 1 None ∷ []) []
 
 -- an UPDATE whose moment lies before that of the opening
 abbrev pub early_update : Posting

@@ -1,5 +1,5 @@
 -- What the book answers to a request, and what it keeps.
-use Rattle.std.specs.Prelude.{◌≡◌, ℕ, ◌≤◌, ◌^◌, List, [], ◌∷◌, ◌++◌, length, Bool, true, false, nat_le, if◌then◌else◌, Option, Some, None, unwrap_or, Result, Ok, Err}
+use Rattle.std.specs.Prelude.{◌≡◌, ℕ, ◌≤◌, ◌^◌, List, [], ◌∷◌, ◌++◌, length, map, Bool, true, false, nat_le, if◌then◌else◌, Option, Some, None, unwrap_or, Result, Ok, Err, ℤ}
 use Rattle.dia_base.specs.declared.number.Moment.{Moment}
 use Rattle.cc_view.specs.declared.reply.CcReply.{CcReply}
 use Rattle.cc_view.specs.declared.request.CcRequest.{CcRequest}
@@ -8,10 +8,12 @@ use Rattle.cc_book.specs.declared.book.BookRefusal.{BookRefusal}
 use Rattle.cc_book.specs.declared.book.BookRefusal.TheVariants.{Full, OutOfMemory}
 use Rattle.cc_book.specs.declared.entry.Entry.{Entry}
 use Rattle.cc_book.specs.declared.entry.Entry.TheVariants.{Take}
+use Rattle.cc_book.specs.declared.session.OpenSession.{OpenSession}
 use Rattle.cc_book.specs.declared.terms.Terms.{Terms}
-use Rattle.cc_book.specs.AccountMachine.{reply_to, kept_reply}
+use Rattle.cc_book.specs.AccountMachine.{reply_to, kept_reply, postings_of}
 use Rattle.cc_book.specs.Duplicate.{key_of}
 use Rattle.cc_book.specs.History.{IsLegal, place_of}
+use Rattle.cc_book.specs.Standing.{Stands}
 
 -- a book, as contracts see it
 pub record Ledger : Type 0 where
@@ -46,9 +48,11 @@ is_fresh (Err refusal) = false
 abbrev pub with_take : Ledger → Moment → CcRequest → Ledger
 with_take ledger moment request = record ledger { history = ledger.history ++ Take moment request ∷ [] }
 
--- what is true of each book
-pub record KeepsLimits (terms : Terms) (limit : ℕ) (history : List Entry) : Type 0 where
+-- What is true of each book: it keeps its limits, and beside its entries what they replied and what they have left.
+pub record IsBook (terms : Terms) (limit : ℕ) (history : List Entry) (replies : List (Option CcReply)) (balances : List ℤ) (sessions : List OpenSession) : Type 0 where
   pub legal : IsLegal terms history
   pub within : length history ≤ limit
   -- the most entries that a book may be made for
   pub most : limit ≤ 2 ^ 20
+  pub replies_kept : replies ≡ map (λ posting. posting.reply) (postings_of terms history)
+  pub stands : Stands terms (postings_of terms history) balances sessions

@@ -1,7 +1,8 @@
 //! What the services of a request ask, by the tariffs.
 
-ghost use Rattle.std.specs.Prelude.{◌≡◌};
-ghost use Rattle.cc_book.specs.ServiceRating.{asked_of, unit_code};
+ghost use Rattle.std.specs.Prelude.{◌≡◌, ◌<◌, ◌^◌};
+ghost use Rattle.cc_view.specs.Request.ServiceLimits.{HasSmallSums};
+ghost use Rattle.cc_book.specs.ServiceRating.{asked_of, unit_code, used_of};
 
 use cc_rating::{Tariff, UnitKind};
 use cc_view::Service;
@@ -38,4 +39,18 @@ pub fn asked_of(tariff: &Tariff, service: &Service) -> Option<u64>
         UnitKind::Units => units,
     };
     Some(count.unwrap_or(tariff.quantum))
+}
+
+/// The units that a service has used.
+pub fn used_of(tariff: &Tariff, service: &Service) -> u128
+    requires { HasSmallSums service.now }
+    ensures value { result ≡ used_of tariff.now service.now }
+    ensures most { result < 2 ^ 78 }
+{
+    let [time, octets, units] = service.used;
+    match tariff.kind {
+        UnitKind::Time => time,
+        UnitKind::Octets => octets,
+        UnitKind::Units => units,
+    }
 }

@@ -1,16 +1,15 @@
 //! The account book: a history of requests, from which every balance and reply is made.
 
-ghost use Rattle.std.specs.Prelude.{◌≡◌, ◌≤◌, ◌<◌, ◌^◌, [], length, IfOk, if◌then◌else◌, nat_lt, Some, None, pos};
-ghost use Rattle.std.specs.Bool.{OnTrue};
+ghost use Rattle.std.specs.Prelude.{◌≡◌, ◌≤◌, ◌<◌, ◌^◌, ◌≤ℤ◌, [], length, negsuc, IfNone, IfOk, IfSome, IsSome, OnOk, if◌then◌else◌, nat_lt, Some, None, false, pos, slice_index_or, vec_capacity, vec_len};
 ghost use Rattle.cc_book.specs.declared.book.BookRefusal.TheVariants.{OutOfMemory};
-ghost use Rattle.cc_book.specs.Duplicate.{key_of};
-ghost use Rattle.cc_book.specs.History.{IsNew};
 ghost use Rattle.cc_book.specs.Taking.{AnswersWith, answer_of};
 
 use crate::account::{Account, Money};
-use crate::copy::copy_of_request;
+use crate::copy::{copy_of_reply, copy_of_request};
 use crate::entry::Entry;
 use crate::key::kept;
+use crate::session::OpenSession;
+use crate::standing::Standing;
 use crate::terms::Terms;
 use cc_rating::Tariffs;
 use cc_view::{CcReply, CcRequest};
@@ -18,12 +17,6 @@ use dia_base::{HISTORY_LIMIT, Listing, Moment};
 use std::alloc::{AllocError, AllocFailed, Global};
 use std::marker::Model;
 use thiserror::Error;
-
-/// How many sessions are open: no request opens one yet.
-const OPEN_SESSIONS: u64 = 0;
-
-/// What sessions hold of each account.
-const RESERVED: i128 = 0;
 
 /// What the book answers to a request that it keeps.
 #[derive(Debug, Drop)]
@@ -60,24 +53,26 @@ impl<T: Drop> From<AllocFailed<T>> for BookRefusal {
     }
 }
 
-/// The account book. It is its history: balances and replies are made from the entries alone.
+/// The account book. It is its history: balances, reservations, sessions and replies are made from the entries alone.
+/// Beside the entries it keeps what they replied and what they have left, so that nothing is worked out twice.
 #[derive(Debug, Drop)]
 pub struct Book {
     terms: Terms,
     limit: u64,
     history: Vec<Entry>,
+    /// The reply of each entry, none of a sweep.
+    replies: Vec<Option<CcReply>>,
+    standing: Standing,
 }
 
 impl Model for Book {
-    ghost use Rattle.std.specs.Prelude.{◌≤◌, length};
-    ghost use Rattle.cc_book.specs.History.{IsLegal};
-    ghost use Rattle.cc_book.specs.Taking.{Ledger, KeepsLimits};
+    ghost use Rattle.cc_book.specs.Taking.{IsBook, Ledger};
 
     ghost Value = { Ledger };
 
     ghost view = { λ b. record { terms = b.terms; limit = b.limit; history = b.history.items } };
 
-    ghost invariant = { λ b. KeepsLimits b.terms b.limit b.history.items };
+    ghost invariant = { λ b. IsBook b.terms b.limit b.history.items b.replies.items b.standing.balances.items b.standing.sessions.items };
 }
 
 impl Book {
@@ -100,6 +95,7 @@ impl Book {
         ensures limit { IfOk result (λ book. book.limit ≡ limit) }
         ensures history { IfOk result (λ book. book.history ≡ []) }
     {
+        let standing = Standing::new(alloc, &accounts)?;
         Ok(Book {
             terms: Terms {
                 accounts: Listing::from_vec(accounts),
@@ -109,6 +105,8 @@ impl Book {
             },
             limit,
             history: Vec::new(alloc),
+            replies: Vec::new(alloc),
+            standing,
         })
     }
 
@@ -116,12 +114,24 @@ impl Book {
     pub fn quote(
         &self,
         alloc: Global,
-        _moment: Moment,
+        moment: Moment,
         request: &CcRequest,
     ) -> Result<Answered, BookRefusal>
         ensures { AnswersWith (answer_of self.now request.now) result }
     {
-        answer_after(alloc, &self.terms, self.limit, &self.history, request)
+        if let Some((place, _)) = kept(&self.history, request) {
+            return Ok(kept_answer(alloc, &self.replies, place)?);
+        }
+        let Some(place) = free_place(&self.history, self.limit) else {
+            return Err(BookRefusal::Full { limit: self.limit });
+        };
+        let deed = self.terms.deed_of(alloc, &self.standing, moment, request)?;
+        let reply = deed.reply;
+        Ok(Answered {
+            reply,
+            place,
+            fresh: true,
+        })
     }
 
     /// Takes a request (RFC 8506, section 6). One whose key is kept gets the kept reply and its place, and nothing
@@ -136,12 +146,29 @@ impl Book {
         ensures answer { AnswersWith (answer_of self.old request.now) result }
         ensures after { self.new ≡ (if is_fresh result then with_take self.old moment request.now else self.old) }
     {
-        let answered = answer_after(alloc, &self.terms, self.limit, &self.history, request)?;
-        if answered.fresh {
-            let request = copy_of_request(alloc, request)?;
-            self.history.push(Entry::Take { moment, request })?;
+        if let Some((place, _)) = kept(&self.history, request) {
+            return Ok(kept_answer(alloc, &self.replies, place)?);
         }
-        Ok(answered)
+        let Some(place) = free_place(&self.history, self.limit) else {
+            return Err(BookRefusal::Full { limit: self.limit });
+        };
+        let deed = self.terms.deed_of(alloc, &self.standing, moment, request)?;
+        let reply = copy_of_reply(alloc, &deed.reply)?;
+        let request = copy_of_request(alloc, request)?;
+        make_room(
+            &mut self.history,
+            &mut self.replies,
+            &mut self.standing.sessions,
+        )?;
+        self.history.push_reserved(Entry::Take { moment, request });
+        self.replies.push_reserved(Some(reply));
+        self.standing.debit(deed.account, deed.debit);
+        self.standing.change(deed.change);
+        Ok(Answered {
+            reply: deed.reply,
+            place,
+            fresh: true,
+        })
     }
 
     /// The accounts, as they were handed to `new`.
@@ -151,12 +178,14 @@ impl Book {
         self.terms.accounts.as_slice()
     }
 
-    /// The balance of the account at this place. None beyond the last account.
+    /// The balance of the account at this place, which stays below 2^124 in size. None beyond the last account.
     pub fn balance(&self, account: usize) -> Option<i128>
-        ensures { result ≡ (if nat_lt account (length self.now.terms.accounts) then Some (balance_of self.now.terms self.now.history account) else None) }
+        ensures least { IfSome result (λ balance. negsuc (2 ^ 124) ≤ℤ balance) }
+        ensures most { IfSome result (λ balance. balance ≤ℤ pos (2 ^ 124)) }
+        ensures value { result ≡ (if nat_lt account (length self.now.terms.accounts) then Some (balance_of self.now.terms self.now.history account) else None) }
     {
         if account < self.terms.accounts.len() {
-            Some(self.terms.balance_after(&self.history, account))
+            Some(self.standing.balances[account])
         } else {
             None
         }
@@ -167,7 +196,7 @@ impl Book {
         ensures { result ≡ (if nat_lt account (length self.now.terms.accounts) then Some (pos (reserved_of self.now.terms self.now.history account)) else None) }
     {
         if account < self.terms.accounts.len() {
-            Some(RESERVED)
+            Some(self.standing.reserved(account) as i128)
         } else {
             None
         }
@@ -177,7 +206,7 @@ impl Book {
     pub fn open_sessions(&self) -> u64
         ensures { result ≡ open_sessions_of self.now.terms self.now.history }
     {
-        OPEN_SESSIONS
+        self.standing.sessions.len() as u64
     }
 
     /// The entries, the oldest first.
@@ -190,34 +219,49 @@ impl Book {
     }
 }
 
-/// What a book of these terms, this limit and this history answers to a request.
-fn answer_after(
+/// The answer to a repeat: the reply that is kept at this place.
+fn kept_answer(
     alloc: Global,
-    terms: &Terms,
-    limit: u64,
-    history: &[Entry],
-    request: &CcRequest,
-) -> Result<Answered, BookRefusal>
-    requires { length history.now ≤ 2 ^ 20 }
-    ensures answer { AnswersWith (answer_of (record { terms = terms.now; limit = limit; history = history.now }) request.now) result }
-    // What is fresh can be appended.
-    ensures new { IfOk result (λ answered. OnTrue answered.fresh (IsNew history.now (key_of request.now))) }
-    ensures room { IfOk result (λ answered. OnTrue answered.fresh (length history.now < limit)) }
+    replies: &[Option<CcReply>],
+    place: usize,
+) -> Result<Answered, AllocError>
+    requires { IsSome (slice_index_or replies.now place None) }
+    ensures { IfOk result (λ answered. IfSome (slice_index_or replies.now place None) (λ reply. answered ≡ record { reply = reply; place = place; fresh = false })) }
 {
-    if let Some((place, taken)) = kept(history, request) {
-        return Ok(Answered {
-            reply: terms.reply_to(alloc, &history[..place], taken)?,
+    match &replies[place] {
+        Some(reply) => Ok(Answered {
+            reply: copy_of_reply(alloc, reply)?,
             place: place as u64,
             fresh: false,
-        });
+        }),
+        None => unreachable!(),
     }
+}
+
+/// The place of the next entry. None where the history is at its limit.
+fn free_place(history: &[Entry], limit: u64) -> Option<u64>
+    ensures some { IfSome result (λ place. (place ≡ length history.now) × (length history.now < limit)) }
+    ensures none { IfNone result (limit ≤ length history.now) }
+{
     let place = history.len() as u64;
     if limit <= place {
-        return Err(BookRefusal::Full { limit });
+        return None;
     }
-    Ok(Answered {
-        reply: terms.reply_to(alloc, history, request)?,
-        place,
-        fresh: true,
-    })
+    Some(place)
+}
+
+/// Makes room for one more of each. Whatever comes of it, they stay as they were.
+fn make_room(
+    history: &mut Vec<Entry>,
+    replies: &mut Vec<Option<CcReply>>,
+    sessions: &mut Vec<OpenSession>,
+) -> Result<(), AllocError>
+    ensures history { history.new.items ≡ history.old.items }
+    ensures replies { replies.new.items ≡ replies.old.items }
+    ensures sessions { sessions.new.items ≡ sessions.old.items }
+    ensures room { OnOk result ((vec_len history.new < vec_capacity history.new) × (vec_len replies.new < vec_capacity replies.new) × (vec_len sessions.new < vec_capacity sessions.new)) }
+{
+    history.reserve(1)?;
+    replies.reserve(1)?;
+    sessions.reserve(1)
 }

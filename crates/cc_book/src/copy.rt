@@ -1,8 +1,8 @@
-//! Copies of requests and what is in them.
+//! Copies of requests and replies.
 
 ghost use Rattle.std.specs.Prelude.{◌≡◌, IfOk};
 
-use cc_view::{CcRequest, Services};
+use cc_view::{CcReply, CcRequest, Services};
 use dia_base::Listing;
 use std::alloc::{AllocError, Global};
 
@@ -17,5 +17,17 @@ pub fn copy_of_request(alloc: Global, request: &CcRequest) -> Result<CcRequest, 
         action: request.action,
         subscriptions: Listing::from_vec(request.subscriptions.as_slice().to_vec(alloc)?),
         services: Services::from_vec(request.services.as_slice().to_vec(alloc)?),
+    })
+}
+
+/// A copy of the reply.
+pub fn copy_of_reply(alloc: Global, reply: &CcReply) -> Result<CcReply, AllocError>
+    ensures { IfOk result (λ copy. copy ≡ reply.now) }
+{
+    Ok(CcReply {
+        code: reply.code,
+        services: Listing::from_vec(reply.services.as_slice().to_vec(alloc)?),
+        cost: reply.cost,
+        check: reply.check,
     })
 }

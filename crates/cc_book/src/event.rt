@@ -1,38 +1,65 @@
-//! The reply to an EVENT (RFC 8506, section 8.41).
+//! What an EVENT does (RFC 8506, sections 6 and 8.41).
 
-ghost use Rattle.std.specs.Prelude.{◌≡◌, ◌≤◌, ◌<◌, ◌^◌, length, IfOk};
-ghost use Rattle.cc_book.specs.AccountMachine.{account_of, action_reply, check_reply, debiting_reply, event_reply, needs_account, postings_of, price_reply};
+ghost use Rattle.std.specs.Prelude.{◌≡◌, ◌<◌, ◌^◌, ◌≤ℤ◌, List, pos, negsuc, IfOk, IfSome};
+ghost use Rattle.dia_base.specs.declared.number.Moment.{Moment};
+ghost use Rattle.cc_view.specs.declared.request.RequestKind.TheVariants.{Event};
+ghost use Rattle.cc_book.specs.AccountMachine.{action_debit, action_reply, check_reply, debiting_reply, event_reply, needs_account, price_reply, total_of};
+ghost use Rattle.cc_book.specs.Posting.{Posting};
+ghost use Rattle.cc_book.specs.Standing.{IsDeed, IsSmall, Stands};
 
 use crate::account::Money;
-use crate::entry::Entry;
+use crate::deed::{Change, Deed};
+use crate::standing::Standing;
 use crate::terms::{Terms, code_alone};
 use cc_view::{CcReply, CcRequest, Cost, RequestedAction, ResultCode, Service};
 use dia_base::Listing;
 use std::alloc::{AllocError, Global};
 
 impl Terms {
-    /// The reply to an EVENT after these entries.
-    pub fn event_reply(
+    /// What an EVENT does: it charges the account that it names, and touches no session.
+    pub fn event_deed(
         &self,
         alloc: Global,
-        history: &[Entry],
+        standing: &Standing,
         request: &CcRequest,
+    ) -> Result<Deed, AllocError>
+        requires { IsSmall self.now standing.now.balances.items standing.now.sessions.items }
+        ensures { IfOk result (λ deed. (before : List Posting) (moment : Moment) → request.now.kind ≡ Event → Stands self.now before standing.now.balances.items standing.now.sessions.items → IsDeed self.now before standing.now.sessions.items moment request.now deed) }
+    {
+        let account = self.account_of(request);
+        let free = standing.free_for(account);
+        let total = self.total_of(request.services.as_slice());
+        let reply = self.event_reply(alloc, request, account, free, total)?;
+        Ok(Deed {
+            account,
+            debit: action_debit(total.unwrap_or(0), reply.code, request.action),
+            reply,
+            change: Change::Stays,
+        })
+    }
+
+    /// The reply to an EVENT on an account, where so much is free and what it asks costs this total.
+    fn event_reply(
+        &self,
+        alloc: Global,
+        request: &CcRequest,
+        account: Option<usize>,
+        free: i128,
+        total: Option<u128>,
     ) -> Result<CcReply, AllocError>
-        requires { length history.now ≤ 2 ^ 20 }
-        ensures { IfOk result (λ reply. reply ≡ event_reply self.now (postings_of self.now history.now) request.now.services (account_of self.now.accounts request.now.subscriptions) request.now.action) }
+        requires is_total { total ≡ total_of self.now.tariffs request.now.services }
+        requires most { IfSome total (λ total. total < 2 ^ 90) }
+        ensures { IfOk result (λ reply. reply ≡ event_reply self.now request.now.services account free request.now.action) }
     {
         let Some(action) = request.action else {
             return Ok(code_alone(alloc, ResultCode::UnableToComply));
         };
-        let account = self.account_of(request);
         if needs_account(action) && account.is_none() {
             return Ok(code_alone(alloc, ResultCode::UserUnknown));
         }
-        let services = request.services.as_slice();
-        match self.total_of(services) {
+        match total {
             Some(total) => {
-                let free = self.free_for(history, account);
-                self.action_reply(alloc, services, total, free, action)
+                self.action_reply(alloc, request.services.as_slice(), total, free, action)
             }
             None => Ok(code_alone(alloc, ResultCode::RatingFailed)),
         }
@@ -118,4 +145,18 @@ fn needs_account(action: RequestedAction) -> bool
     ensures { result ≡ needs_account action }
 {
     action != RequestedAction::PriceEnquiry
+}
+
+/// What an action debits, where it was answered so: a DIRECT_DEBITING its total, a REFUND_ACCOUNT the total below 0.
+fn action_debit(total: u128, code: ResultCode, action: Option<RequestedAction>) -> i128
+    requires { total < 2 ^ 90 }
+    ensures value { result ≡ action_debit total code action }
+    ensures least { negsuc (2 ^ 90) ≤ℤ result }
+    ensures most { result ≤ℤ pos (2 ^ 90) }
+{
+    match (code, action) {
+        (ResultCode::Success, Some(RequestedAction::DirectDebiting)) => total as i128,
+        (ResultCode::Success, Some(RequestedAction::RefundAccount)) => -(total as i128),
+        _ => 0,
+    }
 }

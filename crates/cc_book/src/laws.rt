@@ -1,27 +1,35 @@
 //! Laws of the account book, in the words of a reader who knows none of its code.
+#![tactic(auto, unfolding(crate::specs::AccountMachine::postings_of, crate::specs::AccountMachine::reply_to, crate::specs::Balance::balance_of, crate::specs::Balance::open_sessions_of, crate::specs::Balance::reserved_of, crate::specs::Balance::spent_by,))]
 
-ghost use Rattle.std.specs.Prelude.{◌≡◌, ◌≢◌, ℕ, ◌<◌, List, [], ◌∷◌, ◌++◌, ◌↔◌, length, None, Some, true, false, codes, if◌then◌else◌, pos, negsuc, ◌-ℤ◌, ◌≤ℤ◌};
+ghost use Rattle.std.specs.Prelude.{◌≡◌, ◌≢◌, ℕ, ◌<◌, ◌≤◌, All, List, find, [], ◌∷◌, ◌++◌, ◌↔◌, length, None, Some, true, false, codes, if◌then◌else◌, pos, negsuc, ◌-ℤ◌, ◌≤ℤ◌};
+ghost use Rattle.std.specs.Int.{int_max};
 ghost use Rattle.dia_base.specs.declared.number.Moment.{Moment};
 ghost use Rattle.cc_view.specs.Answer.Fitting.{Fits};
 ghost use Rattle.cc_view.specs.Request.ServiceLimits.{WithinLimits};
-ghost use Rattle.cc_view.specs.declared.code.ResultCode.TheVariants.{Success, UserUnknown};
-ghost use Rattle.cc_view.specs.declared.request.RequestKind.TheVariants.{Event};
+ghost use Rattle.cc_view.specs.declared.code.ResultCode.TheVariants.{Success, CreditLimitReached, UnableToComply, UnknownSessionId, UserUnknown};
+ghost use Rattle.cc_view.specs.declared.request.RequestKind.TheVariants.{Event, Initial, Termination, Update};
 ghost use Rattle.cc_view.specs.declared.request.RequestedAction.TheVariants.{DirectDebiting, RefundAccount, CheckBalance, PriceEnquiry};
 ghost use Rattle.cc_view.specs.declared.reply.CcReply.{CcReply};
 ghost use Rattle.cc_view.specs.declared.request.CcRequest.{CcRequest};
+ghost use Rattle.cc_view.specs.declared.request.ServiceName.{ServiceName};
+ghost use Rattle.cc_rating.specs.Rating.{cost_of};
+ghost use Rattle.cc_rating.specs.Tariffs.{fault_of, rates};
+ghost use Rattle.cc_rating.specs.declared.tariff.Tariff.{Tariff};
 ghost use Rattle.cc_book.specs.declared.entry.Entry.{Entry};
 ghost use Rattle.cc_book.specs.declared.entry.Entry.TheVariants.{Take, Sweep};
 ghost use Rattle.cc_book.specs.declared.terms.Terms.{Terms};
-ghost use Rattle.cc_book.specs.AccountMachine.{account_of, charged_account, code_alone, free_after, opening_at, total_of, postings_of, reply_to, kept_reply};
-ghost use Rattle.cc_book.specs.Balance.{debit_of, balance_of};
+ghost use Rattle.cc_book.specs.AccountMachine.{account_of, charged_account, code_alone, free_after, free_to_grant, grants_after, opening_at, total_of, postings_of, reply_to, kept_reply};
+ghost use Rattle.cc_book.specs.Balance.{debit_of, balance_of, open_sessions_of, reserved_of};
 ghost use Rattle.cc_book.specs.Duplicate.{key_of};
 ghost use Rattle.cc_book.specs.History.{IsLegal, IsNew, ended_sessions};
-ghost use Rattle.cc_book.specs.Laws.{total_below, debits_of, cost_of_reply, RepliesToEntry};
+ghost use Rattle.cc_book.specs.Laws.{HasLimits, IsRefused, RepliesToEntry, cost_of_reply, debits_of, grants_alive, total_below};
 ghost use Rattle.cc_book.specs.Posting.{is_account};
 ghost use Rattle.cc_book.specs.Reservation.{held_by, reserved_by};
-ghost use Rattle.cc_book.specs.RowExample.{event_on, row_terms, taken};
+ghost use Rattle.cc_book.specs.RowExample.{any_units, bare_initial, bare_reply, bare_terms, ended_by, event_between, event_on, granted_units, gratis_terms, half_bare_initial, initial, initial_again, no_units, octets, opened_by, request_of, row_service, row_terms, success, taken, termination, two_services_initial, two_services_update, unrated_initial, unrated_reply, update, updated_by};
+ghost use Rattle.cc_book.specs.ServiceRating.{used_total};
 ghost use Rattle.cc_book.specs.Session.{is_open, open_count, session_of};
-ghost use Rattle.cc_book.specs.SessionExample.{early_update, event, failed_opening, group_opening, narrow_update, opening, other_opening, other_termination, reopening, second_opening, service_name, session, small_terms, strange_update, swept, termination, update, wide_opening};
+ghost use Rattle.cc_book.specs.SessionExample.{early_update, failed_opening, first_termination, first_update, group_opening, narrow_update, opening, other_opening, other_termination, reopening, second_opening, service_name, session, small_terms, strange_update, swept, unrelated_event, wide_opening};
+ghost use Rattle.cc_book.specs.Standing.{held_in};
 
 /// In a legal history the reply that is kept for a request is the account machine's after the entries before it.
 pub fn kept_reply_is_the_first()
@@ -79,13 +87,14 @@ pub fn openings_less_debits_are_balances()
 {}
 
 /// A DIRECT_DEBITING debits what the units cost that its reply grants, by the tariffs of its services: nothing
-/// where nothing is granted. One that succeeds takes no more than its account has (RFC 8506, section 8.41).
+/// where nothing is granted. One that succeeds takes no more than is free of its account, beside what sessions hold
+/// of it (RFC 8506, section 8.41).
 pub fn debits_pay_for_what_is_granted()
     ensures paid { (terms : Terms) (history : List Entry) (request : CcRequest) → request.kind ≡ Event → request.action ≡ Some DirectDebiting →
         debit_of terms history request ≡ pos (cost_of_reply terms.tariffs (reply_to terms history request)) }
     ensures covered { (terms : Terms) (history : List Entry) (request : CcRequest) (account : ℕ) →
         request.kind ≡ Event → request.action ≡ Some DirectDebiting → account_of terms.accounts request.subscriptions ≡ Some account →
-        (reply_to terms history request).code ≡ Success → debit_of terms history request ≤ℤ balance_of terms history account }
+        (reply_to terms history request).code ≡ Success → debit_of terms history request ≤ℤ free_after terms (postings_of terms history) account }
 {}
 
 /// A REFUND_ACCOUNT that succeeds credits what its asked units cost. No other EVENT but a debit moves a balance.
@@ -113,12 +122,12 @@ pub fn new_keys_have_no_reply()
 pub fn sessions_last_twice_their_validity()
     ensures lasts { is_open 600 session (opening ∷ swept 1199999 ∷ []) ≡ true }
     ensures ends { is_open 600 session (opening ∷ swept 1200000 ∷ []) ≡ false }
-    ensures moves { is_open 600 session (opening ∷ update ∷ swept 1200000 ∷ []) ≡ true }
+    ensures moves { is_open 600 session (opening ∷ first_update ∷ swept 1200000 ∷ []) ≡ true }
     ensures reserved { reserved_by 600 0 (opening ∷ []) ≡ 25 }
-    ensures replaced { reserved_by 600 0 (opening ∷ update ∷ []) ≡ 10 }
-    ensures of_others { reserved_by 600 1 (opening ∷ update ∷ []) ≡ 0 }
-    ensures ended { reserved_by 600 0 (opening ∷ termination ∷ reopening ∷ []) ≡ 0 }
-    ensures anew { open_count 600 (opening ∷ termination ∷ reopening ∷ []) ≡ 1 }
+    ensures replaced { reserved_by 600 0 (opening ∷ first_update ∷ []) ≡ 10 }
+    ensures of_others { reserved_by 600 1 (opening ∷ first_update ∷ []) ≡ 0 }
+    ensures ended { reserved_by 600 0 (opening ∷ first_termination ∷ reopening ∷ []) ≡ 0 }
+    ensures anew { open_count 600 (opening ∷ first_termination ∷ reopening ∷ []) ≡ 1 }
 {}
 
 /// The worked example: two sessions and two services. Sessions end and hold apart, by Session-Id; services hold
@@ -128,9 +137,9 @@ pub fn sessions_and_services_stand_apart()
     ensures kept_for_others { reserved_by 600 0 (wide_opening ∷ narrow_update ∷ []) ≡ 32 }
     ensures prolonged { is_open 600 session (wide_opening ∷ second_opening ∷ swept 1201000 ∷ []) ≡ true }
     ensures not_for_longer { is_open 600 session (wide_opening ∷ second_opening ∷ swept 1700000 ∷ []) ≡ false }
-    ensures until_then { is_open 600 session (wide_opening ∷ event ∷ swept 1200999 ∷ []) ≡ true }
-    ensures not_by_event { is_open 600 session (wide_opening ∷ event ∷ swept 1201000 ∷ []) ≡ false }
-    ensures held_through_event { reserved_by 600 0 (wide_opening ∷ event ∷ []) ≡ 35 }
+    ensures until_then { is_open 600 session (wide_opening ∷ unrelated_event ∷ swept 1200999 ∷ []) ≡ true }
+    ensures not_by_event { is_open 600 session (wide_opening ∷ unrelated_event ∷ swept 1201000 ∷ []) ≡ false }
+    ensures held_through_event { reserved_by 600 0 (wide_opening ∷ unrelated_event ∷ []) ≡ 35 }
     ensures other_ended { reserved_by 600 0 (wide_opening ∷ other_opening ∷ other_termination ∷ []) ≡ 35 }
     ensures two_open { open_count 600 (wide_opening ∷ other_opening ∷ []) ≡ 2 }
     ensures back { is_open 600 session (wide_opening ∷ early_update ∷ swept 1200500 ∷ []) ≡ false }
@@ -154,4 +163,165 @@ pub fn what_events_do()
     ensures unchanged { balance_of row_terms (taken 1000 (event_on (codes "491700000003") CheckBalance) ∷ []) 2 ≡ pos 4 }
     ensures price { (reply_to row_terms [] (event_on (codes "499") PriceEnquiry)).cost ≡ Some (record { digits = pos 20; exponent = negsuc 1; currency = 978 }) }
     ensures unknown { reply_to row_terms [] (event_on (codes "499") DirectDebiting) ≡ code_alone UserUnknown }
+{}
+
+/// The worked example: what an INITIAL is granted where a block of 1000 octets costs 5, and what is then reserved. All
+/// that is asked is granted where it is free; else the whole blocks that are free, as the last grant; else nothing
+/// (RFC 8506, section 5.2).
+pub fn what_openings_grant()
+    ensures full { reply_to row_terms [] (initial (codes "491700000001") any_units) ≡ success (granted_units None 5000 false ∷ []) }
+    ensures full_held { reserved_of row_terms (opened_by (codes "491700000001")) 0 ≡ 25 }
+    ensures cut_down { reply_to row_terms [] (initial (codes "491700000002") any_units) ≡ success (granted_units None 2000 true ∷ []) }
+    ensures cut_down_held { reserved_of row_terms (opened_by (codes "491700000002")) 1 ≡ 10 }
+    ensures none { reply_to row_terms [] (initial (codes "491700000003") any_units) ≡ success (no_units None CreditLimitReached ∷ []) }
+    ensures none_held { reserved_of row_terms (opened_by (codes "491700000003")) 2 ≡ 0 }
+    ensures begun { reply_to row_terms [] (initial (codes "491700000004") (octets 4500)) ≡ success (granted_units None 4500 false ∷ []) }
+    ensures begun_held { reserved_of row_terms (taken 1000 (initial (codes "491700000004") (octets 4500)) ∷ []) 3 ≡ 25 }
+    ensures too_many { reply_to row_terms [] (initial (codes "491700000004") (octets 5500)) ≡ success (granted_units None 5000 true ∷ []) }
+    ensures too_many_held { reserved_of row_terms (taken 1000 (initial (codes "491700000004") (octets 5500)) ∷ []) 3 ≡ 25 }
+    ensures greatest { reply_to row_terms [] (initial (codes "491700000001") (octets 20000)) ≡ success (granted_units None 10000 false ∷ []) }
+    ensures stranger { reply_to row_terms [] (initial (codes "499") any_units) ≡ code_alone UserUnknown }
+{}
+
+/// The worked example: an UPDATE ends the reservation of its service, debits what was used, though the balance falls
+/// below zero, and grants anew of what is free then. It charges the account that opened the session (RFC 8506,
+/// section 5.3).
+pub fn what_updates_settle()
+    ensures granted { reply_to row_terms (opened_by (codes "491700000001")) (update (codes "491700000001") 3000) ≡ success (granted_units None 5000 false ∷ []) }
+    ensures debited { balance_of row_terms (updated_by (codes "491700000001") 3000) 0 ≡ pos 985 }
+    ensures held { reserved_of row_terms (updated_by (codes "491700000001") 3000) 0 ≡ 25 }
+    ensures overdrawn { reply_to row_terms (opened_by (codes "491700000005")) (update (codes "491700000005") 7000) ≡ success (no_units None CreditLimitReached ∷ []) }
+    ensures in_debt { balance_of row_terms (updated_by (codes "491700000005") 7000) 4 ≡ negsuc 9 }
+    ensures none_held { reserved_of row_terms (updated_by (codes "491700000005") 7000) 4 ≡ 0 }
+    ensures still_open { open_sessions_of row_terms (updated_by (codes "491700000005") 7000) ≡ 1 }
+    ensures not_open { reply_to row_terms [] (update (codes "491700000001") 3000) ≡ code_alone UnknownSessionId }
+    ensures unmoved { balance_of row_terms (taken 1000 (update (codes "491700000001") 3000) ∷ []) 0 ≡ pos 1000 }
+    ensures of_opener { balance_of row_terms (opened_by (codes "491700000001") ++ taken 2000 (update (codes "491700000002") 3000) ∷ []) 0 ≡ pos 985 }
+    ensures not_of_other { balance_of row_terms (opened_by (codes "491700000001") ++ taken 2000 (update (codes "491700000002") 3000) ∷ []) 1 ≡ pos 12 }
+{}
+
+/// The worked example: a TERMINATION debits what was used, ends the reservations of its session and the session. After
+/// it the session is unknown, until an INITIAL opens it anew. Nothing is granted to a TERMINATION (RFC 8506,
+/// section 5.4).
+pub fn what_terminations_end()
+    ensures answered { reply_to row_terms (opened_by (codes "491700000001")) (termination (codes "491700000001") 3000) ≡ success (no_units None Success ∷ []) }
+    ensures debited { balance_of row_terms (ended_by (codes "491700000001") 3000) 0 ≡ pos 985 }
+    ensures released { reserved_of row_terms (ended_by (codes "491700000001") 3000) 0 ≡ 0 }
+    ensures none_open { open_sessions_of row_terms (ended_by (codes "491700000001") 3000) ≡ 0 }
+    ensures unknown { reply_to row_terms (ended_by (codes "491700000001") 3000) (update (codes "491700000001") 0) ≡ code_alone UnknownSessionId }
+    ensures twice { reply_to row_terms (ended_by (codes "491700000001") 3000) (termination (codes "491700000001") 0) ≡ code_alone UnknownSessionId }
+    ensures open_already { reply_to row_terms (opened_by (codes "491700000001")) (initial_again (codes "491700000001")) ≡ code_alone UnableToComply }
+    ensures anew { reply_to row_terms (ended_by (codes "491700000001") 3000) (initial_again (codes "491700000001")) ≡ success (granted_units None 5000 false ∷ []) }
+    ensures anew_held { reserved_of row_terms (ended_by (codes "491700000001") 3000 ++ taken 3000 (initial_again (codes "491700000001")) ∷ []) 0 ≡ 25 }
+    ensures anew_open { open_sessions_of row_terms (ended_by (codes "491700000001") 3000 ++ taken 3000 (initial_again (codes "491700000001")) ∷ []) ≡ 1 }
+    ensures asked { reply_to row_terms (opened_by (codes "491700000001")) (request_of 2 Termination None (codes "491700000001") (row_service None any_units 3000 ∷ []))
+        ≡ success (no_units None Success ∷ []) }
+    ensures asked_held { reserved_of row_terms (opened_by (codes "491700000001") ++ taken 2000 (request_of 2 Termination None (codes "491700000001") (row_service None any_units 3000 ∷ [])) ∷ []) 0 ≡ 0 }
+{}
+
+/// The worked example: a sweep ends a session twice its validity after its last request, and what it held is free again
+/// (RFC 8506, section 5.7).
+pub fn what_sweeps_release()
+    ensures too_early { reserved_of row_terms (opened_by (codes "491700000001") ++ Sweep (record { 0 = 1200999 }) ∷ []) 0 ≡ 25 }
+    ensures released { reserved_of row_terms (opened_by (codes "491700000001") ++ Sweep (record { 0 = 1201000 }) ∷ []) 0 ≡ 0 }
+    ensures ended { ended_sessions row_terms (opened_by (codes "491700000001")) (record { 0 = 1201000 }) ≡ 1 }
+    ensures unmoved { balance_of row_terms (opened_by (codes "491700000001") ++ Sweep (record { 0 = 1201000 }) ∷ []) 0 ≡ pos 1000 }
+    ensures unknown { reply_to row_terms (opened_by (codes "491700000001") ++ Sweep (record { 0 = 1201000 }) ∷ []) (update (codes "491700000001") 3000) ≡ code_alone UnknownSessionId }
+    ensures after_update { reserved_of row_terms (updated_by (codes "491700000001") 3000 ++ Sweep (record { 0 = 1201000 }) ∷ []) 0 ≡ 25 }
+{}
+
+/// The worked example: the services of a request are granted in order, each of what those before it leave free, and
+/// each has a Result-Code of its own (RFC 8506, section 5.1.2). One without a tariff has no units and is not charged.
+pub fn what_services_share()
+    ensures opened { reply_to row_terms [] two_services_initial ≡ success (granted_units None 5000 false ∷ no_units (Some 1) CreditLimitReached ∷ []) }
+    ensures opened_held { reserved_of row_terms (taken 1000 two_services_initial ∷ []) 3 ≡ 25 }
+    ensures updated { reply_to row_terms (taken 1000 two_services_initial ∷ []) two_services_update ≡ success (granted_units None 4000 true ∷ no_units (Some 1) Success ∷ []) }
+    ensures debited { balance_of row_terms (taken 1000 two_services_initial ∷ taken 2000 two_services_update ∷ []) 3 ≡ pos 22 }
+    ensures updated_held { reserved_of row_terms (taken 1000 two_services_initial ∷ taken 2000 two_services_update ∷ []) 3 ≡ 20 }
+    ensures of_nothing { reply_to row_terms [] (request_of 0 Initial None (codes "491700000005") (row_service None any_units 0 ∷ row_service (Some 1) (octets 0) 0 ∷ []))
+        ≡ success (granted_units None 5000 false ∷ granted_units (Some 1) 0 false ∷ []) }
+    ensures of_debt { reply_to row_terms (updated_by (codes "491700000005") 7000) (request_of 2 Update None (codes "491700000005") (row_service None (octets 0) 0 ∷ []))
+        ≡ success (no_units None CreditLimitReached ∷ []) }
+    ensures gratis { reply_to gratis_terms [] (initial (codes "491700000001") (octets 7000)) ≡ success (granted_units None 7000 false ∷ []) }
+    ensures unrated { reply_to row_terms [] unrated_initial ≡ success (unrated_reply ∷ granted_units None 5000 false ∷ []) }
+    ensures uncharged { balance_of row_terms (taken 1000 unrated_initial ∷ []) 0 ≡ pos 1000 }
+{}
+
+/// The worked example: where a request has a service of the command itself, its Result-Code is the command's. An
+/// INITIAL that is refused so opens no session and reserves nothing.
+pub fn what_bare_services_decide()
+    ensures granted { reply_to bare_terms [] (bare_initial (codes "491700000001")) ≡ bare_reply Success (Some 5000) (Some 600) }
+    ensures opened { open_sessions_of bare_terms (taken 1000 (bare_initial (codes "491700000001")) ∷ []) ≡ 1 }
+    ensures refused { reply_to bare_terms [] (bare_initial (codes "491700000003")) ≡ bare_reply CreditLimitReached None None }
+    ensures not_opened { open_sessions_of bare_terms (taken 1000 (bare_initial (codes "491700000003")) ∷ []) ≡ 0 }
+    ensures not_held { reserved_of bare_terms (taken 1000 (bare_initial (codes "491700000003")) ∷ []) 2 ≡ 0 }
+    ensures beside_granted { (reply_to bare_terms [] half_bare_initial).code ≡ CreditLimitReached }
+    ensures beside_held { reserved_of bare_terms (taken 1000 half_bare_initial ∷ []) 3 ≡ 0 }
+{}
+
+/// The worked example: an EVENT under the Session-Id of an open session is charged beside it. It leaves the session
+/// open and its reservation as it was, and what is reserved is not free for it (RFC 8506, section 6).
+pub fn what_events_leave_alone()
+    ensures debited { balance_of row_terms (opened_by (codes "491700000001") ++ taken 2000 (event_between (codes "491700000001") DirectDebiting) ∷ []) 0 ≡ pos 980 }
+    ensures held { reserved_of row_terms (opened_by (codes "491700000001") ++ taken 2000 (event_between (codes "491700000001") DirectDebiting) ∷ []) 0 ≡ 25 }
+    ensures still_open { open_sessions_of row_terms (opened_by (codes "491700000001") ++ taken 2000 (event_between (codes "491700000001") DirectDebiting) ∷ []) ≡ 1 }
+    ensures not_free { reply_to row_terms (opened_by (codes "491700000004")) (event_between (codes "491700000004") DirectDebiting) ≡ code_alone CreditLimitReached }
+    ensures not_enough { (reply_to row_terms (opened_by (codes "491700000004")) (event_between (codes "491700000004") CheckBalance)).check ≡ Some 1 }
+{}
+
+/// A request of a session debits in full what its used units cost, also where less is free: an INITIAL of a session that
+/// is not open, with an account that the site knows, and an UPDATE or a TERMINATION of an open session (RFC 8506,
+/// sections 5.3 and 5.4).
+pub fn sessions_pay_for_what_is_used()
+    ensures initial { (terms : Terms) (history : List Entry) (request : CcRequest) (account : ℕ) → request.kind ≡ Initial →
+        is_open terms.validity request.session (postings_of terms history) ≡ false → account_of terms.accounts request.subscriptions ≡ Some account →
+        debit_of terms history request ≡ pos (used_total terms.tariffs request.services) }
+    ensures update { (terms : Terms) (history : List Entry) (request : CcRequest) → request.kind ≡ Update →
+        is_open terms.validity request.session (postings_of terms history) ≡ true → debit_of terms history request ≡ pos (used_total terms.tariffs request.services) }
+    ensures termination { (terms : Terms) (history : List Entry) (request : CcRequest) → request.kind ≡ Termination →
+        is_open terms.validity request.session (postings_of terms history) ≡ true → debit_of terms history request ≡ pos (used_total terms.tariffs request.services) }
+{}
+
+/// All other requests of sessions are refused: they debit nothing and reserve nothing.
+pub fn other_requests_are_refused()
+    ensures open_already { (terms : Terms) (history : List Entry) (request : CcRequest) → request.kind ≡ Initial →
+        is_open terms.validity request.session (postings_of terms history) ≡ true → IsRefused terms history request UnableToComply }
+    ensures no_account { (terms : Terms) (history : List Entry) (request : CcRequest) → request.kind ≡ Initial →
+        is_open terms.validity request.session (postings_of terms history) ≡ false → account_of terms.accounts request.subscriptions ≡ None →
+        IsRefused terms history request UserUnknown }
+    ensures update { (terms : Terms) (history : List Entry) (request : CcRequest) → request.kind ≡ Update →
+        is_open terms.validity request.session (postings_of terms history) ≡ false → IsRefused terms history request UnknownSessionId }
+    ensures termination { (terms : Terms) (history : List Entry) (request : CcRequest) → request.kind ≡ Termination →
+        is_open terms.validity request.session (postings_of terms history) ≡ false → IsRefused terms history request UnknownSessionId }
+{}
+
+/// What a request reserves adds up to no more than is free for it: that is what is free of its account once the
+/// reservations of its services have ended and their used units are debited, or nothing where that is below zero. So
+/// no grant brings what is free below zero (RFC 8506, section 5.1).
+pub fn grants_are_of_what_is_free()
+    ensures most { (terms : Terms) (history : List Entry) (request : CcRequest) → fault_of terms.tariffs ≡ None →
+        pos (held_in (grants_after terms (postings_of terms history) request)) ≤ℤ int_max (free_to_grant terms (postings_of terms history) request) (pos 0) }
+    ensures left { (terms : Terms) (history : List Entry) (moment : Moment) (request : CcRequest) (account : ℕ) →
+        charged_account terms (postings_of terms history) request ≡ Some account →
+        free_after terms (postings_of terms (history ++ Take moment request ∷ [])) account
+        ≡ free_to_grant terms (postings_of terms history) request -ℤ pos (held_in (grants_after terms (postings_of terms history) request)) }
+    ensures not_below { (terms : Terms) (history : List Entry) (moment : Moment) (request : CcRequest) (account : ℕ) → fault_of terms.tariffs ≡ None →
+        charged_account terms (postings_of terms history) request ≡ Some account → pos 0 ≤ℤ free_to_grant terms (postings_of terms history) request →
+        pos 0 ≤ℤ free_after terms (postings_of terms (history ++ Take moment request ∷ [])) account }
+{}
+
+/// A session that is not open holds nothing for any service: what was reserved for it is free again.
+pub fn ended_sessions_hold_nothing()
+    ensures { (terms : Terms) (history : List Entry) (session : List ℕ) (name : ServiceName) →
+        is_open terms.validity session (postings_of terms history) ≡ false → held_by terms.validity session name (postings_of terms history) ≡ 0 }
+{}
+
+/// What a session holds for a service is of one grant: each later grant takes the place of the one before. So it costs
+/// no more than the greatest grant of the tariff.
+pub fn services_are_held_once()
+    ensures once { (terms : Terms) (history : List Entry) (session : List ℕ) (name : ServiceName) →
+        All HasLimits history → grants_alive terms.validity session name (postings_of terms history) ≤ 1 }
+    ensures most { (terms : Terms) (history : List Entry) (session : List ℕ) (name : ServiceName) (tariff : Tariff) →
+        All HasLimits history → fault_of terms.tariffs ≡ None → find (rates name.group name.ident) terms.tariffs ≡ Some tariff →
+        held_by terms.validity session name (postings_of terms history) ≤ cost_of tariff tariff.greatest }
 {}

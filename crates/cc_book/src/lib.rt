@@ -4,12 +4,13 @@
 //!   request and keeps it; a repeat gets the kept reply. [`Book::quote`] says what `take` would answer.
 //! - [`Account`], [`Money`], [`Entry`], [`Answered`], [`BookRefusal`]: what goes in and comes out.
 //!
-//! EVENTs are answered whole: debits, refunds, balance checks and price enquiries. A request of a session is
-//! answered DIAMETER_UNABLE_TO_COMPLY.
+//! INITIAL, UPDATE and TERMINATION are answered with what a session is granted and holds of its account, EVENTs
+//! with debits, refunds, balance checks and price enquiries. No session ends by itself yet.
 //!
 //! The reply to a request stands in `specs/AccountMachine`, what entries do to accounts in `specs/Posting` and
-//! `specs/Balance`, sessions and reservations in `specs/Session` and `specs/Reservation`, what services ask in
-//! `specs/ServiceRating`, the history in `specs/History` and `specs/Duplicate`, and a call in `specs/Taking`.
+//! `specs/Balance`, sessions and reservations in `specs/Session` and `specs/Reservation`, what services ask and used
+//! in `specs/ServiceRating`, the history in `specs/History` and `specs/Duplicate`, what it has left in
+//! `specs/Standing`, and a call in `specs/Taking`.
 //! `specs/RowExample` and `specs/SessionExample` are worked examples. The functions of `laws` have no body: their
 //! contracts are laws of these definitions.
 //!
@@ -28,21 +29,28 @@ mod account;
 mod asking;
 mod book;
 mod copy;
+mod deed;
 mod entry;
 mod event;
 mod key;
 mod laws;
+mod session;
+mod settling;
+mod standing;
 mod terms;
 
 pub use account::{Account, Money};
 pub use book::{Answered, Book, BookRefusal};
 pub use entry::Entry;
 pub use laws::{
-    balances_move_by_debits, debits_pay_for_what_is_granted, kept_replies_are_of_entries,
-    kept_reply_is_the_first, kept_reply_stays, keys_are_distinct, legal_histories_grow,
-    new_keys_have_no_reply, openings_less_debits_are_balances, refunds_are_debits_below_zero,
-    replies_fit, sessions_and_services_stand_apart, sessions_last_twice_their_validity,
-    the_empty_history_is_legal, what_events_do,
+    balances_move_by_debits, debits_pay_for_what_is_granted, ended_sessions_hold_nothing,
+    grants_are_of_what_is_free, kept_replies_are_of_entries, kept_reply_is_the_first,
+    kept_reply_stays, keys_are_distinct, legal_histories_grow, new_keys_have_no_reply,
+    openings_less_debits_are_balances, other_requests_are_refused, refunds_are_debits_below_zero,
+    replies_fit, services_are_held_once, sessions_and_services_stand_apart,
+    sessions_last_twice_their_validity, sessions_pay_for_what_is_used, the_empty_history_is_legal,
+    what_bare_services_decide, what_events_do, what_events_leave_alone, what_openings_grant,
+    what_services_share, what_sweeps_release, what_terminations_end, what_updates_settle,
 };
 
 #[cfg(test)]

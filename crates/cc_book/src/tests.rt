@@ -258,7 +258,7 @@ fn what_is_not_charged(rt: HostRuntime) -> Result<(), Fail> {
     let update = update(alloc, &mut book)?;
     assert_eq!(rt; unknown, fresh(5030, None, 0));
     assert_eq!(rt; unrated, fresh(5031, None, 1));
-    assert_eq!(rt; update, fresh(5012, None, 2));
+    assert_eq!(rt; update, fresh(5002, None, 2));
     assert_eq!(rt; balance(&book, 0), Some(1000));
     Ok(())
 }

@@ -71,7 +71,8 @@ impl Tariff {
     /// nothing; else the whole blocks that are free, as the last grant. A last grant of no units grants nothing.
     pub fn grant(&self, free: i128, asked: u64) -> Grant
         requires { IsTrue (in_range self.now) }
-        ensures { result ≡ grant_of self.now free asked }
+        ensures value { result ≡ grant_of self.now free asked }
+        ensures most { result.held < 2 ^ 84 }
     {
         let units = asked.min(self.greatest);
         let held = self.cost(units as u128);

@@ -1,11 +1,21 @@
-use Rattle.std.proofs.Common.{subst, sym, List, arith}
+use Rattle.std.proofs.Common.{subst, sym, ap, ◌∙◌, List, Option, arith, map, []}
+use Rattle.cc_view.specs.declared.reply.CcReply.{CcReply}
+use Rattle.cc_book.specs.declared.account.Account.{Account}
 use Rattle.cc_book.specs.declared.entry.Entry.{Entry}
+use Rattle.cc_book.specs.declared.session.OpenSession.{OpenSession}
 use Rattle.cc_book.specs.declared.terms.Terms.{Terms}
-use Rattle.cc_book.specs.Taking.{KeepsLimits}
-use Rattle.cc_book.proofs.Keys.{KeepsLimits-empty}
+use Rattle.cc_book.specs.Taking.{IsBook}
+use Rattle.cc_book.proofs.Books.{IsBook-empty}
+use Rattle.cc_book.proofs.Stands.{empty-stands}
 use Rattle.cc_book.proofs.book.Book.new.Goals as goal
 
 pub invariant_of-result : goal.invariant_of-result
 invariant_of-result c =
     let terms : Terms = record { accounts = c.from_vec.result; tariffs = c.args.tariffs; validity = c.args.validity; money = c.args.money } in
-    subst (λ (h : List Entry). KeepsLimits terms c.args.limit h) (sym c.new.ensures.items) (KeepsLimits-empty terms c.args.limit (omega arith))
+    let standing = c.in_ok-standing.standing in
+    let openings = c.in_ok-standing.ensures.balances ∙ ap (map (λ (a : Account). a.opening)) (c.deref.ensures.value ∙ sym c.from_vec.ensures) in
+    let stands = empty-stands terms standing.balances.items openings c.in_ok-standing.ensures.least c.in_ok-standing.ensures.most in
+    subst (λ (ss : List OpenSession). IsBook terms c.args.limit c.new-2.result.items c.new-3.result.items standing.balances.items ss) (sym c.in_ok-standing.ensures.sessions)
+    (subst (λ (rs : List (Option CcReply)). IsBook terms c.args.limit c.new-2.result.items rs standing.balances.items []) (sym c.new-3.ensures.items)
+    (subst (λ (es : List Entry). IsBook terms c.args.limit es [] standing.balances.items []) (sym c.new-2.ensures.items)
+    (IsBook-empty terms c.args.limit standing.balances.items (omega arith) stands)))

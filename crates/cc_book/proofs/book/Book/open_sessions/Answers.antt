@@ -1,6 +1,10 @@
-use Rattle.std.proofs.Common.{sym}
-use Rattle.cc_book.proofs.Postings.{open_sessions_of-none}
+use Rattle.std.proofs.Common.{rules, ◌≡◌, length, ap, sym, ◌∙◌}
+use Rattle.cc_book.specs.Balance.{open_sessions_of}
+use Rattle.cc_book.specs.Taking.{Ledger}
+use Rattle.cc_book.proofs.Books.{open_sessions_of-is}
 use Rattle.cc_book.proofs.book.Book.open_sessions.Goals as goal
 
 pub returns : goal.returns
-returns c = sym (open_sessions_of-none c.args.self.now.terms c.args.self.now.history)
+returns c =
+    let count : c.len.result ≡ length c.self.inside.standing.sessions.items = search rules in
+    count ∙ sym (open_sessions_of-is c.self.inside.history.items c.self.invariant.stands) ∙ ap (λ (l : Ledger). open_sessions_of l.terms l.history) c.self.view_is

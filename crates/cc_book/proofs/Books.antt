@@ -1,0 +1,225 @@
+-- What a book keeps beside its history.
+use Rattle.std.proofs.Common.{◌≡◌, ℕ, suc, ◌+◌, ◌<◌, ◌≤◌, ◌^◌, List, [], ◌∷◌, ◌++◌, length, map, take, drop, get_or, Option, Some, None, Ok, Bool, true, false, cond, ltb, refl, sym, ap, subst, ◌∙◌, arith, rules, length-append}
+use Rattle.std.specs.Prelude.{ℤ, IfSome, IsSome, MatchOption, pos, find, unwrap_or, slice_get, slice_index_or}
+use Rattle.std.specs.List.{fold, position_or_len}
+use Rattle.std.proofs.Math.ListN.{get_or-append}
+use Rattle.std.proofs.Math.Seq.{drop-cons, get_or-append_seam}
+use Rattle.std.proofs.lemmas.List.{length-map, length-take-le, map-append, take-append-drop}
+use Rattle.std.proofs.lemmas.List.Sums.{fold-append}
+use Rattle.std.proofs.lemmas.Option.{get_or_from_slice_get, slice_get_within}
+use Rattle.dia_base.specs.declared.number.Moment.{Moment}
+use Rattle.cc_view.specs.declared.reply.CcReply.{CcReply}
+use Rattle.cc_view.specs.declared.request.CcRequest.{CcRequest}
+use Rattle.cc_view.specs.declared.request.RequestKind.{RequestKind}
+use Rattle.cc_view.specs.declared.request.RequestKind.TheVariants.{Initial, Update, Termination, Event}
+use Rattle.cc_book.specs.declared.deed.Change.{Change}
+use Rattle.cc_book.specs.declared.deed.Change.TheVariants.{Stays, Opens}
+use Rattle.cc_book.specs.declared.deed.Deed.{Deed}
+use Rattle.cc_book.specs.declared.entry.Entry.{Entry}
+use Rattle.cc_book.specs.declared.entry.Entry.TheVariants.{Take}
+use Rattle.cc_book.specs.declared.session.OpenSession.{OpenSession}
+use Rattle.cc_book.specs.declared.terms.Terms.{Terms}
+use Rattle.cc_book.specs.AccountMachine.{post, posting_of, postings_of, reply_to}
+use Rattle.cc_book.specs.Duplicate.{Key, key_of}
+use Rattle.cc_book.specs.History.{IsKeptAt, IsNew}
+use Rattle.cc_book.specs.Posting.{Posting}
+use Rattle.cc_book.specs.Balance.{balance_of, open_sessions_of, reserved_of, spent_by}
+use Rattle.cc_book.specs.Standing.{IsDeed, IsPlacedIn, IsSmall, Stands, after_change, after_debit, change_at, change_open, is_session, place_in, reserved_in}
+use Rattle.cc_book.specs.Session.{opens}
+use Rattle.cc_book.proofs.Sums.{all_placed, charged_account-within}
+use Rattle.cc_book.proofs.Stands.{open_count-stands, reserved-stands, small-stands}
+use Rattle.cc_book.specs.declared.book.Answered.{Answered}
+use Rattle.cc_book.specs.Taking.{IsBook, Ledger, answer_of}
+use Rattle.cc_book.proofs.Replies.{answer_of-fresh, answer_of-kept}
+use Rattle.cc_book.proofs.Deeds.{take-stands}
+use Rattle.cc_book.proofs.Keys.{IsLegal-empty, IsLegal-push}
+use Rattle.cc_book.proofs.Postings.{postings_of-push}
+
+-- ---- the replies of a history
+
+abbrev replies_in : List Posting → List (Option CcReply)
+replies_in postings = map (λ (p : Posting). p.reply) postings
+
+-- what later entries do changes no reply
+replies-stay : (terms : Terms) (before : List Posting) (history : List Entry) (place : ℕ) (d : Option CcReply) → place < length before
+    → get_or (replies_in (fold (post terms) before history)) place d ≡ get_or (replies_in before) place d
+replies-stay terms before [] place d lt = refl
+replies-stay terms before (entry ∷ history) place d lt =
+    let posting = posting_of terms before entry in
+    let long = length-append before (posting ∷ []) in
+    let same = length-map before (λ (p : Posting). p.reply) in
+    replies-stay terms (post terms before entry) history place d (omega arith)
+    ∙ ap (λ (rs : List (Option CcReply)). get_or rs place d) (map-append (λ (p : Posting). p.reply) before (posting ∷ []))
+    ∙ get_or-append (replies_in before) (replies_in (posting ∷ [])) d place (omega arith)
+
+fold-length : (terms : Terms) (before : List Posting) (history : List Entry) → length (fold (post terms) before history) ≡ length before + length history
+fold-length terms before [] = omega arith
+fold-length terms before (entry ∷ history) =
+    let more = fold-length terms (post terms before entry) history in
+    let long = length-append before (posting_of terms before entry ∷ []) in
+    omega arith
+
+pub postings_of-length : (terms : Terms) (history : List Entry) → length (postings_of terms history) ≡ length history
+unfolding postings_of
+postings_of-length terms history = let all = fold-length terms [] history in omega arith
+
+-- the reply at a place is that of its entry after the entries before it
+replies-at : (terms : Terms) (before after : List Entry) (entry : Entry) (d : Option CcReply)
+    → get_or (replies_in (postings_of terms (before ++ entry ∷ after))) (length before) d ≡ (posting_of terms (postings_of terms before) entry).reply
+unfolding postings_of
+replies-at terms before after entry d =
+    let left = postings_of terms before in
+    let posting = posting_of terms left entry in
+    let long = postings_of-length terms before in
+    let more = length-append left (posting ∷ []) in
+    let same = length-map left (λ (p : Posting). p.reply) in
+    ap (λ (ps : List Posting). get_or (replies_in ps) (length before) d) (fold-append (post terms) [] before (entry ∷ after))
+    ∙ replies-stay terms (post terms left entry) after (length before) d (omega arith)
+    ∙ ap (λ (rs : List (Option CcReply)). get_or rs (length before) d) (map-append (λ (p : Posting). p.reply) left (posting ∷ []))
+    ∙ ap (λ (n : ℕ). get_or (replies_in left ++ posting.reply ∷ []) n d) (sym (same ∙ long))
+    ∙ get_or-append_seam (replies_in left) posting.reply [] d
+
+-- a list, parted at a place
+split-at : (history : List Entry) (place : ℕ) (entry : Entry) → slice_get history place ≡ Some entry → history ≡ take place history ++ entry ∷ drop (suc place) history
+split-at history place entry there =
+    let within = slice_get_within history place entry there in
+    sym (take-append-drop place history)
+    ∙ ap (λ (es : List Entry). take place history ++ es) (drop-cons history place entry within ∙ ap (λ (e : Entry). e ∷ drop (suc place) history) (get_or_from_slice_get history place entry entry there))
+
+pub kept-reply : (terms : Terms) (history : List Entry) (replies : List (Option CcReply)) (key : Key) (place : ℕ) (taken : CcRequest) → replies ≡ map (λ posting. posting.reply) (postings_of terms history)
+    → IsKeptAt history key place taken → get_or replies place None ≡ Some (reply_to terms (take place history) taken)
+unfolding reply_to
+kept-reply terms history replies key place taken kept at =
+    let within = slice_get_within history place (Take at.moment taken) at.entry in
+    let long : length (take place history) ≡ place = length-take-le place history (omega arith) in
+    ap (λ (rs : List (Option CcReply)). get_or rs place None) kept
+    ∙ ap (λ (es : List Entry). get_or (replies_in (postings_of terms es)) place None) (split-at history place (Take at.moment taken) at.entry)
+    ∙ ap (λ (n : ℕ). get_or (replies_in (postings_of terms (take place history ++ Take at.moment taken ∷ drop (suc place) history))) n None) (sym long)
+    ∙ replies-at terms (take place history) (drop (suc place) history) (Take at.moment taken) None
+
+-- ---- a book without entries, and with one more
+
+pub IsBook-empty : (terms : Terms) (limit : ℕ) (balances : List ℤ) → limit ≤ 2 ^ 20 → Stands terms [] balances [] → IsBook terms limit [] [] balances []
+unfolding postings_of
+IsBook-empty terms limit balances most stands = record { legal = IsLegal-empty terms; within = omega arith; most = most; replies_kept = refl; stands = stands }
+
+pub IsBook-push : (terms : Terms) (limit : ℕ) (history : List Entry) (replies : List (Option CcReply)) (balances : List ℤ) (sessions : List OpenSession) (moment : Moment) (request : CcRequest) (deed : Deed)
+    → IsBook terms limit history replies balances sessions → IsNew history (key_of request) → length history < limit → IsDeed terms (postings_of terms history) sessions moment request deed
+    → IsBook terms limit (history ++ Take moment request ∷ []) (replies ++ Some deed.reply ∷ []) (after_debit balances deed.account deed.debit) (after_change sessions deed.change)
+IsBook-push terms limit history replies balances sessions moment request deed book new room does =
+    let before = postings_of terms history in
+    let long = length-append history (Take moment request ∷ []) in
+    let next = postings_of-push terms history (Take moment request) in
+    record {
+      legal = IsLegal-push terms history moment request book.legal new;
+      within = omega arith;
+      most = book.most;
+      replies_kept = ap (λ (rs : List (Option CcReply)). rs ++ Some deed.reply ∷ []) book.replies_kept
+          ∙ ap (λ (r : CcReply). replies_in before ++ Some r ∷ []) does.reply
+          ∙ sym (ap replies_in next ∙ map-append (λ (p : Posting). p.reply) before (posting_of terms before (Take moment request) ∷ []));
+      stands = subst (λ (ps : List Posting). Stands terms ps (after_debit balances deed.account deed.debit) (after_change sessions deed.change)) (sym next) (take-stands book.stands does);
+    }
+
+-- ---- what a book has is what its history has left
+
+module _ {terms : Terms} (history : List Entry) {balances : List ℤ} {sessions : List OpenSession} (s : Stands terms (postings_of terms history) balances sessions) where
+  pub balance_of-is : (account : ℕ) → account < length terms.accounts → slice_index_or balances account (pos 0) ≡ balance_of terms history account
+  unfolding balance_of spent_by
+  balance_of-is account within = s.balance account within
+
+  pub reserved_of-is : (account : ℕ) → reserved_of terms history account ≡ reserved_in account sessions
+  unfolding reserved_of
+  reserved_of-is account = reserved-stands s account
+
+  pub open_sessions_of-is : open_sessions_of terms history ≡ length sessions
+  unfolding open_sessions_of
+  open_sessions_of-is = open_count-stands s
+
+pub small-book : {terms : Terms} {limit : ℕ} {history : List Entry} {replies : List (Option CcReply)} {balances : List ℤ} {sessions : List OpenSession} → IsBook terms limit history replies balances sessions → IsSmall terms balances sessions
+small-book {terms} {limit} {history} book =
+    let long = postings_of-length terms history in
+    let within = book.within in
+    let most = book.most in
+    small-stands book.stands (omega arith)
+
+-- ---- what a book answers
+
+place-within : (sessions : List OpenSession) (id : List ℕ) (place : ℕ) → place_in sessions id ≡ Some place → place < length sessions
+place-within sessions id place is = by (ltb (position_or_len (is_session id) sessions) (length sessions)) refl is where
+  by : (b : Bool) → ltb (position_or_len (is_session id) sessions) (length sessions) ≡ b → cond b (Some (position_or_len (is_session id) sessions)) None ≡ Some place → place < length sessions
+  by true e some = let same : position_or_len (is_session id) sessions ≡ place = cc in let less : position_or_len (is_session id) sessions < length sessions = search rules in omega arith
+  by false e some = absurd cc
+
+abbrev ledger_of : Terms → ℕ → List Entry → Ledger
+ledger_of terms limit history = record { terms = terms; limit = limit; history = history }
+
+some_if : {X : Type 0} (P : X → Type 0) (found : Option X) (x : X) → found ≡ Some x → IfSome found P → P x
+some_if {X = X} P found x is so = subst (λ (o : Option X). IfSome o P) is so
+
+module _ {terms : Terms} {limit : ℕ} {history : List Entry} {replies : List (Option CcReply)} {balances : List ℤ} {sessions : List OpenSession} (book : IsBook terms limit history replies balances sessions) where
+  -- the reply of a request that is kept
+  pub kept-some : (key : Key) (place : ℕ) (taken : CcRequest) → IsKeptAt history key place taken → IsSome (slice_index_or replies place None)
+  kept-some key place taken at = subst (λ (o : Option CcReply). IsSome o) (sym (kept-reply terms history replies key place taken book.replies_kept at)) refl
+
+  pub answer-kept : (request taken : CcRequest) (place : ℕ) (answered : Answered) → IsKeptAt history (key_of request) place taken
+      → IfSome (slice_index_or replies place None) (λ reply. answered ≡ record { reply = reply; place = place; fresh = false })
+      → answer_of (ledger_of terms limit history) request ≡ Ok answered
+  answer-kept request taken place answered at is =
+      let reply = reply_to terms (take place history) taken in
+      let same : answered ≡ record { reply = reply; place = place; fresh = false } =
+      some_if (λ (r : CcReply). answered ≡ record { reply = r; place = place; fresh = false }) (slice_index_or replies place None) reply (kept-reply terms history replies (key_of request) place taken book.replies_kept at) is in
+      answer_of-kept (ledger_of terms limit history) request taken place reply at refl ∙ ap (λ (a : Answered). Ok a) (sym same)
+
+  pub not-fresh : (request taken : CcRequest) (place : ℕ) (answered : Answered) → IsKeptAt history (key_of request) place taken
+      → IfSome (slice_index_or replies place None) (λ reply. answered ≡ record { reply = reply; place = place; fresh = false }) → answered.fresh ≡ false
+  not-fresh request taken place answered at is =
+      let reply = reply_to terms (take place history) taken in
+      let same : answered ≡ record { reply = reply; place = place; fresh = false } =
+      some_if (λ (r : CcReply). answered ≡ record { reply = r; place = place; fresh = false }) (slice_index_or replies place None) reply (kept-reply terms history replies (key_of request) place taken book.replies_kept at) is in
+      ap (λ (a : Answered). a.fresh) same
+
+  pub answer-fresh : (moment : Moment) (request : CcRequest) (deed : Deed) → IsNew history (key_of request) → length history < limit → IsDeed terms (postings_of terms history) sessions moment request deed
+      → answer_of (ledger_of terms limit history) request ≡ Ok (record { reply = deed.reply; place = length history; fresh = true })
+  unfolding reply_to
+  answer-fresh moment request deed new room does =
+      answer_of-fresh (ledger_of terms limit history) request (length history) deed.reply new refl room does.reply
+
+  -- the account that is debited is one of the book's, and the session that changes too
+  pub account-within : (moment : Moment) (request : CcRequest) (deed : Deed) → IsDeed terms (postings_of terms history) sessions moment request deed → (place : ℕ) → deed.account ≡ Some place → place < length balances
+  account-within moment request deed does place is =
+      let known = charged_account-within terms (postings_of terms history) request (all_placed terms history) in
+      let here = subst (λ (a : Option ℕ). MatchOption a (Unit {0}) (λ p. p < length terms.accounts)) (sym does.account ∙ is) known in
+      let long = book.stands.accounts in
+      omega (arith, here)
+
+  pub change-within : (moment : Moment) (request : CcRequest) (deed : Deed) → IsDeed terms (postings_of terms history) sessions moment request deed → IsPlacedIn deed.change (length sessions)
+  change-within moment request deed does =
+      subst (λ (change : Change). IsPlacedIn change (length sessions)) (sym does.change) (by (place_in sessions request.session) (find (is_session request.session) sessions) refl)
+    where
+      posting : Posting
+      posting = posting_of terms (postings_of terms history) (Take moment request)
+
+      shut : (b : Bool) (session : OpenSession) → IsPlacedIn (cond b (Opens session) Stays) (length sessions)
+      shut true session = tt
+      shut false session = tt
+
+      open_by : (place : ℕ) (session : OpenSession) (kind : RequestKind) → place < length sessions → IsPlacedIn (change_open request moment posting.grants kind place session) (length sessions)
+      open_by place session Initial lt = lt
+      open_by place session Update lt = lt
+      open_by place session Termination lt = lt
+      open_by place session Event lt = tt
+
+      by : (place : Option ℕ) (found : Option OpenSession) → place_in sessions request.session ≡ place → IsPlacedIn (change_at request moment posting place found) (length sessions)
+      by (Some place) (Some session) is = open_by place session request.kind (place-within sessions request.session place is)
+      by (Some place) None is = shut (opens posting) (record { id = request.session; account = unwrap_or posting.account 0; last = moment; holds = posting.grants })
+      by None found is = shut (opens posting) (record { id = request.session; account = unwrap_or posting.account 0; last = moment; holds = posting.grants })
+
+-- a book by its parts
+pub same-book : {terms : Terms} {limit : ℕ} (history other_history : List Entry) (replies other_replies : List (Option CcReply)) (balances other_balances : List ℤ) (sessions other_sessions : List OpenSession)
+    → history ≡ other_history → replies ≡ other_replies → balances ≡ other_balances → sessions ≡ other_sessions
+    → IsBook terms limit history replies balances sessions → IsBook terms limit other_history other_replies other_balances other_sessions
+same-book {terms} {limit} history other_history replies other_replies balances other_balances sessions other_sessions h r b s book =
+    subst (λ (ss : List OpenSession). IsBook terms limit other_history other_replies other_balances ss) s
+    (subst (λ (bs : List ℤ). IsBook terms limit other_history other_replies bs sessions) b
+    (subst (λ (rs : List (Option CcReply)). IsBook terms limit other_history rs balances sessions) r
+    (subst (λ (es : List Entry). IsBook terms limit es replies balances sessions) h book)))

@@ -1,0 +1,36 @@
+use Rattle.std.proofs.Common.{◌≡◌, ◌≤◌, ◌^◌, List, Some, refl, subst, sym, ap, ◌∙◌, rules, SFits, to_z, of_z}
+use Rattle.std.specs.Prelude.{ℤ, pos, ◌+ℤ◌, ◌-ℤ◌, slice_index_or}
+use Rattle.std.specs.Int.{w128}
+use Rattle.std.proofs.lemmas.Int.{to_z-of_z}
+use Rattle.cc_view.specs.declared.reply.CcReply.{CcReply}
+use Rattle.cc_view.specs.declared.request.Service.{Service}
+use Rattle.cc_book.specs.AccountMachine.{granting_reply, holds_from, session_reply}
+use Rattle.cc_book.specs.ServiceRating.{used_total}
+use Rattle.cc_book.specs.Session.{is_success}
+use Rattle.cc_book.specs.Standing.{reserved_in}
+use Rattle.cc_book.proofs.ByKind.{free-initial, initial-closed, opening-change, same-deed}
+use Rattle.cc_book.proofs.terms.Terms.opening_deed.Goals as goal
+
+pub returns : goal.returns
+returns c = λ before is shut stands.
+    let terms = c.args.self.now in
+    let request = c.args.request.now in
+    let services = c.as_slice-services.ensures.value in
+    let fits : SFits w128 c.used_total-debit.result = search rules in
+    let debit : to_z w128 (of_z w128 c.used_total-debit.result) ≡ pos (used_total terms.tariffs request.services) =
+    to_z-of_z w128 c.used_total-debit.result fits ∙ c.used_total-debit.ensures.value ∙ ap (λ (ss : List Service). pos (used_total terms.tariffs ss)) services in
+    let small = subst (λ (ss : List Service). used_total terms.tariffs ss ≤ 2 ^ 103) services c.used_total-debit.ensures.most in
+    let free : ℤ = to_z w128 (of_z w128 c.free_to_grant-free.result) in
+    let free_fits : SFits w128 c.free_to_grant-free.result = search rules in
+    let available : ℤ = (slice_index_or c.args.standing.now.balances.items c.args.account (pos 0) -ℤ pos (reserved_in c.args.account c.args.standing.now.sessions.items)) +ℤ pos 0 in
+    let value : free ≡ available -ℤ pos (used_total terms.tariffs request.services) =
+    to_z-of_z w128 c.free_to_grant-free.result free_fits ∙ c.free_to_grant-free.ensures.value ∙ ap (λ (z : ℤ). available -ℤ z) debit in
+    let is_free = free-initial request c.args.moment stands c.args.account free is shut c.requires.account c.requires.within value in
+    let holds : c.in_ok-granted.granted.holds.items ≡ holds_from terms.tariffs free request.services = c.in_ok-granted.ensures.holds ∙ ap (holds_from terms.tariffs free) services in
+    let reply : c.session_reply-reply.result ≡ granting_reply terms free request.services =
+    c.session_reply-reply.ensures ∙ ap session_reply c.in_ok-granted.ensures.replies ∙ ap (granting_reply terms free) services in
+    let change : c.in_ok-change.change ≡ opening-change request c.args.moment stands (is_success (granting_reply terms free request.services).code) c.args.account c.in_ok-granted.granted.holds.items =
+    c.in_ok-change.ensures ∙ ap (λ (r : CcReply). opening-change request c.args.moment stands (is_success r.code) c.args.account c.in_ok-granted.granted.holds.items) reply in
+    same-deed (Some c.args.account) (pos (used_total terms.tariffs request.services)) _ (granting_reply terms free request.services) _ c.in_ok-change.change c.in_ok-change.change
+    (sym debit) (sym reply) refl
+    (initial-closed request c.args.moment stands c.args.account free c.in_ok-granted.granted.holds.items c.in_ok-change.change is shut c.requires.account small is_free holds c.in_ok-granted.ensures.most change)

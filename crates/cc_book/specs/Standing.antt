@@ -1,0 +1,183 @@
+-- What a history has left: the balances of the accounts, and the sessions that are open with what they hold. It is
+-- all that the book looks at to answer a request.
+use Rattle.std.specs.Prelude.{◌≡◌, ◌≢◌, ℕ, ◌+◌, ◌*◌, ◌^◌, ◌<◌, ◌≤◌, List, [], ◌∷◌, ◌++◌, length, remove, slice_get, slice_index_or, slice_set, All, AllPairs, Bool, ◌&&◌, not, ◌==◌, if◌then◌else◌, Option, Some, None, unwrap_or, find, ℤ, pos, negsuc, ◌-ℤ◌, ◌≤ℤ◌}
+use Rattle.std.specs.List.{filter, list_any, position}
+use Rattle.std.specs.Option.{option_map}
+use Rattle.dia_base.specs.declared.number.Moment.{Moment}
+use Rattle.cc_view.specs.declared.request.CcRequest.{CcRequest}
+use Rattle.cc_view.specs.declared.request.RequestKind.{RequestKind}
+use Rattle.cc_view.specs.declared.request.RequestKind.TheVariants.{Initial, Update, Termination, Event}
+use Rattle.cc_view.specs.declared.request.Service.{Service}
+use Rattle.cc_book.specs.declared.deed.Change.{Change}
+use Rattle.cc_book.specs.declared.deed.Change.TheVariants.{Stays, Opens, GoesOn, Ends}
+use Rattle.cc_book.specs.declared.deed.Deed.{Deed}
+use Rattle.cc_book.specs.declared.entry.Entry.TheVariants.{Take}
+use Rattle.cc_book.specs.declared.session.Hold.{Hold}
+use Rattle.cc_book.specs.declared.session.OpenSession.{OpenSession}
+use Rattle.cc_book.specs.declared.terms.Terms.{Terms}
+use Rattle.cc_book.specs.AccountMachine.{charged_account, debit_after, grants_after, opening_at, posting_of, reply_after}
+use Rattle.cc_book.specs.Duplicate.{same_session}
+use Rattle.cc_book.specs.Posting.{Posting, debits_to}
+use Rattle.cc_book.specs.Reservation.{has_name, is_alive}
+use Rattle.cc_book.specs.Session.{Opened, opened_at, opens, outlasts, session_in, session_of}
+
+-- ---- open sessions
+
+abbrev pub is_session : List ℕ → OpenSession → Bool
+is_session id session = same_session session.id id
+
+-- the place of an open session, none where it is not open
+abbrev pub place_in : List OpenSession → List ℕ → Option ℕ
+place_in sessions id = position (is_session id) sessions
+
+-- a session with this Session-Id is open, and stands at a place
+pub record IsOpenAt (sessions : List OpenSession) (id : List ℕ) (place : ℕ) (session : OpenSession) : Type 0 where
+  pub at : place_in sessions id ≡ Some place
+  pub there : slice_get sessions place ≡ Some session
+
+-- what holds add up to
+abbrev pub held_in : List Hold → ℕ
+held_in [] = 0
+held_in (hold ∷ holds) = hold.cost + held_in holds
+
+-- what sessions hold of an account
+abbrev pub reserved_in : ℕ → List OpenSession → ℕ
+reserved_in account [] = 0
+reserved_in account (session ∷ sessions) = (if session.account == account then held_in session.holds else 0) + reserved_in account sessions
+
+-- what sessions hold of all accounts
+abbrev pub held_by_all : List OpenSession → ℕ
+held_by_all [] = 0
+held_by_all (session ∷ sessions) = held_in session.holds + held_by_all sessions
+
+-- what is free of an account, nothing without one
+abbrev pub free_in : List ℤ → List OpenSession → Option ℕ → ℤ
+free_in balances sessions None = pos 0
+free_in balances sessions (Some account) = slice_index_or balances account (pos 0) -ℤ pos (reserved_in account sessions)
+
+-- whether one of these services has the name of a hold
+abbrev pub is_named : List Service → Hold → Bool
+is_named services hold = list_any (has_name hold.service) services
+
+-- the holds of other services than these
+abbrev pub holds_beside : List Service → List Hold → List Hold
+holds_beside services holds = filter (λ hold. not (is_named services hold)) holds
+
+-- ---- what a request does to its session
+
+-- an open session after a request at a moment, which leaves it these holds
+abbrev pub prolonged : OpenSession → Moment → List Hold → OpenSession
+prolonged session moment holds = record { id = session.id; account = session.account; last = moment; holds = holds }
+
+-- What a request of this kind does to its session, which is open at a place: an UPDATE ends the holds of the services
+-- that it names and adds what is granted to it; an INITIAL is refused, and yet prolongs the session.
+abbrev pub change_open : CcRequest → Moment → List Hold → RequestKind → ℕ → OpenSession → Change
+change_open request moment grants Event place session = Stays
+change_open request moment grants Termination place session = Ends place
+change_open request moment grants Initial place session = GoesOn place (prolonged session moment session.holds)
+change_open request moment grants Update place session = GoesOn place (prolonged session moment (holds_beside request.services session.holds ++ grants))
+
+-- what a request does to its session, which is not open
+abbrev pub change_closed : CcRequest → Moment → Posting → Change
+change_closed request moment posting =
+    if opens posting
+    then Opens (record { id = request.session; account = unwrap_or posting.account 0; last = moment; holds = posting.grants })
+    else Stays
+
+abbrev pub change_at : CcRequest → Moment → Posting → Option ℕ → Option OpenSession → Change
+change_at request moment posting (Some place) (Some session) = change_open request moment posting.grants request.kind place session
+change_at request moment posting _ _ = change_closed request moment posting
+
+-- what a posting of a request does to its session, where these are open
+abbrev pub change_of : List OpenSession → CcRequest → Moment → Posting → Change
+change_of sessions request moment posting =
+    change_at request moment posting (place_in sessions request.session) (find (is_session request.session) sessions)
+
+abbrev pub after_change : List OpenSession → Change → List OpenSession
+after_change sessions Stays = sessions
+after_change sessions (Opens session) = sessions ++ session ∷ []
+after_change sessions (GoesOn place session) = slice_set sessions place session
+after_change sessions (Ends place) = remove sessions place
+
+-- the place of a change is that of one of so many sessions
+abbrev pub IsPlacedIn : Change → ℕ → Type 0
+IsPlacedIn (GoesOn place session) count = place < count
+IsPlacedIn (Ends place) count = place < count
+IsPlacedIn _ count = Unit {0}
+
+-- the balances after a debit of an account
+abbrev pub after_debit : List ℤ → Option ℕ → ℤ → List ℤ
+after_debit balances None debit = balances
+after_debit balances (Some account) debit = slice_set balances account (slice_index_or balances account (pos 0) -ℤ debit)
+
+-- what a request does after postings, where these sessions are open
+pub record IsDeed (terms : Terms) (before : List Posting) (sessions : List OpenSession) (moment : Moment) (request : CcRequest) (deed : Deed) : Type 0 where
+  pub account : deed.account ≡ charged_account terms before request
+  pub debit : deed.debit ≡ debit_after terms before request
+  pub reply : deed.reply ≡ reply_after terms before request
+  pub change : deed.change ≡ change_of sessions request moment (posting_of terms before (Take moment request))
+  -- in amounts that are small
+  pub least : negsuc (2 ^ 103) ≤ℤ deed.debit
+  pub most : deed.debit ≤ℤ pos (2 ^ 103)
+  pub grants : held_in (grants_after terms before request) ≤ 2 ^ 89
+
+-- ---- what stands after postings
+
+-- the weight of the grants of a posting that are alive after others, each by its session, its account and itself
+abbrev pub grants_weight : (List ℕ → Option ℕ → Hold → ℕ) → ℕ → Posting → List Posting → List Hold → ℕ
+grants_weight weight validity posting after [] = 0
+grants_weight weight validity posting after (hold ∷ holds) =
+    (if is_alive validity posting.entry hold.service after then weight (session_in posting.entry) posting.account hold else 0)
+    + grants_weight weight validity posting after holds
+
+-- the weight of all grants that are alive after postings
+abbrev pub alive_weight : (List ℕ → Option ℕ → Hold → ℕ) → ℕ → List Posting → ℕ
+alive_weight weight validity [] = 0
+alive_weight weight validity (posting ∷ after) = grants_weight weight validity posting after posting.grants + alive_weight weight validity after
+
+-- the weight of the holds of a session
+abbrev pub holds_weight : (List ℕ → Option ℕ → Hold → ℕ) → List ℕ → ℕ → List Hold → ℕ
+holds_weight weight id account [] = 0
+holds_weight weight id account (hold ∷ holds) = weight id (Some account) hold + holds_weight weight id account holds
+
+-- the weight of all holds of sessions
+abbrev pub sessions_weight : (List ℕ → Option ℕ → Hold → ℕ) → List OpenSession → ℕ
+sessions_weight weight [] = 0
+sessions_weight weight (session ∷ sessions) = holds_weight weight session.id session.account session.holds + sessions_weight weight sessions
+
+-- The count of the sessions that are open after postings, each counted by its Session-Id: a posting opened it, and
+-- none after that ended it.
+abbrev pub open_weight : (List ℕ → ℕ) → ℕ → List Posting → ℕ
+open_weight weight validity [] = 0
+open_weight weight validity (posting ∷ after) =
+    (if opens posting && outlasts validity posting.entry after then weight (session_in posting.entry) else 0) + open_weight weight validity after
+
+abbrev pub ids_weight : (List ℕ → ℕ) → List OpenSession → ℕ
+ids_weight weight [] = 0
+ids_weight weight (session ∷ sessions) = weight session.id + ids_weight weight sessions
+
+-- an open session, as the definition of sessions has it
+abbrev pub opened_as : ℕ → OpenSession → Opened
+opened_as validity session = opened_at validity (Some session.account) session.last.0
+
+-- These balances and these open sessions are what postings have left: of each account its opening amount less its
+-- debits, and of each session what is alive of its grants, however that is counted.
+pub record Stands (terms : Terms) (before : List Posting) (balances : List ℤ) (sessions : List OpenSession) : Type 0 where
+  pub accounts : length balances ≡ length terms.accounts
+  pub balance : (account : ℕ) → account < length terms.accounts → slice_index_or balances account (pos 0) ≡ opening_at terms.accounts account -ℤ debits_to account before
+  pub least : (account : ℕ) → account < length terms.accounts → negsuc (2 ^ 63 + length before * 2 ^ 103) ≤ℤ slice_index_or balances account (pos 0)
+  pub most : (account : ℕ) → account < length terms.accounts → slice_index_or balances account (pos 0) ≤ℤ pos (2 ^ 63 + length before * (2 ^ 103 + 1))
+  pub session : (id : List ℕ) → session_of terms.validity id before ≡ option_map (opened_as terms.validity) (find (is_session id) sessions)
+  pub own_ids : AllPairs (λ one other. one.id ≢ other.id) sessions
+  pub known : All (λ session. session.account < length terms.accounts) sessions
+  pub holds : (weight : List ℕ → Option ℕ → Hold → ℕ) → alive_weight weight terms.validity before ≡ sessions_weight weight sessions
+  pub count : (weight : List ℕ → ℕ) → open_weight weight terms.validity before ≡ ids_weight weight sessions
+  pub held : held_by_all sessions ≤ length before * 2 ^ 89
+
+-- The amounts are so small that no sum of them leaves 128 bits, and accounts are known.
+pub record IsSmall (terms : Terms) (balances : List ℤ) (sessions : List OpenSession) : Type 0 where
+  pub accounts : length balances ≡ length terms.accounts
+  pub least : All (λ balance. negsuc (2 ^ 124) ≤ℤ balance) balances
+  pub most : All (λ balance. balance ≤ℤ pos (2 ^ 124)) balances
+  pub held : held_by_all sessions ≤ 2 ^ 110
+  pub known : All (λ session. session.account < length terms.accounts) sessions

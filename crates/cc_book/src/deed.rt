@@ -1,0 +1,213 @@
+//! What a request does to its account and its session.
+
+ghost use Rattle.std.specs.Prelude.{◌≡◌, ◌<◌, List, length, None, Some, pos, IfOk, if◌then◌else◌};
+ghost use Rattle.dia_base.specs.declared.number.Moment.{Moment};
+ghost use Rattle.cc_view.specs.declared.code.ResultCode.TheVariants.{UnknownSessionId};
+ghost use Rattle.cc_view.specs.declared.request.RequestKind.TheVariants.{Initial, Update, Termination};
+ghost use Rattle.cc_book.specs.AccountMachine.{account_of, code_alone};
+ghost use Rattle.cc_book.specs.Posting.{Posting};
+ghost use Rattle.cc_book.specs.Session.{is_success};
+ghost use Rattle.cc_book.specs.Standing.{IsDeed, IsSmall, Stands, place_in};
+ghost use Rattle.cc_book.specs.declared.deed.Change.TheVariants.{Opens, Stays};
+
+use crate::session::{Hold, OpenSession, held_in};
+use crate::settling::session_reply;
+use crate::standing::Standing;
+use crate::terms::{Terms, code_alone};
+use cc_view::{CcReply, CcRequest, RequestKind, ResultCode};
+use dia_base::{Listing, Moment};
+use std::alloc::{AllocError, Global};
+
+/// What a request does to its session.
+#[derive(Debug, Drop)]
+pub enum Change {
+    /// Nothing: there is none, or it is an EVENT.
+    Stays,
+    /// The session opens.
+    Opens { session: OpenSession },
+    /// The session at this place is this one now.
+    GoesOn { place: usize, session: OpenSession },
+    /// The session at this place ends, and all that it holds.
+    Ends { place: usize },
+}
+
+/// What a request does.
+#[derive(Debug, Drop)]
+pub struct Deed {
+    /// The account that it charges, by its place.
+    pub account: Option<usize>,
+    /// What it debits that account.
+    pub debit: i128,
+    pub reply: CcReply,
+    pub change: Change,
+}
+
+impl Terms {
+    /// What a request does that is not kept, where so much stands (RFC 8506, sections 5 and 6).
+    pub fn deed_of(
+        &self,
+        alloc: Global,
+        standing: &Standing,
+        moment: Moment,
+        request: &CcRequest,
+    ) -> Result<Deed, AllocError>
+        requires { IsSmall self.now standing.now.balances.items standing.now.sessions.items }
+        ensures { IfOk result (λ deed. (before : List Posting) → Stands self.now before standing.now.balances.items standing.now.sessions.items → IsDeed self.now before standing.now.sessions.items moment request.now deed) }
+    {
+        match request.kind {
+            RequestKind::Initial => self.initial_deed(alloc, standing, moment, request),
+            RequestKind::Update => self.update_deed(alloc, standing, moment, request),
+            RequestKind::Termination => self.termination_deed(alloc, standing, request),
+            RequestKind::Event => self.event_deed(alloc, standing, request),
+        }
+    }
+
+    /// An INITIAL of an open session is refused, and yet prolongs it. Another one opens its session.
+    fn initial_deed(
+        &self,
+        alloc: Global,
+        standing: &Standing,
+        moment: Moment,
+        request: &CcRequest,
+    ) -> Result<Deed, AllocError>
+        requires { IsSmall self.now standing.now.balances.items standing.now.sessions.items }
+        ensures { IfOk result (λ deed. (before : List Posting) → request.now.kind ≡ Initial → Stands self.now before standing.now.balances.items standing.now.sessions.items → IsDeed self.now before standing.now.sessions.items moment request.now deed) }
+    {
+        let account = self.account_of(request);
+        match (standing.open_session(&request.session), account) {
+            (Some((place, session)), _) => {
+                let holds = session.holds.as_slice().to_vec(alloc)?;
+                let session = session.prolonged(moment, Listing::from_vec(holds))?;
+                let change = Change::GoesOn { place, session };
+                Ok(refused(alloc, account, ResultCode::UnableToComply, change))
+            }
+            (None, Some(account)) => self.opening_deed(alloc, standing, account, moment, request),
+            (None, None) => Ok(refused(alloc, None, ResultCode::UserUnknown, Change::Stays)),
+        }
+    }
+
+    /// A session opens on an account, unless its bare service is refused: used units are debited in full, then
+    /// grants are made in order.
+    fn opening_deed(
+        &self,
+        alloc: Global,
+        standing: &Standing,
+        account: usize,
+        moment: Moment,
+        request: &CcRequest,
+    ) -> Result<Deed, AllocError>
+        requires small { IsSmall self.now standing.now.balances.items standing.now.sessions.items }
+        requires account { account_of self.now.accounts request.now.subscriptions ≡ Some account }
+        requires within { account < length self.now.accounts }
+        ensures { IfOk result (λ deed. (before : List Posting) → request.now.kind ≡ Initial → place_in standing.now.sessions.items request.now.session ≡ None → Stands self.now before standing.now.balances.items standing.now.sessions.items → IsDeed self.now before standing.now.sessions.items moment request.now deed) }
+    {
+        let services = request.services.as_slice();
+        let debit = self.used_total(services);
+        let free = standing.free_to_grant(account, 0, debit);
+        let granted = self.granted_services(alloc, free, services)?;
+        let reply = session_reply(granted.replies);
+        let change = opening(reply.code, account, moment, request, granted.holds)?;
+        Ok(Deed {
+            account: Some(account),
+            debit,
+            reply,
+            change,
+        })
+    }
+
+    /// An UPDATE charges the account of its session. The holds of the services that it names end and what they used
+    /// is debited in full, then grants are made in order.
+    fn update_deed(
+        &self,
+        alloc: Global,
+        standing: &Standing,
+        moment: Moment,
+        request: &CcRequest,
+    ) -> Result<Deed, AllocError>
+        requires { IsSmall self.now standing.now.balances.items standing.now.sessions.items }
+        ensures { IfOk result (λ deed. (before : List Posting) → request.now.kind ≡ Update → Stands self.now before standing.now.balances.items standing.now.sessions.items → IsDeed self.now before standing.now.sessions.items moment request.now deed) }
+    {
+        let Some((place, session)) = standing.open_session(&request.session) else {
+            return Ok(unknown_session(alloc));
+        };
+        let account = session.account;
+        let services = request.services.as_slice();
+        let mut holds = session.holds_beside(alloc, services)?;
+        let debit = self.used_total(services);
+        let ended = held_in(session.holds.as_slice()) - held_in(&holds);
+        let free = standing.free_to_grant(account, ended, debit);
+        let mut granted = self.granted_services(alloc, free, services)?;
+        holds.append(&mut granted.holds)?;
+        let session = session.prolonged(moment, Listing::from_vec(holds))?;
+        Ok(Deed {
+            account: Some(account),
+            debit,
+            reply: session_reply(granted.replies),
+            change: Change::GoesOn { place, session },
+        })
+    }
+
+    /// A TERMINATION debits what was used, and ends its session with all that it holds.
+    fn termination_deed(
+        &self,
+        alloc: Global,
+        standing: &Standing,
+        request: &CcRequest,
+    ) -> Result<Deed, AllocError>
+        requires { IsSmall self.now standing.now.balances.items standing.now.sessions.items }
+        ensures { IfOk result (λ deed. (before : List Posting) (moment : Moment) → request.now.kind ≡ Termination → Stands self.now before standing.now.balances.items standing.now.sessions.items → IsDeed self.now before standing.now.sessions.items moment request.now deed) }
+    {
+        let Some((place, session)) = standing.open_session(&request.session) else {
+            return Ok(unknown_session(alloc));
+        };
+        let services = request.services.as_slice();
+        Ok(Deed {
+            account: Some(session.account),
+            debit: self.used_total(services),
+            reply: session_reply(self.closed_services(alloc, services)?),
+            change: Change::Ends { place },
+        })
+    }
+}
+
+/// A session opens where its INITIAL is answered DIAMETER_SUCCESS.
+fn opening(
+    code: ResultCode,
+    account: usize,
+    moment: Moment,
+    request: &CcRequest,
+    holds: Vec<Hold>,
+) -> Result<Change, AllocError>
+    ensures { IfOk result (λ change. change ≡ (if is_success code then Opens (record { id = request.now.session; account = account; last = moment; holds = holds.items }) else Stays)) }
+{
+    match code {
+        ResultCode::Success => Ok(Change::Opens {
+            session: OpenSession {
+                id: request.session.clone()?,
+                account,
+                last: moment,
+                holds: Listing::from_vec(holds),
+            },
+        }),
+        _ => Ok(Change::Stays),
+    }
+}
+
+/// A request that is refused charges nothing.
+fn refused(alloc: Global, account: Option<usize>, code: ResultCode, change: Change) -> Deed
+    ensures { result ≡ record { account = account; debit = pos 0; reply = code_alone code; change = change } }
+{
+    Deed {
+        account,
+        debit: 0,
+        reply: code_alone(alloc, code),
+        change,
+    }
+}
+
+/// A request of a session that is not open.
+fn unknown_session(alloc: Global) -> Deed
+    ensures { result ≡ record { account = None; debit = pos 0; reply = code_alone UnknownSessionId; change = Stays } }
+{
+    refused(alloc, None, ResultCode::UnknownSessionId, Change::Stays)
+}

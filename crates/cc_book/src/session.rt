@@ -1,0 +1,83 @@
+//! Open sessions, and what they hold (RFC 8506, sections 5.1 and 5.2.2).
+
+ghost use Rattle.std.specs.Prelude.{◌≡◌, ◌≤◌, ◌^◌, IfOk};
+ghost use Rattle.cc_book.specs.Reservation.{has_name};
+ghost use Rattle.cc_book.specs.Standing.{held_in, holds_beside, is_named, prolonged};
+
+use cc_view::{Service, ServiceName};
+use dia_avp::Octets;
+use dia_base::{Listing, Moment};
+use std::alloc::{AllocError, Global};
+
+/// A reservation for a service: what its granted units cost.
+#[derive(Clone, Copy, Debug, PartialEq, Eq)]
+pub struct Hold {
+    pub service: ServiceName,
+    pub cost: u128,
+}
+
+/// A session that is open.
+#[derive(Debug, Drop)]
+pub struct OpenSession {
+    /// Its Session-Id.
+    pub id: Octets,
+    /// The account of the request that opened it, by its place.
+    pub account: usize,
+    /// The moment of its last request that is no EVENT.
+    pub last: Moment,
+    /// What it holds of its account, at most once for a service.
+    pub holds: Listing<Hold>,
+}
+
+impl OpenSession {
+    /// The session after a request at a moment, which leaves it these holds.
+    pub fn prolonged(&self, moment: Moment, holds: Listing<Hold>) -> Result<Self, AllocError>
+        ensures { IfOk result (λ session. session ≡ prolonged self.now moment holds) }
+    {
+        Ok(OpenSession {
+            id: self.id.clone()?,
+            account: self.account,
+            last: moment,
+            holds,
+        })
+    }
+
+    /// The holds for other services than these.
+    pub fn holds_beside(&self, alloc: Global, services: &[Service]) -> Result<Vec<Hold>, AllocError>
+        ensures { IfOk result (λ holds. holds.items ≡ holds_beside services.now self.now.holds) }
+    {
+        self.holds
+            .as_slice()
+            .iter()
+            .copied()
+            .filter(|hold| !is_named(services, hold))
+            .collect(alloc)
+    }
+}
+
+/// What the holds add up to.
+pub fn held_in(holds: &[Hold]) -> u128
+    requires { held_in holds.now ≤ 2 ^ 110 }
+    ensures { result ≡ held_in holds.now }
+{
+    let mut held = 0;
+    for hold in holds {
+        held += hold.cost;
+    }
+    held
+}
+
+/// Whether one of these services has the name of the hold.
+fn is_named(services: &[Service], hold: &Hold) -> bool
+    ensures { result ≡ is_named services.now hold.now }
+{
+    services
+        .iter()
+        .any(|service| has_name(&hold.service, service))
+}
+
+fn has_name(name: &ServiceName, service: &Service) -> bool
+    ensures { result ≡ has_name name.now service.now }
+{
+    name.group == service.group && name.ident == service.ident
+}

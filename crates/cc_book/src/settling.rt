@@ -1,0 +1,191 @@
+//! What a request of a session settles and is granted (RFC 8506, sections 5.1 to 5.5).
+
+ghost use Rattle.std.specs.Prelude.{◌≡◌, ◌+◌, ◌++◌, ◌<◌, ◌≤◌, ◌^◌, length, map, None, negsuc, pos, ◌≤ℤ◌, IfOk, IfSome, OnOk};
+ghost use Rattle.std.specs.List.{find};
+ghost use Rattle.std.specs.Option.{ForSome, option_copied};
+ghost use Rattle.cc_view.specs.Request.ServiceLimits.{HasSmallSums, WithinLimits};
+ghost use Rattle.cc_book.specs.AccountMachine.{code_of_grant, command_code, free_behind, grant_to, hold_of, holds_from, made_grant, replies_from, session_reply, settled_reply};
+ghost use Rattle.cc_book.specs.ServiceRating.{used_cost, used_total};
+ghost use Rattle.cc_book.specs.Standing.{held_in};
+
+use crate::asking::{asked_of, unit_code, used_of};
+use crate::session::Hold;
+use crate::terms::{Terms, name_of};
+use cc_rating::Grant;
+use cc_view::{CcReply, ResultCode, Service, ServiceReply};
+use dia_base::Listing;
+use std::alloc::{AllocError, Global};
+
+/// What services are granted: their replies, and what is reserved for them.
+#[derive(Debug, Drop)]
+pub struct Granted {
+    pub replies: Vec<ServiceReply>,
+    pub holds: Vec<Hold>,
+}
+
+impl Terms {
+    /// What the used units of services cost.
+    pub fn used_total(&self, services: &[Service]) -> i128
+        requires { WithinLimits services.now }
+        ensures value { result ≡ pos (used_total self.now.tariffs services.now) }
+        ensures most { used_total self.now.tariffs services.now ≤ 2 ^ 103 }
+    {
+        let mut total = 0;
+        for service in services {
+            total += self.used_cost(service) as i128;
+        }
+        total
+    }
+
+    /// What the used units of a service cost, 0 without a tariff.
+    fn used_cost(&self, service: &Service) -> u128
+        requires { HasSmallSums service.now }
+        ensures value { result ≡ used_cost self.now.tariffs service.now }
+        ensures most { result ≤ 2 ^ 98 }
+    {
+        match self.tariff_of(service) {
+            Some(tariff) => tariff.cost(used_of(tariff, service)),
+            None => 0,
+        }
+    }
+
+    /// Grants services in order, each of what the grants before it leave free.
+    pub fn granted_services(
+        &self,
+        alloc: Global,
+        free: i128,
+        services: &[Service],
+    ) -> Result<Granted, AllocError>
+        requires least { negsuc (2 ^ 126) ≤ℤ free }
+        requires few { length services.now ≤ 32 }
+        ensures replies { IfOk result (λ granted. granted.replies.items ≡ replies_from self.now free services.now) }
+        ensures holds { IfOk result (λ granted. granted.holds.items ≡ holds_from self.now.tariffs free services.now) }
+        ensures most { IfOk result (λ granted. held_in granted.holds.items ≤ 2 ^ 89) }
+    {
+        let mut replies = Vec::new(alloc);
+        let mut holds = Vec::new(alloc);
+        let mut free = free;
+        for service in services {
+            let grant = self.grant_to(free, service);
+            replies.push(self.settled_reply(service, grant))?;
+            reserve(&mut holds, service, made_grant(grant))?;
+            free = free_behind(free, grant);
+        }
+        Ok(Granted { replies, holds })
+    }
+
+    /// The replies for services of a session that ends: nothing is granted.
+    pub fn closed_services(
+        &self,
+        alloc: Global,
+        services: &[Service],
+    ) -> Result<Vec<ServiceReply>, AllocError>
+        ensures { IfOk result (λ replies. replies.items ≡ map (λ service. settled_reply self.now service None) services.now) }
+    {
+        services
+            .iter()
+            .map(|service| self.settled_reply(service, None))
+            .collect(alloc)
+    }
+
+    /// The grant for a service, where so much is free. None without a tariff or a Requested-Service-Unit.
+    fn grant_to(&self, free: i128, service: &Service) -> Option<Grant>
+        ensures value { result ≡ grant_to self.now.tariffs free service.now }
+        ensures most { IfSome result (λ grant. grant.held < 2 ^ 84) }
+    {
+        let tariff = self.tariff_of(service)?;
+        Some(tariff.grant(free, asked_of(tariff, service)?))
+    }
+
+    /// The reply for a service of a session, by its grant.
+    pub fn settled_reply(&self, service: &Service, grant: Option<Grant>) -> ServiceReply
+        ensures { result ≡ settled_reply self.now service.now grant }
+    {
+        let tariff = self.tariff_of(service);
+        let made = made_grant(grant);
+        ServiceReply {
+            name: name_of(service),
+            bare: service.bare,
+            code: match tariff {
+                Some(_) => code_of_grant(grant),
+                None => ResultCode::RatingFailed,
+            },
+            kind: tariff.map(|tariff| unit_code(tariff.kind)),
+            granted: made.map(|grant| grant.units),
+            validity: made.map(|_| self.validity),
+            last: made.is_some_and(|grant| grant.last),
+        }
+    }
+}
+
+/// Adds what is reserved for a service that is granted units.
+fn reserve(holds: &mut Vec<Hold>, service: &Service, made: Option<Grant>) -> Result<(), AllocError>
+    ensures { OnOk result (holds.new.items ≡ holds.old.items ++ hold_of service.now made) }
+{
+    if let Some(grant) = made {
+        holds.push(Hold {
+            service: name_of(service),
+            cost: grant.held,
+        })?;
+    }
+    Ok(())
+}
+
+/// A last grant of no units is none.
+fn made_grant(grant: Option<Grant>) -> Option<Grant>
+    ensures { result ≡ made_grant grant }
+{
+    match grant {
+        Some(grant) if !(grant.last && grant.units == 0) => Some(grant),
+        _ => None,
+    }
+}
+
+fn code_of_grant(grant: Option<Grant>) -> ResultCode
+    ensures { result ≡ code_of_grant grant }
+{
+    match grant {
+        Some(grant) if grant.last && grant.units == 0 => ResultCode::CreditLimitReached,
+        _ => ResultCode::Success,
+    }
+}
+
+/// What is free for the next grant.
+fn free_behind(free: i128, grant: Option<Grant>) -> i128
+    requires least { negsuc (2 ^ 126 + 2 ^ 90) ≤ℤ free }
+    requires held { ForSome grant (λ made. made.held < 2 ^ 84) }
+    ensures { result ≡ free_behind free grant }
+{
+    match grant {
+        Some(grant) => free - grant.held as i128,
+        None => free,
+    }
+}
+
+/// The reply to a request of a session: its Result-Code is that of its bare service, where it has one.
+pub fn session_reply(replies: Vec<ServiceReply>) -> CcReply
+    ensures { result ≡ session_reply replies.items }
+{
+    CcReply {
+        code: command_code(&replies),
+        services: Listing::from_vec(replies),
+        cost: None,
+        check: None,
+    }
+}
+
+fn command_code(replies: &[ServiceReply]) -> ResultCode
+    ensures { result ≡ command_code replies.now }
+{
+    match bare_reply(replies) {
+        Some(reply) => reply.code,
+        None => ResultCode::Success,
+    }
+}
+
+/// The reply for the units of the command itself.
+fn bare_reply(replies: &[ServiceReply]) -> Option<&ServiceReply>
+    ensures { option_copied result ≡ find (λ reply. reply.bare) replies.now }
+{
+    replies.iter().find(|reply| reply.bare)
+}

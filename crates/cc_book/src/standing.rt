@@ -1,0 +1,144 @@
+//! What a history has left: balances, and the sessions that are open.
+
+ghost use Rattle.std.specs.Prelude.{◌≡◌, ◌<◌, ◌≤◌, ◌^◌, [], length, map, pos, negsuc, ◌+ℤ◌, ◌-ℤ◌, ◌≤ℤ◌, IfOk, IfSome, MatchOption, None, slice_index_or, vec_capacity, vec_len, All};
+ghost use Rattle.std.specs.Option.{ForSome};
+ghost use Rattle.cc_book.specs.Standing.{IsOpenAt, after_change, after_debit, free_in, held_by_all, is_session, place_in, reserved_in, IsPlacedIn};
+
+use crate::account::Account;
+use crate::deed::Change;
+use crate::session::{OpenSession, held_in};
+use dia_avp::Octets;
+use std::alloc::{AllocError, Global};
+
+/// What a history has left: all that is looked at to answer a request.
+#[derive(Debug, Drop)]
+pub struct Standing {
+    /// The balance of each account.
+    pub balances: Vec<i128>,
+    /// The sessions that are open, in the order in which they opened.
+    pub sessions: Vec<OpenSession>,
+}
+
+impl Standing {
+    /// What stands before the first request.
+    pub fn new(alloc: Global, accounts: &[Account]) -> Result<Self, AllocError>
+        ensures balances { IfOk result (λ standing. standing.balances.items ≡ map (λ account. account.opening) accounts.now) }
+        ensures least { IfOk result (λ standing. All (λ balance. negsuc (2 ^ 63) ≤ℤ balance) standing.balances.items) }
+        ensures most { IfOk result (λ standing. All (λ balance. balance ≤ℤ pos (2 ^ 63)) standing.balances.items) }
+        ensures sessions { IfOk result (λ standing. standing.sessions.items ≡ []) }
+    {
+        let mut balances = Vec::new(alloc);
+        for account in accounts {
+            balances.push(account.opening as i128)?;
+        }
+        Ok(Standing {
+            balances,
+            sessions: Vec::new(alloc),
+        })
+    }
+
+    /// The open session with this Session-Id, and its place.
+    pub fn open_session(&self, id: &Octets) -> Option<(usize, &OpenSession)>
+        ensures { MatchOption result (place_in self.now.sessions.items id.now ≡ None) (λ found. IsOpenAt self.now.sessions.items id.now found.0 found.1.now) }
+    {
+        let place = self.place_of(id)?;
+        Some((place, &self.sessions[place]))
+    }
+
+    fn place_of(&self, id: &Octets) -> Option<usize>
+        ensures value { result ≡ place_in self.now.sessions.items id.now }
+        ensures within { IfSome result (λ place. place < length self.now.sessions.items) }
+    {
+        self.sessions.iter().position(|session| session.id == *id)
+    }
+
+    /// What the sessions of an account have reserved of it.
+    pub fn reserved(&self, account: usize) -> u128
+        requires { held_by_all self.now.sessions.items ≤ 2 ^ 110 }
+        ensures value { result ≡ reserved_in account self.now.sessions.items }
+        ensures most { result ≤ held_by_all self.now.sessions.items }
+    {
+        let mut reserved = 0;
+        for session in &self.sessions {
+            if session.account == account {
+                reserved += held_in(session.holds.as_slice());
+            }
+        }
+        reserved
+    }
+
+    /// What is free of an account: its balance less what sessions have reserved of it.
+    fn free(&self, account: usize) -> i128
+        requires within { account < length self.now.balances.items }
+        requires least { All (λ balance. negsuc (2 ^ 124) ≤ℤ balance) self.now.balances.items }
+        requires most { All (λ balance. balance ≤ℤ pos (2 ^ 124)) self.now.balances.items }
+        requires held { held_by_all self.now.sessions.items ≤ 2 ^ 110 }
+        ensures value { result ≡ slice_index_or self.now.balances.items account (pos 0) -ℤ pos (reserved_in account self.now.sessions.items) }
+        ensures least { negsuc (2 ^ 125) ≤ℤ result }
+        ensures most { result ≤ℤ pos (2 ^ 124) }
+    {
+        self.balances[account] - self.reserved(account) as i128
+    }
+
+    /// What is free of an account, nothing without one.
+    pub fn free_for(&self, account: Option<usize>) -> i128
+        requires within { ForSome account (λ place. place < length self.now.balances.items) }
+        requires least { All (λ balance. negsuc (2 ^ 124) ≤ℤ balance) self.now.balances.items }
+        requires most { All (λ balance. balance ≤ℤ pos (2 ^ 124)) self.now.balances.items }
+        requires held { held_by_all self.now.sessions.items ≤ 2 ^ 110 }
+        ensures { result ≡ free_in self.now.balances.items self.now.sessions.items account }
+    {
+        match account {
+            Some(account) => self.free(account),
+            None => 0,
+        }
+    }
+
+    /// What is free of an account for the grants of a request, which has ended so much of what was reserved and debits
+    /// so much.
+    pub fn free_to_grant(&self, account: usize, ended: u128, debit: i128) -> i128
+        requires within { account < length self.now.balances.items }
+        requires least { All (λ balance. negsuc (2 ^ 124) ≤ℤ balance) self.now.balances.items }
+        requires most { All (λ balance. balance ≤ℤ pos (2 ^ 124)) self.now.balances.items }
+        requires held { held_by_all self.now.sessions.items ≤ 2 ^ 110 }
+        requires ended { ended ≤ 2 ^ 110 }
+        requires debit_least { pos 0 ≤ℤ debit }
+        requires debit_most { debit ≤ℤ pos (2 ^ 103) }
+        ensures value { result ≡ ((slice_index_or self.now.balances.items account (pos 0) -ℤ pos (reserved_in account self.now.sessions.items)) +ℤ pos ended) -ℤ debit }
+        ensures least { negsuc (2 ^ 126) ≤ℤ result }
+    {
+        self.free(account) + ended as i128 - debit
+    }
+
+    /// Debits an account.
+    pub fn debit(&mut self, account: Option<usize>, debit: i128)
+        requires within { ForSome account (λ place. place < length self.old.balances.items) }
+        requires least { All (λ balance. negsuc (2 ^ 124) ≤ℤ balance) self.old.balances.items }
+        requires most { All (λ balance. balance ≤ℤ pos (2 ^ 124)) self.old.balances.items }
+        requires debit_least { negsuc (2 ^ 103) ≤ℤ debit }
+        requires debit_most { debit ≤ℤ pos (2 ^ 103) }
+        ensures balances { self.new.balances.items ≡ after_debit self.old.balances.items account debit }
+        ensures sessions { self.new.sessions ≡ self.old.sessions }
+    {
+        if let Some(account) = account {
+            self.balances[account] -= debit;
+        }
+    }
+
+    /// Changes the session of a request. There is room for one that opens.
+    pub fn change(&mut self, change: Change)
+        requires room { vec_len self.old.sessions < vec_capacity self.old.sessions }
+        requires within { IsPlacedIn change (length self.old.sessions.items) }
+        ensures sessions { self.new.sessions.items ≡ after_change self.old.sessions.items change }
+        ensures balances { self.new.balances ≡ self.old.balances }
+    {
+        match change {
+            Change::Stays => {}
+            Change::Opens { session } => self.sessions.push_reserved(session),
+            Change::GoesOn { place, session } => self.sessions[place] = session,
+            Change::Ends { place } => {
+                let _ended = self.sessions.remove(place);
+            }
+        }
+    }
+}
