@@ -1,10 +1,11 @@
 -- What a book keeps beside its history.
 use Rattle.std.proofs.Common.{◌≡◌, ℕ, suc, ◌+◌, ◌<◌, ◌≤◌, ◌^◌, List, [], ◌∷◌, ◌++◌, length, map, take, drop, get_or, Option, Some, None, Ok, Bool, true, false, cond, ltb, refl, sym, ap, subst, ◌∙◌, arith, rules, length-append}
-use Rattle.std.specs.Prelude.{ℤ, IfSome, IsSome, MatchOption, pos, find, unwrap_or, slice_get, slice_index_or}
+use Rattle.std.specs.Prelude.{ℤ, IfSome, IsSome, MatchOption, nat_abs, negsuc, pos, ◌≤ℤ◌, find, unwrap_or, slice_get, slice_index_or}
 use Rattle.std.specs.List.{fold, position_or_len}
 use Rattle.std.proofs.Math.ListN.{get_or-append}
 use Rattle.std.proofs.Math.Seq.{drop-cons, get_or-append_seam}
-use Rattle.std.proofs.lemmas.List.{length-map, length-take-le, map-append, take-append-drop}
+use Rattle.std.proofs.lemmas.List.{get_or_default, length-map, length-take-le, map-append, take-append-drop}
+use Rattle.std.proofs.lemmas.Int.{ints}
 use Rattle.std.proofs.lemmas.List.Sums.{fold-append}
 use Rattle.std.proofs.lemmas.Option.{get_or_from_slice_get, slice_get_within}
 use Rattle.dia_base.specs.declared.number.Moment.{Moment}
@@ -12,9 +13,9 @@ use Rattle.cc_view.specs.declared.reply.CcReply.{CcReply}
 use Rattle.cc_view.specs.declared.request.CcRequest.{CcRequest}
 use Rattle.cc_view.specs.declared.request.RequestKind.{RequestKind}
 use Rattle.cc_view.specs.declared.request.RequestKind.TheVariants.{Initial, Update, Termination, Event}
-use Rattle.cc_book.specs.declared.deed.Change.{Change}
-use Rattle.cc_book.specs.declared.deed.Change.TheVariants.{Stays, Opens}
-use Rattle.cc_book.specs.declared.deed.Deed.{Deed}
+use Rattle.cc_book.specs.declared.outcome.Change.{Change}
+use Rattle.cc_book.specs.declared.outcome.Change.TheVariants.{Stays, Opens}
+use Rattle.cc_book.specs.declared.outcome.Outcome.{Outcome}
 use Rattle.cc_book.specs.declared.entry.Entry.{Entry}
 use Rattle.cc_book.specs.declared.entry.Entry.TheVariants.{Take}
 use Rattle.cc_book.specs.declared.session.OpenSession.{OpenSession}
@@ -24,14 +25,14 @@ use Rattle.cc_book.specs.Duplicate.{Key, key_of}
 use Rattle.cc_book.specs.History.{IsKeptAt, IsNew}
 use Rattle.cc_book.specs.Posting.{Posting}
 use Rattle.cc_book.specs.Balance.{balance_of, open_sessions_of, reserved_of, spent_by}
-use Rattle.cc_book.specs.Standing.{IsDeed, IsPlacedIn, IsSmall, Stands, after_change, after_debit, change_at, change_open, is_session, place_in, reserved_in}
+use Rattle.cc_book.specs.Standing.{IsOutcome, IsPlacedIn, IsSmall, Stands, after_change, after_debit, change_at, change_open, is_session, place_in, reserved_in}
 use Rattle.cc_book.specs.Session.{opens}
 use Rattle.cc_book.proofs.Sums.{all_placed, charged_account-within}
 use Rattle.cc_book.proofs.Stands.{open_count-stands, reserved-stands, small-stands}
 use Rattle.cc_book.specs.declared.book.Answered.{Answered}
 use Rattle.cc_book.specs.Taking.{IsBook, Ledger, answer_of}
 use Rattle.cc_book.proofs.Replies.{answer_of-fresh, answer_of-kept}
-use Rattle.cc_book.proofs.Deeds.{take-stands}
+use Rattle.cc_book.proofs.Outcomes.{take-stands}
 use Rattle.cc_book.proofs.Keys.{IsLegal-empty, IsLegal-push}
 use Rattle.cc_book.proofs.Postings.{postings_of-push}
 
@@ -103,10 +104,10 @@ pub IsBook-empty : (terms : Terms) (limit : ℕ) (balances : List ℤ) → limit
 unfolding postings_of
 IsBook-empty terms limit balances most stands = record { legal = IsLegal-empty terms; within = omega arith; most = most; replies_kept = refl; stands = stands }
 
-pub IsBook-push : (terms : Terms) (limit : ℕ) (history : List Entry) (replies : List (Option CcReply)) (balances : List ℤ) (sessions : List OpenSession) (moment : Moment) (request : CcRequest) (deed : Deed)
-    → IsBook terms limit history replies balances sessions → IsNew history (key_of request) → length history < limit → IsDeed terms (postings_of terms history) sessions moment request deed
-    → IsBook terms limit (history ++ Take moment request ∷ []) (replies ++ Some deed.reply ∷ []) (after_debit balances deed.account deed.debit) (after_change sessions deed.change)
-IsBook-push terms limit history replies balances sessions moment request deed book new room does =
+pub IsBook-push : (terms : Terms) (limit : ℕ) (history : List Entry) (replies : List (Option CcReply)) (balances : List ℤ) (sessions : List OpenSession) (moment : Moment) (request : CcRequest) (outcome : Outcome)
+    → IsBook terms limit history replies balances sessions → IsNew history (key_of request) → length history < limit → IsOutcome terms (postings_of terms history) sessions moment request outcome
+    → IsBook terms limit (history ++ Take moment request ∷ []) (replies ++ Some outcome.reply ∷ []) (after_debit balances outcome.account outcome.debit) (after_change sessions outcome.change)
+IsBook-push terms limit history replies balances sessions moment request outcome book new room does =
     let before = postings_of terms history in
     let long = length-append history (Take moment request ∷ []) in
     let next = postings_of-push terms history (Take moment request) in
@@ -114,10 +115,10 @@ IsBook-push terms limit history replies balances sessions moment request deed bo
       legal = IsLegal-push terms history moment request book.legal new;
       within = omega arith;
       most = book.most;
-      replies_kept = ap (λ (rs : List (Option CcReply)). rs ++ Some deed.reply ∷ []) book.replies_kept
+      replies_kept = ap (λ (rs : List (Option CcReply)). rs ++ Some outcome.reply ∷ []) book.replies_kept
           ∙ ap (λ (r : CcReply). replies_in before ++ Some r ∷ []) does.reply
           ∙ sym (ap replies_in next ∙ map-append (λ (p : Posting). p.reply) before (posting_of terms before (Take moment request) ∷ []));
-      stands = subst (λ (ps : List Posting). Stands terms ps (after_debit balances deed.account deed.debit) (after_change sessions deed.change)) (sym next) (take-stands book.stands does);
+      stands = subst (λ (ps : List Posting). Stands terms ps (after_debit balances outcome.account outcome.debit) (after_change sessions outcome.change)) (sym next) (take-stands book.stands does);
     }
 
 -- ---- what a book has is what its history has left
@@ -178,22 +179,22 @@ module _ {terms : Terms} {limit : ℕ} {history : List Entry} {replies : List (O
       some_if (λ (r : CcReply). answered ≡ record { reply = r; place = place; fresh = false }) (slice_index_or replies place None) reply (kept-reply terms history replies (key_of request) place taken book.replies_kept at) is in
       ap (λ (a : Answered). a.fresh) same
 
-  pub answer-fresh : (moment : Moment) (request : CcRequest) (deed : Deed) → IsNew history (key_of request) → length history < limit → IsDeed terms (postings_of terms history) sessions moment request deed
-      → answer_of (ledger_of terms limit history) request ≡ Ok (record { reply = deed.reply; place = length history; fresh = true })
+  pub answer-fresh : (moment : Moment) (request : CcRequest) (outcome : Outcome) → IsNew history (key_of request) → length history < limit → IsOutcome terms (postings_of terms history) sessions moment request outcome
+      → answer_of (ledger_of terms limit history) request ≡ Ok (record { reply = outcome.reply; place = length history; fresh = true })
   unfolding reply_to
-  answer-fresh moment request deed new room does =
-      answer_of-fresh (ledger_of terms limit history) request (length history) deed.reply new refl room does.reply
+  answer-fresh moment request outcome new room does =
+      answer_of-fresh (ledger_of terms limit history) request (length history) outcome.reply new refl room does.reply
 
   -- the account that is debited is one of the book's, and the session that changes too
-  pub account-within : (moment : Moment) (request : CcRequest) (deed : Deed) → IsDeed terms (postings_of terms history) sessions moment request deed → (place : ℕ) → deed.account ≡ Some place → place < length balances
-  account-within moment request deed does place is =
+  pub account-within : (moment : Moment) (request : CcRequest) (outcome : Outcome) → IsOutcome terms (postings_of terms history) sessions moment request outcome → (place : ℕ) → outcome.account ≡ Some place → place < length balances
+  account-within moment request outcome does place is =
       let known = charged_account-within terms (postings_of terms history) request (all_placed terms history) in
       let here = subst (λ (a : Option ℕ). MatchOption a (Unit {0}) (λ p. p < length terms.accounts)) (sym does.account ∙ is) known in
       let long = book.stands.accounts in
       omega (arith, here)
 
-  pub change-within : (moment : Moment) (request : CcRequest) (deed : Deed) → IsDeed terms (postings_of terms history) sessions moment request deed → IsPlacedIn deed.change (length sessions)
-  change-within moment request deed does =
+  pub change-within : (moment : Moment) (request : CcRequest) (outcome : Outcome) → IsOutcome terms (postings_of terms history) sessions moment request outcome → IsPlacedIn outcome.change (length sessions)
+  change-within moment request outcome does =
       subst (λ (change : Change). IsPlacedIn change (length sessions)) (sym does.change) (by (place_in sessions request.session) (find (is_session request.session) sessions) refl)
     where
       posting : Posting
@@ -223,3 +224,22 @@ same-book {terms} {limit} history other_history replies other_replies balances o
     (subst (λ (bs : List ℤ). IsBook terms limit other_history other_replies bs sessions) b
     (subst (λ (rs : List (Option CcReply)). IsBook terms limit other_history rs balances sessions) r
     (subst (λ (es : List Entry). IsBook terms limit es replies balances sessions) h book)))
+
+abs-below : (z : ℤ) (bound : ℕ) → negsuc bound ≤ℤ z → z ≤ℤ pos bound → nat_abs z ≤ bound + 1
+abs-below (pos n) bound least most = omega (arith, ints)
+abs-below (negsuc n) bound least most = omega (arith, ints)
+
+-- a balance stays below 2 ^ 124 in size
+pub small-balance : {terms : Terms} {limit : ℕ} {history : List Entry} {replies : List (Option CcReply)} {balances : List ℤ} {sessions : List OpenSession} → IsBook terms limit history replies balances sessions
+    → (account : ℕ) (d : ℤ) → account < length balances → nat_abs (slice_index_or balances account d) < 2 ^ 124
+small-balance {terms} {limit} {history} {replies} {balances} book account d lt =
+    let long = postings_of-length terms history in
+    let within = book.within in
+    let limited = book.most in
+    let known : account < length terms.accounts = omega (arith, book.stands.accounts) in
+    let same = get_or_default balances account d (pos 0) lt in
+    let least : negsuc (2 ^ 123 + 2 ^ 122) ≤ℤ slice_index_or balances account (pos 0) = omega (arith, ints, book.stands.least account known) in
+    let most : slice_index_or balances account (pos 0) ≤ℤ pos (2 ^ 123 + 2 ^ 122) = omega (arith, ints, book.stands.most account known) in
+    let size = abs-below (slice_index_or balances account (pos 0)) (2 ^ 123 + 2 ^ 122) least most in
+    let moved : nat_abs (slice_index_or balances account d) ≡ nat_abs (slice_index_or balances account (pos 0)) = ap nat_abs same in
+    omega arith

@@ -10,9 +10,9 @@ use Rattle.cc_view.specs.declared.reply.CcReply.{CcReply}
 use Rattle.cc_view.specs.declared.request.CcRequest.{CcRequest}
 use Rattle.cc_view.specs.declared.request.RequestKind.{RequestKind}
 use Rattle.cc_view.specs.declared.request.RequestKind.TheVariants.{Initial, Update, Termination, Event}
-use Rattle.cc_book.specs.declared.deed.Change.{Change}
-use Rattle.cc_book.specs.declared.deed.Change.TheVariants.{Stays, Opens, GoesOn, Ends}
-use Rattle.cc_book.specs.declared.deed.Deed.{Deed}
+use Rattle.cc_book.specs.declared.outcome.Change.{Change}
+use Rattle.cc_book.specs.declared.outcome.Change.TheVariants.{Stays, Opens, GoesOn, Ends}
+use Rattle.cc_book.specs.declared.outcome.Outcome.{Outcome}
 use Rattle.cc_book.specs.declared.entry.Entry.TheVariants.{Take}
 use Rattle.cc_book.specs.declared.session.Hold.{Hold}
 use Rattle.cc_book.specs.declared.session.OpenSession.{OpenSession}
@@ -21,7 +21,7 @@ use Rattle.cc_book.specs.AccountMachine.{account_by, account_of, action_debit, c
 use Rattle.cc_book.specs.Posting.{Posting}
 use Rattle.cc_book.specs.ServiceRating.{used_total}
 use Rattle.cc_book.specs.Session.{Opened, is_initial_kind, is_open, is_success, opens}
-use Rattle.cc_book.specs.Standing.{IsDeed, Stands, change_at, change_closed, change_of, change_open, free_in, held_in, holds_beside, is_session, place_in, prolonged, reserved_in}
+use Rattle.cc_book.specs.Standing.{IsOutcome, Stands, change_at, change_closed, change_of, change_open, free_in, held_in, holds_beside, is_session, place_in, prolonged, reserved_in}
 use Rattle.cc_book.proofs.Stands.{closed-stands, free-stands, free_to_grant-closed, free_to_grant-open, open-stands}
 
 -- ---- a request by its kind
@@ -71,7 +71,7 @@ unsettled : {terms : Terms} {before : List Posting} {sessions : List OpenSession
     → debit_by terms before request kind ≡ cond (settles_after terms before request) (pos (used_total terms.tariffs request.services)) (pos 0)
     → reply_by terms before request kind ≡ code_alone code
     → change ≡ change_of sessions request moment (posting_of terms before (Take moment request))
-    → IsDeed terms before sessions moment request (record { account = account; debit = pos 0; reply = code_alone code; change = change })
+    → IsOutcome terms before sessions moment request (record { account = account; debit = pos 0; reply = code_alone code; change = change })
 unsettled {terms} {before} {sessions} {moment} {request} kind account code change is none charged debits replies changed = record {
   account = charged;
   debit = sym (ap (debit_by terms before request) is ∙ debits ∙ ap (λ (b : Bool). cond b (pos (used_total terms.tariffs request.services)) (pos 0)) none);
@@ -100,7 +100,7 @@ module _ {terms : Terms} {before : List Posting} {balances : List ℤ} {sessions
 
   -- an INITIAL of an open session
   pub initial-open : (place : ℕ) (session : OpenSession) → request.kind ≡ Initial → place_in sessions request.session ≡ Some place → slice_get sessions place ≡ Some session
-      → IsDeed terms before sessions moment request (record { account = account_of terms.accounts request.subscriptions; debit = pos 0; reply = code_alone UnableToComply; change = GoesOn place (prolonged session moment session.holds) })
+      → IsOutcome terms before sessions moment request (record { account = account_of terms.accounts request.subscriptions; debit = pos 0; reply = code_alone UnableToComply; change = GoesOn place (prolonged session moment session.holds) })
   initial-open place session is at there =
       let known = is_some (account_of terms.accounts request.subscriptions) in
       let none : settles_after terms before request ≡ false = settles-by terms before request Initial true known is (opened place session at there) refl in
@@ -113,7 +113,7 @@ module _ {terms : Terms} {before : List Posting} {balances : List ℤ} {sessions
 
   -- an INITIAL without an account
   pub initial-unknown : request.kind ≡ Initial → place_in sessions request.session ≡ None → account_of terms.accounts request.subscriptions ≡ None
-      → IsDeed terms before sessions moment request (record { account = None; debit = pos 0; reply = code_alone UserUnknown; change = Stays })
+      → IsOutcome terms before sessions moment request (record { account = None; debit = pos 0; reply = code_alone UserUnknown; change = Stays })
   initial-unknown is shut unknown =
       let none : settles_after terms before request ≡ false = settles-by terms before request Initial false false is (closed shut) (ap is_some unknown) in
       unsettled Initial None UserUnknown Stays is none
@@ -124,7 +124,7 @@ module _ {terms : Terms} {before : List Posting} {balances : List ℤ} {sessions
 
   -- an UPDATE or a TERMINATION of no session
   pub update-closed : request.kind ≡ Update → place_in sessions request.session ≡ None
-      → IsDeed terms before sessions moment request (record { account = None; debit = pos 0; reply = code_alone UnknownSessionId; change = Stays })
+      → IsOutcome terms before sessions moment request (record { account = None; debit = pos 0; reply = code_alone UnknownSessionId; change = Stays })
   update-closed is shut =
       let known = is_some (account_of terms.accounts request.subscriptions) in
       let none : settles_after terms before request ≡ false = settles-by terms before request Update false known is (closed shut) refl in
@@ -134,7 +134,7 @@ module _ {terms : Terms} {before : List Posting} {balances : List ℤ} {sessions
       (change-unsettled sessions request moment (posting_of terms before (Take moment request)) shut (opens-unsettled terms before moment request none))
 
   pub termination-closed : request.kind ≡ Termination → place_in sessions request.session ≡ None
-      → IsDeed terms before sessions moment request (record { account = None; debit = pos 0; reply = code_alone UnknownSessionId; change = Stays })
+      → IsOutcome terms before sessions moment request (record { account = None; debit = pos 0; reply = code_alone UnknownSessionId; change = Stays })
   termination-closed is shut =
       let known = is_some (account_of terms.accounts request.subscriptions) in
       let none : settles_after terms before request ≡ false = settles-by terms before request Termination false known is (closed shut) refl in
@@ -152,7 +152,7 @@ module _ {terms : Terms} {before : List Posting} {balances : List ℤ} {sessions
 
   pub termination-open : (place : ℕ) (session : OpenSession) → request.kind ≡ Termination → place_in sessions request.session ≡ Some place → slice_get sessions place ≡ Some session
       → used_total terms.tariffs request.services ≤ 2 ^ 103
-      → IsDeed terms before sessions moment request (record { account = Some session.account; debit = pos (used_total terms.tariffs request.services); reply = closing_reply terms request.services; change = Ends place })
+      → IsOutcome terms before sessions moment request (record { account = Some session.account; debit = pos (used_total terms.tariffs request.services); reply = closing_reply terms request.services; change = Ends place })
   termination-open place session is at there small =
       let known = is_some (account_of terms.accounts request.subscriptions) in
       let settled : settles_after terms before request ≡ true = settles-by terms before request Termination true known is (opened place session at there) refl in
@@ -179,7 +179,7 @@ module _ {terms : Terms} {before : List Posting} {balances : List ℤ} {sessions
 
   pub update-open : (place : ℕ) (session : OpenSession) (free : ℤ) (holds : List Hold) → request.kind ≡ Update → place_in sessions request.session ≡ Some place → slice_get sessions place ≡ Some session
       → used_total terms.tariffs request.services ≤ 2 ^ 103 → free ≡ free_to_grant terms before request → holds ≡ holds_from terms.tariffs free request.services → held_in holds ≤ 2 ^ 89
-      → IsDeed terms before sessions moment request (record {
+      → IsOutcome terms before sessions moment request (record {
         account = Some session.account;
         debit = pos (used_total terms.tariffs request.services);
         reply = granting_reply terms free request.services;
@@ -217,7 +217,7 @@ module _ {terms : Terms} {before : List Posting} {balances : List ℤ} {sessions
   pub initial-closed : (account : ℕ) (free : ℤ) (holds : List Hold) (change : Change) → request.kind ≡ Initial → place_in sessions request.session ≡ None → account_of terms.accounts request.subscriptions ≡ Some account
       → used_total terms.tariffs request.services ≤ 2 ^ 103 → free ≡ free_to_grant terms before request → holds ≡ holds_from terms.tariffs free request.services → held_in holds ≤ 2 ^ 89
       → change ≡ opening-change (is_success (granting_reply terms free request.services).code) account holds
-      → IsDeed terms before sessions moment request (record {
+      → IsOutcome terms before sessions moment request (record {
         account = Some account;
         debit = pos (used_total terms.tariffs request.services);
         reply = granting_reply terms free request.services;
@@ -280,17 +280,17 @@ module _ {terms : Terms} {before : List Posting} {balances : List ℤ} {sessions
   free-event None within = refl
   free-event (Some account) within = sym (free-stands s account within)
 
-  pub event-deed : (account : Option ℕ) (total : Option ℕ) → request.kind ≡ Event → account ≡ account_of terms.accounts request.subscriptions → IfSome account (λ place. place < length terms.accounts)
+  pub event-outcome : (account : Option ℕ) (total : Option ℕ) → request.kind ≡ Event → account ≡ account_of terms.accounts request.subscriptions → IfSome account (λ place. place < length terms.accounts)
       → total ≡ total_of terms.tariffs request.services
       → negsuc (2 ^ 103) ≤ℤ action_debit (unwrap_or total 0) (event_reply terms request.services account (free_in balances sessions account) request.action).code request.action
       → action_debit (unwrap_or total 0) (event_reply terms request.services account (free_in balances sessions account) request.action).code request.action ≤ℤ pos (2 ^ 103)
-      → IsDeed terms before sessions moment request (record {
+      → IsOutcome terms before sessions moment request (record {
         account = account;
         debit = action_debit (unwrap_or total 0) (event_reply terms request.services account (free_in balances sessions account) request.action).code request.action;
         reply = event_reply terms request.services account (free_in balances sessions account) request.action;
         change = Stays;
       })
-  event-deed account total is own within costs least most =
+  event-outcome account total is own within costs least most =
       let none : settles_after terms before request ≡ false = settles-by terms before request Event (is_open terms.validity request.session before) (is_some (account_of terms.accounts request.subscriptions)) is refl refl in
       let reply : event_reply terms request.services account (free_in balances sessions account) request.action ≡ event_after terms before request =
       ap (λ (z : ℤ). event_reply terms request.services account z request.action) (free-event account within)
@@ -314,17 +314,17 @@ module _ {terms : Terms} {before : List Posting} {balances : List ℤ} {sessions
         event-stays (Some place) None kind shut = sym (ap (λ (b : Bool). cond b (Opens (record { id = request.session; account = unwrap_or posting.account 0; last = moment; holds = posting.grants })) Stays) shut)
         event-stays None found kind shut = sym (ap (λ (b : Bool). cond b (Opens (record { id = request.session; account = unwrap_or posting.account 0; last = moment; holds = posting.grants })) Stays) shut)
 
--- ---- a deed by its parts
+-- ---- a outcome by its parts
 
-pub same-deed : {terms : Terms} {before : List Posting} {sessions : List OpenSession} {moment : Moment} {request : CcRequest} (account : Option ℕ) (debit other_debit : ℤ) (reply other_reply : CcReply) (change other_change : Change)
+pub same-outcome : {terms : Terms} {before : List Posting} {sessions : List OpenSession} {moment : Moment} {request : CcRequest} (account : Option ℕ) (debit other_debit : ℤ) (reply other_reply : CcReply) (change other_change : Change)
     → debit ≡ other_debit → reply ≡ other_reply → change ≡ other_change
-    → IsDeed terms before sessions moment request (record { account = account; debit = debit; reply = reply; change = change })
-    → IsDeed terms before sessions moment request (record { account = account; debit = other_debit; reply = other_reply; change = other_change })
-same-deed {terms} {before} {sessions} {moment} {request} account debit other_debit reply other_reply change other_change d r c deed =
-    subst (λ (x : Change). IsDeed terms before sessions moment request (record { account = account; debit = other_debit; reply = other_reply; change = x })) c
-    (subst (λ (x : CcReply). IsDeed terms before sessions moment request (record { account = account; debit = other_debit; reply = x; change = change })) r
-    (subst (λ (x : ℤ). IsDeed terms before sessions moment request (record { account = account; debit = x; reply = reply; change = change })) d deed))
+    → IsOutcome terms before sessions moment request (record { account = account; debit = debit; reply = reply; change = change })
+    → IsOutcome terms before sessions moment request (record { account = account; debit = other_debit; reply = other_reply; change = other_change })
+same-outcome {terms} {before} {sessions} {moment} {request} account debit other_debit reply other_reply change other_change d r c outcome =
+    subst (λ (x : Change). IsOutcome terms before sessions moment request (record { account = account; debit = other_debit; reply = other_reply; change = x })) c
+    (subst (λ (x : CcReply). IsOutcome terms before sessions moment request (record { account = account; debit = other_debit; reply = x; change = change })) r
+    (subst (λ (x : ℤ). IsOutcome terms before sessions moment request (record { account = account; debit = x; reply = reply; change = change })) d outcome))
 
--- the deed of a request that is refused
-abbrev pub refused-deed : Option ℕ → ResultCode → Change → Deed
-refused-deed account code change = record { account = account; debit = pos 0; reply = code_alone code; change = change }
+-- the outcome of a request that is refused
+abbrev pub refused-outcome : Option ℕ → ResultCode → Change → Outcome
+refused-outcome account code change = record { account = account; debit = pos 0; reply = code_alone code; change = change }

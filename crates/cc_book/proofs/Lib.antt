@@ -9,10 +9,10 @@ pub mod Amounts
 pub mod Books
 pub mod ByKind
 pub mod Changes
-pub mod Deeds
 pub mod InOrder
 pub mod Keys
 pub mod Looking
+pub mod Outcomes
 pub mod Postings
 pub mod Replies
 pub mod Sessions

@@ -8,9 +8,9 @@ use Rattle.cc_view.specs.declared.request.CcRequest.{CcRequest}
 use Rattle.cc_view.specs.declared.request.RequestKind.{RequestKind}
 use Rattle.cc_view.specs.declared.request.RequestKind.TheVariants.{Initial, Update, Termination, Event}
 use Rattle.cc_view.specs.declared.request.Service.{Service}
-use Rattle.cc_book.specs.declared.deed.Change.{Change}
-use Rattle.cc_book.specs.declared.deed.Change.TheVariants.{Stays, Opens, GoesOn, Ends}
-use Rattle.cc_book.specs.declared.deed.Deed.{Deed}
+use Rattle.cc_book.specs.declared.outcome.Change.{Change}
+use Rattle.cc_book.specs.declared.outcome.Change.TheVariants.{Stays, Opens, GoesOn, Ends}
+use Rattle.cc_book.specs.declared.outcome.Outcome.{Outcome}
 use Rattle.cc_book.specs.declared.entry.Entry.TheVariants.{Take}
 use Rattle.cc_book.specs.declared.session.Hold.{Hold}
 use Rattle.cc_book.specs.declared.session.OpenSession.{OpenSession}
@@ -111,14 +111,14 @@ after_debit balances None debit = balances
 after_debit balances (Some account) debit = slice_set balances account (slice_index_or balances account (pos 0) -ℤ debit)
 
 -- what a request does after postings, where these sessions are open
-pub record IsDeed (terms : Terms) (before : List Posting) (sessions : List OpenSession) (moment : Moment) (request : CcRequest) (deed : Deed) : Type 0 where
-  pub account : deed.account ≡ charged_account terms before request
-  pub debit : deed.debit ≡ debit_after terms before request
-  pub reply : deed.reply ≡ reply_after terms before request
-  pub change : deed.change ≡ change_of sessions request moment (posting_of terms before (Take moment request))
+pub record IsOutcome (terms : Terms) (before : List Posting) (sessions : List OpenSession) (moment : Moment) (request : CcRequest) (outcome : Outcome) : Type 0 where
+  pub account : outcome.account ≡ charged_account terms before request
+  pub debit : outcome.debit ≡ debit_after terms before request
+  pub reply : outcome.reply ≡ reply_after terms before request
+  pub change : outcome.change ≡ change_of sessions request moment (posting_of terms before (Take moment request))
   -- in amounts that are small
-  pub least : negsuc (2 ^ 103) ≤ℤ deed.debit
-  pub most : deed.debit ≤ℤ pos (2 ^ 103)
+  pub least : negsuc (2 ^ 103) ≤ℤ outcome.debit
+  pub most : outcome.debit ≤ℤ pos (2 ^ 103)
   pub grants : held_in (grants_after terms before request) ≤ 2 ^ 89
 
 -- ---- what stands after postings

@@ -1,6 +1,6 @@
 //! The account book: a history of requests, from which every balance and reply is made.
 
-ghost use Rattle.std.specs.Prelude.{◌≡◌, ◌≤◌, ◌<◌, ◌^◌, ◌≤ℤ◌, [], length, negsuc, IfNone, IfOk, IfSome, IsSome, OnOk, if◌then◌else◌, nat_lt, Some, None, false, pos, slice_index_or, vec_capacity, vec_len};
+ghost use Rattle.std.specs.Prelude.{◌≡◌, ◌≤◌, ◌<◌, ◌^◌, [], length, nat_abs, IfNone, IfOk, IfSome, IsSome, OnOk, if◌then◌else◌, nat_lt, Some, None, false, pos, slice_index_or, vec_capacity, vec_len};
 ghost use Rattle.cc_book.specs.declared.book.BookRefusal.TheVariants.{OutOfMemory};
 ghost use Rattle.cc_book.specs.Taking.{AnswersWith, answer_of};
 
@@ -125,8 +125,10 @@ impl Book {
         let Some(place) = free_place(&self.history, self.limit) else {
             return Err(BookRefusal::Full { limit: self.limit });
         };
-        let deed = self.terms.deed_of(alloc, &self.standing, moment, request)?;
-        let reply = deed.reply;
+        let outcome = self
+            .terms
+            .outcome_of(alloc, &self.standing, moment, request)?;
+        let reply = outcome.reply;
         Ok(Answered {
             reply,
             place,
@@ -152,8 +154,10 @@ impl Book {
         let Some(place) = free_place(&self.history, self.limit) else {
             return Err(BookRefusal::Full { limit: self.limit });
         };
-        let deed = self.terms.deed_of(alloc, &self.standing, moment, request)?;
-        let reply = copy_of_reply(alloc, &deed.reply)?;
+        let outcome = self
+            .terms
+            .outcome_of(alloc, &self.standing, moment, request)?;
+        let reply = copy_of_reply(alloc, &outcome.reply)?;
         let request = copy_of_request(alloc, request)?;
         make_room(
             &mut self.history,
@@ -162,10 +166,10 @@ impl Book {
         )?;
         self.history.push_reserved(Entry::Take { moment, request });
         self.replies.push_reserved(Some(reply));
-        self.standing.debit(deed.account, deed.debit);
-        self.standing.change(deed.change);
+        self.standing.debit(outcome.account, outcome.debit);
+        self.standing.change(outcome.change);
         Ok(Answered {
-            reply: deed.reply,
+            reply: outcome.reply,
             place,
             fresh: true,
         })
@@ -180,8 +184,7 @@ impl Book {
 
     /// The balance of the account at this place, which stays below 2^124 in size. None beyond the last account.
     pub fn balance(&self, account: usize) -> Option<i128>
-        ensures least { IfSome result (λ balance. negsuc (2 ^ 124) ≤ℤ balance) }
-        ensures most { IfSome result (λ balance. balance ≤ℤ pos (2 ^ 124)) }
+        ensures small { IfSome result (λ balance. nat_abs balance < 2 ^ 124) }
         ensures value { result ≡ (if nat_lt account (length self.now.terms.accounts) then Some (balance_of self.now.terms self.now.history account) else None) }
     {
         if account < self.terms.accounts.len() {

@@ -5,10 +5,10 @@ ghost use Rattle.dia_base.specs.declared.number.Moment.{Moment};
 ghost use Rattle.cc_view.specs.declared.request.RequestKind.TheVariants.{Event};
 ghost use Rattle.cc_book.specs.AccountMachine.{action_debit, action_reply, check_reply, debiting_reply, event_reply, needs_account, price_reply, total_of};
 ghost use Rattle.cc_book.specs.Posting.{Posting};
-ghost use Rattle.cc_book.specs.Standing.{IsDeed, IsSmall, Stands};
+ghost use Rattle.cc_book.specs.Standing.{IsOutcome, IsSmall, Stands};
 
 use crate::account::Money;
-use crate::deed::{Change, Deed};
+use crate::outcome::{Change, Outcome};
 use crate::standing::Standing;
 use crate::terms::{Terms, code_alone};
 use cc_view::{CcReply, CcRequest, Cost, RequestedAction, ResultCode, Service};
@@ -17,20 +17,20 @@ use std::alloc::{AllocError, Global};
 
 impl Terms {
     /// What an EVENT does: it charges the account that it names, and touches no session.
-    pub fn event_deed(
+    pub fn event_outcome(
         &self,
         alloc: Global,
         standing: &Standing,
         request: &CcRequest,
-    ) -> Result<Deed, AllocError>
+    ) -> Result<Outcome, AllocError>
         requires { IsSmall self.now standing.now.balances.items standing.now.sessions.items }
-        ensures { IfOk result (λ deed. (before : List Posting) (moment : Moment) → request.now.kind ≡ Event → Stands self.now before standing.now.balances.items standing.now.sessions.items → IsDeed self.now before standing.now.sessions.items moment request.now deed) }
+        ensures { IfOk result (λ outcome. (before : List Posting) (moment : Moment) → request.now.kind ≡ Event → Stands self.now before standing.now.balances.items standing.now.sessions.items → IsOutcome self.now before standing.now.sessions.items moment request.now outcome) }
     {
         let account = self.account_of(request);
         let free = standing.free_for(account);
         let total = self.total_of(request.services.as_slice());
         let reply = self.event_reply(alloc, request, account, free, total)?;
-        Ok(Deed {
+        Ok(Outcome {
             account,
             debit: action_debit(total.unwrap_or(0), reply.code, request.action),
             reply,

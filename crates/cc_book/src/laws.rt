@@ -1,7 +1,7 @@
 //! Laws of the account book, in the words of a reader who knows none of its code.
 #![tactic(auto, unfolding(crate::specs::AccountMachine::postings_of, crate::specs::AccountMachine::reply_to, crate::specs::Balance::balance_of, crate::specs::Balance::open_sessions_of, crate::specs::Balance::reserved_of, crate::specs::Balance::spent_by,))]
 
-ghost use Rattle.std.specs.Prelude.{◌≡◌, ◌≢◌, ℕ, ◌<◌, ◌≤◌, All, List, find, [], ◌∷◌, ◌++◌, ◌↔◌, length, None, Some, true, false, codes, if◌then◌else◌, pos, negsuc, ◌-ℤ◌, ◌≤ℤ◌};
+ghost use Rattle.std.specs.Prelude.{◌≡◌, ◌≢◌, ℕ, ◌<◌, ◌≤◌, All, List, find, [], ◌∷◌, ◌++◌, ◌↔◌, length, None, Some, true, false, codes, if◌then◌else◌, pos, negsuc, ◌-ℤ◌, ◌≤ℤ◌, Ok, unwrap_or};
 ghost use Rattle.std.specs.Int.{int_max};
 ghost use Rattle.dia_base.specs.declared.number.Moment.{Moment};
 ghost use Rattle.cc_view.specs.Answer.Fitting.{Fits};
@@ -21,7 +21,7 @@ ghost use Rattle.cc_book.specs.declared.terms.Terms.{Terms};
 ghost use Rattle.cc_book.specs.AccountMachine.{account_of, charged_account, code_alone, free_after, free_to_grant, grants_after, opening_at, total_of, postings_of, reply_to, kept_reply};
 ghost use Rattle.cc_book.specs.Balance.{debit_of, balance_of, open_sessions_of, reserved_of};
 ghost use Rattle.cc_book.specs.Duplicate.{key_of};
-ghost use Rattle.cc_book.specs.History.{IsLegal, IsNew, ended_sessions};
+ghost use Rattle.cc_book.specs.History.{IsLegal, IsNew, ended_sessions, place_of};
 ghost use Rattle.cc_book.specs.Laws.{HasLimits, IsRefused, RepliesToEntry, cost_of_reply, debits_of, grants_alive, total_below};
 ghost use Rattle.cc_book.specs.Posting.{is_account};
 ghost use Rattle.cc_book.specs.Reservation.{held_by, reserved_by};
@@ -30,6 +30,21 @@ ghost use Rattle.cc_book.specs.ServiceRating.{used_total};
 ghost use Rattle.cc_book.specs.Session.{is_open, open_count, session_of};
 ghost use Rattle.cc_book.specs.SessionExample.{early_update, failed_opening, first_termination, first_update, group_opening, narrow_update, opening, other_opening, other_termination, reopening, second_opening, service_name, session, small_terms, strange_update, swept, unrelated_event, wide_opening};
 ghost use Rattle.cc_book.specs.Standing.{held_in};
+ghost use Rattle.cc_book.specs.Taking.{Ledger, answer_of, is_fresh, with_take};
+
+/// Books with one history answer alike, whatever came before they had it: the history is all that counts.
+pub fn books_with_one_history_answer_alike()
+    ensures { (one other : Ledger) (request : CcRequest) →
+        one.terms ≡ other.terms → one.limit ≡ other.limit → one.history ≡ other.history → answer_of one request ≡ answer_of other request }
+{}
+
+/// A repeat is answered, and leaves the book as it was: no balance, no reservation, no session, whatever else it asks.
+pub fn repeats_change_nothing()
+    ensures answered { (ledger : Ledger) (request : CcRequest) (reply : CcReply) → kept_reply ledger.terms ledger.history request ≡ Some reply →
+        answer_of ledger request ≡ Ok (record { reply = reply; place = unwrap_or (place_of ledger.history (key_of request)) 0; fresh = false }) }
+    ensures unchanged { (ledger : Ledger) (moment : Moment) (request : CcRequest) (reply : CcReply) → kept_reply ledger.terms ledger.history request ≡ Some reply →
+        (if is_fresh (answer_of ledger request) then with_take ledger moment request else ledger) ≡ ledger }
+{}
 
 /// In a legal history the reply that is kept for a request is the account machine's after the entries before it.
 pub fn kept_reply_is_the_first()

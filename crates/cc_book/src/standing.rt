@@ -5,7 +5,7 @@ ghost use Rattle.std.specs.Option.{ForSome};
 ghost use Rattle.cc_book.specs.Standing.{IsOpenAt, after_change, after_debit, free_in, held_by_all, is_session, place_in, reserved_in, IsPlacedIn};
 
 use crate::account::Account;
-use crate::deed::Change;
+use crate::outcome::Change;
 use crate::session::{OpenSession, held_in};
 use dia_avp::Octets;
 use std::alloc::{AllocError, Global};

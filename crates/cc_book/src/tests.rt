@@ -339,3 +339,18 @@ fn the_four_actions_of_an_event(rt: HostRuntime) -> Result<(), Fail> {
     assert_eq!(rt; (stranger, refused), (price, left(5030, 1000)));
     Ok(())
 }
+
+#[test]
+fn texts_of_faults(rt: HostRuntime) -> Result<(), Fail> {
+    for (fault, expected) in [
+        (
+            BookRefusal::Full { limit: 7 },
+            "the history has 7 entries, which is its limit",
+        ),
+        (BookRefusal::OutOfMemory, "out of memory"),
+    ] {
+        let text = fault.to_string(rt.alloc())?;
+        assert_eq!(rt; text.as_str(), expected);
+    }
+    Ok(())
+}

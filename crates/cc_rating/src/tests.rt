@@ -125,3 +125,22 @@ fn a_tariff_is_found_by_group_first(rt: HostRuntime) -> Result<(), Fail> {
     assert_eq!(rt; tariffs.find(None, None).copied(), None);
     Ok(())
 }
+
+#[test]
+fn texts_of_faults(rt: HostRuntime) -> Result<(), Fail> {
+    for (fault, expected) in [
+        (
+            TariffFault::Twice,
+            "two tariffs rate the same services, or one has a group and an identifier",
+        ),
+        (
+            TariffFault::OutOfRange,
+            "a tariff has neither group nor identifier, or a number out of its range",
+        ),
+        (TariffFault::OutOfMemory, "out of memory"),
+    ] {
+        let text = fault.to_string(rt.alloc())?;
+        assert_eq!(rt; text.as_str(), expected);
+    }
+    Ok(())
+}

@@ -1,11 +1,11 @@
 use Rattle.std.proofs.Common.{rules, ◌≡◌, ◌<◌, length, Bool, true, Some, None, ap, subst, sym, ◌^◌, ◌∙◌, arith, SFits}
-use Rattle.std.specs.Prelude.{ℤ, pos, negsuc, ◌≤ℤ◌, nat_lt, if◌then◌else◌}
+use Rattle.std.specs.Prelude.{ℤ, pos, nat_abs, nat_lt, if◌then◌else◌}
 use Rattle.std.specs.Int.{w128}
 use Rattle.std.proofs.lemmas.Int.{to_z-of_z}
 use Rattle.std.proofs.lemmas.List.{get_or_default}
 use Rattle.cc_book.specs.Balance.{balance_of}
 use Rattle.cc_book.specs.Taking.{Ledger}
-use Rattle.cc_book.proofs.Books.{balance_of-is, small-book}
+use Rattle.cc_book.proofs.Books.{balance_of-is, small-balance}
 use Rattle.cc_book.proofs.book.Book.balance.Goals as goal
 
 pub returns-then-account-len-clause-value : goal.returns-then-account-len-clause-value
@@ -20,14 +20,8 @@ returns-then-account-len-clause-value c =
     let fits : SFits w128 c.index.result.now = search rules in
     ap (λ (z : ℤ). Some z) (to_z-of_z w128 c.index.result.now fits ∙ is) ∙ sym (ap (λ (b : Bool). if b then Some (balance_of c.args.self.now.terms c.args.self.now.history c.args.account) else None) test)
 
-pub returns-then-account-len-clause-least : goal.returns-then-account-len-clause-least
-returns-then-account-len-clause-least c =
+pub returns-then-account-len-clause-small : goal.returns-then-account-len-clause-small
+returns-then-account-len-clause-small c =
     let within : c.args.account < length c.self.inside.standing.balances.items = omega (arith, c.if-account-len.true, c.len.ensures, c.self.invariant.stands.accounts) in
     let fits : SFits w128 c.index.result.now = search rules in
-    subst (λ (z : ℤ). negsuc (2 ^ 124) ≤ℤ z) (sym (to_z-of_z w128 c.index.result.now fits ∙ c.index.ensures)) ((small-book c.self.invariant).least c.args.account c.index.result.now within)
-
-pub returns-then-account-len-clause-most : goal.returns-then-account-len-clause-most
-returns-then-account-len-clause-most c =
-    let within : c.args.account < length c.self.inside.standing.balances.items = omega (arith, c.if-account-len.true, c.len.ensures, c.self.invariant.stands.accounts) in
-    let fits : SFits w128 c.index.result.now = search rules in
-    subst (λ (z : ℤ). z ≤ℤ pos (2 ^ 124)) (sym (to_z-of_z w128 c.index.result.now fits ∙ c.index.ensures)) ((small-book c.self.invariant).most c.args.account c.index.result.now within)
+    subst (λ (z : ℤ). nat_abs z < 2 ^ 124) (sym (to_z-of_z w128 c.index.result.now fits ∙ c.index.ensures)) (small-balance c.self.invariant c.args.account c.index.result.now within)

@@ -30,15 +30,15 @@ returns-in_default-free_place c =
     let reached = subst (λ (es : List Entry). c.self.inside.limit ≤ length es) c.deref-2.ensures.value c.in_default-free_place.ensures.none in
     sym (ap (λ (l : Ledger). answer_of l c.args.request.now) c.self.view_is) ∙ answer_of-full ledger c.args.request.now new reached
 
-pub deed_of-requires : goal.deed_of-requires
-deed_of-requires c = small-book c.self.invariant
+pub outcome_of-requires : goal.outcome_of-requires
+outcome_of-requires c = small-book c.self.invariant
 
 pub returns : goal.returns
 returns c =
     let new = subst (λ (h : List Entry). IsNew h (key_of c.args.request.now)) c.deref.ensures.value c.in_default.ensures in
-    let does = c.in_ok-deed.ensures (postings_of c.self.inside.terms c.self.inside.history.items) c.self.invariant.stands in
+    let does = c.in_ok-outcome.ensures (postings_of c.self.inside.terms c.self.inside.history.items) c.self.invariant.stands in
     let long = c.in-Some-free_place.ensures.some.0 ∙ ap length c.deref-2.ensures.value in
     let room = subst (λ (es : List Entry). length es < c.self.inside.limit) c.deref-2.ensures.value c.in-Some-free_place.ensures.some.1 in
     sym (ap (λ (l : Ledger). answer_of l c.args.request.now) c.self.view_is)
-    ∙ answer-fresh c.self.invariant c.args.moment c.args.request.now c.in_ok-deed.deed new room does
-    ∙ ap (λ (n : ℕ). Ok (record { reply = c.in_ok-deed.deed.reply; place = n; fresh = true })) (sym long)
+    ∙ answer-fresh c.self.invariant c.args.moment c.args.request.now c.in_ok-outcome.outcome new room does
+    ∙ ap (λ (n : ℕ). Ok (record { reply = c.in_ok-outcome.outcome.reply; place = n; fresh = true })) (sym long)

@@ -43,14 +43,14 @@ returns-in_default-free_place-clause-answer c =
     let reached = subst (λ (es : List Entry). c.self.inside.limit ≤ length es) c.deref-2.ensures.value c.in_default-free_place.ensures.none in
     sym (ap (λ (l : Ledger). answer_of l c.args.request.now) c.self.view_is) ∙ answer_of-full ledger c.args.request.now new reached
 
-pub deed_of-requires : goal.deed_of-requires
-deed_of-requires c = small-book c.self.invariant
+pub outcome_of-requires : goal.outcome_of-requires
+outcome_of-requires c = small-book c.self.invariant
 
 -- ---- what is debited and changed is there
 
 pub debit-requires-clause-within : goal.debit-requires-clause-within
 debit-requires-clause-within c =
-    account-within c.self.invariant c.args.moment c.args.request.now c.in_ok-deed.deed (c.in_ok-deed.ensures (postings_of c.self.inside.terms c.self.inside.history.items) c.self.invariant.stands)
+    account-within c.self.invariant c.args.moment c.args.request.now c.in_ok-outcome.outcome (c.in_ok-outcome.ensures (postings_of c.self.inside.terms c.self.inside.history.items) c.self.invariant.stands)
 
 pub debit-requires-clause-least : goal.debit-requires-clause-least
 debit-requires-clause-least c = (small-book c.self.invariant).least
@@ -62,40 +62,40 @@ pub change-requires-clause-within : goal.change-requires-clause-within
 change-requires-clause-within c =
     let same : c.debit.new.self.sessions.items ≡ c.self.inside.standing.sessions.items =
     ap (λ (v : Vec OpenSession Global). v.items) c.debit.ensures.sessions ∙ c.in_ok-make_room.ensures.sessions in
-    subst (λ (ss : List OpenSession). IsPlacedIn c.in_ok-deed.deed.change (length ss)) (sym same)
-    (change-within c.self.invariant c.args.moment c.args.request.now c.in_ok-deed.deed (c.in_ok-deed.ensures (postings_of c.self.inside.terms c.self.inside.history.items) c.self.invariant.stands))
+    subst (λ (ss : List OpenSession). IsPlacedIn c.in_ok-outcome.outcome.change (length ss)) (sym same)
+    (change-within c.self.invariant c.args.moment c.args.request.now c.in_ok-outcome.outcome (c.in_ok-outcome.ensures (postings_of c.self.inside.terms c.self.inside.history.items) c.self.invariant.stands))
 
 pub invariant_of-self-2 : goal.invariant_of-self-2
 invariant_of-self-2 c =
     let new = subst (λ (h : List Entry). IsNew h (key_of c.args.request.now)) c.deref.ensures.value c.in_default.ensures in
-    let does = c.in_ok-deed.ensures (postings_of c.self.inside.terms c.self.inside.history.items) c.self.invariant.stands in
+    let does = c.in_ok-outcome.ensures (postings_of c.self.inside.terms c.self.inside.history.items) c.self.invariant.stands in
     let room = subst (λ (es : List Entry). length es < c.self.inside.limit) c.deref-2.ensures.value c.in-Some-free_place.ensures.some.1 in
     let terms = c.self.inside.terms in
     let limit = c.self.inside.limit in
-    let deed = c.in_ok-deed.deed in
-    let book = IsBook-push terms limit c.self.inside.history.items c.self.inside.replies.items c.self.inside.standing.balances.items c.self.inside.standing.sessions.items c.args.moment c.args.request.now deed c.self.invariant new room does in
-    let fits : SFits w128 deed.debit = search rules in
+    let outcome = c.in_ok-outcome.outcome in
+    let book = IsBook-push terms limit c.self.inside.history.items c.self.inside.replies.items c.self.inside.standing.balances.items c.self.inside.standing.sessions.items c.args.moment c.args.request.now outcome c.self.invariant new room does in
+    let fits : SFits w128 outcome.debit = search rules in
     let entries : c.push_reserved.new.self.items ≡ c.self.inside.history.items ++ Take c.args.moment c.args.request.now ∷ [] =
     c.push_reserved.ensures.items
     ∙ ap (λ (es : List Entry). es ++ Take c.args.moment c.in_ok-request.request ∷ []) c.in_ok-make_room.ensures.history
     ∙ ap (λ (r : CcRequest). c.self.inside.history.items ++ Take c.args.moment r ∷ []) c.in_ok-request.ensures in
-    let replies : c.push_reserved-2.new.self.items ≡ c.self.inside.replies.items ++ Some deed.reply ∷ [] =
+    let replies : c.push_reserved-2.new.self.items ≡ c.self.inside.replies.items ++ Some outcome.reply ∷ [] =
     c.push_reserved-2.ensures.items
     ∙ ap (λ (rs : List (Option CcReply)). rs ++ Some c.in_ok-reply.reply ∷ []) c.in_ok-make_room.ensures.replies
     ∙ ap (λ (r : CcReply). c.self.inside.replies.items ++ Some r ∷ []) c.in_ok-reply.ensures in
-    let sessions : c.change.new.self.sessions.items ≡ after_change c.self.inside.standing.sessions.items deed.change =
-    c.change.ensures.sessions ∙ ap (λ (ss : List OpenSession). after_change ss deed.change) (ap (λ (v : Vec OpenSession Global). v.items) c.debit.ensures.sessions ∙ c.in_ok-make_room.ensures.sessions) in
-    let balances : c.change.new.self.balances.items ≡ after_debit c.self.inside.standing.balances.items deed.account deed.debit =
+    let sessions : c.change.new.self.sessions.items ≡ after_change c.self.inside.standing.sessions.items outcome.change =
+    c.change.ensures.sessions ∙ ap (λ (ss : List OpenSession). after_change ss outcome.change) (ap (λ (v : Vec OpenSession Global). v.items) c.debit.ensures.sessions ∙ c.in_ok-make_room.ensures.sessions) in
+    let balances : c.change.new.self.balances.items ≡ after_debit c.self.inside.standing.balances.items outcome.account outcome.debit =
     ap (λ (v : Vec ℤ Global). v.items) c.change.ensures.balances ∙ c.debit.ensures.balances
-    ∙ ap (after_debit c.self.inside.standing.balances.items deed.account) (to_z-of_z w128 deed.debit fits) in
+    ∙ ap (after_debit c.self.inside.standing.balances.items outcome.account) (to_z-of_z w128 outcome.debit fits) in
     same-book _ c.push_reserved.new.self.items _ c.push_reserved-2.new.self.items _ c.change.new.self.balances.items _ c.change.new.self.sessions.items (sym entries) (sym replies) (sym balances) (sym sessions) book
 
 pub returns-clause-answer : goal.returns-clause-answer
 returns-clause-answer c =
     let new = subst (λ (h : List Entry). IsNew h (key_of c.args.request.now)) c.deref.ensures.value c.in_default.ensures in
-    let does = c.in_ok-deed.ensures (postings_of c.self.inside.terms c.self.inside.history.items) c.self.invariant.stands in
+    let does = c.in_ok-outcome.ensures (postings_of c.self.inside.terms c.self.inside.history.items) c.self.invariant.stands in
     let long = c.in-Some-free_place.ensures.some.0 ∙ ap length c.deref-2.ensures.value in
     let room = subst (λ (es : List Entry). length es < c.self.inside.limit) c.deref-2.ensures.value c.in-Some-free_place.ensures.some.1 in
     sym (ap (λ (l : Ledger). answer_of l c.args.request.now) c.self.view_is)
-    ∙ answer-fresh c.self.invariant c.args.moment c.args.request.now c.in_ok-deed.deed new room does
-    ∙ ap (λ (n : ℕ). Ok (record { reply = c.in_ok-deed.deed.reply; place = n; fresh = true })) (sym long)
+    ∙ answer-fresh c.self.invariant c.args.moment c.args.request.now c.in_ok-outcome.outcome new room does
+    ∙ ap (λ (n : ℕ). Ok (record { reply = c.in_ok-outcome.outcome.reply; place = n; fresh = true })) (sym long)

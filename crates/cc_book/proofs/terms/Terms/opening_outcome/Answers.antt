@@ -8,8 +8,8 @@ use Rattle.cc_book.specs.AccountMachine.{granting_reply, holds_from, session_rep
 use Rattle.cc_book.specs.ServiceRating.{used_total}
 use Rattle.cc_book.specs.Session.{is_success}
 use Rattle.cc_book.specs.Standing.{reserved_in}
-use Rattle.cc_book.proofs.ByKind.{free-initial, initial-closed, opening-change, same-deed}
-use Rattle.cc_book.proofs.terms.Terms.opening_deed.Goals as goal
+use Rattle.cc_book.proofs.ByKind.{free-initial, initial-closed, opening-change, same-outcome}
+use Rattle.cc_book.proofs.terms.Terms.opening_outcome.Goals as goal
 
 pub returns : goal.returns
 returns c = λ before is shut stands.
@@ -31,6 +31,6 @@ returns c = λ before is shut stands.
     c.session_reply-reply.ensures ∙ ap session_reply c.in_ok-granted.ensures.replies ∙ ap (granting_reply terms free) services in
     let change : c.in_ok-change.change ≡ opening-change request c.args.moment stands (is_success (granting_reply terms free request.services).code) c.args.account c.in_ok-granted.granted.holds.items =
     c.in_ok-change.ensures ∙ ap (λ (r : CcReply). opening-change request c.args.moment stands (is_success r.code) c.args.account c.in_ok-granted.granted.holds.items) reply in
-    same-deed (Some c.args.account) (pos (used_total terms.tariffs request.services)) _ (granting_reply terms free request.services) _ c.in_ok-change.change c.in_ok-change.change
+    same-outcome (Some c.args.account) (pos (used_total terms.tariffs request.services)) _ (granting_reply terms free request.services) _ c.in_ok-change.change c.in_ok-change.change
     (sym debit) (sym reply) refl
     (initial-closed request c.args.moment stands c.args.account free c.in_ok-granted.granted.holds.items c.in_ok-change.change is shut c.requires.account small is_free holds c.in_ok-granted.ensures.most change)

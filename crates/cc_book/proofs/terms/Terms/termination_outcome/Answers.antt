@@ -3,16 +3,16 @@ use Rattle.std.specs.Prelude.{pos}
 use Rattle.std.specs.Int.{w128}
 use Rattle.std.proofs.lemmas.Int.{to_z-of_z}
 use Rattle.cc_view.specs.declared.request.Service.{Service}
-use Rattle.cc_book.specs.declared.deed.Change.TheVariants.{Ends}
+use Rattle.cc_book.specs.declared.outcome.Change.TheVariants.{Ends}
 use Rattle.cc_book.specs.AccountMachine.{closing_reply, session_reply}
 use Rattle.cc_book.specs.ServiceRating.{used_total}
-use Rattle.cc_book.specs.Standing.{IsDeed}
-use Rattle.cc_book.proofs.ByKind.{same-deed, termination-closed, termination-open}
-use Rattle.cc_book.proofs.terms.Terms.termination_deed.Goals as goal
+use Rattle.cc_book.specs.Standing.{IsOutcome}
+use Rattle.cc_book.proofs.ByKind.{same-outcome, termination-closed, termination-open}
+use Rattle.cc_book.proofs.terms.Terms.termination_outcome.Goals as goal
 
 pub returns-in_default : goal.returns-in_default
 returns-in_default c = λ before moment is stands.
-    subst (IsDeed c.args.self.now before c.args.standing.now.sessions.items moment c.args.request.now) (sym c.unknown_session.ensures)
+    subst (IsOutcome c.args.self.now before c.args.standing.now.sessions.items moment c.args.request.now) (sym c.unknown_session.ensures)
     (termination-closed c.args.request.now moment stands is c.in_default.ensures)
 
 pub returns : goal.returns
@@ -23,6 +23,6 @@ returns c = λ before moment is stands.
     let debit = to_z-of_z w128 c.used_total.result fits ∙ c.used_total.ensures.value ∙ ap (λ (ss : List Service). pos (used_total terms.tariffs ss)) services in
     let reply = c.session_reply.ensures ∙ ap session_reply c.in_ok-closed_services.ensures ∙ ap (closing_reply terms) services in
     let small = subst (λ (ss : List Service). used_total terms.tariffs ss ≤ 2 ^ 103) services c.used_total.ensures.most in
-    same-deed (Some c.in-Some.session.now.account) (pos (used_total terms.tariffs c.args.request.now.services)) _ (closing_reply terms c.args.request.now.services) c.session_reply.result (Ends c.in-Some.place) (Ends c.in-Some.place)
+    same-outcome (Some c.in-Some.session.now.account) (pos (used_total terms.tariffs c.args.request.now.services)) _ (closing_reply terms c.args.request.now.services) c.session_reply.result (Ends c.in-Some.place) (Ends c.in-Some.place)
     (sym debit) (sym reply) refl
     (termination-open c.args.request.now moment stands c.in-Some.place c.in-Some.session.now is c.in-Some.ensures.at c.in-Some.ensures.there small)

@@ -1,6 +1,6 @@
 use Rattle.std.proofs.Common.{Result, Ok, Err}
 use Rattle.std.specs.Prelude.{IfOk}
-use Rattle.cc_book.proofs.terms.Terms.deed_of.Goals as goal
+use Rattle.cc_book.proofs.terms.Terms.outcome_of.Goals as goal
 
 -- what is so of each value where it is Ok
 ok_so : {X E : Type 0} (P Q : X → Type 0) (result : Result X E) → ((x : X) → P x → Q x) → IfOk result P → IfOk result Q
@@ -8,7 +8,7 @@ ok_so P Q (Ok x) so ok = so x ok
 ok_so P Q (Err e) so ok = tt
 
 pub returns-in-Termination : goal.returns-in-Termination
-returns-in-Termination c = ok_so _ _ c.termination_deed.result (λ deed is before stands. is before c.args.moment c.in-Termination.is stands) c.termination_deed.ensures
+returns-in-Termination c = ok_so _ _ c.termination_outcome.result (λ outcome is before stands. is before c.args.moment c.in-Termination.is stands) c.termination_outcome.ensures
 
 pub returns-in-Event : goal.returns-in-Event
-returns-in-Event c = ok_so _ _ c.event_deed.result (λ deed is before stands. is before c.args.moment c.in-Event.is stands) c.event_deed.ensures
+returns-in-Event c = ok_so _ _ c.event_outcome.result (λ outcome is before stands. is before c.args.moment c.in-Event.is stands) c.event_outcome.ensures

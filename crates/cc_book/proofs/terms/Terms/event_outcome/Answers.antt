@@ -4,11 +4,11 @@ use Rattle.std.specs.Int.{w128}
 use Rattle.std.proofs.lemmas.Int.{ints, to_z-of_z}
 use Rattle.cc_view.specs.declared.reply.CcReply.{CcReply}
 use Rattle.cc_view.specs.declared.request.Service.{Service}
-use Rattle.cc_book.specs.declared.deed.Change.TheVariants.{Stays}
+use Rattle.cc_book.specs.declared.outcome.Change.TheVariants.{Stays}
 use Rattle.cc_book.specs.AccountMachine.{action_debit, event_reply, total_of}
 use Rattle.cc_book.specs.Standing.{free_in}
-use Rattle.cc_book.proofs.ByKind.{event-deed, same-deed}
-use Rattle.cc_book.proofs.terms.Terms.event_deed.Goals as goal
+use Rattle.cc_book.proofs.ByKind.{event-outcome, same-outcome}
+use Rattle.cc_book.proofs.terms.Terms.event_outcome.Goals as goal
 
 pub returns : goal.returns
 returns c = λ before moment is stands.
@@ -27,7 +27,7 @@ returns c = λ before moment is stands.
     ∙ ap (λ (n : ℕ). action_debit n c.in_ok-reply.reply.code request.action) c.unwrap_or.ensures
     ∙ ap (λ (r : CcReply). action_debit (unwrap_or total 0) r.code request.action) reply in
     let costs = c.total_of-total.ensures.value ∙ ap (λ (ss : List Service). total_of terms.tariffs ss) c.as_slice.ensures.value in
-    same-deed account _ (to_z w128 (of_z w128 c.action_debit.result)) _ c.in_ok-reply.reply Stays Stays
+    same-outcome account _ (to_z w128 (of_z w128 c.action_debit.result)) _ c.in_ok-reply.reply Stays Stays
     (sym (to_z-of_z w128 c.action_debit.result fits ∙ value)) (sym reply) refl
-    (event-deed request moment stands account total is c.account_of-account.ensures.value c.account_of-account.ensures.within costs
+    (event-outcome request moment stands account total is c.account_of-account.ensures.value c.account_of-account.ensures.within costs
     (omega (arith, ints, c.action_debit.ensures.least, value)) (omega (arith, ints, c.action_debit.ensures.most, value)))

@@ -7,8 +7,8 @@ ghost use Rattle.cc_view.specs.declared.request.RequestKind.TheVariants.{Initial
 ghost use Rattle.cc_book.specs.AccountMachine.{account_of, code_alone};
 ghost use Rattle.cc_book.specs.Posting.{Posting};
 ghost use Rattle.cc_book.specs.Session.{is_success};
-ghost use Rattle.cc_book.specs.Standing.{IsDeed, IsSmall, Stands, place_in};
-ghost use Rattle.cc_book.specs.declared.deed.Change.TheVariants.{Opens, Stays};
+ghost use Rattle.cc_book.specs.Standing.{IsOutcome, IsSmall, Stands, place_in};
+ghost use Rattle.cc_book.specs.declared.outcome.Change.TheVariants.{Opens, Stays};
 
 use crate::session::{Hold, OpenSession, held_in};
 use crate::settling::session_reply;
@@ -33,7 +33,7 @@ pub enum Change {
 
 /// What a request does.
 #[derive(Debug, Drop)]
-pub struct Deed {
+pub struct Outcome {
     /// The account that it charges, by its place.
     pub account: Option<usize>,
     /// What it debits that account.
@@ -44,34 +44,34 @@ pub struct Deed {
 
 impl Terms {
     /// What a request does that is not kept, where so much stands (RFC 8506, sections 5 and 6).
-    pub fn deed_of(
+    pub fn outcome_of(
         &self,
         alloc: Global,
         standing: &Standing,
         moment: Moment,
         request: &CcRequest,
-    ) -> Result<Deed, AllocError>
+    ) -> Result<Outcome, AllocError>
         requires { IsSmall self.now standing.now.balances.items standing.now.sessions.items }
-        ensures { IfOk result (λ deed. (before : List Posting) → Stands self.now before standing.now.balances.items standing.now.sessions.items → IsDeed self.now before standing.now.sessions.items moment request.now deed) }
+        ensures { IfOk result (λ outcome. (before : List Posting) → Stands self.now before standing.now.balances.items standing.now.sessions.items → IsOutcome self.now before standing.now.sessions.items moment request.now outcome) }
     {
         match request.kind {
-            RequestKind::Initial => self.initial_deed(alloc, standing, moment, request),
-            RequestKind::Update => self.update_deed(alloc, standing, moment, request),
-            RequestKind::Termination => self.termination_deed(alloc, standing, request),
-            RequestKind::Event => self.event_deed(alloc, standing, request),
+            RequestKind::Initial => self.initial_outcome(alloc, standing, moment, request),
+            RequestKind::Update => self.update_outcome(alloc, standing, moment, request),
+            RequestKind::Termination => self.termination_outcome(alloc, standing, request),
+            RequestKind::Event => self.event_outcome(alloc, standing, request),
         }
     }
 
     /// An INITIAL of an open session is refused, and yet prolongs it. Another one opens its session.
-    fn initial_deed(
+    fn initial_outcome(
         &self,
         alloc: Global,
         standing: &Standing,
         moment: Moment,
         request: &CcRequest,
-    ) -> Result<Deed, AllocError>
+    ) -> Result<Outcome, AllocError>
         requires { IsSmall self.now standing.now.balances.items standing.now.sessions.items }
-        ensures { IfOk result (λ deed. (before : List Posting) → request.now.kind ≡ Initial → Stands self.now before standing.now.balances.items standing.now.sessions.items → IsDeed self.now before standing.now.sessions.items moment request.now deed) }
+        ensures { IfOk result (λ outcome. (before : List Posting) → request.now.kind ≡ Initial → Stands self.now before standing.now.balances.items standing.now.sessions.items → IsOutcome self.now before standing.now.sessions.items moment request.now outcome) }
     {
         let account = self.account_of(request);
         match (standing.open_session(&request.session), account) {
@@ -81,25 +81,27 @@ impl Terms {
                 let change = Change::GoesOn { place, session };
                 Ok(refused(alloc, account, ResultCode::UnableToComply, change))
             }
-            (None, Some(account)) => self.opening_deed(alloc, standing, account, moment, request),
+            (None, Some(account)) => self.opening_outcome(
+                alloc, standing, account, moment, request,
+            ),
             (None, None) => Ok(refused(alloc, None, ResultCode::UserUnknown, Change::Stays)),
         }
     }
 
     /// A session opens on an account, unless its bare service is refused: used units are debited in full, then
     /// grants are made in order.
-    fn opening_deed(
+    fn opening_outcome(
         &self,
         alloc: Global,
         standing: &Standing,
         account: usize,
         moment: Moment,
         request: &CcRequest,
-    ) -> Result<Deed, AllocError>
+    ) -> Result<Outcome, AllocError>
         requires small { IsSmall self.now standing.now.balances.items standing.now.sessions.items }
         requires account { account_of self.now.accounts request.now.subscriptions ≡ Some account }
         requires within { account < length self.now.accounts }
-        ensures { IfOk result (λ deed. (before : List Posting) → request.now.kind ≡ Initial → place_in standing.now.sessions.items request.now.session ≡ None → Stands self.now before standing.now.balances.items standing.now.sessions.items → IsDeed self.now before standing.now.sessions.items moment request.now deed) }
+        ensures { IfOk result (λ outcome. (before : List Posting) → request.now.kind ≡ Initial → place_in standing.now.sessions.items request.now.session ≡ None → Stands self.now before standing.now.balances.items standing.now.sessions.items → IsOutcome self.now before standing.now.sessions.items moment request.now outcome) }
     {
         let services = request.services.as_slice();
         let debit = self.used_total(services);
@@ -107,7 +109,7 @@ impl Terms {
         let granted = self.granted_services(alloc, free, services)?;
         let reply = session_reply(granted.replies);
         let change = opening(reply.code, account, moment, request, granted.holds)?;
-        Ok(Deed {
+        Ok(Outcome {
             account: Some(account),
             debit,
             reply,
@@ -117,15 +119,15 @@ impl Terms {
 
     /// An UPDATE charges the account of its session. The holds of the services that it names end and what they used
     /// is debited in full, then grants are made in order.
-    fn update_deed(
+    fn update_outcome(
         &self,
         alloc: Global,
         standing: &Standing,
         moment: Moment,
         request: &CcRequest,
-    ) -> Result<Deed, AllocError>
+    ) -> Result<Outcome, AllocError>
         requires { IsSmall self.now standing.now.balances.items standing.now.sessions.items }
-        ensures { IfOk result (λ deed. (before : List Posting) → request.now.kind ≡ Update → Stands self.now before standing.now.balances.items standing.now.sessions.items → IsDeed self.now before standing.now.sessions.items moment request.now deed) }
+        ensures { IfOk result (λ outcome. (before : List Posting) → request.now.kind ≡ Update → Stands self.now before standing.now.balances.items standing.now.sessions.items → IsOutcome self.now before standing.now.sessions.items moment request.now outcome) }
     {
         let Some((place, session)) = standing.open_session(&request.session) else {
             return Ok(unknown_session(alloc));
@@ -139,7 +141,7 @@ impl Terms {
         let mut granted = self.granted_services(alloc, free, services)?;
         holds.append(&mut granted.holds)?;
         let session = session.prolonged(moment, Listing::from_vec(holds))?;
-        Ok(Deed {
+        Ok(Outcome {
             account: Some(account),
             debit,
             reply: session_reply(granted.replies),
@@ -148,20 +150,20 @@ impl Terms {
     }
 
     /// A TERMINATION debits what was used, and ends its session with all that it holds.
-    fn termination_deed(
+    fn termination_outcome(
         &self,
         alloc: Global,
         standing: &Standing,
         request: &CcRequest,
-    ) -> Result<Deed, AllocError>
+    ) -> Result<Outcome, AllocError>
         requires { IsSmall self.now standing.now.balances.items standing.now.sessions.items }
-        ensures { IfOk result (λ deed. (before : List Posting) (moment : Moment) → request.now.kind ≡ Termination → Stands self.now before standing.now.balances.items standing.now.sessions.items → IsDeed self.now before standing.now.sessions.items moment request.now deed) }
+        ensures { IfOk result (λ outcome. (before : List Posting) (moment : Moment) → request.now.kind ≡ Termination → Stands self.now before standing.now.balances.items standing.now.sessions.items → IsOutcome self.now before standing.now.sessions.items moment request.now outcome) }
     {
         let Some((place, session)) = standing.open_session(&request.session) else {
             return Ok(unknown_session(alloc));
         };
         let services = request.services.as_slice();
-        Ok(Deed {
+        Ok(Outcome {
             account: Some(session.account),
             debit: self.used_total(services),
             reply: session_reply(self.closed_services(alloc, services)?),
@@ -194,10 +196,10 @@ fn opening(
 }
 
 /// A request that is refused charges nothing.
-fn refused(alloc: Global, account: Option<usize>, code: ResultCode, change: Change) -> Deed
+fn refused(alloc: Global, account: Option<usize>, code: ResultCode, change: Change) -> Outcome
     ensures { result ≡ record { account = account; debit = pos 0; reply = code_alone code; change = change } }
 {
-    Deed {
+    Outcome {
         account,
         debit: 0,
         reply: code_alone(alloc, code),
@@ -206,7 +208,7 @@ fn refused(alloc: Global, account: Option<usize>, code: ResultCode, change: Chan
 }
 
 /// A request of a session that is not open.
-fn unknown_session(alloc: Global) -> Deed
+fn unknown_session(alloc: Global) -> Outcome
     ensures { result ≡ record { account = None; debit = pos 0; reply = code_alone UnknownSessionId; change = Stays } }
 {
     refused(alloc, None, ResultCode::UnknownSessionId, Change::Stays)

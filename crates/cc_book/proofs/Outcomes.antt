@@ -8,9 +8,9 @@ use Rattle.cc_view.specs.declared.request.CcRequest.{CcRequest}
 use Rattle.cc_view.specs.declared.request.RequestKind.{RequestKind}
 use Rattle.cc_view.specs.declared.request.RequestKind.TheVariants.{Initial, Update, Termination, Event}
 use Rattle.cc_view.specs.declared.request.Service.{Service}
-use Rattle.cc_book.specs.declared.deed.Change.{Change}
-use Rattle.cc_book.specs.declared.deed.Change.TheVariants.{Stays, Opens}
-use Rattle.cc_book.specs.declared.deed.Deed.{Deed}
+use Rattle.cc_book.specs.declared.outcome.Change.{Change}
+use Rattle.cc_book.specs.declared.outcome.Change.TheVariants.{Stays, Opens}
+use Rattle.cc_book.specs.declared.outcome.Outcome.{Outcome}
 use Rattle.cc_book.specs.declared.entry.Entry.TheVariants.{Take}
 use Rattle.cc_book.specs.declared.session.Hold.{Hold}
 use Rattle.cc_book.specs.declared.session.OpenSession.{OpenSession}
@@ -18,7 +18,7 @@ use Rattle.cc_book.specs.declared.terms.Terms.{Terms}
 use Rattle.cc_book.specs.AccountMachine.{account_by, account_of, charged_account, free_to_grant, grants_after, grants_by, grants_with, holds_from, opener_account, post, posting_of, reply_after, settles_after, settles_by}
 use Rattle.cc_book.specs.Posting.{Posting, debit_to, is_account}
 use Rattle.cc_book.specs.Session.{Opened, is_initial_kind, is_open, is_success, next_session, opens, session_by}
-use Rattle.cc_book.specs.Standing.{IsDeed, Stands, after_change, after_debit, change_at, change_closed, change_of, change_open, grants_weight, held_in, holds_beside, holds_weight, is_named, is_session, opened_as, place_in}
+use Rattle.cc_book.specs.Standing.{IsOutcome, Stands, after_change, after_debit, change_at, change_closed, change_of, change_open, grants_weight, held_in, holds_beside, holds_weight, is_named, is_session, opened_as, place_in}
 use Rattle.cc_book.proofs.Alive.{Weight, grants_weight-own, holds_weight-append, holds_weight-beside, holds_weight-left, is_ending, kept, left-others, left-quiet}
 use Rattle.cc_book.proofs.Changes.{Sit, and_false, next-there, next-unopened, no_grants, sits-ended, sits-going_on, sits-opened, sits-same}
 use Rattle.cc_book.proofs.Sessions.{IsAt, Others, equal_number, find-at, find-others, is_at_place, open_at_place, others-closed}
@@ -253,10 +253,10 @@ small_debit : (b : Bool) (debit : ℤ) → negsuc (2 ^ 103) ≤ℤ debit → deb
 small_debit true debit least most = (least, most)
 small_debit false debit least most = (omega (arith, ints), omega (arith, ints))
 
-pub take-stands : {terms : Terms} {before : List Posting} {balances : List ℤ} {sessions : List OpenSession} {moment : Moment} {request : CcRequest} {deed : Deed}
-    → Stands terms before balances sessions → IsDeed terms before sessions moment request deed
-    → Stands terms (post terms before (Take moment request)) (after_debit balances deed.account deed.debit) (after_change sessions deed.change)
-take-stands {terms} {before} {balances} {sessions} {moment} {request} {deed} s d = record {
+pub take-stands : {terms : Terms} {before : List Posting} {balances : List ℤ} {sessions : List OpenSession} {moment : Moment} {request : CcRequest} {outcome : Outcome}
+    → Stands terms before balances sessions → IsOutcome terms before sessions moment request outcome
+    → Stands terms (post terms before (Take moment request)) (after_debit balances outcome.account outcome.debit) (after_change sessions outcome.change)
+take-stands {terms} {before} {balances} {sessions} {moment} {request} {outcome} s d = record {
   accounts = long ∙ s.accounts;
   balance = λ account lt. (
       let moved = moves account lt in
@@ -265,11 +265,11 @@ take-stands {terms} {before} {balances} {sessions} {moment} {request} {deed} s d
   least = λ account lt. (
       let moved = moves account lt in
       let old = s.least account lt in
-      let small = small_debit (is_account account deed.account) deed.debit d.least d.most in omega (arith, ints, same_debit account, grown));
+      let small = small_debit (is_account account outcome.account) outcome.debit d.least d.most in omega (arith, ints, same_debit account, grown));
   most = λ account lt. (
       let moved = moves account lt in
       let old = s.most account lt in
-      let small = small_debit (is_account account deed.account) deed.debit d.least d.most in omega (arith, ints, same_debit account, grown));
+      let small = small_debit (is_account account outcome.account) outcome.debit d.least d.most in omega (arith, ints, same_debit account, grown));
   session = sits.session;
   own_ids = sits.own_ids;
   known = sits.known;
@@ -280,19 +280,19 @@ take-stands {terms} {before} {balances} {sessions} {moment} {request} {deed} s d
   posting : Posting
   posting = posting_of terms before (Take moment request)
 
-  long : length (after_debit balances deed.account deed.debit) ≡ length balances
-  long = after_debit-length balances deed.account deed.debit
+  long : length (after_debit balances outcome.account outcome.debit) ≡ length balances
+  long = after_debit-length balances outcome.account outcome.debit
 
   grown : length (before ++ posting ∷ []) ≡ length before + 1
   grown = length-append before (posting ∷ [])
 
-  same_debit : (account : ℕ) → cond (is_account account deed.account) deed.debit (pos 0) ≡ debit_to account posting
+  same_debit : (account : ℕ) → cond (is_account account outcome.account) outcome.debit (pos 0) ≡ debit_to account posting
   same_debit account =
-      ap (λ (o : Option ℕ). cond (is_account account o) deed.debit (pos 0)) d.account
+      ap (λ (o : Option ℕ). cond (is_account account o) outcome.debit (pos 0)) d.account
       ∙ ap (λ (z : ℤ). cond (is_account account (charged_account terms before request)) z (pos 0)) d.debit
 
-  moves : (account : ℕ) → account < length terms.accounts → slice_index_or (after_debit balances deed.account deed.debit) account (pos 0) ≡ slice_index_or balances account (pos 0) -ℤ debit_to account posting
-  moves account lt = after_debit-at balances deed.account deed.debit account (omega (arith, s.accounts)) ∙ ap (λ (z : ℤ). slice_index_or balances account (pos 0) -ℤ z) (same_debit account)
+  moves : (account : ℕ) → account < length terms.accounts → slice_index_or (after_debit balances outcome.account outcome.debit) account (pos 0) ≡ slice_index_or balances account (pos 0) -ℤ debit_to account posting
+  moves account lt = after_debit-at balances outcome.account outcome.debit account (omega (arith, s.accounts)) ∙ ap (λ (z : ℤ). slice_index_or balances account (pos 0) -ℤ z) (same_debit account)
 
-  sits : Sit terms (before ++ posting ∷ []) (after_change sessions deed.change)
+  sits : Sit terms (before ++ posting ∷ []) (after_change sessions outcome.change)
   sits = subst (λ (change : Change). Sit terms (before ++ posting ∷ []) (after_change sessions change)) (sym d.change) (sits-changed s moment request d.grants)

@@ -3,17 +3,17 @@ use Rattle.std.specs.Prelude.{ℤ, pos, ◌+ℤ◌, ◌-ℤ◌, slice_index_or}
 use Rattle.std.specs.Int.{w128}
 use Rattle.std.proofs.lemmas.Int.{to_z-of_z}
 use Rattle.cc_view.specs.declared.request.Service.{Service}
-use Rattle.cc_book.specs.declared.deed.Change.TheVariants.{GoesOn}
+use Rattle.cc_book.specs.declared.outcome.Change.TheVariants.{GoesOn}
 use Rattle.cc_book.specs.AccountMachine.{granting_reply, holds_from, session_reply}
 use Rattle.cc_book.specs.ServiceRating.{used_total}
-use Rattle.cc_book.specs.Standing.{IsDeed, held_in, holds_beside, prolonged, reserved_in}
-use Rattle.cc_book.proofs.ByKind.{same-deed, free-update, update-closed, update-open}
+use Rattle.cc_book.specs.Standing.{IsOutcome, held_in, holds_beside, prolonged, reserved_in}
+use Rattle.cc_book.proofs.ByKind.{same-outcome, free-update, update-closed, update-open}
 use Rattle.cc_book.proofs.Amounts.{account-at, held-at, held_in-beside}
-use Rattle.cc_book.proofs.terms.Terms.update_deed.Goals as goal
+use Rattle.cc_book.proofs.terms.Terms.update_outcome.Goals as goal
 
 pub returns-in_default : goal.returns-in_default
 returns-in_default c = λ before is stands.
-    subst (IsDeed c.args.self.now before c.args.standing.now.sessions.items c.args.moment c.args.request.now) (sym c.unknown_session.ensures)
+    subst (IsOutcome c.args.self.now before c.args.standing.now.sessions.items c.args.moment c.args.request.now) (sym c.unknown_session.ensures)
     (update-closed c.args.request.now c.args.moment stands is c.in_default.ensures)
 
 -- ---- what the session holds is small, and what it holds beside the services no more
@@ -75,10 +75,10 @@ returns c = λ before is stands.
     let is_free = free-update request c.args.moment stands c.in-Some.place session free ended is c.in-Some.ensures.at c.in-Some.ensures.there parts value in
     let holds : c.in_ok-granted.granted.holds.items ≡ holds_from terms.tariffs free request.services = c.in_ok-granted.ensures.holds ∙ ap (holds_from terms.tariffs free) services in
     let reply : c.session_reply.result ≡ granting_reply terms free request.services = c.session_reply.ensures ∙ ap session_reply c.in_ok-granted.ensures.replies ∙ ap (granting_reply terms free) services in
-    let deed = update-open request c.args.moment stands c.in-Some.place session free c.in_ok-granted.granted.holds.items is c.in-Some.ensures.at c.in-Some.ensures.there small is_free holds c.in_ok-granted.ensures.most in
+    let outcome = update-open request c.args.moment stands c.in-Some.place session free c.in_ok-granted.granted.holds.items is c.in-Some.ensures.at c.in-Some.ensures.there small is_free holds c.in_ok-granted.ensures.most in
     let all : c.append.new.self.items ≡ holds_beside request.services session.holds ++ c.in_ok-granted.granted.holds.items =
     search rules in
     let next : c.in_ok-session.session ≡ prolonged session c.args.moment (holds_beside request.services session.holds ++ c.in_ok-granted.granted.holds.items) =
     c.in_ok-session.ensures ∙ ap (prolonged session c.args.moment) (c.from_vec.ensures ∙ all) in
-    same-deed (Some session.account) (pos (used_total terms.tariffs request.services)) _ (granting_reply terms free request.services) c.session_reply.result _ (GoesOn c.in-Some.place c.in_ok-session.session)
-    (sym debit) (sym reply) (ap (GoesOn c.in-Some.place) (sym next)) deed
+    same-outcome (Some session.account) (pos (used_total terms.tariffs request.services)) _ (granting_reply terms free request.services) c.session_reply.result _ (GoesOn c.in-Some.place c.in_ok-session.session)
+    (sym debit) (sym reply) (ap (GoesOn c.in-Some.place) (sym next)) outcome
