@@ -1,7 +1,7 @@
 -- What a book keeps beside its history.
-use Rattle.std.proofs.Common.{◌≡◌, ℕ, suc, ◌+◌, ◌<◌, ◌≤◌, ◌^◌, List, [], ◌∷◌, ◌++◌, length, map, take, drop, get_or, Option, Some, None, Ok, Bool, true, false, cond, ltb, refl, sym, ap, subst, ◌∙◌, arith, rules, length-append}
+use Rattle.std.proofs.Common.{◌≡◌, ℕ, suc, ◌+◌, ◌<◌, ◌≤◌, ◌^◌, List, [], ◌∷◌, ◌++◌, length, map, take, drop, get_or, Option, Some, None, Ok, Bool, true, false, cond, refl, sym, ap, subst, ◌∙◌, arith, length-append}
 use Rattle.std.specs.Prelude.{ℤ, IfSome, IsSome, MatchOption, nat_abs, negsuc, pos, ◌≤ℤ◌, find, unwrap_or, slice_get, slice_index_or}
-use Rattle.std.specs.List.{fold, position_or_len}
+use Rattle.std.specs.List.{fold}
 use Rattle.std.proofs.Math.ListN.{get_or-append}
 use Rattle.std.proofs.Math.Seq.{drop-cons, get_or-append_seam}
 use Rattle.std.proofs.lemmas.List.{get_or_default, length-map, length-take-le, map-append, take-append-drop}
@@ -31,6 +31,7 @@ use Rattle.cc_book.proofs.Sums.{all_placed, charged_account-within}
 use Rattle.cc_book.proofs.Stands.{open_count-stands, reserved-stands, small-stands}
 use Rattle.cc_book.specs.declared.book.Answered.{Answered}
 use Rattle.cc_book.specs.Taking.{IsBook, Ledger, answer_of}
+use Rattle.cc_book.proofs.Sessions.{open_at_place}
 use Rattle.cc_book.proofs.Replies.{answer_of-fresh, answer_of-kept}
 use Rattle.cc_book.proofs.Outcomes.{take-stands}
 use Rattle.cc_book.proofs.Keys.{IsLegal-empty, IsLegal-push}
@@ -145,12 +146,6 @@ small-book {terms} {limit} {history} book =
 
 -- ---- what a book answers
 
-place-within : (sessions : List OpenSession) (id : List ℕ) (place : ℕ) → place_in sessions id ≡ Some place → place < length sessions
-place-within sessions id place is = by (ltb (position_or_len (is_session id) sessions) (length sessions)) refl is where
-  by : (b : Bool) → ltb (position_or_len (is_session id) sessions) (length sessions) ≡ b → cond b (Some (position_or_len (is_session id) sessions)) None ≡ Some place → place < length sessions
-  by true e some = let same : position_or_len (is_session id) sessions ≡ place = cc in let less : position_or_len (is_session id) sessions < length sessions = search rules in omega arith
-  by false e some = absurd cc
-
 abbrev ledger_of : Terms → ℕ → List Entry → Ledger
 ledger_of terms limit history = record { terms = terms; limit = limit; history = history }
 
@@ -162,22 +157,23 @@ module _ {terms : Terms} {limit : ℕ} {history : List Entry} {replies : List (O
   pub kept-some : (key : Key) (place : ℕ) (taken : CcRequest) → IsKeptAt history key place taken → IsSome (slice_index_or replies place None)
   kept-some key place taken at = subst (λ (o : Option CcReply). IsSome o) (sym (kept-reply terms history replies key place taken book.replies_kept at)) refl
 
+  answered-kept : (request taken : CcRequest) (place : ℕ) (answered : Answered) → IsKeptAt history (key_of request) place taken
+      → IfSome (slice_index_or replies place None) (λ reply. answered ≡ record { reply = reply; place = place; fresh = false })
+      → answered ≡ record { reply = reply_to terms (take place history) taken; place = place; fresh = false }
+  answered-kept request taken place answered at is =
+      some_if (λ (r : CcReply). answered ≡ record { reply = r; place = place; fresh = false }) (slice_index_or replies place None) (reply_to terms (take place history) taken)
+      (kept-reply terms history replies (key_of request) place taken book.replies_kept at) is
+
   pub answer-kept : (request taken : CcRequest) (place : ℕ) (answered : Answered) → IsKeptAt history (key_of request) place taken
       → IfSome (slice_index_or replies place None) (λ reply. answered ≡ record { reply = reply; place = place; fresh = false })
       → answer_of (ledger_of terms limit history) request ≡ Ok answered
   answer-kept request taken place answered at is =
-      let reply = reply_to terms (take place history) taken in
-      let same : answered ≡ record { reply = reply; place = place; fresh = false } =
-      some_if (λ (r : CcReply). answered ≡ record { reply = r; place = place; fresh = false }) (slice_index_or replies place None) reply (kept-reply terms history replies (key_of request) place taken book.replies_kept at) is in
-      answer_of-kept (ledger_of terms limit history) request taken place reply at refl ∙ ap (λ (a : Answered). Ok a) (sym same)
+      answer_of-kept (ledger_of terms limit history) request taken place (reply_to terms (take place history) taken) at refl
+      ∙ ap (λ (a : Answered). Ok a) (sym (answered-kept request taken place answered at is))
 
   pub not-fresh : (request taken : CcRequest) (place : ℕ) (answered : Answered) → IsKeptAt history (key_of request) place taken
       → IfSome (slice_index_or replies place None) (λ reply. answered ≡ record { reply = reply; place = place; fresh = false }) → answered.fresh ≡ false
-  not-fresh request taken place answered at is =
-      let reply = reply_to terms (take place history) taken in
-      let same : answered ≡ record { reply = reply; place = place; fresh = false } =
-      some_if (λ (r : CcReply). answered ≡ record { reply = r; place = place; fresh = false }) (slice_index_or replies place None) reply (kept-reply terms history replies (key_of request) place taken book.replies_kept at) is in
-      ap (λ (a : Answered). a.fresh) same
+  not-fresh request taken place answered at is = ap (λ (a : Answered). a.fresh) (answered-kept request taken place answered at is)
 
   pub answer-fresh : (moment : Moment) (request : CcRequest) (outcome : Outcome) → IsNew history (key_of request) → length history < limit → IsOutcome terms (postings_of terms history) sessions moment request outcome
       → answer_of (ledger_of terms limit history) request ≡ Ok (record { reply = outcome.reply; place = length history; fresh = true })
@@ -211,7 +207,9 @@ module _ {terms : Terms} {limit : ℕ} {history : List Entry} {replies : List (O
       open_by place session Event lt = tt
 
       by : (place : Option ℕ) (found : Option OpenSession) → place_in sessions request.session ≡ place → IsPlacedIn (change_at request moment posting place found) (length sessions)
-      by (Some place) (Some session) is = open_by place session request.kind (place-within sessions request.session place is)
+      by (Some place) (Some session) is =
+          let at = open_at_place request.session sessions place is in
+          open_by place session request.kind (slice_get_within sessions place at.0 at.1)
       by (Some place) None is = shut (opens posting) (record { id = request.session; account = unwrap_or posting.account 0; last = moment; holds = posting.grants })
       by None found is = shut (opens posting) (record { id = request.session; account = unwrap_or posting.account 0; last = moment; holds = posting.grants })
 

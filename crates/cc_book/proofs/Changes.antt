@@ -1,5 +1,6 @@
 -- What a request does to the open sessions: none changes, one opens, one goes on, or one ends.
 use Rattle.std.proofs.Common.{◌≡◌, ℕ, suc, ◌+◌, ◌*◌, ◌^◌, ◌<◌, ◌≤◌, Bool, true, false, cond, ◌&&◌, List, [], ◌∷◌, ◌++◌, length, Option, Some, None, refl, sym, ap, subst, ◌∙◌, arith, slice_get, slice_set, remove, find, option_map, length-append, append-nil, All, take, drop}
+use Rattle.std.proofs.lemmas.Bool.{and_right}
 use Rattle.std.specs.Prelude.{ℤ}
 use Rattle.std.specs.List.{AllByRecursion}
 use Rattle.std.proofs.lemmas.List.Elements.{All-append, All-drop, All-push, All-set, All-take}
@@ -30,10 +31,6 @@ held_by_all-append : (xs ys : List OpenSession) → held_by_all (xs ++ ys) ≡ h
 held_by_all-append [] ys = omega arith
 held_by_all-append (x ∷ xs) ys = let more = held_by_all-append xs ys in omega arith
 
-pub and_false : (b : Bool) → (b && false) ≡ false
-and_false true = refl
-and_false false = refl
-
 module _ {terms : Terms} {before : List Posting} {balances : List ℤ} {sessions : List OpenSession} (s : Stands terms before balances sessions) (moment : Moment) (request : CcRequest) (posting : Posting) where
   abbrev q : Posting
   q = taken moment request posting
@@ -60,7 +57,7 @@ module _ {terms : Terms} {before : List Posting} {balances : List ℤ} {sessions
   next-other : (id : List ℕ) (opened : Option Opened) → same_session request.session id ≡ false → next_session terms.validity id opened q ≡ opened
   next-other id opened other =
       ap (λ (b : Bool). cond (opens q && b) (Some (opened_at terms.validity posting.account moment.0)) (left_after terms.validity id opened q)) other
-      ∙ ap (λ (b : Bool). cond b (Some (opened_at terms.validity posting.account moment.0)) (left_after terms.validity id opened q)) (and_false (opens q))
+      ∙ ap (λ (b : Bool). cond b (Some (opened_at terms.validity posting.account moment.0)) (left_after terms.validity id opened q)) (and_right (opens q) false refl)
       ∙ left opened where
         left : (o : Option Opened) → left_after terms.validity id o q ≡ o
         left None = refl
@@ -180,7 +177,7 @@ module _ {terms : Terms} {before : List Posting} {balances : List ℤ} {sessions
               let nothing = none_opened weight in
               let around = ids_weight-at request posting.settles weight sessions place session at in
               let goes_on : going_on request weight session.id ≡ weight session.id =
-              ap (λ (b : Bool). cond (same_session request.session session.id && b) 0 (weight session.id)) stays ∙ ap (λ (b : Bool). cond b 0 (weight session.id)) (and_false (same_session request.session session.id)) in
+              ap (λ (b : Bool). cond (same_session request.session session.id && b) 0 (weight session.id)) stays ∙ ap (λ (b : Bool). cond b 0 (weight session.id)) (and_right (same_session request.session session.id) false refl) in
               let later : ids_weight weight (slice_set sessions place now) ≡ ids_weight weight (at.front ++ now ∷ at.back) = ap (ids_weight weight) (at.set_there now) in
               let parts = ids_weight-append weight at.front (now ∷ at.back) in omega arith);
           held =

@@ -1,5 +1,6 @@
 -- Sessions that have ended hold nothing.
 use Rattle.std.proofs.Common.{◌≡◌, ℕ, Bool, true, false, cond, not, ◌&&◌, leb, List, [], ◌∷◌, ◌++◌, Option, Some, None, inl, inr, refl, subst, ap, ◌∙◌, arith}
+use Rattle.std.proofs.lemmas.Bool.{and_right}
 use Rattle.std.specs.Prelude.{◌⊎◌, is_some, sum_by, MatchOption}
 use Rattle.std.specs.List.{fold, list_any}
 use Rattle.std.specs.Option.{option_and_then}
@@ -46,12 +47,8 @@ covers_take validity moment account one other opened true Termination closed sam
 covers_take validity moment account one other true true Event closed same = absurd (let no = closed refl in cc)
 covers_take validity moment account one other false true Event closed same = same
 
-and_false : (b : Bool) → (b && false) ≡ false
-and_false true = refl
-and_false false = refl
-
 opens_none : (settles success : Bool) (kind : RequestKind) → kind ≡ Event → (settles && (is_initial_kind kind && success)) ≡ false
-opens_none settles success kind event = ap (λ (k : RequestKind). settles && (is_initial_kind k && success)) event ∙ and_false settles
+opens_none settles success kind event = ap (λ (k : RequestKind). settles && (is_initial_kind k && success)) event ∙ and_right settles false refl
 
 covers_entry : (validity : ℕ) (session : List ℕ) (account : Option ℕ) (one other : Opened) (settles success : Bool) (entry : Entry) → one.deadline ≡ other.deadline
     → Covers (session_after validity session one entry)
@@ -162,7 +159,7 @@ dead validity session now (Take moment request) name after own covers closed =
     let ended : outlasts validity (Take moment request) after ≡ false =
     ap (λ (id : List ℕ). is_some (fold (left_after validity id) (Some (opened_at validity None moment.0)) after)) same
     ∙ covers_closed (fold (left_after validity session) first after) (fold (next_session validity session) now after) (covers_all validity session first now after covers) closed in
-    ap (λ (b : Bool). not (list_any (replaces request.session name) after) && b) ended ∙ and_false (not (list_any (replaces request.session name) after))
+    ap (λ (b : Bool). not (list_any (replaces request.session name) after) && b) ended ∙ and_right (not (list_any (replaces request.session name) after)) false refl
 
 held_by-none : (validity : ℕ) (session : List ℕ) (name : ServiceName) (now : Option Opened) (postings : List Posting) → AllKeep validity session now postings → is_some (fold (next_session validity session) now postings) ≡ false
     → held_by validity session name postings ≡ 0
@@ -180,7 +177,7 @@ held_by-none validity session name now (posting ∷ after) all closed =
       | inl none ↦ ap (sum_by (λ (hold : Hold). cond (same_name hold.service name && is_alive validity posting.entry name after) hold.cost 0)) none
       | inr covers ↦ no_sum (λ (hold : Hold). cond (same_name hold.service name && is_alive validity posting.entry name after) hold.cost 0) posting.grants (λ hold.
           ap (λ (b : Bool). cond (same_name hold.service name && b) hold.cost 0) (dead validity session (next_session validity session now posting) posting.entry name after own covers closed)
-          ∙ ap (λ (b : Bool). cond b hold.cost 0) (and_false (same_name hold.service name)))
+          ∙ ap (λ (b : Bool). cond b hold.cost 0) (and_right (same_name hold.service name) false refl))
     ]
 
 pub ended-nothing : (terms : Terms) (history : List Entry) (session : List ℕ) (name : ServiceName) → is_open terms.validity session (postings_of terms history) ≡ false

@@ -3,7 +3,7 @@ use Rattle.std.proofs.Common.{◌≡◌, ◌≢◌, ℕ, zero, suc, ◌+◌, ◌
 use Rattle.std.specs.Prelude.{ℤ, AllPairs, count_by, slice_index_or}
 use Rattle.std.specs.List.{list_any, AllByRecursion}
 use Rattle.std.specs.Option.{option_eq}
-use Rattle.std.proofs.lemmas.Bool.{and_parts, eqb-true}
+use Rattle.std.proofs.lemmas.Bool.{and_from, and_parts, eqb-true}
 use Rattle.std.proofs.lemmas.List.Elements.{All-weaker}
 use Rattle.std.proofs.lemmas.List.Folds.{list_any_none}
 use Rattle.std.proofs.lemmas.Slice.Eq.{bytes_eq-Decides}
@@ -47,14 +47,10 @@ has_name-is name service e =
     let parts = and_parts (option_eq eqb name.group service.group) (option_eq eqb name.ident service.ident) e in
     λ i. record { group = option_eq-true name.group service.group parts.0 i; ident = option_eq-true name.ident service.ident parts.1 i }
 
-both : (a b : Bool) → a ≡ true → b ≡ true → (a && b) ≡ true
-both true b p q = q
-both false b p q = absurd cc
-
 pub has_name-same : (name : ServiceName) (service : Service) → same_name (name_of service) name ≡ true → has_name name service ≡ true
 has_name-same name service e =
     let parts = and_parts (option_eq eqb service.group name.group) (option_eq eqb service.ident name.ident) e in
-    both (option_eq eqb name.group service.group) (option_eq eqb name.ident service.ident) (option_eq-sym service.group name.group parts.0) (option_eq-sym service.ident name.ident parts.1)
+    and_from (option_eq eqb name.group service.group) (option_eq eqb name.ident service.ident) (option_eq-sym service.group name.group parts.0) (option_eq-sym service.ident name.ident parts.1)
 
 abbrev OwnNames : List Service → Type 0
 OwnNames services = AllPairs (λ service other. name_of service ≢ name_of other) services

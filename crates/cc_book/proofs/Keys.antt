@@ -13,8 +13,8 @@ use Rattle.cc_book.specs.AccountMachine.{reply_to, reply_at, kept_from, kept_rep
 use Rattle.cc_book.specs.Duplicate.{Key, key_of, same_session, same_key, has_key}
 use Rattle.cc_book.specs.History.{keys_of, ended_sessions, IsLegal, place_of, IsNew, IsKeptAt}
 use Rattle.cc_book.specs.Laws.{RepliesToEntry}
-use Rattle.std.proofs.lemmas.Bool.{and_parts}
-use Rattle.cc_book.proofs.Sessions.{both, same_number, same_session-self}
+use Rattle.std.proofs.lemmas.Bool.{and_from, and_parts}
+use Rattle.cc_book.proofs.Sessions.{same_number, same_session-self}
 
 not_true : (b : Bool) → not b ≡ true → b ≡ false
 not_true true e = absurd cc
@@ -198,7 +198,7 @@ IsLegal-empty terms = record { distinct = tt; sweeps = λ before after moment e.
 -- ---- laws
 
 same_key-self : (key : Key) → same_key key key ≡ true
-same_key-self key = both (eqb key.number key.number) (same_session key.session key.session) (same_number key.number) (same_session-self key.session)
+same_key-self key = and_from (eqb key.number key.number) (same_session key.session key.session) (same_number key.number) (same_session-self key.session)
 
 kept_stays_by : (b : Bool) (here later grown : Option CcReply) (reply : CcReply) → (later ≡ Some reply → grown ≡ Some reply) → cond b here later ≡ Some reply → cond b here grown ≡ Some reply
 kept_stays_by true here later grown reply more e = e
@@ -239,7 +239,7 @@ new_before : (before after : List Entry) (moment : Moment) (request : CcRequest)
 unfolding IsDistinct
 new_before [] after moment request all = refl
 new_before (Take m r ∷ before) after moment request all =
-    both (not (same_key (key_of r) (key_of request))) (list_all (λ (e : Entry). not (has_key (key_of request) e)) before)
+    and_from (not (same_key (key_of r) (key_of request))) (list_all (λ (e : Entry). not (has_key (key_of request) e)) before)
     (not_false (same_key (key_of r) (key_of request)) (others_at (key_of r) before after moment request all.0)) (new_before before after moment request all.1)
 new_before (Sweep m ∷ before) after moment request all = new_before before after moment request all
 

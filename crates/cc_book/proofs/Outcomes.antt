@@ -1,30 +1,30 @@
 -- What stands after one more request.
 use Rattle.std.proofs.Common.{◌≡◌, ℕ, ◌+◌, ◌^◌, ◌<◌, ◌≤◌, Bool, true, false, cond, not, ◌&&◌, eqb, List, [], ◌∷◌, ◌++◌, length, Option, Some, None, is_some, refl, sym, ap, subst, ◌∙◌, arith, slice_get, slice_index_or, find, option_map, unwrap_or, length-set, length-append, get_or-set_same, get_or-set_other, MatchOption}
 use Rattle.std.specs.Prelude.{ℤ, pos, negsuc, ◌-ℤ◌, ◌≤ℤ◌}
-use Rattle.std.proofs.lemmas.Bool.{and_parts, eqb-false}
+use Rattle.std.proofs.lemmas.Bool.{and_parts, and_right, eqb-false}
 use Rattle.std.proofs.lemmas.Int.{ints}
 use Rattle.dia_base.specs.declared.number.Moment.{Moment}
 use Rattle.cc_view.specs.declared.request.CcRequest.{CcRequest}
 use Rattle.cc_view.specs.declared.request.RequestKind.{RequestKind}
 use Rattle.cc_view.specs.declared.request.RequestKind.TheVariants.{Initial, Update, Termination, Event}
-use Rattle.cc_view.specs.declared.request.Service.{Service}
 use Rattle.cc_book.specs.declared.outcome.Change.{Change}
 use Rattle.cc_book.specs.declared.outcome.Change.TheVariants.{Stays, Opens}
 use Rattle.cc_book.specs.declared.outcome.Outcome.{Outcome}
 use Rattle.cc_book.specs.declared.entry.Entry.TheVariants.{Take}
-use Rattle.cc_book.specs.declared.session.Hold.{Hold}
 use Rattle.cc_book.specs.declared.session.OpenSession.{OpenSession}
 use Rattle.cc_book.specs.declared.terms.Terms.{Terms}
 use Rattle.cc_book.specs.AccountMachine.{account_by, account_of, charged_account, free_to_grant, grants_after, grants_by, grants_with, holds_from, opener_account, post, posting_of, reply_after, settles_after, settles_by}
 use Rattle.cc_book.specs.Posting.{Posting, debit_to, is_account}
 use Rattle.cc_book.specs.Session.{Opened, is_initial_kind, is_open, is_success, next_session, opens, session_by}
-use Rattle.cc_book.specs.Standing.{IsOutcome, Stands, after_change, after_debit, change_at, change_closed, change_of, change_open, grants_weight, held_in, holds_beside, holds_weight, is_named, is_session, opened_as, place_in}
+use Rattle.cc_book.specs.Standing.{IsOutcome, Stands, after_change, after_debit, change_at, change_closed, change_of, change_open, grants_weight, held_in, holds_beside, holds_weight, is_session, opened_as, place_in}
 use Rattle.cc_book.proofs.Alive.{Weight, grants_weight-own, holds_weight-append, holds_weight-beside, holds_weight-left, is_ending, kept, left-others, left-quiet}
-use Rattle.cc_book.proofs.Changes.{Sit, and_false, next-there, next-unopened, no_grants, sits-ended, sits-going_on, sits-opened, sits-same}
+use Rattle.cc_book.proofs.Changes.{Sit, next-there, next-unopened, no_grants, sits-ended, sits-going_on, sits-opened, sits-same}
 use Rattle.cc_book.proofs.Sessions.{IsAt, Others, equal_number, find-at, find-others, is_at_place, open_at_place, others-closed}
 use Rattle.cc_book.proofs.Stands.{closed-stands, open-stands, update_settles}
 use Rattle.cc_book.proofs.Postings.{debits_to-push}
 use Rattle.cc_book.proofs.Looking.{account_of-within}
+use Rattle.cc_book.proofs.Amounts.{held_in-beside}
+use Rattle.cc_book.proofs.InOrder.{held_in-append}
 
 -- ---- a request debits its account
 
@@ -61,17 +61,6 @@ initial_kind Update e = absurd cc
 initial_kind Termination e = absurd cc
 initial_kind Event e = absurd cc
 
-held_in-append : (xs ys : List Hold) → held_in (xs ++ ys) ≡ held_in xs + held_in ys
-held_in-append [] ys = omega arith
-held_in-append (x ∷ xs) ys = let more = held_in-append xs ys in omega arith
-
-held_in-beside : (services : List Service) (holds : List Hold) → held_in (holds_beside services holds) ≤ held_in holds
-held_in-beside services [] = omega arith
-held_in-beside services (hold ∷ holds) = by (not (is_named services hold)) (held_in-beside services holds) where
-  by : (b : Bool) → held_in (holds_beside services holds) ≤ held_in holds → held_in (cond b (hold ∷ holds_beside services holds) (holds_beside services holds)) ≤ hold.cost + held_in holds
-  by true more = omega arith
-  by false more = omega arith
-
 module _ (terms : Terms) (before : List Posting) (moment : Moment) (request : CcRequest) where
   abbrev q : Posting
   q = posting_of terms before (Take moment request)
@@ -81,7 +70,7 @@ module _ (terms : Terms) (before : List Posting) (moment : Moment) (request : Cc
 
   -- a request that settles nothing, or is no INITIAL, opens nothing
   unopened-by_kind : is_initial_kind request.kind ≡ false → opens q ≡ false
-  unopened-by_kind other = ap (λ (b : Bool). settles && (b && is_success (reply_after terms before request).code)) other ∙ and_false settles
+  unopened-by_kind other = ap (λ (b : Bool). settles && (b && is_success (reply_after terms before request).code)) other ∙ and_right settles false refl
 
   unopened-unsettled : settles ≡ false → opens q ≡ false
   unopened-unsettled none = ap (λ (b : Bool). b && (is_initial_kind request.kind && is_success (reply_after terms before request).code)) none

@@ -1,7 +1,7 @@
 -- Open sessions: which one has a Session-Id, and lists of them split at its place.
-use Rattle.std.proofs.Common.{◌≡◌, ◌≢◌, ℕ, zero, suc, ◌+◌, ◌<◌, ◌≤◌, Bool, true, false, cond, not, ◌&&◌, eqb, ltb, List, [], ◌∷◌, ◌++◌, length, get_or, Option, Some, None, refl, sym, ap, subst, ◌∙◌, arith, rules, one-add, slice_get, slice_set, remove, find, AllPairs, length-set}
+use Rattle.std.proofs.Common.{◌≡◌, ◌≢◌, ℕ, zero, suc, ◌+◌, ◌<◌, ◌≤◌, Bool, true, false, cond, not, eqb, ltb, List, [], ◌∷◌, ◌++◌, length, get_or, Option, Some, None, refl, sym, ap, subst, ◌∙◌, arith, rules, one-add, slice_get, slice_set, remove, find, AllPairs, length-set}
 use Rattle.std.specs.List.{AllByRecursion, position_or_len}
-use Rattle.std.proofs.lemmas.Bool.{and_parts}
+use Rattle.std.proofs.lemmas.Bool.{and_from, and_parts}
 use Rattle.std.proofs.lemmas.List.Elements.{All-from_recursion, recursion_from_All}
 use Rattle.std.proofs.lemmas.List.Quantifiers.{all_pairs_push, all_pairs_remove}
 use Rattle.cc_book.specs.declared.session.OpenSession.{OpenSession}
@@ -9,10 +9,6 @@ use Rattle.cc_book.specs.Duplicate.{same_session}
 use Rattle.cc_book.specs.Standing.{is_session, place_in}
 
 -- ---- Session-Ids
-
-pub both : (a b : Bool) → a ≡ true → b ≡ true → (a && b) ≡ true
-both true b p q = q
-both false b p q = absurd cc
 
 pub same_number : (n : ℕ) → eqb n n ≡ true
 same_number n = search rules
@@ -22,7 +18,7 @@ equal_number m n e = search rules
 
 pub same_session-self : (xs : List ℕ) → same_session xs xs ≡ true
 same_session-self [] = refl
-same_session-self (x ∷ xs) = both (eqb x x) (same_session xs xs) (same_number x) (same_session-self xs)
+same_session-self (x ∷ xs) = and_from (eqb x x) (same_session xs xs) (same_number x) (same_session-self xs)
 
 pub same_session-equal : (xs ys : List ℕ) → same_session xs ys ≡ true → xs ≡ ys
 same_session-equal [] [] e = refl

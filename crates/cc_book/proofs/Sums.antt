@@ -1,5 +1,6 @@
 -- Each debit is of one account.
 use Rattle.std.proofs.Common.{◌≡◌, ℕ, zero, suc, ◌<◌, ◌≤◌, Bool, true, false, cond, not, ◌&&◌, eqb, leb, ltb, List, [], ◌∷◌, length, Option, Some, None, refl, sym, ap, ◌∙◌, arith, rules}
+use Rattle.std.proofs.lemmas.Bool.{and_right}
 use Rattle.std.specs.Prelude.{ℤ, pos, ◌+ℤ◌, ◌-ℤ◌, is_some, unwrap_or, MatchOption}
 use Rattle.std.specs.List.{fold, AllByRecursion}
 use Rattle.std.specs.Option.{option_and_then}
@@ -190,14 +191,10 @@ action-none terms services amount free (Some RefundAccount) = refl
 action-none terms services amount free (Some CheckBalance) = refl
 action-none terms services amount free (Some PriceEnquiry) = prices_nothing amount (event_reply terms services None free (Some PriceEnquiry)).code
 
-and_false : (b : Bool) → (b && false) ≡ false
-and_false true = refl
-and_false false = refl
-
 -- without an account no services are settled
 settles-none : (n : ℕ) (kind : RequestKind) (own : Option ℕ) (opened : Option Opened) → HasPlace n opened → account_by kind own (option_and_then (λ (now : Opened). now.account) opened) ≡ None
     → settles_by kind (is_some opened) (is_some own) ≡ false
-settles-none n Initial own opened p none = ap (λ (a : Option ℕ). not (is_some opened) && is_some a) none ∙ and_false (not (is_some opened))
+settles-none n Initial own opened p none = ap (λ (a : Option ℕ). not (is_some opened) && is_some a) none ∙ and_right (not (is_some opened)) false refl
 settles-none n Update own opened p none = opener-closed n opened p none
 settles-none n Termination own opened p none = opener-closed n opened p none
 settles-none n Event own opened p none = refl

@@ -1,4 +1,4 @@
-//! What the services of a request ask, by the tariffs.
+//! What the services of a request ask and have used, by the tariffs.
 
 ghost use Rattle.std.specs.Prelude.{◌≡◌, ◌<◌, ◌^◌};
 ghost use Rattle.cc_view.specs.Request.ServiceLimits.{HasSmallSums};
