@@ -1,5 +1,5 @@
 -- What stays the same in a message that descends from another one.
-use Rattle.std.proofs.Common.{◌≡◌, ℕ, Bool, true, false, List, [], ◌∷◌, ◌++◌, Result, Ok, Err, refl, ap, sym, ◌∙◌}
+use Rattle.std.proofs.Common.{◌≡◌, ℕ, Bool, true, false, List, [], ◌∷◌, ◌++◌, ◌↔◌, Result, Ok, Err, refl, ap, sym, ◌∙◌}
 use Rattle.dia_base.specs.declared.number.ConnId.{ConnId}
 use Rattle.dia_avp.specs.declared.avp.RawAvp.{RawAvp}
 use Rattle.dia_avp.specs.declared.fault.AvpFault.{AvpFault}
@@ -17,7 +17,7 @@ use Rattle.cc_view.specs.declared.refusal.Refusal.{Refusal}
 use Rattle.cc_view.specs.declared.reply.CcReply.{CcReply}
 use Rattle.cc_view.specs.declared.request.CcRequest.{CcRequest}
 use Rattle.relay_hops.specs.PendingTable.{under, again}
-use Rattle.relay_routes.specs.Routing.{record_of, named_in, loops, names_node}
+use Rattle.relay_routes.specs.Routing.{record_of, named_in, loops, names_node, IsLoop}
 use Rattle.relay_core.specs.Forwarding.{Descends, same, renumbered, sent_again, recorded_by, with_record}
 use Rattle.relay_core.specs.RelayState.{RelayState}
 use Rattle.relay_core.specs.Verdict.{verdict, decision}
@@ -53,6 +53,15 @@ AnswerForwarded = (front realm : List ℕ) (request forwarded : Message) (conten
 abbrev pub RefusalForwarded : Type 0
 RefusalForwarded = (node realm : List ℕ) (request forwarded : Message) (refusal : Refusal) → IsForwarded request forwarded →
     refusal_of node realm forwarded refusal ≡ with_hop forwarded.header.hop (refusal_of node realm request refusal)
+
+abbrev pub RecordNames : Type 0
+RecordNames = (node : List ℕ) (avps : List RawAvp) → names_node node (avps ++ record_of node ∷ []) ≡ true
+
+abbrev pub NamesWithMore : Type 0
+NamesWithMore = (node : List ℕ) (avps more : List RawAvp) → names_node node avps ≡ true → names_node node (avps ++ more) ≡ true
+
+abbrev pub WhatLoops : Type 0
+WhatLoops = (node body : List ℕ) → (loops node body ≡ true) ↔ IsLoop node body
 
 -- ---- bodies
 
@@ -140,3 +149,26 @@ named-none relay sender request (Ok avps) to e =
 
 pub forwarded-no_loop : (relay : RelayState) (sender : List ℕ) (request : Message) (to : ConnId) → decision relay sender request ≡ Ok to → loops relay.node.name request.body ≡ false
 forwarded-no_loop relay sender request to e = named-none relay sender request (split_of request.body) to e
+
+-- ---- a request that comes back loops
+
+-- the body splits into AVPs, of which one is a Route-Record of the node
+abbrev Names : List ℕ → List ℕ → Type 0
+Names node body = (avps : List RawAvp) × (split_of body ≡ Ok avps) × (names_node node avps ≡ true)
+
+names-descended : OneMore → NamesWithMore → (node : List ℕ) (request last : Message) → Names node request.body → Descends request last → Names node last.body
+names-descended more goes_on node request last names same = names
+names-descended more goes_on node request last names (renumbered hop d) = names-descended more goes_on node request _ names d
+names-descended more goes_on node request last names (sent_again hop d) = names-descended more goes_on node request _ names d
+names-descended more goes_on node request last names (recorded_by {passed = before} peer spelled d) =
+    let s = names-descended more goes_on node request before names d in
+    (s.0 ++ record_of peer ∷ [], with_record-splits more peer before s.0 spelled s.1, goes_on node s.0 (record_of peer ∷ []) s.2)
+
+loop-named : WhatLoops → (node body : List ℕ) → Names node body → IsLoop node body
+loop-named law node body names = (law node body).0 (ap (named_in node) names.1 ∙ names.2)
+
+pub loop-back : OneMore → RecordNames → NamesWithMore → WhatLoops → (node : List ℕ) (request last : Message) (avps : List RawAvp) → HasSpelling (record_of node) → split_of request.body ≡ Ok avps
+    → Descends (with_record node request) last → IsLoop node last.body
+loop-back more record_names goes_on law node request last avps spelled e d =
+    let names : Names node (with_record node request).body = (avps ++ record_of node ∷ [], with_record-splits more node request avps spelled e, record_names node avps) in
+    loop-named law node last.body (names-descended more goes_on node (with_record node request) last names d)

@@ -4,6 +4,7 @@
 ghost use Rattle.std.specs.Prelude.{◌≡◌, ℕ, List, false, Ok};
 ghost use Rattle.dia_base.specs.declared.number.ConnId.{ConnId};
 ghost use Rattle.dia_avp.specs.declared.avp.RawAvp.{RawAvp};
+ghost use Rattle.dia_avp.specs.AvpList.{HasSpelling};
 ghost use Rattle.dia_avp.specs.AvpReading.{split_of};
 ghost use Rattle.dia_message.specs.declared.message.Message.{Message};
 ghost use Rattle.dia_message.specs.Traffic.{Traffic};
@@ -15,14 +16,15 @@ ghost use Rattle.cc_view.specs.declared.code.ResultCode.TheVariants.{LoopDetecte
 ghost use Rattle.cc_view.specs.declared.refusal.Refusal.{Refusal};
 ghost use Rattle.cc_view.specs.declared.reply.CcReply.{CcReply};
 ghost use Rattle.cc_view.specs.declared.request.CcRequest.{CcRequest};
-ghost use Rattle.relay_routes.specs.Routing.{loops, IsLoop};
-ghost use Rattle.relay_core.specs.Forwarding.{Descends};
+ghost use Rattle.relay_routes.specs.Routing.{record_of, loops, IsLoop};
+ghost use Rattle.relay_core.specs.Forwarding.{with_record, Descends};
 ghost use Rattle.relay_core.specs.RelayState.{RelayState};
 ghost use Rattle.relay_core.specs.RelayStep.{OnRequest, refusal_to};
 ghost use Rattle.relay_core.specs.Verdict.{decision};
 
 use cc_view::{forwarded_requests, view_without_identifiers};
 use dia_avp::one_avp_more;
+use relay_routes::{added_record_names, names_with_more, what_loops};
 
 /// What descends from a message that descends from another one descends from that.
 pub fn descending_goes_on()
@@ -56,3 +58,15 @@ pub fn loops_are_refused()
         IsLoop relay.node.name request.body → OnRequest relay conn sender request sent next →
         (sent ≡ refusal_to relay.node conn request (refusal_with LoopDetected)) × (next ≡ relay) }
 {}
+
+/// What a relay has sent and another node has forwarded is a loop wherever it comes to the relay again,
+/// however it went: the Route-Record of the relay stays behind the AVPs (RFC 6733, sections 6.1.3 and 6.1.9).
+pub fn what_comes_back_loops()
+    ensures { (node : List ℕ) (request last : Message) (avps : List RawAvp) → HasSpelling (record_of node) → split_of request.body ≡ Ok avps →
+        Descends (with_record node request) last → IsLoop node last.body }
+{
+    one_avp_more();
+    added_record_names();
+    names_with_more();
+    what_loops();
+}

@@ -1,0 +1,10 @@
+pub mod Answering
+pub mod Asking
+pub mod Ending
+pub mod Keeping
+pub mod Lists
+pub mod Premises
+pub mod Relaying
+pub mod Returning
+pub mod Runs
+pub mod Weighing

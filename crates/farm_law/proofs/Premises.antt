@@ -1,0 +1,31 @@
+-- What the proofs of moves take from the crates below: laws of the book, of fronts and of what relays pass on. The law of moves hands them over.
+use Rattle.std.proofs.Common.{◌≡◌, ℕ, List, [], ◌∷◌, ◌++◌, None, Ok}
+use Rattle.dia_base.specs.declared.number.Moment.{Moment}
+use Rattle.dia_avp.specs.declared.avp.RawAvp.{RawAvp}
+use Rattle.dia_avp.specs.AvpReading.{split_of}
+use Rattle.dia_message.specs.declared.message.Message.{Message}
+use Rattle.cc_view.specs.Answer.{answer_to, refusal_of}
+use Rattle.cc_view.specs.Forwarding.{with_hop}
+use Rattle.cc_view.specs.RequestView.{view_of}
+use Rattle.cc_view.specs.declared.refusal.Refusal.{Refusal}
+use Rattle.cc_view.specs.declared.reply.CcReply.{CcReply}
+use Rattle.cc_view.specs.declared.request.CcRequest.{CcRequest}
+use Rattle.cc_book.specs.declared.entry.Entry.{Entry}
+use Rattle.cc_book.specs.declared.entry.Entry.TheVariants.{Take}
+use Rattle.cc_book.specs.declared.terms.Terms.{Terms}
+use Rattle.cc_book.specs.AccountMachine.{kept_reply}
+use Rattle.cc_book.specs.History.{IsLegal}
+use Rattle.cc_book.specs.Taking.{Ledger}
+use Rattle.front_core.specs.declared.site.FrontSite.{FrontSite}
+use Rattle.front_core.specs.Answered.{IsAnswered}
+use Rattle.relay_core.specs.Forwarding.{Descends}
+
+pub record Premises : Type 0 where
+  pub legal_grows : (terms : Terms) (history : List Entry) (moment : Moment) (request : CcRequest) → IsLegal terms history → kept_reply terms history request ≡ None → IsLegal terms (history ++ Take moment request ∷ [])
+  pub answers_stay : (site : FrontSite) (ledger : Ledger) (more : List Entry) (message answer : Message) → IsAnswered site ledger message answer → IsAnswered site (record ledger { history = ledger.history ++ more }) message answer
+  pub descends_on : (request passed last : Message) → Descends request passed → Descends passed last → Descends request last
+  pub same_view : (vendors : List ℕ) (request passed : Message) (avps : List RawAvp) → split_of request.body ≡ Ok avps → Descends request passed → view_of vendors passed ≡ view_of vendors request
+  pub same_answer : (front realm : List ℕ) (request passed : Message) (content : CcRequest) (reply : CcReply) (avps : List RawAvp) → split_of request.body ≡ Ok avps → Descends request passed →
+      answer_to front realm passed content reply ≡ with_hop passed.header.hop (answer_to front realm request content reply)
+  pub same_refusal : (node realm : List ℕ) (request passed : Message) (refusal : Refusal) (avps : List RawAvp) → split_of request.body ≡ Ok avps → Descends request passed →
+      refusal_of node realm passed refusal ≡ with_hop passed.header.hop (refusal_of node realm request refusal)

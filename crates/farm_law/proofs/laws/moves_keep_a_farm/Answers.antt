@@ -1,0 +1,15 @@
+use Rattle.farm_law.proofs.Runs.{moves_keep, new_farm_kept}
+use Rattle.farm_law.proofs.laws.moves_keep_a_farm.Goals as goal
+
+pub returns-clause-start : goal.returns-clause-start
+returns-clause-start c = new_farm_kept c.the_empty_history_is_legal.ensures
+
+pub returns-clause-moves : goal.returns-clause-moves
+returns-clause-moves c = moves_keep (record {
+  legal_grows = c.legal_histories_grow.ensures.by_request;
+  answers_stay = c.answers_stay.ensures;
+  descends_on = c.descending_goes_on.ensures;
+  same_view = c.what_descends_reads_alike.ensures.view;
+  same_answer = c.what_descends_reads_alike.ensures.answer;
+  same_refusal = c.what_descends_reads_alike.ensures.refusal;
+})
