@@ -1,29 +1,38 @@
--- What the proofs of runs take from the crates below: laws of the book and of a front. The law of runs hands them over.
-use Rattle.std.proofs.Common.{◌≡◌, List, [], ◌∷◌, ◌++◌, None}
-use Rattle.std.specs.Prelude.{◌⊎◌, All}
-use Rattle.dia_base.specs.declared.number.ConnId.{ConnId}
+-- What the proofs of runs take from the crates below: laws of the book, of fronts and relays, and of moves. The law of runs hands them over.
+use Rattle.std.proofs.Common.{◌≡◌, ℕ, List, [], Ok}
+use Rattle.std.specs.Prelude.{◌⊎◌}
 use Rattle.dia_base.specs.declared.number.Moment.{Moment}
+use Rattle.dia_avp.specs.declared.avp.RawAvp.{RawAvp}
+use Rattle.dia_avp.specs.AvpList.{HasSpelling}
+use Rattle.dia_avp.specs.AvpReading.{split_of}
 use Rattle.dia_message.specs.declared.message.Message.{Message}
-use Rattle.cc_view.specs.declared.request.CcRequest.{CcRequest}
-use Rattle.cc_book.specs.declared.entry.Entry.{Entry}
-use Rattle.cc_book.specs.declared.entry.Entry.TheVariants.{Take}
-use Rattle.cc_book.specs.declared.terms.Terms.{Terms}
-use Rattle.cc_book.specs.AccountMachine.{kept_reply}
-use Rattle.cc_book.specs.History.{IsLegal}
 use Rattle.cc_book.specs.Taking.{Ledger}
+use Rattle.cc_book.specs.History.{IsLegal}
 use Rattle.front_core.specs.declared.site.FrontSite.{FrontSite}
-use Rattle.front_core.specs.Answered.{IsAnswered, IsRefusedAtCharge, IsRefusedAtArrival}
+use Rattle.front_core.specs.Answered.{IsAnswered, IsRefusedAtCharge}
 use Rattle.front_core.specs.ChargeCases.{IsCharge}
 use Rattle.front_core.specs.Charging.{answer_in, book_after}
-use Rattle.front_core.specs.FrontState.{FrontState}
-use Rattle.front_core.specs.FrontStep.{preparation_at, sent_at_arrival}
+use Rattle.front_core.specs.FrontStep.{preparation_at}
+use Rattle.relay_routes.specs.Routing.{IsLoop, record_of}
+use Rattle.relay_core.specs.Forwarding.{Descends, with_record}
+use Rattle.farm_law.specs.Farm.{Farm}
+use Rattle.farm_law.specs.Invariant.{IsKept, new_farm}
+use Rattle.farm_law.specs.Moves.{Moves}
+use Rattle.farm_law.specs.Parties.{Parties}
+use Rattle.farm_model.proofs.LoopRefused.{LoopsAreRefused}
+use Rattle.farm_model.proofs.PromiseLemmas.{RepliesAreOfEntries}
 
 pub record Premises : Type 0 where
-  pub empty_is_legal : (terms : Terms) → IsLegal terms []
-  pub legal_grows : (terms : Terms) (history : List Entry) (moment : Moment) (request : CcRequest) → IsLegal terms history → kept_reply terms history request ≡ None → IsLegal terms (history ++ Take moment request ∷ [])
+  -- of a front
   pub charges : (site : FrontSite) (ledger : Ledger) (moment : Moment) (message : Message)
       → IsCharge site ledger moment message (answer_in site ledger message (preparation_at site message)) (book_after ledger moment (preparation_at site message))
   pub answers : (site : FrontSite) (ledger book : Ledger) (moment : Moment) (message answer : Message) → IsLegal ledger.terms ledger.history → IsCharge site ledger moment message answer book
       → IsAnswered site book message answer ⊎ IsRefusedAtCharge site ledger message answer
-  pub answers_stay : (site : FrontSite) (ledger : Ledger) (more : List Entry) (message answer : Message) → IsAnswered site ledger message answer → IsAnswered site (record ledger { history = ledger.history ++ more }) message answer
-  pub arrivals : (front : FrontState) (conn : ConnId) (message : Message) → All (λ item. (item.0 ≡ conn) × IsRefusedAtArrival front message item.1) (sent_at_arrival front conn message)
+  -- of relays
+  pub loops : LoopsAreRefused
+  pub comes_back : (node : List ℕ) (request last : Message) (avps : List RawAvp) → HasSpelling (record_of node) → split_of request.body ≡ Ok avps → Descends (with_record node request) last → IsLoop node last.body
+  -- of the book
+  pub of_entries : RepliesAreOfEntries
+  -- of moves
+  pub new_is_kept : (p : Parties) (book : Ledger) → book.history ≡ [] → IsKept p (new_farm book)
+  pub moves_keep : (p : Parties) (old new : Farm) → Moves p old new → IsKept p old → IsKept p new

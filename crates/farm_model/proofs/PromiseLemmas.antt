@@ -1,143 +1,216 @@
--- Every run keeps what is promised.
-use Rattle.std.proofs.Common.{inl, inr, ◌≡◌, ℕ, ◌+◌, ◌≤◌, List, [], ◌∷◌, ◌++◌, length, length-append, Some, refl, sym, subst, ap, ◌∙◌, arith, append_assoc}
-use Rattle.std.specs.Prelude.{All, slice_get}
-use Rattle.std.specs.List.{sum_by}
-use Rattle.std.proofs.lemmas.List.{append-nil}
-use Rattle.std.proofs.lemmas.List.Sums.{sum_by-append}
-use Rattle.std.proofs.lemmas.List.Elements.{All-nil, All-cons, All-append, All-replicate, All-weaker, Contains-push, Contains-append_left}
-use Rattle.dia_base.specs.declared.number.ConnId.{ConnId}
-use Rattle.dia_message.specs.declared.message.Message.{Message}
-use Rattle.front_core.specs.declared.worker.Worker.TheVariants.{Idle}
-use Rattle.front_core.proofs.FrontTally.{idle-is}
-use Rattle.farm_model.specs.declared.site.Node.{Node}
+-- The promise, by what holds at the end of a run.
+use Rattle.std.proofs.Common.{◌≡◌, ℕ, ◌≤◌, Bool, true, false, cond, List, [], ◌∷◌, ◌++◌, length, Option, Some, None, inl, inr, refl, sym, subst, ap, ◌∙◌, arith, true≢false, eq-eqb}
+use Rattle.std.specs.Prelude.{◌&&◌, ◌||◌, ◌==◌, slice_get, unwrap_or}
+use Rattle.std.proofs.lemmas.Bool.{and_parts, eqb-true}
 use Rattle.dia_base.specs.declared.node.NodeKind.{NodeKind}
 use Rattle.dia_base.specs.declared.node.NodeKind.TheVariants.{Relay, Front, Client}
+use Rattle.dia_base.specs.declared.number.ConnId.{ConnId}
+use Rattle.dia_base.specs.declared.number.NodeNo.{NodeNo}
+use Rattle.dia_base.proofs.Counting.{count-cons, one}
+use Rattle.dia_message.specs.declared.message.Message.{Message}
+use Rattle.dia_message.specs.Traffic.{Traffic}
+use Rattle.cc_view.specs.declared.reply.CcReply.{CcReply}
+use Rattle.cc_view.specs.declared.request.CcRequest.{CcRequest}
+use Rattle.cc_view.specs.Answer.{answer_to, refusal_of}
+use Rattle.cc_book.specs.declared.entry.Entry.{Entry}
+use Rattle.cc_book.specs.declared.entry.Entry.TheVariants.{Take, Sweep}
+use Rattle.cc_book.specs.declared.terms.Terms.{Terms}
+use Rattle.cc_book.specs.AccountMachine.{kept_reply, reply_to}
+use Rattle.cc_book.specs.Laws.{RepliesToEntry}
+use Rattle.front_core.specs.Answered.{IsAnswered}
+use Rattle.front_core.specs.Counts.{is_with, requests_with, answers_with}
+use Rattle.farm_law.specs.Answers.{Answers, of_front, of_refusal, TellsAnswer, TellsRefusal}
+use Rattle.farm_law.specs.Farm.{Refused}
+use Rattle.farm_law.specs.Invariant.{IsOwed, IsTaken}
+use Rattle.farm_law.specs.Lists.{Has, here, there}
+use Rattle.farm_model.specs.declared.site.Node.{Node}
 use Rattle.farm_model.specs.declared.site.Site.{Site}
-use Rattle.farm_model.specs.declared.state.Trace.{Trace}
-use Rattle.farm_model.specs.CheckedSite.{IsChecked}
-use Rattle.farm_model.specs.Promise.{Journal, IsRightAnswer, KeepsPromise}
-use Rattle.farm_model.specs.Run.{Past, Transition, fresh_front, front_if, fronts_from, start, Run, IsTrace}
-use Rattle.farm_model.specs.World.{WorldState}
-use Rattle.farm_model.proofs.FarmStepInvariant.{transition_keeps}
-use Rattle.farm_model.proofs.Invariant.{IsDue, ItemIsDue, WorkerStands, FrontStands, NodeStands, Stands, Grows, journal_at, answer_is_no_error, refusal_is_error, directions_grow, fronts_grow, received_grow}
-use Rattle.farm_model.proofs.ListLemmas.{slice_get-behind}
-use Rattle.farm_model.proofs.Premises.{Premises}
-use Rattle.farm_model.proofs.Tally.{at_node}
+use Rattle.farm_model.specs.Nodes.{is_node, is_client, is_front, kind_in, means_front, means_relay}
+use Rattle.farm_model.specs.Promise.{Journal, IsEndOf, IsNamed, IsFrontNamed, AnswersOn, itself, over_relay, HasOneClient, WasRequested, IsRefusedThere, IsRightAnswer, IsFromClient, HasOneContent, IsMachineReply, RefusesLoop, RefusesWhatComesBack, KeepsPromise}
+use Rattle.farm_model.specs.Run.{Past, front_site, trace_of}
+use Rattle.farm_model.specs.World.{Ends, WorldState}
+use Rattle.farm_model.proofs.AsFarm.{parties, ends_of, client_in, server_in, name_in, name_at}
+use Rattle.farm_model.proofs.Placing.{Has-right}
+use Rattle.farm_model.proofs.RunHolds.{IsServer, RunHolds, Has-contained, all_of}
 
--- ---- before the first step
+-- ---- nodes of the site
 
-module _ (site : Site) (journal : Journal) where
-  fresh_stands : (place : ℕ) (node : Node) → slice_get site.nodes place ≡ Some node → node.kind ≡ Front → FrontStands site journal (record { 0 = place }) (fresh_front site node)
-  fresh_stands place node found kind = record {
-    is_front = record { found = node; at_place = found; kind = kind; called = refl };
-    of_site = refl;
-    waiting = All-nil _;
-    working = All-replicate (WorkerStands site journal (record { 0 = place })) site.workers Idle tt;
+front_found : (site : Site) (node : NodeNo) → is_front site node ≡ true → IsFrontNamed site node (name_at site node)
+front_found site node e = go (slice_get site.nodes node.0) refl e
+  where
+    of_kind : (found : Node) (kind : NodeKind) → found.kind ≡ kind → means_front (Some kind) ≡ true → found.kind ≡ Front
+    of_kind found Front k q = k
+    of_kind found Relay k q = absurd cc
+    of_kind found Client k q = absurd cc
+
+    go : (found : Option Node) → slice_get site.nodes node.0 ≡ found → means_front (kind_in found) ≡ true → IsFrontNamed site node (name_in found)
+    go None at q = absurd cc
+    go (Some found) at q = record { found = found; at_place = at; kind = of_kind found found.kind refl q; called = refl }
+
+server_found : (site : Site) (node : NodeNo) → IsServer site node → IsNamed site node (name_at site node)
+server_found site node (inl e) = let f = front_found site node e in record { found = f.found; at_place = f.at_place; called = f.called }
+server_found site node (inr e) = go (slice_get site.nodes node.0) refl e
+  where
+    go : (found : Option Node) → slice_get site.nodes node.0 ≡ found → means_relay (kind_in found) ≡ true → IsNamed site node (name_in found)
+    go None at q = absurd cc
+    go (Some found) at q = record { found = found; at_place = at; called = refl }
+
+-- ---- the ends of a client's connection
+
+same_is : (n m : NodeNo) → n ≡ m → is_node n m ≡ true
+same_is n m e = eq-eqb n.0 m.0 (ap (λ (k : NodeNo). k.0) e)
+
+ends_are : {site : Site} {all : Ends} {conn : ConnId} (h : HasOneClient site all conn) → ends_of all conn ≡ h.nodes
+ends_are h = ap (λ (o : Option (NodeNo × NodeNo)). unwrap_or o (record { 0 = 0 }, record { 0 = 0 })) h.made
+
+server_end : {site : Site} {all : Ends} {conn : ConnId} → HasOneClient site all conn → IsEndOf all conn (server_in site (ends_of all conn))
+server_end {site} {all} {conn} h = record { numbered = h.numbered; nodes = h.nodes; made = h.made; joined = ap (λ (n : NodeNo × NodeNo). is_node h.nodes.0 (server_in site n) || is_node h.nodes.1 (server_in site n)) (ends_are h) ∙ go (is_client site h.nodes.0) }
+  where
+    or_true : (b : Bool) → (b || true) ≡ true
+    or_true true = refl
+    or_true false = refl
+
+    go : (b : Bool) → (is_node h.nodes.0 (cond b h.nodes.1 h.nodes.0) || is_node h.nodes.1 (cond b h.nodes.1 h.nodes.0)) ≡ true
+    go true = ap (λ (b : Bool). is_node h.nodes.0 h.nodes.1 || b) (same_is h.nodes.1 h.nodes.1 refl) ∙ or_true (is_node h.nodes.0 h.nodes.1)
+    go false = ap (λ (b : Bool). b || is_node h.nodes.1 h.nodes.0) (same_is h.nodes.0 h.nodes.0 refl)
+
+client_end : {site : Site} {all : Ends} {conn : ConnId} → HasOneClient site all conn → is_client site (client_in site (ends_of all conn)) ≡ true
+client_end {site} {all} {conn} h = ap (λ (n : NodeNo × NodeNo). is_client site (client_in site n)) (ends_are h) ∙ go (is_client site h.nodes.0) refl h.a_client
+  where
+    go : (b : Bool) → is_client site h.nodes.0 ≡ b → (b || is_client site h.nodes.1) ≡ true → is_client site (cond b h.nodes.0 h.nodes.1) ≡ true
+    go true e k = e
+    go false e k = k
+
+-- ---- the flags of answers and refusals
+
+answer_flag : (name realm : List ℕ) (message answer : Message) (request : CcRequest) (reply : CcReply) → answer ≡ answer_to name realm message request reply → answer.header.error ≡ false
+unfolding answer_to
+answer_flag name realm message answer request reply e = ap (λ (m : Message). m.header.error) e
+
+refusal_flag : (name realm : List ℕ) (message answer : Message) (code : _) → answer ≡ refusal_of name realm message code → answer.header.error ≡ true
+unfolding refusal_of
+refusal_flag name realm message answer code e = ap (λ (m : Message). m.header.error) e
+
+-- ---- the whole
+
+abbrev pub RepliesAreOfEntries : Type 0
+RepliesAreOfEntries = (terms : Terms) (history : List Entry) (request : CcRequest) (reply : CcReply) → kept_reply terms history request ≡ Some reply → RepliesToEntry terms history request reply
+
+module _ (site : Site) (past : Past) (w : WorldState) (h : RunHolds site w.ends past w) where
+  abbrev journal : Journal
+  journal = record { past = past; ends = w.ends; sent = w.sent; book = w.book }
+
+  -- ---- the book
+
+  from_client : (entry : Entry) → Has entry w.book.history → IsFromClient site w.sent entry
+  from_client entry among = go entry (h.kept.taken entry among)
+    where
+      go : (e : Entry) → IsTaken (parties site w.ends) w.sent e → IsFromClient site w.sent e
+      go (Take moment request) t = (t.0, t.1, (Has-contained t.2, t.3), t.4)
+      go (Sweep moment) t = absurd t
+
+  -- where requests of one key are one request, its entry is the one that is replied to
+  by_machine : RepliesAreOfEntries → (name : List ℕ) (message answer : Message) (answered : IsAnswered (front_site site name) w.book message answer) → HasOneContent site w.sent answered.request → IsMachineReply w.book answered.request answered.reply
+  by_machine of_entries name message answer answered same_content =
+      let t = of_entries w.book.terms w.book.history answered.request answered.reply answered.kept in
+      let there_is : Has (Take t.moment t.taken) w.book.history = subst (λ (es : List Entry). Has (Take t.moment t.taken) es) (sym t.among) (Has-right t.before here) in
+      let from = from_client (Take t.moment t.taken) there_is in
+      let is : t.taken ≡ answered.request = same_content from.0 from.1 t.taken from.2 from.3 t.same in
+      record {
+        before = t.before;
+        moment = t.moment;
+        after = t.after;
+        in_order = subst (λ (r : CcRequest). w.book.history ≡ t.before ++ Take t.moment r ∷ t.after) is t.among;
+        is_reply = t.is_reply ∙ ap (reply_to w.book.terms t.before) is;
+      }
+
+  -- ---- what was received
+
+  tells_on : (conn : ConnId) (node : NodeNo) → HasOneClient site w.ends conn → TellsAnswer (parties site w.ends) (server_in site (ends_of w.ends conn)) node → AnswersOn site w.ends conn node
+  tells_on conn node client (inl relay) = over_relay (server_in site (ends_of w.ends conn)) (server_end client) relay
+  tells_on conn node client (inr same) = itself (subst (IsEndOf w.ends conn) (sym same) (server_end client))
+
+  refused_there : (conn : ConnId) (message : Message) (r : Refused) → HasOneClient site w.ends conn → TellsRefusal (parties site w.ends) (server_in site (ends_of w.ends conn)) conn message r → Rattle.relay_core.specs.Forwarding.Descends message r.request
+      → IsRefusedThere site w.ends conn message r.node r.conn r.request
+  refused_there conn message r client (inl relay) descends = IsRefusedThere.over_relay (server_in site (ends_of w.ends conn)) r.conn r.request (server_end client) relay descends
+  refused_there conn message r client (inr same) descends =
+      subst (λ (m : Message). IsRefusedThere site w.ends conn message r.node r.conn m) (sym same.2)
+      (subst (λ (c : ConnId). IsRefusedThere site w.ends conn message r.node c message) (sym same.1) (IsRefusedThere.itself (subst (IsEndOf w.ends conn) (sym same.0) (server_end client))))
+
+  right_answer : RepliesAreOfEntries → (conn : ConnId) (answer : Message) → HasOneClient site w.ends conn → (owed : IsOwed (parties site w.ends) w.book h.refused w.sent conn answer) → Answers (parties site w.ends) w.book h.refused (server_in site (ends_of w.ends conn)) conn owed.message answer → IsRightAnswer site journal conn answer
+  right_answer of_entries conn answer client owed (of_front front is tells answered) = record {
+    answered = λ clear. record {
+      node = front;
+      name = name_at site front;
+      front = front_found site front is;
+      on = tells_on conn front client tells;
+      message = owed.message;
+      requested = (Has-contained owed.was_sent, owed.request);
+      answered = answered;
+      by_machine = by_machine of_entries (name_at site front) owed.message answer answered;
+    };
+    refused = λ set. absurd (true≢false (sym set ∙ answer_flag (name_at site front) site.realm owed.message answer answered.request answered.reply answered.written));
   }
+  right_answer of_entries conn answer client owed (of_refusal r tells descends among written) =
+      let c = h.caused r among in
+      record {
+        answered = λ clear. absurd (true≢false (sym (refusal_flag (name_at site r.node) site.realm owed.message answer r.refusal written) ∙ clear));
+        refused = λ set. record {
+          node = r.node;
+          name = name_at site r.node;
+          named = server_found site r.node c.server;
+          message = owed.message;
+          requested = (Has-contained owed.was_sent, owed.request);
+          at = r.conn;
+          there = r.request;
+          refused = refused_there conn owed.message r client tells descends;
+          refusal = r.refusal;
+          transition = c.transition;
+          passed = Has-contained c.passed;
+          cause = c.cause;
+          written = written;
+        };
+      }
 
-  front_if_stands : (place : ℕ) (node : Node) (kind : NodeKind) → slice_get site.nodes place ≡ Some node → node.kind ≡ kind → All (NodeStands site journal) (front_if site place node kind)
-  front_if_stands place node Front among e = All-cons (NodeStands site journal) (record { node = record { 0 = place }; front = fresh_front site node }) [] (fresh_stands place node among e) (All-nil (NodeStands site journal))
-  front_if_stands place node Relay among e = All-nil (NodeStands site journal)
-  front_if_stands place node Client among e = All-nil (NodeStands site journal)
+  received_right : RepliesAreOfEntries → (item : ConnId × Message) → Has item w.received → IsRightAnswer site journal item.0 item.1
+  received_right of_entries item among = let owed = h.kept.owed item.0 item.1 among in right_answer of_entries item.0 item.1 (h.heard.receivers item among) owed owed.answers
 
-  -- the nodes from a place on, behind those before it
-  fronts_from_stand : (before nodes : List Node) → before ++ nodes ≡ site.nodes → All (NodeStands site journal) (fronts_from site (length before) nodes)
-  fronts_from_stand before [] all = All-nil (NodeStands site journal)
-  fronts_from_stand before (node ∷ nodes) all =
-      All-append (NodeStands site journal) (front_if site (length before) node node.kind) (fronts_from site (length before + 1) nodes)
-      (front_if_stands (length before) node node.kind (ap (λ (xs : List Node). slice_get xs (length before)) (sym all) ∙ slice_get-behind before node nodes) refl)
-      (subst (λ (n : ℕ). All (NodeStands site journal) (fronts_from site n nodes)) (length-append before (node ∷ []))
-      (fronts_from_stand (before ++ node ∷ []) nodes (append_assoc before (node ∷ []) nodes ∙ all)))
+  -- ---- no more than sent
 
--- nothing is asked yet
-front_if_tally : (conn : ConnId) (hop end : ℕ) (site : Site) (place : ℕ) (node : Node) (kind : NodeKind) → sum_by (at_node conn hop end) (front_if site place node kind) ≡ 0
-front_if_tally conn hop end site place node Front = let idle = idle-is conn hop end site.workers in omega (arith, idle)
-front_if_tally conn hop end site place node Relay = refl
-front_if_tally conn hop end site place node Client = refl
+  none_on : (conn : ConnId) (hop end : ℕ) (items : Traffic) → ((item : ConnId × Message) → Has item items → HasOneClient site w.ends item.0) → is_client site (client_in site (ends_of w.ends conn)) ≡ false → answers_with items conn hop end ≡ 0
+  none_on conn hop end [] clients none = refl
+  none_on conn hop end (item ∷ items) clients none =
+      let rest = none_on conn hop end items (λ i m. clients i (there m)) none in
+      let first = ap one (go (is_with conn hop end item) refl) in
+      let all = count-cons (is_with conn hop end) item items in
+      omega (arith, rest, first, all)
+    where
+      go : (b : Bool) → is_with conn hop end item ≡ b → b ≡ false
+      go false e = refl
+      go true e =
+          let parts = and_parts (item.0.0 == conn.0 && item.1.header.hop == hop) (item.1.header.end == end) e in
+          let on = (and_parts (item.0.0 == conn.0) (item.1.header.hop == hop) parts.0).0 in
+          let same : item.0 ≡ conn = ap (λ (n : ℕ). record { 0 = n }) (eqb-true item.0.0 conn.0 on) in
+          absurd (true≢false (sym (client_end (subst (HasOneClient site w.ends) same (clients item here))) ∙ none))
 
-fronts_from_tally : (conn : ConnId) (hop end : ℕ) (site : Site) (place : ℕ) (nodes : List Node) → sum_by (at_node conn hop end) (fronts_from site place nodes) ≡ 0
-fronts_from_tally conn hop end site place [] = refl
-fronts_from_tally conn hop end site place (node ∷ nodes) =
-    let first = front_if_tally conn hop end site place node node.kind in
-    let rest = fronts_from_tally conn hop end site (place + 1) nodes in
-    omega (arith, first, rest, sum_by-append (at_node conn hop end) (front_if site place node node.kind) (fronts_from site (place + 1) nodes))
+  no_more : (conn : ConnId) (hop end : ℕ) → answers_with w.received conn hop end ≤ requests_with w.sent conn hop end
+  no_more conn hop end = go (is_client site (client_in site (ends_of w.ends conn))) refl
+    where
+      go : (b : Bool) → is_client site (client_in site (ends_of w.ends conn)) ≡ b → answers_with w.received conn hop end ≤ requests_with w.sent conn hop end
+      go true is = let all = h.kept.clients conn hop end is in omega (arith, all)
+      go false none = let zero_of = none_on conn hop end w.received h.heard.receivers none in omega (arith, zero_of)
 
-start_stands : Premises → (site : Site) → Stands site [] (start site)
-start_stands premises site = record {
-  on_directions = All-nil _;
-  at_fronts = fronts_from_stand site (journal_at [] (start site)) [] site.nodes refl;
-  at_clients = All-nil _;
-  senders = All-nil _;
-  receivers = All-nil _;
-  not_more = λ conn hop end. let none = fronts_from_tally conn hop end site 0 site.nodes in omega (arith, none);
-  legal = premises.empty_is_legal (start site).book.terms;
-  taken = All-nil _;
-  terms = refl;
-  limit = refl;
-  within = omega arith;
-}
-
--- ---- a run goes on
-
-longer : (site : Site) (past : Past) (t : Transition) (w : WorldState) → Grows site (journal_at past w) (journal_at (past ++ t ∷ []) w)
-longer site past t w = record {
-  passed = λ other member. Contains-append_left past (t ∷ []) other member;
-  made = λ place nodes e. e;
-  was_sent = λ conn message s. s;
-  answered = λ name message answer a. a;
-}
-
-Stands-longer : (site : Site) (past : Past) (t : Transition) (w : WorldState) → Stands site past w → Stands site (past ++ t ∷ []) w
-Stands-longer site past t w s =
-    let g = longer site past t w in
-    record {
-      on_directions = directions_grow site (journal_at past w) (journal_at (past ++ t ∷ []) w) g w.directions s.on_directions;
-      at_fronts = fronts_grow site (journal_at past w) (journal_at (past ++ t ∷ []) w) g w.fronts s.at_fronts;
-      at_clients = received_grow site (journal_at past w) (journal_at (past ++ t ∷ []) w) g w.received s.at_clients;
-      senders = s.senders;
-      receivers = s.receivers;
-      not_more = s.not_more;
-      legal = s.legal;
-      taken = s.taken;
-      terms = s.terms;
-      limit = s.limit;
-      within = s.within;
-    }
-
--- what stands after some transitions stands after more
-run_keeps : Premises → (site : Site) (past : Past) (w : WorldState) (more : Past) (end : WorldState) → IsChecked site → Stands site past w → Run site w more end → Stands site (past ++ more) end
-run_keeps premises site past w [] end checked s run = subst (Stands site (past ++ [])) (sym run) (subst (λ (all : Past). Stands site all w) (sym (append-nil past)) s)
-run_keeps premises site past w (t ∷ more) end checked s run =
-    let next : Past = past ++ t ∷ [] in
-    let before : Stands site next t.before = subst (Stands site next) (sym run.0) (Stands-longer site past t w s) in
-    let after = transition_keeps premises site next t checked (Contains-push past t) run.1 before in
-    subst (λ (all : Past). Stands site all end) (append_assoc past (t ∷ []) more) (run_keeps premises site next t.after more end checked after run.2)
-
--- ---- the promise
-
-rightly : (site : Site) (journal : Journal) (conn : ConnId) (answer : Message) → IsDue site journal conn answer → IsRightAnswer site journal conn answer
-rightly site journal conn answer (inl a) = record {
-  answered = λ clear. a;
-  refused = λ set. let clear = (answer_is_no_error site journal conn answer a).1 in absurd cc;
-}
-rightly site journal conn answer (inr r) = record {
-  answered = λ clear. let set = (refusal_is_error site journal conn answer r).1 in absurd cc;
-  refused = λ set. r;
-}
-
-pub promise_kept : Premises → (site : Site) (past : Past) (trace : Trace) → IsChecked site → IsTrace site past trace → KeepsPromise site past trace
-promise_kept premises site past trace checked t =
-    let w = t.end in
-    let journal : Journal = journal_at past w in
-    let s = run_keeps premises site [] (start site) past w checked (start_stands premises site) t.run in
-    subst (KeepsPromise site past) (sym t.trace_is) (record {
-      senders = s.senders;
-      receivers = s.receivers;
-      not_more = λ conn hop end. let all = s.not_more conn hop end in omega (arith, all);
-      received = All-weaker (ItemIsDue site journal) (λ (item : ConnId × Message). IsRightAnswer site journal item.0 item.1) (λ (item : ConnId × Message). rightly site journal item.0 item.1) w.received s.at_clients;
-      legal = s.legal;
-      limit = s.limit;
-      within = subst (λ (limit : ℕ). length w.book.history ≤ limit) s.limit s.within;
-      taken = s.taken;
-      terms = s.terms;
-    })
+  pub promise_of : RepliesAreOfEntries → (skipped : ℕ) → KeepsPromise site past (trace_of skipped w)
+  promise_of of_entries skipped = record {
+    senders = all_of (λ (item : ConnId × Message). HasOneClient site w.ends item.0) w.sent h.heard.senders;
+    receivers = all_of (λ (item : ConnId × Message). HasOneClient site w.ends item.0) w.received h.heard.receivers;
+    received = all_of (λ (item : ConnId × Message). IsRightAnswer site journal item.0 item.1) w.received (received_right of_entries);
+    not_more = no_more;
+    legal = h.kept.legal;
+    limit = h.heard.limit;
+    within = subst (λ (most : ℕ). length w.book.history ≤ most) h.heard.limit h.kept.within;
+    taken = all_of (IsFromClient site w.sent) w.book.history from_client;
+    terms = h.heard.terms;
+    loops = all_of (RefusesLoop site) past h.loops;
+    come_back = all_of (RefusesWhatComesBack site) past h.come_back;
+  }

@@ -14,6 +14,7 @@ limited_row_site_is_checked limit within = record {
   exponent = refl;
   watchdog = refl;
   nodes = refl;
+  sound_names = refl;
   names = refl;
   links = refl;
   sound_links = refl;

@@ -7,14 +7,15 @@ use Rattle.farm_model.specs.declared.site.Site.{Site}
 use Rattle.farm_model.specs.declared.state.Trace.{Trace}
 use Rattle.farm_model.specs.declared.step.Step.{Step}
 use Rattle.farm_model.specs.FarmStep.{FarmStep}
+use Rattle.farm_model.specs.Loss.{LossAt}
 use Rattle.farm_model.specs.Run.{Past, Transition, Run, start, steps_in, skips, skipped_in, trace_of, TellsSame, IsTrace}
 use Rattle.dia_message.specs.Traffic.{Traffic}
 use Rattle.farm_model.specs.World.{WorldState}
 
-pub Run-push : (site : Site) (old : WorldState) (past : Past) (mid : WorldState) (step : Step) (applied : Bool) (new : WorldState) → Run site old past mid → FarmStep site mid step applied new
-    → Run site old (past ++ record { step = step; before = mid; applied = applied; after = new } ∷ []) new
-Run-push site old [] mid step applied new run made = (run, made, refl)
-Run-push site old (first ∷ past) mid step applied new run made = (run.0, run.1, Run-push site first.after past mid step applied new run.2 made)
+pub Run-push : (site : Site) (old : WorldState) (past : Past) (mid : WorldState) (step : Step) (applied : Bool) (losses : List LossAt) (new : WorldState) → Run site old past mid → FarmStep site mid step applied losses new
+    → Run site old (past ++ record { step = step; before = mid; applied = applied; losses = losses; after = new } ∷ []) new
+Run-push site old [] mid step applied losses new run made = (run, made, refl)
+Run-push site old (first ∷ past) mid step applied losses new run made = (run.0, run.1, Run-push site first.after past mid step applied losses new run.2 made)
 
 pub steps_in-push : (past : Past) (t : Transition) → steps_in (past ++ t ∷ []) ≡ steps_in past ++ t.step ∷ []
 steps_in-push [] t = refl

@@ -20,6 +20,13 @@ is_within least most n = nat_le least n && nat_le n most
 abbrev pub same_name : Node → Node → Bool
 same_name a b = same_folded a.name b.name
 
+-- an identity has 1 to 255 visible octets
+abbrev pub is_visible : ℕ → Bool
+is_visible octet = is_within 33 126 octet
+
+abbrev pub is_sound_name : Node → Bool
+is_sound_name node = is_within 1 255 (length node.name) && list_all is_visible node.name
+
 -- ---- links: between two nodes of the site, each pair once in either direction; no two clients, no two fronts
 
 abbrev pub joins_two_of : (NodeNo → Bool) → Link → Bool
@@ -48,9 +55,6 @@ abbrev pub same_route : Route → Route → Bool
 same_route a b = is_node a.at b.at && same_folded a.realm b.realm && (a.app == b.app)
 
 -- ---- accounts: distinct Subscription-Ids of 1 to 64 visible octets (RFC 8506, section 8.46)
-
-abbrev pub is_visible : ℕ → Bool
-is_visible octet = is_within 33 126 octet
 
 abbrev pub size_of : ℤ → ℕ
 size_of (pos n) = n
@@ -81,6 +85,7 @@ pub record IsChecked (site : Site) : Type 0 where
   pub exponent : nat_le (size_of site.exponent) 9 ≡ true
   pub watchdog : is_within 100 600000 site.watchdog ≡ true
   pub nodes : nat_le (length site.nodes) 64 ≡ true
+  pub sound_names : list_all is_sound_name site.nodes ≡ true
   pub names : are_distinct same_name site.nodes ≡ true
   pub links : nat_le (length site.links) 256 ≡ true
   pub sound_links : list_all (is_sound_link site) site.links ≡ true

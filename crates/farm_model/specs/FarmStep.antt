@@ -1,22 +1,28 @@
 -- One step of the farm.
-use Rattle.std.specs.Prelude.{◌≡◌, ℕ, ◌+◌, Bool, true, false, not, ◌&&◌, List, [], ◌∷◌, ◌++◌, length, Option, Some, None, slice_get, remove, if◌then◌else◌}
+use Rattle.std.specs.Prelude.{◌≡◌, ℕ, ◌+◌, Bool, true, false, not, ◌&&◌, ◌||◌, List, [], ◌∷◌, ◌++◌, length, MatchBool, Option, Some, None, slice_get, remove, if◌then◌else◌}
 use Rattle.std.specs.List.{find}
 use Rattle.dia_base.specs.declared.number.ConnId.{ConnId}
 use Rattle.dia_base.specs.declared.number.NodeNo.{NodeNo}
 use Rattle.dia_base.specs.declared.number.Moment.{Moment}
 use Rattle.dia_message.specs.declared.message.Message.{Message}
+use Rattle.dia_message.specs.Traffic.{Traffic}
 use Rattle.cc_book.specs.Taking.{Ledger}
-use Rattle.front_core.specs.FrontState.{FrontState, is_among}
-use Rattle.front_core.specs.FrontStep.{with_connection, after_arrival, sent_at_arrival, after_pick, after_charge, after_emit}
+use Rattle.front_core.specs.FrontState.{FrontState}
+use Rattle.front_core.specs.FrontStep.{with_connection, after_pick, after_charge, after_refusal, after_emit}
+use Rattle.relay_core.specs.declared.error.RelayError.{RelayError}
+use Rattle.relay_core.specs.Connecting.{up_fault}
+use Rattle.relay_core.specs.RelayState.{RelayState}
 use Rattle.farm_model.specs.declared.site.Site.{Site}
 use Rattle.farm_model.specs.declared.state.Direction.{Direction}
-use Rattle.farm_model.specs.declared.state.FrontNode.{FrontNode}
+use Rattle.farm_model.specs.declared.state.FrontAt.{FrontAt}
+use Rattle.farm_model.specs.declared.state.RelayAt.{RelayAt}
 use Rattle.farm_model.specs.declared.step.Step.{Step}
-use Rattle.farm_model.specs.declared.step.Step.TheVariants.{Up, Send, Deliver, Pick, Charge, Emit}
+use Rattle.farm_model.specs.declared.step.Step.TheVariants.{Up, Send, Deliver, Lose, Cut, Restart, Pick, Charge, Refuse, Emit}
+use Rattle.farm_model.specs.Arrival.{Arrives}
 use Rattle.farm_model.specs.Lists.{replace_first}
-use Rattle.farm_model.specs.Nodes.{is_client, is_relay, is_linked}
-use Rattle.dia_message.specs.Traffic.{Traffic}
-use Rattle.farm_model.specs.World.{WorldState, is_between, is_connected, with_message, with_traffic_from, with_front, front_at}
+use Rattle.farm_model.specs.Loss.{LossAt, LearnLosses, after_cut, losses_of_cut, after_restart, losses_of_restart}
+use Rattle.farm_model.specs.Nodes.{is_client, is_front, is_relay, is_linked}
+use Rattle.farm_model.specs.World.{WorldState, is_between, is_connected, conn_between, with_message, with_traffic_from, with_front, front_at, with_relay, relay_at}
 
 -- ---- up: a new connection, which both nodes learn
 
@@ -24,13 +30,25 @@ use Rattle.farm_model.specs.World.{WorldState, is_between, is_connected, with_me
 abbrev pub next_conn : WorldState → ConnId
 next_conn w = record { 0 = length w.ends + 1 }
 
--- a front learns of a connection; a client keeps none
-abbrev pub with_connection_of : NodeNo → ConnId → List FrontNode → Option FrontState → List FrontNode
+-- a front learns of a connection
+abbrev pub with_connection_of : NodeNo → ConnId → List FrontAt → Option FrontState → List FrontAt
 with_connection_of node conn fronts None = fronts
 with_connection_of node conn fronts (Some front) = with_front node (with_connection front conn) fronts
 
-abbrev pub with_connection_at : NodeNo → ConnId → List FrontNode → List FrontNode
+abbrev pub with_connection_at : NodeNo → ConnId → List FrontAt → List FrontAt
 with_connection_at node conn fronts = with_connection_of node conn fronts (front_at node fronts)
+
+-- a relay learns of a connection with a peer; where the peer or the connection is up already, it stays as it is
+abbrev pub after_up_by : RelayState → NodeNo → ConnId → Option RelayError → RelayState
+after_up_by relay peer conn None = Rattle.relay_core.specs.Connecting.after_up relay peer conn
+after_up_by relay peer conn (Some fault) = relay
+
+abbrev pub with_link_of : NodeNo → NodeNo → ConnId → List RelayAt → Option RelayState → List RelayAt
+with_link_of node peer conn relays None = relays
+with_link_of node peer conn relays (Some relay) = with_relay node (after_up_by relay peer conn (up_fault relay peer conn)) relays
+
+abbrev pub with_link_at : NodeNo → NodeNo → ConnId → List RelayAt → List RelayAt
+with_link_at node peer conn relays = with_link_of node peer conn relays (relay_at node relays)
 
 -- a direction without messages
 abbrev pub empty_direction : ConnId → NodeNo → NodeNo → Direction
@@ -40,12 +58,13 @@ abbrev pub with_new_connection : WorldState → NodeNo → NodeNo → WorldState
 with_new_connection w a b = record w {
   directions = w.directions ++ empty_direction (next_conn w) a b ∷ empty_direction (next_conn w) b a ∷ [];
   fronts = with_connection_at b (next_conn w) (with_connection_at a (next_conn w) w.fronts);
+  relays = with_link_at b a (next_conn w) (with_link_at a b (next_conn w) w.relays);
   ends = w.ends ++ (a, b) ∷ [];
 }
 
--- the site links them and there is no connection yet. Connections of relays come later.
+-- the site links them and there is no connection yet
 abbrev pub can_connect : Site → WorldState → NodeNo → NodeNo → Bool
-can_connect site w a b = is_linked site a b && not (is_relay site a) && not (is_relay site b) && not (is_connected w.directions a b)
+can_connect site w a b = is_linked site a b && not (is_connected w.directions a b)
 
 abbrev pub after_up : Site → WorldState → NodeNo → NodeNo → Option WorldState
 after_up site w a b = if can_connect site w a b then Some (with_new_connection w a b) else None
@@ -62,24 +81,7 @@ after_send_in w client to message (Some direction) = Some (record w {
 abbrev pub after_send : Site → WorldState → NodeNo → NodeNo → Message → Option WorldState
 after_send site w client to message = if is_client site client then after_send_in w client to message (find (is_between client to) w.directions) else None
 
--- ---- deliver: a message leaves its list, and the other node gets it
-
--- what a front sends joins the lists' ends
-abbrev pub after_arrival_at_front : WorldState → NodeNo → ConnId → Message → FrontState → WorldState
-after_arrival_at_front w node conn message front = record w {
-  directions = with_traffic_from node w.directions (sent_at_arrival front conn message);
-  fronts = with_front node (after_arrival front conn message) w.fronts;
-}
-
--- a message on a connection that the front does not know is lost
-abbrev pub after_arrival_by : WorldState → NodeNo → ConnId → Message → Option FrontState → WorldState
-after_arrival_by w node conn message None = w
-after_arrival_by w node conn message (Some front) = if is_among front.connections conn then after_arrival_at_front w node conn message front else w
-
-abbrev pub after_arrival_at : Site → WorldState → NodeNo → ConnId → Message → WorldState
-after_arrival_at site w node conn message =
-    if is_client site node then record w { received = w.received ++ (conn, message) ∷ [] }
-    else after_arrival_by w node conn message (front_at node w.fronts)
+-- ---- deliver and lose: a message leaves its list, and the other node gets it, or nobody does
 
 -- a message that was in flight, and the directions without it
 pub record Flight : Type 0 where
@@ -103,12 +105,13 @@ flight_in directions from to place (Some direction) = flight_of directions from 
 abbrev pub flight_at : List Direction → NodeNo → NodeNo → ℕ → Option Flight
 flight_at directions from to place = flight_in directions from to place (find (is_between from to) directions)
 
-abbrev pub after_flight : Site → WorldState → NodeNo → Option Flight → Option WorldState
-after_flight site w to None = None
-after_flight site w to (Some flight) = Some (after_arrival_at site (record w { directions = flight.directions }) to flight.conn flight.message)
+abbrev pub Delivers : Site → WorldState → NodeNo → Option Flight → Bool → WorldState → Type 0
+Delivers site w to None applied next = (applied ≡ false) × (next ≡ w)
+Delivers site w to (Some flight) applied next = (applied ≡ true) × Arrives site (record w { directions = flight.directions }) to flight.conn flight.message next
 
-abbrev pub after_delivery : Site → WorldState → NodeNo → NodeNo → ℕ → Option WorldState
-after_delivery site w from to place = after_flight site w to (flight_at w.directions from to place)
+abbrev pub after_loss : WorldState → Option Flight → Option WorldState
+after_loss w None = None
+after_loss w (Some flight) = Some (record w { directions = flight.directions })
 
 -- what a call takes out of flight: where there is no such message, nothing
 abbrev pub Takes : Option Flight → Option (ConnId × Message) → List Direction → List Direction → Type 0
@@ -126,6 +129,10 @@ with_pick w node (Some front) = Some (record w { fronts = with_front node front 
 abbrev pub after_pick_at : WorldState → NodeNo → ℕ → Option FrontState → Option WorldState
 after_pick_at w node worker None = None
 after_pick_at w node worker (Some front) = with_pick w node (after_pick front worker)
+
+abbrev pub after_refusal_at : WorldState → NodeNo → ℕ → Option FrontState → Option WorldState
+after_refusal_at w node worker None = None
+after_refusal_at w node worker (Some front) = with_pick w node (after_refusal front worker)
 
 abbrev pub with_emit : WorldState → NodeNo → Option (FrontState × Traffic) → Option WorldState
 with_emit w node None = None
@@ -146,22 +153,35 @@ abbrev pub after_charge_at : WorldState → NodeNo → ℕ → Moment → Option
 after_charge_at w node worker moment None = None
 after_charge_at w node worker moment (Some front) = with_charge w node (after_charge front w.book moment worker)
 
--- ---- any step
+-- ---- cut and restart: connections end, and one node after the other learns it
 
--- the farm after a step, none where the step does not apply
-abbrev pub after_step : Site → WorldState → Step → Option WorldState
-after_step site w (Up a b) = after_up site w a b
-after_step site w (Send client to message) = after_send site w client to message
-after_step site w (Deliver from to place) = after_delivery site w from to place
-after_step site w (Pick front worker) = after_pick_at w front worker (front_at front w.fronts)
-after_step site w (Charge front worker moment) = after_charge_at w front worker moment (front_at front w.fronts)
-after_step site w (Emit front worker) = after_emit_at w front worker (front_at front w.fronts)
+abbrev pub Cuts : WorldState → NodeNo → NodeNo → Option ConnId → Bool → List LossAt → WorldState → Type 0
+Cuts w a b None applied losses next = (applied ≡ false) × (losses ≡ []) × (next ≡ w)
+Cuts w a b (Some conn) applied losses next = (applied ≡ true) × LearnLosses (losses_of_cut a b conn) (after_cut w conn) losses next
+
+abbrev pub can_restart : Site → NodeNo → Bool
+can_restart site node = is_relay site node || is_front site node
+
+abbrev pub Restarts : Site → WorldState → NodeNo → Bool → List LossAt → WorldState → Type 0
+Restarts site w node applied losses next =
+    MatchBool (can_restart site node) ((applied ≡ true) × LearnLosses (losses_of_restart node w.directions) (after_restart w node) losses next) ((applied ≡ false) × (losses ≡ []) × (next ≡ w))
+
+-- ---- any step
 
 -- whether a step applied, and what it left: where it does not apply, what was there before
 abbrev pub Outcome : Option WorldState → Bool → WorldState → WorldState → Type 0
 Outcome None applied old new = (applied ≡ false) × (new ≡ old)
 Outcome (Some next) applied old new = (applied ≡ true) × (new ≡ next)
 
--- one step of the farm
-abbrev pub FarmStep : Site → WorldState → Step → Bool → WorldState → Type 0
-FarmStep site old step applied new = Outcome (after_step site old step) applied old new
+-- one step of the farm; of a cut and a restart it lists who learned of a lost connection
+abbrev pub FarmStep : Site → WorldState → Step → Bool → List LossAt → WorldState → Type 0
+FarmStep site old (Up a b) applied losses new = Outcome (after_up site old a b) applied old new × (losses ≡ [])
+FarmStep site old (Send client to message) applied losses new = Outcome (after_send site old client to message) applied old new × (losses ≡ [])
+FarmStep site old (Deliver from to place) applied losses new = Delivers site old to (flight_at old.directions from to place) applied new × (losses ≡ [])
+FarmStep site old (Lose from to place) applied losses new = Outcome (after_loss old (flight_at old.directions from to place)) applied old new × (losses ≡ [])
+FarmStep site old (Cut a b) applied losses new = Cuts old a b (conn_between old.directions a b) applied losses new
+FarmStep site old (Restart node) applied losses new = Restarts site old node applied losses new
+FarmStep site old (Pick front worker) applied losses new = Outcome (after_pick_at old front worker (front_at front old.fronts)) applied old new × (losses ≡ [])
+FarmStep site old (Charge front worker moment) applied losses new = Outcome (after_charge_at old front worker moment (front_at front old.fronts)) applied old new × (losses ≡ [])
+FarmStep site old (Refuse front worker) applied losses new = Outcome (after_refusal_at old front worker (front_at front old.fronts)) applied old new × (losses ≡ [])
+FarmStep site old (Emit front worker) applied losses new = Outcome (after_emit_at old front worker (front_at front old.fronts)) applied old new × (losses ≡ [])

@@ -1,7 +1,9 @@
+pub mod Arrival
 pub mod Cause
 pub mod CheckedSite
 pub mod FarmStep
 pub mod Lists
+pub mod Loss
 pub mod Nodes
 pub mod Promise
 pub mod RowSite

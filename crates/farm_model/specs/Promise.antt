@@ -1,27 +1,41 @@
 -- What is promised of every run: who is answered what, and what the book stands on.
-use Rattle.std.specs.Prelude.{◌≡◌, ℕ, ◌-◌, ◌≤◌, true, false, ◌&&◌, ◌||◌, List, All, Contains, length, Some, Ok, slice_get}
+use Rattle.std.specs.Prelude.{◌≡◌, ℕ, ◌-◌, ◌≤◌, true, false, ◌&&◌, ◌||◌, List, ◌∷◌, ◌++◌, find, All, Contains, length, Some, IsSome, Ok, slice_get}
 use Rattle.dia_base.specs.declared.number.ConnId.{ConnId}
+use Rattle.dia_base.specs.declared.number.Moment.{Moment}
 use Rattle.dia_base.specs.declared.number.NodeNo.{NodeNo}
+use Rattle.dia_avp.specs.declared.avp.RawAvp.{RawAvp}
+use Rattle.dia_avp.specs.AvpReading.{split_of}
 use Rattle.dia_message.specs.declared.message.Message.{Message}
+use Rattle.dia_message.specs.Traffic.{Traffic}
+use Rattle.cc_view.specs.declared.code.ResultCode.TheVariants.{LoopDetected}
 use Rattle.cc_view.specs.declared.refusal.Refusal.{Refusal}
+use Rattle.cc_view.specs.declared.reply.CcReply.{CcReply}
+use Rattle.cc_view.specs.declared.request.CcRequest.{CcRequest}
 use Rattle.cc_view.specs.Answer.{refusal_of}
+use Rattle.cc_view.specs.Refusal.{refusal_with}
 use Rattle.cc_view.specs.RequestView.{view_of}
 use Rattle.cc_book.specs.declared.entry.Entry.{Entry}
 use Rattle.cc_book.specs.declared.entry.Entry.TheVariants.{Take, Sweep}
+use Rattle.cc_book.specs.AccountMachine.{reply_to}
+use Rattle.cc_book.specs.Duplicate.{key_of, same_key}
 use Rattle.cc_book.specs.History.{IsLegal}
 use Rattle.cc_book.specs.Taking.{Ledger}
 use Rattle.front_core.specs.Answered.{IsAnswered}
 use Rattle.front_core.specs.Counts.{requests_with, answers_with}
+use Rattle.relay_routes.specs.Routing.{IsLoop}
+use Rattle.relay_core.specs.Forwarding.{Descends, with_record}
 use Rattle.farm_model.specs.declared.site.Node.{Node}
 use Rattle.dia_base.specs.declared.node.NodeKind.TheVariants.{Front}
 use Rattle.farm_model.specs.declared.site.Site.{Site}
+use Rattle.farm_model.specs.declared.state.Direction.{Direction}
 use Rattle.farm_model.specs.declared.state.Trace.{Trace}
 use Rattle.farm_model.specs.declared.step.Step.{Step}
+use Rattle.farm_model.specs.declared.step.Step.TheVariants.{Deliver}
 use Rattle.farm_model.specs.Cause.{HasCause}
-use Rattle.farm_model.specs.Nodes.{is_node, is_client}
+use Rattle.farm_model.specs.FarmStep.{flight_at}
+use Rattle.farm_model.specs.Nodes.{is_node, is_client, is_relay}
 use Rattle.farm_model.specs.Run.{Past, Transition, IsTrace, steps_in, empty_book, front_site}
-use Rattle.dia_message.specs.Traffic.{Traffic}
-use Rattle.farm_model.specs.World.{Ends}
+use Rattle.farm_model.specs.World.{Ends, is_outward, with_message_from}
 
 -- What all states of a run share, and what grows alone as it goes on: the transitions so far, the connections
 -- that were made, what clients have sent, and the book.
@@ -43,6 +57,12 @@ pub record IsEndOf (ends : Ends) (conn : ConnId) (node : NodeNo) : Type 0 where
   pub made : slice_get ends (conn.0 - 1) ≡ Some nodes
   pub joined : (is_node nodes.0 node || is_node nodes.1 node) ≡ true
 
+-- the node has this name
+pub record IsNamed (site : Site) (node : NodeNo) (name : List ℕ) : Type 0 where
+  pub found : Node
+  pub at_place : slice_get site.nodes node.0 ≡ Some found
+  pub called : found.name ≡ name
+
 -- the node is a front of this name
 pub record IsFrontNamed (site : Site) (node : NodeNo) (name : List ℕ) : Type 0 where
   pub found : Node
@@ -50,12 +70,11 @@ pub record IsFrontNamed (site : Site) (node : NodeNo) (name : List ℕ) : Type 0
   pub kind : found.kind ≡ Front
   pub called : found.name ≡ name
 
--- a front of this name is at an end of the connection. The other end of a connection with a client is that
--- client.
-pub record IsFrontOn (site : Site) (ends : Ends) (conn : ConnId) (name : List ℕ) : Type 0 where
-  pub node : NodeNo
-  pub at_end : IsEndOf ends conn node
-  pub front : IsFrontNamed site node name
+-- The node answers on the connection: it is at an end of it, or a relay is, which forwards. The other end of a
+-- connection with a client is that client.
+pub data AnswersOn (site : Site) (ends : Ends) (conn : ConnId) (node : NodeNo) : Type 0 where
+  itself : IsEndOf ends conn node → AnswersOn site ends conn node
+  over_relay : (relay : NodeNo) → IsEndOf ends conn relay → is_relay site relay ≡ true → AnswersOn site ends conn node
 
 -- The connection was made between a client and a node that is none, so it has one client. Connections are
 -- numbered from 1.
@@ -76,25 +95,51 @@ WasSent sent conn message = Contains sent (conn, message)
 abbrev pub WasRequested : Traffic → ConnId → Message → Type 0
 WasRequested sent conn message = WasSent sent conn message × (message.header.request ≡ true)
 
--- the answer of the front at an end of the connection, with the book's reply, to a request that a client sent on it
+-- whatever clients have sent with the key of this request has its content
+abbrev pub HasOneContent : Site → Traffic → CcRequest → Type 0
+HasOneContent site sent request = (conn : ConnId) (message : Message) (other : CcRequest) → WasRequested sent conn message → view_of site.vendors message ≡ Ok other → same_key (key_of other) (key_of request) ≡ true → other ≡ request
+
+-- the account machine's reply to this very request, after the entries of the book that stand before it
+pub record IsMachineReply (book : Ledger) (request : CcRequest) (reply : CcReply) : Type 0 where
+  pub before : List Entry
+  pub moment : Moment
+  pub after : List Entry
+  pub in_order : book.history ≡ before ++ Take moment request ∷ after
+  pub is_reply : reply ≡ reply_to book.terms before request
+
+-- The answer of a front, with the book's reply, to a request that a client sent on the connection. Unless requests
+-- with one key differ in content, that is the account machine's reply to this very request.
 pub record AnswersRequest (site : Site) (journal : Journal) (conn : ConnId) (answer : Message) : Type 0 where
+  pub node : NodeNo
   pub name : List ℕ
-  pub front : IsFrontOn site journal.ends conn name
+  pub front : IsFrontNamed site node name
+  pub on : AnswersOn site journal.ends conn node
   pub message : Message
   pub requested : WasRequested journal.sent conn message
   pub answered : IsAnswered (front_site site name) journal.book message answer
+  pub by_machine : HasOneContent site journal.sent answered.request → IsMachineReply journal.book answered.request answered.reply
 
--- that front's refusal of a request that a client sent on the connection, with a cause that the farm showed at a
+-- What a node refused for a message on the connection: that message, or over a relay one that descends from it and
+-- stood on another connection.
+pub data IsRefusedThere (site : Site) (ends : Ends) (conn : ConnId) (message : Message) (node : NodeNo) : ConnId → Message → Type 0 where
+  itself : IsEndOf ends conn node → IsRefusedThere site ends conn message node conn message
+  over_relay : (relay : NodeNo) (at : ConnId) (there : Message) → IsEndOf ends conn relay → is_relay site relay ≡ true → Descends message there → IsRefusedThere site ends conn message node at there
+
+-- a node's refusal of a request that a client sent on the connection, with a cause that the farm showed at a
 -- transition of this run
 pub record RefusesRequest (site : Site) (journal : Journal) (conn : ConnId) (answer : Message) : Type 0 where
+  pub node : NodeNo
   pub name : List ℕ
-  pub front : IsFrontOn site journal.ends conn name
+  pub named : IsNamed site node name
   pub message : Message
   pub requested : WasRequested journal.sent conn message
+  pub at : ConnId
+  pub there : Message
+  pub refused : IsRefusedThere site journal.ends conn message node at there
   pub refusal : Refusal
   pub transition : Transition
   pub passed : Contains journal.past transition
-  pub cause : HasCause transition.before conn message transition.step name refusal
+  pub cause : HasCause transition node at there refusal
   pub written : answer ≡ refusal_of name site.realm message refusal
 
 -- what a client received, by the flag E (RFC 6733, section 3)
@@ -107,10 +152,36 @@ abbrev pub IsFromClient : Site → Traffic → Entry → Type 0
 IsFromClient site sent (Take moment request) = (conn : ConnId) × (message : Message) × WasRequested sent conn message × (view_of site.vendors message ≡ Ok request)
 IsFromClient site sent (Sweep moment) = ⊥
 
+-- ---- loops
+
+-- The step delivers a request to a relay: wherever this holds of the relay's name and the request, it puts
+-- DIAMETER_LOOP_DETECTED in flight on the connection that it came on, which stands in that direction, and nothing
+-- else happens.
+abbrev pub RefusesAsLoop : (List ℕ → Message → Type 0) → Site → Transition → Type 0
+RefusesAsLoop Loops site t = (from node : NodeNo) (place : ℕ) (conn : ConnId) (message : Message) (directions : List Direction) (name : List ℕ) → t.step ≡ Deliver from node place →
+    flight_at t.before.directions from node place ≡ Some (record { conn = conn; message = message; directions = directions }) → message.header.request ≡ true →
+    is_relay site node ≡ true → IsNamed site node name → Loops name message →
+    IsSome (find (is_outward node conn) directions) × t.after ≡ record t.before { directions = with_message_from node directions conn (refusal_of name site.realm message (refusal_with LoopDetected)) }
+
+-- where it finds itself in a Route-Record (RFC 6733, section 6.1.3)
+abbrev pub RefusesLoop : Site → Transition → Type 0
+RefusesLoop site t = RefusesAsLoop (λ name message. IsLoop name message.body) site t
+
+-- whatever a relay of this name may have sent, once another node has forwarded it, however it went from there
+pub record HasComeBack (name : List ℕ) (message : Message) : Type 0 where
+  pub sent : Message
+  pub avps : List RawAvp
+  pub splits : split_of sent.body ≡ Ok avps
+  pub descends : Descends (with_record name sent) message
+
+-- where it comes back to it: no relay forwards that
+abbrev pub RefusesWhatComesBack : Site → Transition → Type 0
+RefusesWhatComesBack site t = RefusesAsLoop HasComeBack site t
+
 -- ---- the whole
 
--- What is promised of the trace of a run with these transitions. Balances are those of the history by the
--- book's own calls.
+-- What is promised of the trace of a run with these transitions. Balances, reservations and open sessions are those
+-- of the history by the book's own calls.
 pub record KeepsPromise (site : Site) (past : Past) (trace : Trace) : Type 0 where
   pub senders : All (λ item. HasOneClient site trace.ends item.0) trace.sent
   pub receivers : All (λ item. HasOneClient site trace.ends item.0) trace.received
@@ -121,6 +192,8 @@ pub record KeepsPromise (site : Site) (past : Past) (trace : Trace) : Type 0 whe
   pub within : length trace.book.history ≤ site.limit
   pub taken : All (IsFromClient site trace.sent) trace.book.history
   pub terms : trace.book.terms ≡ (empty_book site).terms
+  pub loops : All (RefusesLoop site) past
+  pub come_back : All (RefusesWhatComesBack site) past
 
 -- the trace of a run of these steps, one after the other, which keeps the promise
 pub record IsPromised (site : Site) (steps : List Step) (trace : Trace) : Type 0 where

@@ -1,5 +1,5 @@
 -- The farm between two steps.
-use Rattle.std.specs.Prelude.{Bool, ◌&&◌, ◌==◌, List, [], ◌∷◌, ◌++◌, Option, Some, None}
+use Rattle.std.specs.Prelude.{Bool, not, ◌&&◌, ◌==◌, List, [], ◌∷◌, ◌++◌, filter, Option, Some, None, option_map}
 use Rattle.std.specs.List.{find, list_any}
 use Rattle.dia_base.specs.declared.number.ConnId.{ConnId}
 use Rattle.dia_base.specs.declared.number.NodeNo.{NodeNo}
@@ -7,8 +7,10 @@ use Rattle.dia_message.specs.declared.message.Message.{Message}
 use Rattle.dia_message.specs.Traffic.{Traffic}
 use Rattle.cc_book.specs.Taking.{Ledger}
 use Rattle.front_core.specs.FrontState.{FrontState}
+use Rattle.relay_core.specs.RelayState.{RelayState}
 use Rattle.farm_model.specs.declared.state.Direction.{Direction}
-use Rattle.farm_model.specs.declared.state.FrontNode.{FrontNode}
+use Rattle.farm_model.specs.declared.state.FrontAt.{FrontAt}
+use Rattle.farm_model.specs.declared.state.RelayAt.{RelayAt}
 use Rattle.farm_model.specs.Lists.{replace_first}
 use Rattle.farm_model.specs.Nodes.{is_node}
 
@@ -19,7 +21,8 @@ Ends = List (NodeNo × NodeNo)
 pub record WorldState : Type 0 where
   -- two for each connection
   pub directions : List Direction
-  pub fronts : List FrontNode
+  pub fronts : List FrontAt
+  pub relays : List RelayAt
   pub book : Ledger
   -- what clients have sent and received
   pub sent : Traffic
@@ -32,12 +35,24 @@ pub record WorldState : Type 0 where
 abbrev pub is_between : NodeNo → NodeNo → Direction → Bool
 is_between from to direction = is_node direction.from from && is_node direction.to to
 
+-- whether a direction is of a connection
+abbrev pub is_on : ConnId → Direction → Bool
+is_on conn direction = direction.conn.0 == conn.0
+
 -- whether a node's messages on a connection go in this direction
 abbrev pub is_outward : NodeNo → ConnId → Direction → Bool
-is_outward node conn direction = is_node direction.from node && (direction.conn.0 == conn.0)
+is_outward node conn direction = is_node direction.from node && is_on conn direction
 
 abbrev pub is_connected : List Direction → NodeNo → NodeNo → Bool
 is_connected directions a b = list_any (is_between a b) directions
+
+-- the connection between two nodes
+abbrev pub conn_between : List Direction → NodeNo → NodeNo → Option ConnId
+conn_between directions a b = option_map (λ direction. direction.conn) (find (is_between a b) directions)
+
+-- the directions but for those of a connection that ends, with what is in flight on it
+abbrev pub without_conn : ConnId → List Direction → List Direction
+without_conn conn directions = filter (λ direction. not (is_on conn direction)) directions
 
 -- one more message in flight
 abbrev pub with_message : Message → Direction → Direction
@@ -57,18 +72,24 @@ abbrev pub with_traffic_from : NodeNo → List Direction → Traffic → List Di
 with_traffic_from node directions [] = directions
 with_traffic_from node directions (item ∷ items) = with_traffic_from node (with_message_from node directions item.0 item.1) items
 
--- ---- fronts
+-- ---- fronts and relays
 
-abbrev pub is_front_at : NodeNo → FrontNode → Bool
+abbrev pub is_front_at : NodeNo → FrontAt → Bool
 is_front_at node at = is_node at.node node
 
 -- a front changed
-abbrev pub with_front : NodeNo → FrontState → List FrontNode → List FrontNode
+abbrev pub with_front : NodeNo → FrontState → List FrontAt → List FrontAt
 with_front node front fronts = replace_first (is_front_at node) (record { node = node; front = front }) fronts
 
-abbrev pub front_of : Option FrontNode → Option FrontState
-front_of None = None
-front_of (Some at) = Some at.front
+abbrev pub front_at : NodeNo → List FrontAt → Option FrontState
+front_at node fronts = option_map (λ at. at.front) (find (is_front_at node) fronts)
 
-abbrev pub front_at : NodeNo → List FrontNode → Option FrontState
-front_at node fronts = front_of (find (is_front_at node) fronts)
+abbrev pub is_relay_at : NodeNo → RelayAt → Bool
+is_relay_at node at = is_node at.node node
+
+-- a relay changed
+abbrev pub with_relay : NodeNo → RelayState → List RelayAt → List RelayAt
+with_relay node relay relays = replace_first (is_relay_at node) (record { node = node; relay = relay }) relays
+
+abbrev pub relay_at : NodeNo → List RelayAt → Option RelayState
+relay_at node relays = option_map (λ at. at.relay) (find (is_relay_at node) relays)

@@ -7,21 +7,20 @@ ghost use Rattle.farm_model.specs.CheckedSite.{IsChecked};
 ghost use Rattle.farm_model.specs.Promise.{KeepsPromise};
 ghost use Rattle.farm_model.specs.Run.{Past, IsTrace};
 
-use cc_book::{legal_histories_grow, the_empty_history_is_legal};
-use front_core::{
-    a_charge_answers_or_refuses, an_arrival_is_refused_with_cause, answers_stay,
-    charges_by_four_cases,
-};
+use cc_book::kept_replies_are_of_entries;
+use farm_law::moves_keep_a_farm;
+use front_core::{a_charge_answers_or_refuses, charges_by_four_cases};
+use relay_core::{loops_are_refused, what_comes_back_loops};
 
-/// The trace of a run over a checked site keeps the promise, whatever its steps are. It stands on the laws of
-/// the book and of a front that it calls, which have no body either.
+/// The trace of a run over a checked site keeps the promise, whatever its steps are and whatever graph its relays
+/// make. It stands on the laws that it calls, of moves, of the book, of fronts and of relays.
 pub fn runs_keep_the_promise()
     ensures { (site : Site) (past : Past) (trace : Trace) → IsChecked site → IsTrace site past trace → KeepsPromise site past trace }
 {
-    the_empty_history_is_legal();
-    legal_histories_grow();
+    moves_keep_a_farm();
+    kept_replies_are_of_entries();
     charges_by_four_cases();
     a_charge_answers_or_refuses();
-    answers_stay();
-    an_arrival_is_refused_with_cause();
+    loops_are_refused();
+    what_comes_back_loops();
 }

@@ -4,6 +4,7 @@ use cc_book::Book;
 use dia_base::{ConnId, Listing, NodeNo};
 use dia_message::Message;
 use front_core::Front;
+use relay_core::Relay;
 
 /// One direction of a connection, with the messages in flight in it. A connection has two.
 #[derive(Debug, Drop)]
@@ -17,9 +18,16 @@ pub struct Direction {
 
 /// A front, with the node that it is.
 #[derive(Debug, Drop)]
-pub struct FrontNode {
+pub struct FrontAt {
     pub node: NodeNo,
     pub front: Front,
+}
+
+/// A relay, with the node that it is.
+#[derive(Debug, Drop)]
+pub struct RelayAt {
+    pub node: NodeNo,
+    pub relay: Relay,
 }
 
 /// What is told of a run.

@@ -23,6 +23,22 @@ pub enum Step {
         to: NodeNo,
         place: u64,
     },
+    /// The message at this place of those in flight is lost.
+    Lose {
+        from: NodeNo,
+        to: NodeNo,
+        place: u64,
+    },
+    /// The connection between two nodes ends, with all that is in flight on it. First the one learns it, then
+    /// the other.
+    Cut {
+        a: NodeNo,
+        b: NodeNo,
+    },
+    /// A relay or a front begins anew: its connections end, and all that it held is gone.
+    Restart {
+        node: NodeNo,
+    },
     /// An idle worker takes the first job of the front's queue. Workers count from 0.
     Pick {
         front: NodeNo,
@@ -33,6 +49,11 @@ pub enum Step {
         front: NodeNo,
         worker: u64,
         moment: Moment,
+    },
+    /// A worker refuses its job without the book.
+    Refuse {
+        front: NodeNo,
+        worker: u64,
     },
     /// A worker sends its answer.
     Emit {

@@ -1,12 +1,15 @@
 -- The definitions of a schedule, computed on examples.
-use Rattle.std.proofs.Common.{◌≡◌, [], ◌∷◌, ◌++◌, codes, Ok, Err, refl}
+use Rattle.std.proofs.Common.{◌≡◌, ℕ, List, [], ◌∷◌, ◌++◌, codes, Result, Ok, Err, refl}
 use Rattle.std.specs.Str.Lines.{lines}
 use Rattle.farm_script.specs.Schedule.{steps_of}
-use Rattle.farm_model.specs.RowSite.{the_row_site, c1, f1}
+use Rattle.farm_model.specs.RowSite.{the_row_site, r1, r2, c1, c2, f1, f2}
 use Rattle.farm_script.specs.Words.{words_of, number_of}
-use Rattle.farm_script.specs.declared.fault.LineFault.TheVariants.{UnknownWord, WrongCount, UnknownName, BadNumber}
+use Rattle.farm_script.specs.declared.fault.LineFault.{LineFault}
+use Rattle.farm_script.specs.declared.fault.LineFault.TheVariants.{UnknownWord, WrongCount, UnknownName, BadNumber, BadHex}
+use Rattle.farm_script.specs.declared.fault.ScriptFault.{ScriptFault}
 use Rattle.farm_script.specs.declared.fault.ScriptFault.TheVariants.{Line}
-use Rattle.farm_model.specs.declared.step.Step.TheVariants.{Up}
+use Rattle.farm_model.specs.declared.step.Step.{Step}
+use Rattle.farm_model.specs.declared.step.Step.TheVariants.{Up, Deliver, Lose, Cut, Restart, Pick, Charge, Refuse, Emit}
 
 -- a carriage return before a line feed is no part of the line, one at the end of the text is
 returns : lines (codes "a" ++ 13 ∷ 10 ∷ codes "b" ++ 13 ∷ []) ≡ codes "a" ∷ (codes "b" ++ 13 ∷ []) ∷ []
@@ -33,8 +36,162 @@ without_case = refl
 second_line : steps_of the_row_site (codes "up c1.example f1.example" ++ 10 ∷ codes "pick f1.example") ≡ Err (Line 2 WrongCount)
 second_line = refl
 
-relay : steps_of the_row_site (codes "pick r1.example x") ≡ Err (Line 1 UnknownName)
-relay = refl
-
 only_spaces : steps_of the_row_site (10 ∷ codes "#" ++ 10 ∷ codes "  ") ≡ Err (Line 3 UnknownWord)
 only_spaces = refl
+
+-- ---- what one line spells over the row site
+
+abbrev spelled_by : List ℕ → Result (List Step) ScriptFault
+spelled_by text = steps_of the_row_site text
+
+abbrev one_step : Step → Result (List Step) ScriptFault
+one_step step = Ok (step ∷ [])
+
+abbrev one_fault : LineFault → Result (List Step) ScriptFault
+one_fault fault = Err (Line 1 fault)
+
+-- ---- lose
+
+lose : spelled_by (codes "lose c1.example f1.example 3") ≡ one_step (Lose c1 f1 3)
+lose = refl
+
+-- the same words after `deliver` are another step
+deliver : spelled_by (codes "deliver c1.example f1.example 3") ≡ one_step (Deliver c1 f1 3)
+deliver = refl
+
+lose-upper_case : spelled_by (codes "lose R1.EXAMPLE F2.EXAMPLE 18446744073709551615") ≡ one_step (Lose r1 f2 18446744073709551615)
+lose-upper_case = refl
+
+lose-too_few : spelled_by (codes "lose c1.example f1.example") ≡ one_fault WrongCount
+lose-too_few = refl
+
+lose-too_many : spelled_by (codes "lose c1.example f1.example 0 0") ≡ one_fault WrongCount
+lose-too_many = refl
+
+lose-unknown_first : spelled_by (codes "lose c3.example f1.example 0") ≡ one_fault UnknownName
+lose-unknown_first = refl
+
+-- the names before the number
+lose-unknown_second : spelled_by (codes "lose c1.example f1 x") ≡ one_fault UnknownName
+lose-unknown_second = refl
+
+lose-bad_number : spelled_by (codes "lose c1.example f1.example -1") ≡ one_fault BadNumber
+lose-bad_number = refl
+
+lose-large_number : spelled_by (codes "lose c1.example f1.example 18446744073709551616") ≡ one_fault BadNumber
+lose-large_number = refl
+
+-- ---- cut
+
+cut : spelled_by (codes "cut r1.example f1.example") ≡ one_step (Cut r1 f1)
+cut = refl
+
+-- the nodes stand in the order of the line
+cut-turned : spelled_by (codes "cut f1.example r1.example") ≡ one_step (Cut f1 r1)
+cut-turned = refl
+
+cut-upper_case : spelled_by (codes "cut R2.Example C2.EXAMPLE") ≡ one_step (Cut r2 c2)
+cut-upper_case = refl
+
+cut-too_few : spelled_by (codes "cut r1.example") ≡ one_fault WrongCount
+cut-too_few = refl
+
+cut-too_many : spelled_by (codes "cut r1.example f1.example 0") ≡ one_fault WrongCount
+cut-too_many = refl
+
+cut-unknown_first : spelled_by (codes "cut r3.example f1.example") ≡ one_fault UnknownName
+cut-unknown_first = refl
+
+cut-unknown_second : spelled_by (codes "cut r1.example f1.example.") ≡ one_fault UnknownName
+cut-unknown_second = refl
+
+-- ---- restart
+
+restart : spelled_by (codes "restart r1.example") ≡ one_step (Restart r1)
+restart = refl
+
+restart-upper_case : spelled_by (codes "restart F2.EXAMPLE") ≡ one_step (Restart f2)
+restart-upper_case = refl
+
+-- a step that does not apply to its node is no fault
+restart-client : spelled_by (codes "restart c1.example") ≡ one_step (Restart c1)
+restart-client = refl
+
+restart-too_few : spelled_by (codes "restart") ≡ one_fault WrongCount
+restart-too_few = refl
+
+-- the count before the names
+restart-too_many : spelled_by (codes "restart r3.example r1.example") ≡ one_fault WrongCount
+restart-too_many = refl
+
+restart-unknown : spelled_by (codes "restart r3.example") ≡ one_fault UnknownName
+restart-unknown = refl
+
+-- ---- refuse
+
+refuse : spelled_by (codes "refuse f1.example 1") ≡ one_step (Refuse f1 1)
+refuse = refl
+
+-- the same words after `emit` are another step
+emit : spelled_by (codes "emit f1.example 1") ≡ one_step (Emit f1 1)
+emit = refl
+
+refuse-upper_case : spelled_by (codes "refuse F2.eXaMpLe 0") ≡ one_step (Refuse f2 0)
+refuse-upper_case = refl
+
+refuse-relay : spelled_by (codes "refuse r1.example 0") ≡ one_step (Refuse r1 0)
+refuse-relay = refl
+
+refuse-too_few : spelled_by (codes "refuse f1.example") ≡ one_fault WrongCount
+refuse-too_few = refl
+
+refuse-too_many : spelled_by (codes "refuse f1.example 0 0") ≡ one_fault WrongCount
+refuse-too_many = refl
+
+refuse-unknown : spelled_by (codes "refuse f3.example 0x1") ≡ one_fault UnknownName
+refuse-unknown = refl
+
+refuse-bad_number : spelled_by (codes "refuse f1.example 0x1") ≡ one_fault BadNumber
+refuse-bad_number = refl
+
+-- ---- relays, and words that are none
+
+-- a relay stands where any node may, also where the step does not apply to it
+up-relays : spelled_by (codes "up C2.example R1.example" ++ 10 ∷ codes "up r1.example r2.example") ≡ Ok (Up c2 r1 ∷ Up r1 r2 ∷ [])
+up-relays = refl
+
+pick-relay : spelled_by (codes "pick r2.example 0") ≡ one_step (Pick r2 0)
+pick-relay = refl
+
+deliver-relay : spelled_by (codes "deliver r1.example R2.example 0") ≡ one_step (Deliver r1 r2 0)
+deliver-relay = refl
+
+charge-relay : spelled_by (codes "charge r1.example 0 7") ≡ one_step (Charge r1 0 (record { 0 = 7 }))
+charge-relay = refl
+
+emit-relay : spelled_by (codes "emit R2.EXAMPLE 0") ≡ one_step (Emit r2 0)
+emit-relay = refl
+
+-- both names are known, so what is at fault is the message
+send-relay : spelled_by (codes "send c1.example r1.example x") ≡ one_fault BadHex
+send-relay = refl
+
+relay-bad_number : spelled_by (codes "pick r1.example x") ≡ one_fault BadNumber
+relay-bad_number = refl
+
+relay-unknown : spelled_by (codes "pick r3.example x") ≡ one_fault UnknownName
+relay-unknown = refl
+
+sweep : spelled_by (codes "sweep f1.example 0") ≡ one_fault UnknownWord
+sweep = refl
+
+-- names are read without case, the first word is not
+first_word-upper_case : spelled_by (codes "CUT r1.example f1.example") ≡ one_fault UnknownWord
+first_word-upper_case = refl
+
+-- a first word is read whole
+first_word-longer : spelled_by (codes "cuts r1.example f1.example") ≡ one_fault UnknownWord
+first_word-longer = refl
+
+first_word-shorter : spelled_by (codes "restar r1.example") ≡ one_fault UnknownWord
+first_word-shorter = refl

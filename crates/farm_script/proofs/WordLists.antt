@@ -5,6 +5,12 @@ use Rattle.std.proofs.Common.{◌≡◌, ℕ, ◌≤◌, ◌<◌, List, [], ◌�
 abbrev pub no_word : Bor (List ℕ)
 no_word = record { ref_ptr = (0, 0); now = [] }
 
+pub one_word : (words : List (Bor (List ℕ))) → 1 ≤ length words → length words < 2
+    → map (λ word. word.now) words ≡ (get_or words 0 no_word).now ∷ []
+one_word [] least most = absurd (omega arith)
+one_word (a ∷ []) least most = refl
+one_word (a ∷ b ∷ words) least most = absurd (omega arith)
+
 pub two_words : (words : List (Bor (List ℕ))) → 2 ≤ length words → length words < 3
     → map (λ word. word.now) words ≡ (get_or words 0 no_word).now ∷ (get_or words 1 no_word).now ∷ []
 two_words [] least most = absurd (omega arith)

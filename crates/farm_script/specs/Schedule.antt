@@ -10,7 +10,7 @@ use Rattle.farm_script.specs.declared.fault.ScriptFault.{ScriptFault}
 use Rattle.farm_script.specs.declared.fault.ScriptFault.TheVariants.{Line, TooLong}
 use Rattle.farm_model.specs.declared.site.Site.{Site}
 use Rattle.farm_model.specs.declared.step.Step.{Step}
-use Rattle.farm_model.specs.declared.step.Step.TheVariants.{Up, Send, Deliver, Pick, Charge, Emit}
+use Rattle.farm_model.specs.declared.step.Step.TheVariants.{Up, Send, Deliver, Lose, Cut, Restart, Pick, Charge, Refuse, Emit}
 use Rattle.farm_script.specs.Words.{words_of, says_nothing, node_of, number_of, message_of}
 
 -- ---- the step that words spell
@@ -44,6 +44,27 @@ deliver_of site (from ∷ to ∷ place ∷ []) = do
   Ok (Deliver sender peer at)
 deliver_of site words = Err WrongCount
 
+abbrev pub lose_of : Site → List (List ℕ) → Result Step LineFault
+lose_of site (from ∷ to ∷ place ∷ []) = do
+  sender ← node_of site from
+  peer ← node_of site to
+  at ← number_of place
+  Ok (Lose sender peer at)
+lose_of site words = Err WrongCount
+
+abbrev pub cut_of : Site → List (List ℕ) → Result Step LineFault
+cut_of site (a ∷ b ∷ []) = do
+  one ← node_of site a
+  other ← node_of site b
+  Ok (Cut one other)
+cut_of site words = Err WrongCount
+
+abbrev pub restart_of : Site → List (List ℕ) → Result Step LineFault
+restart_of site (name ∷ []) = do
+  node ← node_of site name
+  Ok (Restart node)
+restart_of site words = Err WrongCount
+
 abbrev pub pick_of : Site → List (List ℕ) → Result Step LineFault
 pick_of site (front ∷ worker ∷ []) = do
   node ← node_of site front
@@ -59,6 +80,13 @@ charge_of site (front ∷ worker ∷ moment ∷ []) = do
   Ok (Charge node number (record { 0 = time }))
 charge_of site words = Err WrongCount
 
+abbrev pub refuse_of : Site → List (List ℕ) → Result Step LineFault
+refuse_of site (front ∷ worker ∷ []) = do
+  node ← node_of site front
+  number ← number_of worker
+  Ok (Refuse node number)
+refuse_of site words = Err WrongCount
+
 abbrev pub emit_of : Site → List (List ℕ) → Result Step LineFault
 emit_of site (front ∷ worker ∷ []) = do
   node ← node_of site front
@@ -73,8 +101,12 @@ step_of site (verb ∷ words) =
     if bytes_eq verb (codes "up") then up_of site words
     else if bytes_eq verb (codes "send") then send_of site words
     else if bytes_eq verb (codes "deliver") then deliver_of site words
+    else if bytes_eq verb (codes "lose") then lose_of site words
+    else if bytes_eq verb (codes "cut") then cut_of site words
+    else if bytes_eq verb (codes "restart") then restart_of site words
     else if bytes_eq verb (codes "pick") then pick_of site words
     else if bytes_eq verb (codes "charge") then charge_of site words
+    else if bytes_eq verb (codes "refuse") then refuse_of site words
     else if bytes_eq verb (codes "emit") then emit_of site words
     else Err UnknownWord
 

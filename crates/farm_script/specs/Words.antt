@@ -1,5 +1,5 @@
 -- The words of a schedule's line, and what each stands for.
-use Rattle.std.specs.Prelude.{◌≡◌, ℕ, ◌+◌, ◌-◌, ◌*◌, ◌^◌, List, [], ◌∷◌, length, filter, position, Bool, not, ◌&&◌, ◌==◌, true, false, nat_lt, nat_le, if◌then◌else◌, Option, Some, None, Result, Ok, Err}
+use Rattle.std.specs.Prelude.{◌≡◌, ℕ, ◌+◌, ◌-◌, ◌*◌, ◌^◌, List, [], ◌∷◌, length, filter, position, Bool, not, ◌&&◌, ◌==◌, true, nat_lt, nat_le, if◌then◌else◌, Option, Some, None, Result, Ok, Err}
 use Rattle.std.specs.List.{slice_split, list_all}
 use Rattle.std.specs.Option.{ok_or}
 use Rattle.dia_base.specs.Folding.{same_folded}
@@ -11,8 +11,6 @@ use Rattle.hex.specs.declared.error.FromHexError.{FromHexError}
 use Rattle.farm_script.specs.declared.fault.LineFault.{LineFault}
 use Rattle.farm_script.specs.declared.fault.LineFault.TheVariants.{UnknownName, BadNumber, BadHex, BadMessage, OutOfMemory}
 use Rattle.farm_model.specs.declared.site.Node.{Node}
-use Rattle.dia_base.specs.declared.node.NodeKind.{NodeKind}
-use Rattle.dia_base.specs.declared.node.NodeKind.TheVariants.{Relay, Front, Client}
 use Rattle.farm_model.specs.declared.site.Site.{Site}
 
 -- the words: the longest runs of octets that are no spaces
@@ -26,14 +24,9 @@ says_nothing (octet ∷ octets) = octet == 35
 
 -- ---- what a word stands for
 
-abbrev pub is_relay : NodeKind → Bool
-is_relay Relay = true
-is_relay Front = false
-is_relay Client = false
-
--- A node has a name without ASCII case. That of a relay is none yet.
+-- a node of any kind has its whole name, without ASCII case
 abbrev pub is_named : List ℕ → Node → Bool
-is_named name node = not (is_relay node.kind) && same_folded node.name name
+is_named name node = same_folded node.name name
 
 -- a node's number is its place in the site, and has 32 bits
 abbrev pub number_at : Option ℕ → Result NodeNo LineFault

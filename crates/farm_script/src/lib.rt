@@ -1,5 +1,23 @@
 //! Schedules: a text, one step on a line.
 //!
+//! ```text
+//! up A B                 a connection between two nodes comes up
+//! send C N HEX           a client sends a node the message that HEX writes
+//! deliver A B K          the message at place K of those in flight from A to B arrives
+//! lose A B K             the message at place K of those in flight from A to B is lost
+//! cut A B                the connection between two nodes ends
+//! restart N              a relay or a front begins anew
+//! pick F W               worker W of front F takes the first job of the queue
+//! charge F W MOMENT      worker W of front F charges its job at this moment
+//! refuse F W             worker W of front F refuses its job without the book
+//! emit F W               worker W of front F sends its answer
+//! ```
+//!
+//! Places and workers count from 0. The words are in small letters. Nodes have their whole names,
+//! compared without ASCII case; a node of any kind may stand wherever one is named. Where the step
+//! does not apply to that node, as a restart of a client, this is no fault of the schedule: the
+//! farm skips the step.
+//!
 //! - [`steps_of`]: the steps that a text spells, or the fault of the first line that spells none.
 //! - [`LineFault`], [`ScriptFault`]: why a text is no schedule, with the words that are printed.
 //!

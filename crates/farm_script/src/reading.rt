@@ -2,7 +2,7 @@
 
 ghost use Rattle.std.specs.Prelude.{◌≡◌, map};
 ghost use Rattle.farm_script.specs.Words.{Answers};
-ghost use Rattle.farm_script.specs.Schedule.{step_of, up_of, send_of, deliver_of, pick_of, charge_of, emit_of};
+ghost use Rattle.farm_script.specs.Schedule.{step_of, up_of, send_of, deliver_of, lose_of, cut_of, restart_of, pick_of, charge_of, refuse_of, emit_of};
 
 use crate::fault::LineFault;
 use crate::word::{message_of, node_of, number_of};
@@ -16,9 +16,17 @@ const SEND: &[u8] = b"send";
 
 const DELIVER: &[u8] = b"deliver";
 
+const LOSE: &[u8] = b"lose";
+
+const CUT: &[u8] = b"cut";
+
+const RESTART: &[u8] = b"restart";
+
 const PICK: &[u8] = b"pick";
 
 const CHARGE: &[u8] = b"charge";
+
+const REFUSE: &[u8] = b"refuse";
 
 const EMIT: &[u8] = b"emit";
 
@@ -36,10 +44,18 @@ pub fn step_of(alloc: Global, words: &[&[u8]], site: &Site) -> Result<Step, Line
         send_of(alloc, words, site)
     } else if verb == DELIVER {
         deliver_of(words, site)
+    } else if verb == LOSE {
+        lose_of(words, site)
+    } else if verb == CUT {
+        cut_of(words, site)
+    } else if verb == RESTART {
+        restart_of(words, site)
     } else if verb == PICK {
         pick_of(words, site)
     } else if verb == CHARGE {
         charge_of(words, site)
+    } else if verb == REFUSE {
+        refuse_of(words, site)
     } else if verb == EMIT {
         emit_of(words, site)
     } else {
@@ -88,6 +104,45 @@ fn deliver_of(words: &[&[u8]], site: &Site) -> Result<Step, LineFault>
     })
 }
 
+#[tactic(auto, using(crate::proofs::WordLists::three_words))]
+fn lose_of(words: &[&[u8]], site: &Site) -> Result<Step, LineFault>
+    ensures { result ≡ lose_of site.now (map (λ word. word.now) words.now) }
+{
+    let [from, to, place] = words else {
+        return Err(LineFault::WrongCount);
+    };
+    Ok(Step::Lose {
+        from: node_of(site, from)?,
+        to: node_of(site, to)?,
+        place: number_of(place)?,
+    })
+}
+
+#[tactic(auto, using(crate::proofs::WordLists::two_words))]
+fn cut_of(words: &[&[u8]], site: &Site) -> Result<Step, LineFault>
+    ensures { result ≡ cut_of site.now (map (λ word. word.now) words.now) }
+{
+    let [a, b] = words else {
+        return Err(LineFault::WrongCount);
+    };
+    Ok(Step::Cut {
+        a: node_of(site, a)?,
+        b: node_of(site, b)?,
+    })
+}
+
+#[tactic(auto, using(crate::proofs::WordLists::one_word))]
+fn restart_of(words: &[&[u8]], site: &Site) -> Result<Step, LineFault>
+    ensures { result ≡ restart_of site.now (map (λ word. word.now) words.now) }
+{
+    let [name] = words else {
+        return Err(LineFault::WrongCount);
+    };
+    Ok(Step::Restart {
+        node: node_of(site, name)?,
+    })
+}
+
 #[tactic(auto, using(crate::proofs::WordLists::two_words))]
 fn pick_of(words: &[&[u8]], site: &Site) -> Result<Step, LineFault>
     ensures { result ≡ pick_of site.now (map (λ word. word.now) words.now) }
@@ -112,6 +167,19 @@ fn charge_of(words: &[&[u8]], site: &Site) -> Result<Step, LineFault>
         front: node_of(site, front)?,
         worker: number_of(worker)?,
         moment: Moment(number_of(moment)?),
+    })
+}
+
+#[tactic(auto, using(crate::proofs::WordLists::two_words))]
+fn refuse_of(words: &[&[u8]], site: &Site) -> Result<Step, LineFault>
+    ensures { result ≡ refuse_of site.now (map (λ word. word.now) words.now) }
+{
+    let [front, worker] = words else {
+        return Err(LineFault::WrongCount);
+    };
+    Ok(Step::Refuse {
+        front: node_of(site, front)?,
+        worker: number_of(worker)?,
     })
 }
 

@@ -6,13 +6,13 @@ ghost use Rattle.hex.specs.Hex.{decode_of};
 ghost use Rattle.farm_script.specs.Words.{Answers, message_of, node_of, is_named, number_of, value_of, is_digit};
 
 use crate::fault::LineFault;
-use dia_base::{NodeKind, NodeNo};
+use dia_base::NodeNo;
 use dia_message::{Message, whole_message};
 use farm_model::{Node, Site};
 use hex::FromHexError;
 use std::alloc::Global;
 
-/// The node with this name, compared without ASCII case. A relay is none that a schedule can name yet.
+/// The node with this name, compared without ASCII case: a relay, a front or a client.
 pub fn node_of(site: &Site, name: &[u8]) -> Result<NodeNo, LineFault>
     ensures { result ≡ node_of site.now name.now }
 {
@@ -30,7 +30,7 @@ fn place_of(nodes: &[Node], name: &[u8]) -> Option<usize>
 fn is_named(node: &Node, name: &[u8]) -> bool
     ensures { result ≡ is_named name.now node.now }
 {
-    node.kind != NodeKind::Relay && node.name.as_slice().eq_ignore_ascii_case(name)
+    node.name.as_slice().eq_ignore_ascii_case(name)
 }
 
 /// The number of the node at a place.

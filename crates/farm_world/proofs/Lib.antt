@@ -1,1 +1,3 @@
+pub mod Losing
+pub mod Relaying
 pub mod Turning

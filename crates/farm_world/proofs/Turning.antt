@@ -1,6 +1,7 @@
 -- What a step leaves, where a front of the farm was changed in its place.
 use Rattle.std.proofs.Common.{◌≡◌, ℕ, Bool, true, false, cond, List, [], ◌∷◌, ◌++◌, get_or, Option, Some, None, refl, sym, subst, ap, ◌∙◌}
 use Rattle.std.specs.Prelude.{slice_set, IsOkUnless, MatchBool, Result, Ok, Err}
+use Rattle.std.specs.List.{find}
 use Rattle.std.proofs.lemmas.List.{set-get_or}
 use Rattle.dia_base.specs.declared.number.ConnId.{ConnId}
 use Rattle.dia_base.specs.declared.number.Moment.{Moment}
@@ -11,54 +12,72 @@ use Rattle.dia_message.specs.declared.message.Out.{Out}
 use Rattle.front_core.specs.declared.error.FrontError.{FrontError}
 use Rattle.front_core.specs.declared.error.FrontError.TheVariants.{OutOfMemory, UnknownConn}
 use Rattle.front_core.specs.FrontState.{FrontState, is_among}
-use Rattle.front_core.specs.FrontStep.{after_arrival, sent_at_arrival, after_pick, after_charge, after_emit, Applies, Charges, Emits}
+use Rattle.front_core.specs.FrontStep.{after_arrival, sent_at_arrival, after_pick, after_charge, after_refusal, after_emit, Applies, Charges, Emits}
 use Rattle.farm_model.specs.declared.site.Site.{Site}
 use Rattle.farm_model.specs.declared.state.Direction.{Direction}
-use Rattle.farm_model.specs.declared.state.FrontNode.{FrontNode}
+use Rattle.farm_model.specs.declared.state.FrontAt.{FrontAt}
 use Rattle.farm_model.specs.Lists.{IsFirst}
 use Rattle.dia_message.specs.Traffic.{Traffic}
-use Rattle.farm_model.specs.World.{WorldState, with_traffic_from, is_front_at, with_front, front_at}
+use Rattle.farm_model.specs.World.{WorldState, is_between, with_message, with_traffic_from, is_front_at, with_front, front_at}
 use Rattle.farm_model.specs.Nodes.{is_client}
-use Rattle.farm_model.specs.FarmStep.{Outcome, after_arrival_at, after_arrival_by, after_arrival_at_front, after_pick_at, with_pick, after_emit_at, with_emit, after_charge_at, with_charge}
+use Rattle.farm_model.specs.Arrival.{Arrives, ArrivesAtServer, after_arrival_at_client, after_arrival_at_front}
+use Rattle.farm_model.specs.FarmStep.{Outcome, after_send, after_send_in, after_pick_at, with_pick, after_refusal_at, after_emit_at, with_emit, after_charge_at, with_charge}
+use Rattle.farm_model.proofs.ListLemmas.{first_item}
 use Rattle.farm_model.proofs.WorldLemmas.{front_found, front_changed}
 
 -- the front of the part at a place, changed
-abbrev pub fronts_with : WorldState → ℕ → FrontNode → FrontState → List FrontNode
+abbrev pub fronts_with : WorldState → ℕ → FrontAt → FrontState → List FrontAt
 fronts_with w place part front = slice_set w.fronts place (record { node = part.node; front = front })
 
 -- the farm with these lines and fronts
-abbrev pub with_parts : WorldState → List Direction → List FrontNode → WorldState
+abbrev pub with_parts : WorldState → List Direction → List FrontAt → WorldState
 with_parts w directions fronts = record w { directions = directions; fronts = fronts }
 
 -- nothing is changed
-same_fronts : (w : WorldState) (place : ℕ) (part : FrontNode) (front : FrontState) → part ≡ get_or w.fronts place part → front ≡ part.front → fronts_with w place part front ≡ w.fronts
+same_fronts : (w : WorldState) (place : ℕ) (part : FrontAt) (front : FrontState) → part ≡ get_or w.fronts place part → front ≡ part.front → fronts_with w place part front ≡ w.fronts
 same_fronts w place part front read same =
     ap (fronts_with w place part) same ∙ ap (slice_set w.fronts place) read ∙ set-get_or w.fronts place part
 
-pub arrive_turn : (site : Site) (w : WorldState) (node : NodeNo) (conn : ConnId) (message : Message) (place : ℕ) (part : FrontNode) (front : FrontState) (directions : List Direction) (sent : Traffic) → is_client site node ≡ false
-    → IsFirst (is_front_at node) w.fronts place → part ≡ get_or w.fronts place part → is_among part.front.connections conn ≡ true
-    → front ≡ after_arrival part.front conn message → sent ≡ sent_at_arrival part.front conn message → directions ≡ with_traffic_from node w.directions sent
-    → with_parts w directions (fronts_with w place part front) ≡ after_arrival_at site w node conn message
-arrive_turn site w node conn message place part front directions sent is first read known front_is sent_is directions_is =
-    ap (λ (ds : List Direction). with_parts w ds (fronts_with w place part front)) (directions_is ∙ ap (with_traffic_from node w.directions) sent_is)
-    ∙ ap (with_parts w (with_traffic_from node w.directions (sent_at_arrival part.front conn message))) (ap (fronts_with w place part) front_is ∙ front_changed node w.fronts place part (after_arrival part.front conn message) first read)
-    ∙ sym (
-    ap (λ (b : Bool). cond b (record w { received = w.received ++ (conn, message) ∷ [] }) (after_arrival_by w node conn message (front_at node w.fronts))) is
-    ∙ ap (after_arrival_by w node conn message) (front_found node w.fronts place part first read)
-    ∙ ap (λ (b : Bool). cond b (after_arrival_at_front w node conn message part.front) w) known
+-- a client's message joins the list of its direction
+pub send_turn : (site : Site) (w : WorldState) (client to : NodeNo) (message : Message) (place : ℕ) (part direction : Direction) (sent : Traffic) → is_client site client ≡ true
+    → IsFirst (is_between client to) w.directions place → part ≡ get_or w.directions place part → direction ≡ with_message message part → sent ≡ w.sent ++ (part.conn, message) ∷ []
+    → Outcome (after_send site w client to message) true w (record w { directions = slice_set w.directions place direction; sent = sent })
+send_turn site w client to message place part direction sent is first read put pushed =
+    subst (λ (o : Option WorldState). Outcome o true w (record w { directions = slice_set w.directions place direction; sent = sent }))
+    (sym (
+    ap (λ (b : Bool). cond b (after_send_in w client to message (find (is_between client to) w.directions)) None) is
+    ∙ ap (after_send_in w client to message) (first_item (is_between client to) w.directions place part first read)
+    )) (
+      refl,
+      ap (λ (d : Direction). record w { directions = slice_set w.directions place d; sent = sent }) put
+          ∙ ap (λ (s : Traffic). record w { directions = slice_set w.directions place (with_message message part); sent = s }) pushed
+          ∙ ap (λ (ds : List Direction). record w { directions = ds; sent = w.sent ++ (part.conn, message) ∷ [] }) (sym (first.change (with_message message part))),
     )
 
+-- a message comes to a node that is no client
+at_server : (site : Site) (w : WorldState) (node : NodeNo) (conn : ConnId) (message : Message) (o : Option FrontState) (next : WorldState) → is_client site node ≡ false → front_at node w.fronts ≡ o → ArrivesAtServer w node conn message o next → Arrives site w node conn message next
+at_server site w node conn message o next is found arrives =
+    subst (λ (b : Bool). MatchBool b (next ≡ after_arrival_at_client w conn message) (ArrivesAtServer w node conn message (front_at node w.fronts) next)) (sym is)
+    (subst (λ (f : Option FrontState). ArrivesAtServer w node conn message f next) (sym found) arrives)
+
+pub arrive_turn : (site : Site) (w : WorldState) (node : NodeNo) (conn : ConnId) (message : Message) (place : ℕ) (part : FrontAt) (front : FrontState) (directions : List Direction) (sent : Traffic) → is_client site node ≡ false
+    → IsFirst (is_front_at node) w.fronts place → part ≡ get_or w.fronts place part → is_among part.front.connections conn ≡ true
+    → front ≡ after_arrival part.front conn message → sent ≡ sent_at_arrival part.front conn message → directions ≡ with_traffic_from node w.directions sent
+    → Arrives site w node conn message (with_parts w directions (fronts_with w place part front))
+arrive_turn site w node conn message place part front directions sent is first read known front_is sent_is directions_is =
+    at_server site w node conn message (Some part.front) (with_parts w directions (fronts_with w place part front)) is (front_found node w.fronts place part first read)
+    (ap (λ (ds : List Direction). with_parts w ds (fronts_with w place part front)) (directions_is ∙ ap (with_traffic_from node w.directions) sent_is)
+    ∙ ap (with_parts w (with_traffic_from node w.directions (sent_at_arrival part.front conn message))) (ap (fronts_with w place part) front_is ∙ front_changed node w.fronts place part (after_arrival part.front conn message) first read)
+    ∙ sym (ap (λ (b : Bool). cond b (after_arrival_at_front w node conn message part.front) w) known))
+
 -- on a connection that the front does not know
-pub lost_turn : (site : Site) (w : WorldState) (node : NodeNo) (conn : ConnId) (message : Message) (place : ℕ) (part : FrontNode) (front : FrontState) → is_client site node ≡ false
+pub lost_turn : (site : Site) (w : WorldState) (node : NodeNo) (conn : ConnId) (message : Message) (place : ℕ) (part : FrontAt) (front : FrontState) → is_client site node ≡ false
     → IsFirst (is_front_at node) w.fronts place → part ≡ get_or w.fronts place part → is_among part.front.connections conn ≡ false
-    → front ≡ part.front → with_parts w w.directions (fronts_with w place part front) ≡ after_arrival_at site w node conn message
+    → front ≡ part.front → Arrives site w node conn message (with_parts w w.directions (fronts_with w place part front))
 lost_turn site w node conn message place part front is first read unknown same =
-    ap (with_parts w w.directions) (same_fronts w place part front read same)
-    ∙ sym (
-    ap (λ (b : Bool). cond b (record w { received = w.received ++ (conn, message) ∷ [] }) (after_arrival_by w node conn message (front_at node w.fronts))) is
-    ∙ ap (after_arrival_by w node conn message) (front_found node w.fronts place part first read)
-    ∙ ap (λ (b : Bool). cond b (after_arrival_at_front w node conn message part.front) w) unknown
-    )
+    at_server site w node conn message (Some part.front) (with_parts w w.directions (fronts_with w place part front)) is (front_found node w.fronts place part first read)
+    (ap (with_parts w w.directions) (same_fronts w place part front read same)
+    ∙ sym (ap (λ (b : Bool). cond b (after_arrival_at_front w node conn message part.front) w) unknown))
 
 -- which connections a front knows, by what it answers
 abbrev ok_of : Out → Result Out FrontError
@@ -75,16 +94,25 @@ pub unknown_where_err : (b : Bool) (e : FrontError) (conn other : ConnId) → e 
 unknown_where_err false e conn other is h = refl
 unknown_where_err true e conn other is h = absurd cc
 
-pub pick_turn : (w : WorldState) (node : NodeNo) (worker place : ℕ) (part : FrontNode) (applied : Bool) (front : FrontState) → IsFirst (is_front_at node) w.fronts place → part ≡ get_or w.fronts place part
+-- what a worker did at a front that was found, if it did anything
+worker_turn : (w : WorldState) (node : NodeNo) (place : ℕ) (part : FrontAt) (applied : Bool) (front : FrontState) (o : Option FrontState) → IsFirst (is_front_at node) w.fronts place → part ≡ get_or w.fronts place part
+    → Applies o applied part.front front → Outcome (with_pick w node o) applied w (with_parts w w.directions (fronts_with w place part front))
+worker_turn w node place part applied front None first read a = (a.0, ap (with_parts w w.directions) (same_fronts w place part front read a.1))
+worker_turn w node place part applied front (Some next) first read a = (a.0, ap (with_parts w w.directions) (ap (fronts_with w place part) a.1 ∙ front_changed node w.fronts place part next first read))
+
+pub pick_turn : (w : WorldState) (node : NodeNo) (worker place : ℕ) (part : FrontAt) (applied : Bool) (front : FrontState) → IsFirst (is_front_at node) w.fronts place → part ≡ get_or w.fronts place part
     → Applies (after_pick part.front worker) applied part.front front → Outcome (after_pick_at w node worker (front_at node w.fronts)) applied w (with_parts w w.directions (fronts_with w place part front))
 pick_turn w node worker place part applied front first read picks =
-    subst (λ (o : Option WorldState). Outcome o applied w (with_parts w w.directions (fronts_with w place part front))) (sym (ap (after_pick_at w node worker) (front_found node w.fronts place part first read))) (go (after_pick part.front worker) picks)
-  where
-    go : (o : Option FrontState) → Applies o applied part.front front → Outcome (with_pick w node o) applied w (with_parts w w.directions (fronts_with w place part front))
-    go None p = (p.0, ap (with_parts w w.directions) (same_fronts w place part front read p.1))
-    go (Some next) p = (p.0, ap (with_parts w w.directions) (ap (fronts_with w place part) p.1 ∙ front_changed node w.fronts place part next first read))
+    subst (λ (o : Option WorldState). Outcome o applied w (with_parts w w.directions (fronts_with w place part front))) (sym (ap (after_pick_at w node worker) (front_found node w.fronts place part first read)))
+    (worker_turn w node place part applied front (after_pick part.front worker) first read picks)
 
-pub emit_none_turn : (w : WorldState) (node : NodeNo) (worker place : ℕ) (part : FrontNode) (front : FrontState) → IsFirst (is_front_at node) w.fronts place → part ≡ get_or w.fronts place part
+pub refuse_turn : (w : WorldState) (node : NodeNo) (worker place : ℕ) (part : FrontAt) (applied : Bool) (front : FrontState) → IsFirst (is_front_at node) w.fronts place → part ≡ get_or w.fronts place part
+    → Applies (after_refusal part.front worker) applied part.front front → Outcome (after_refusal_at w node worker (front_at node w.fronts)) applied w (with_parts w w.directions (fronts_with w place part front))
+refuse_turn w node worker place part applied front first read refuses =
+    subst (λ (o : Option WorldState). Outcome o applied w (with_parts w w.directions (fronts_with w place part front))) (sym (ap (after_refusal_at w node worker) (front_found node w.fronts place part first read)))
+    (worker_turn w node place part applied front (after_refusal part.front worker) first read refuses)
+
+pub emit_none_turn : (w : WorldState) (node : NodeNo) (worker place : ℕ) (part : FrontAt) (front : FrontState) → IsFirst (is_front_at node) w.fronts place → part ≡ get_or w.fronts place part
     → Emits (after_emit part.front worker) None part.front front → Outcome (after_emit_at w node worker (front_at node w.fronts)) false w (with_parts w w.directions (fronts_with w place part front))
 emit_none_turn w node worker place part front first read emits =
     subst (λ (o : Option WorldState). Outcome o false w (with_parts w w.directions (fronts_with w place part front))) (sym (ap (after_emit_at w node worker) (front_found node w.fronts place part first read))) (go (after_emit part.front worker) emits)
@@ -93,7 +121,7 @@ emit_none_turn w node worker place part front first read emits =
     go None e = (refl, ap (with_parts w w.directions) (same_fronts w place part front read e))
     go (Some turn) e = absurd e
 
-pub emit_turn : (w : WorldState) (node : NodeNo) (worker place : ℕ) (part : FrontNode) (front : FrontState) (out : Out) (directions : List Direction) → IsFirst (is_front_at node) w.fronts place → part ≡ get_or w.fronts place part
+pub emit_turn : (w : WorldState) (node : NodeNo) (worker place : ℕ) (part : FrontAt) (front : FrontState) (out : Out) (directions : List Direction) → IsFirst (is_front_at node) w.fronts place → part ≡ get_or w.fronts place part
     → Emits (after_emit part.front worker) (Some out) part.front front → directions ≡ with_traffic_from node w.directions out.items
     → Outcome (after_emit_at w node worker (front_at node w.fronts)) true w (with_parts w directions (fronts_with w place part front))
 emit_turn w node worker place part front out directions first read emits directions_is =
@@ -107,16 +135,16 @@ emit_turn w node worker place part front out directions first read emits directi
           ∙ ap (with_parts w (with_traffic_from node w.directions turn.1)) (ap (fronts_with w place part) e.1 ∙ front_changed node w.fronts place part turn.0 first read),
     )
 
-pub charge_turn : (w : WorldState) (node : NodeNo) (worker : ℕ) (moment : Moment) (place : ℕ) (part : FrontNode) (applied : Bool) (front : FrontState) (book : Ledger) → IsFirst (is_front_at node) w.fronts place → part ≡ get_or w.fronts place part
+pub charge_turn : (w : WorldState) (node : NodeNo) (worker : ℕ) (moment : Moment) (place : ℕ) (part : FrontAt) (applied : Bool) (front : FrontState) (book : Ledger) → IsFirst (is_front_at node) w.fronts place → part ≡ get_or w.fronts place part
     → Charges (after_charge part.front w.book moment worker) applied part.front w.book front book
     → Outcome (after_charge_at w node worker moment (front_at node w.fronts)) applied w (record w { fronts = fronts_with w place part front; book = book })
 charge_turn w node worker moment place part applied front book first read charges =
     subst (λ (o : Option WorldState). Outcome o applied w (record w { fronts = fronts_with w place part front; book = book })) (sym (ap (after_charge_at w node worker moment) (front_found node w.fronts place part first read))) (go (after_charge part.front w.book moment worker) charges)
   where
     go : (o : Option (FrontState × Ledger)) → Charges o applied part.front w.book front book → Outcome (with_charge w node o) applied w (record w { fronts = fronts_with w place part front; book = book })
-    go None e = (e.0, ap (λ (fs : List FrontNode). record w { fronts = fs; book = book }) (same_fronts w place part front read e.1) ∙ ap (λ (b : Ledger). record w { book = b }) e.2)
+    go None e = (e.0, ap (λ (fs : List FrontAt). record w { fronts = fs; book = book }) (same_fronts w place part front read e.1) ∙ ap (λ (b : Ledger). record w { book = b }) e.2)
     go (Some turn) e = (
       e.0,
-      ap (λ (fs : List FrontNode). record w { fronts = fs; book = book }) (ap (fronts_with w place part) e.1 ∙ front_changed node w.fronts place part turn.0 first read)
+      ap (λ (fs : List FrontAt). record w { fronts = fs; book = book }) (ap (fronts_with w place part) e.1 ∙ front_changed node w.fronts place part turn.0 first read)
           ∙ ap (λ (b : Ledger). record w { fronts = with_front node turn.0 w.fronts; book = b }) e.2,
     )

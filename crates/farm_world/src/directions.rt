@@ -1,10 +1,11 @@
 //! What is in flight: for each connection two directions, each with its list.
 
-ghost use Rattle.std.specs.Prelude.{◌≡◌, ◌<◌, ◌++◌, ◌∷◌, [], length, None, IfSome, IfNone, OnOk, OnErr, slice_get, remove};
+ghost use Rattle.std.specs.Prelude.{◌≡◌, ◌<◌, ◌++◌, ◌∷◌, [], not, filter, length, None, IfSome, IfNone, OnOk, OnErr, slice_get, remove};
 ghost use Rattle.std.specs.List.{find};
 ghost use Rattle.farm_model.specs.FarmStep.{Takes, empty_direction, flight_at};
 ghost use Rattle.farm_model.specs.Lists.{IsFirst};
-ghost use Rattle.farm_model.specs.World.{is_between, is_outward, is_connected, with_message, with_message_from, with_traffic_from};
+ghost use Rattle.farm_model.specs.Loss.{touches};
+ghost use Rattle.farm_model.specs.World.{is_between, is_outward, is_connected, conn_between, without_conn, with_message, with_message_from, with_traffic_from};
 
 use dia_base::{ConnId, Listing, NodeNo};
 use dia_message::{Message, Out};
@@ -52,6 +53,14 @@ pub fn place_between(directions: &[Direction], from: NodeNo, to: NodeNo) -> Opti
     directions
         .iter()
         .position(|direction| is_between(direction, from, to))
+}
+
+/// The connection between two nodes.
+pub fn conn_between(directions: &[Direction], a: NodeNo, b: NodeNo) -> Option<ConnId>
+    ensures { result ≡ conn_between directions.now a b }
+{
+    let place = place_between(directions, a, b)?;
+    Some(directions[place].conn)
 }
 
 /// The place of the direction in which a node's messages on a connection go.
@@ -121,4 +130,18 @@ pub fn take_off(
     }
     let direction = &mut directions[at];
     Some((direction.conn, take(direction, place as usize)))
+}
+
+/// A connection ends, with all that is in flight on it. It takes no memory.
+pub fn remove_conn(directions: &mut Vec<Direction>, conn: ConnId)
+    ensures { directions.new.items ≡ without_conn conn directions.old.items }
+{
+    directions.retain(|direction| direction.conn.0 != conn.0);
+}
+
+/// The connections of a node end, with all that is in flight on them. It takes no memory.
+pub fn remove_node(directions: &mut Vec<Direction>, node: NodeNo)
+    ensures { directions.new.items ≡ filter (λ direction. not (touches node direction)) directions.old.items }
+{
+    directions.retain(|direction| direction.from.0 != node.0 && direction.to.0 != node.0);
 }

@@ -1,14 +1,17 @@
-//! The farm as one machine: what it consists of, one step of it, and whole runs.
+//! The farm of clients, relays and fronts as one machine: what it consists of, one step of it, and
+//! whole runs.
 //!
 //! - [`run`]: the steps of a schedule over a site, one after the other, from an empty history. Its
 //!   contract carries what is promised of every run: who is answered what, how often, and what the
-//!   book stands on.
+//!   book stands on, over any graph of relays.
 //! - [`row_site`]: the site that a schedule runs over where no site file is given.
 //! - [`Site`], [`Step`], [`Trace`] and the definitions of a step and a run are `farm_model`'s.
 //!
 //! Inside, `World` holds the farm between two steps; `directions` keeps what is in flight, `nodes`
-//! asks the site, `opening` makes the farm before its first step, `turns` has a function for each
-//! word of a schedule, and `runs` goes over the steps.
+//! asks the site, `fronts` and `relays` pass an event on to the one that it comes to, and `opening`
+//! makes the farm before its first step. A function for each word of a schedule stands in `turns`,
+//! in `loss` where connections end, and in `workers` where a worker of a front acts; `runs` goes over
+//! the steps.
 //!
 //! ```text
 //! use dia_avp::PlainWire;
@@ -25,15 +28,19 @@
 #![tactic(auto)]
 
 mod directions;
+mod fronts;
+mod loss;
 mod nodes;
 mod opening;
+mod relays;
 mod row;
 mod runs;
 mod turns;
+mod workers;
 mod world;
 
 pub use dia_base::NodeKind;
-pub use farm_model::{Direction, FrontNode, Link, Node, Route, Site, Step, Trace};
+pub use farm_model::{Direction, FrontAt, Link, Node, RelayAt, Route, Site, Step, Trace};
 pub use nodes::is_client;
 pub use row::row_site;
 pub use runs::{RunError, run};

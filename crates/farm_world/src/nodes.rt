@@ -1,15 +1,10 @@
-//! What the site says of nodes, and where the farm keeps its fronts.
+//! What the site says of nodes.
 
-ghost use Rattle.std.specs.Prelude.{◌≡◌, IfSome, IfNone, OnOk, None};
-ghost use Rattle.std.specs.List.{find};
-ghost use Rattle.farm_model.specs.FarmStep.{with_connection_at};
-ghost use Rattle.farm_model.specs.Lists.{IsFirst};
-ghost use Rattle.farm_model.specs.Nodes.{joins, is_linked, is_client, is_relay, kind_at};
-ghost use Rattle.farm_model.specs.World.{is_front_at};
+ghost use Rattle.std.specs.Prelude.{◌≡◌};
+ghost use Rattle.farm_model.specs.Nodes.{joins, is_linked, is_client, is_front, is_relay, kind_at};
 
-use dia_base::{ConnId, NodeKind, NodeNo};
-use farm_model::{FrontNode, Link, Site};
-use std::alloc::AllocError;
+use dia_base::{NodeKind, NodeNo};
+use farm_model::{Link, Site};
 
 fn joins(link: &Link, a: NodeNo, b: NodeNo) -> bool
     ensures { result ≡ joins a b link.now }
@@ -45,23 +40,9 @@ pub fn is_relay(site: &Site, node: NodeNo) -> bool
     matches!(kind_at(site, node), Some(NodeKind::Relay))
 }
 
-/// The place of the front that is this node.
-pub fn place_of_front(fronts: &[FrontNode], node: NodeNo) -> Option<usize>
-    ensures found { IfSome result (IsFirst (is_front_at node) fronts.now) }
-    ensures none { IfNone result (find (is_front_at node) fronts.now ≡ None) }
+/// Whether a node of the site is a front.
+pub fn is_front(site: &Site, node: NodeNo) -> bool
+    ensures { result ≡ is_front site.now node }
 {
-    fronts.iter().position(|at| at.node == node)
-}
-
-/// A node learns of a connection. A client keeps none.
-pub fn connect(fronts: &mut Vec<FrontNode>, node: NodeNo, conn: ConnId) -> Result<(), AllocError>
-    ensures { OnOk result (fronts.new.items ≡ with_connection_at node conn fronts.old.items) }
-{
-    let Some(place) = place_of_front(fronts, node) else {
-        return Ok(());
-    };
-    match fronts[place].front.conn_up(conn) {
-        Ok(()) => Ok(()),
-        Err(_) => Err(AllocError),
-    }
+    matches!(kind_at(site, node), Some(NodeKind::Front))
 }

@@ -5,12 +5,15 @@ ghost use Rattle.cc_rating.specs.Tariffs.{fault_of};
 ghost use Rattle.farm_model.specs.CheckedSite.{IsChecked};
 ghost use Rattle.farm_model.specs.Run.{fresh_front, front_if, fronts_from, empty_book, start};
 
+mod relays;
+
 use crate::world::World;
 use cc_book::{Account, Book, Money};
 use cc_rating::{Tariff, Tariffs};
 use dia_base::{Listing, NodeKind, NodeNo};
-use farm_model::{FrontNode, Node, Site};
+use farm_model::{FrontAt, Node, Site};
 use front_core::Front;
+use relays::relays_of;
 use std::alloc::{AllocError, Global};
 
 fn fresh_front(alloc: Global, site: &Site, node: &Node) -> Result<Front, AllocError>
@@ -27,7 +30,7 @@ fn fresh_front(alloc: Global, site: &Site, node: &Node) -> Result<Front, AllocEr
     )
 }
 
-fn fronts_of(alloc: Global, site: &Site) -> Result<Vec<FrontNode>, AllocError>
+fn fronts_of(alloc: Global, site: &Site) -> Result<Vec<FrontAt>, AllocError>
     requires { IsChecked site.now }
     ensures { IfOk result (λ fronts. fronts.items ≡ fronts_from site.now 0 site.now.nodes) }
 {
@@ -37,7 +40,7 @@ fn fronts_of(alloc: Global, site: &Site) -> Result<Vec<FrontNode>, AllocError>
             NodeKind::Front => {
                 let front = fresh_front(alloc, site, node)?;
                 let node = NodeNo(place as u32);
-                fronts.push(FrontNode { node, front })?;
+                fronts.push(FrontAt { node, front })?;
             }
             NodeKind::Relay => {}
             NodeKind::Client => {}
@@ -85,7 +88,7 @@ fn empty_book(alloc: Global, site: &Site) -> Result<Book, AllocError>
 }
 
 impl World {
-    /// The farm of a site: its fronts, no connection, and the book with its opening amounts.
+    /// The farm of a site: its fronts and relays, no connection, and the book with its opening amounts.
     pub fn open(alloc: Global, site: &Site) -> Result<Self, AllocError>
         requires { IsChecked site.now }
         ensures { IfOk result (λ world. world ≡ start site.now) }
@@ -93,6 +96,7 @@ impl World {
         Ok(World {
             directions: Vec::new(alloc),
             fronts: fronts_of(alloc, site)?,
+            relays: relays_of(alloc, site)?,
             book: empty_book(alloc, site)?,
             sent: Vec::new(alloc),
             received: Vec::new(alloc),

@@ -1,15 +1,18 @@
 //! One step of the farm.
 
-ghost use Rattle.std.specs.Prelude.{◌≡◌, IfOk, OnOk, OnErr};
-ghost use Rattle.farm_model.specs.FarmStep.{Outcome, can_connect, after_up, after_send, after_arrival_at, after_delivery, after_pick_at, after_charge_at, after_emit_at, FarmStep};
+ghost use Rattle.std.specs.Prelude.{◌≡◌, List, IfOk, OnOk, OnErr};
+ghost use Rattle.farm_model.specs.Arrival.{Arrives};
+ghost use Rattle.farm_model.specs.FarmStep.{Outcome, can_connect, after_up, after_send, flight_at, Delivers, after_loss, FarmStep};
+ghost use Rattle.farm_model.specs.Loss.{LossAt};
 ghost use Rattle.farm_model.specs.Run.{TellsSame};
-ghost use Rattle.farm_model.specs.World.{front_at};
 
 use crate::directions::{empty_direction, is_connected, place_between, post, put, take_off};
-use crate::nodes::{connect, is_client, is_linked, is_relay, place_of_front};
+use crate::fronts::{connect, place_of_front};
+use crate::nodes::{is_client, is_linked};
+use crate::relays;
 use crate::world::World;
 use dia_avp::Wire;
-use dia_base::{ConnId, Moment, NodeNo};
+use dia_base::{ConnId, NodeNo};
 use dia_message::Message;
 use farm_model::{Site, Step};
 use front_core::FrontError;
@@ -19,10 +22,7 @@ impl World {
     fn can_connect(&self, site: &Site, a: NodeNo, b: NodeNo) -> bool
         ensures { result ≡ can_connect site.now self.now a b }
     {
-        is_linked(site, a, b)
-            && !is_relay(site, a)
-            && !is_relay(site, b)
-            && !is_connected(&self.directions, a, b)
+        is_linked(site, a, b) && !is_connected(&self.directions, a, b)
     }
 
     /// A new connection, which both nodes learn.
@@ -44,6 +44,8 @@ impl World {
         self.directions.push(empty_direction(alloc, conn, b, a))?;
         connect(&mut self.fronts, a, conn)?;
         connect(&mut self.fronts, b, conn)?;
+        relays::link(&mut self.relays, a, b, conn)?;
+        relays::link(&mut self.relays, b, a, conn)?;
         self.ends.push((a, b))?;
         Ok(true)
     }
@@ -81,7 +83,7 @@ impl World {
         conn: ConnId,
         message: Message,
     ) -> Result<(), AllocError>
-        ensures ok { OnOk result (self.new ≡ after_arrival_at site.now self.old node conn message) }
+        ensures ok { OnOk result (Arrives site.now self.old node conn message self.new) }
         ensures err { OnErr result (TellsSame self.old self.new) }
     {
         if is_client(site, node) {
@@ -89,7 +91,8 @@ impl World {
             return Ok(());
         }
         let Some(place) = place_of_front(&self.fronts, node) else {
-            return Ok(());
+            let out = relays::receive::<W>(alloc, &mut self.relays, node, conn, message)?;
+            return post(&mut self.directions, node, out);
         };
         match self.fronts[place]
             .front
@@ -110,7 +113,7 @@ impl World {
         to: NodeNo,
         place: u64,
     ) -> Result<bool, AllocError>
-        ensures ok { IfOk result (λ applied. Outcome (after_delivery site.now self.old from to place) applied self.old self.new) }
+        ensures ok { IfOk result (λ applied. Delivers site.now self.old to (flight_at self.old.directions from to place) applied self.new) }
         ensures err { OnErr result (TellsSame self.old self.new) }
     {
         let Some((conn, message)) = take_off(&mut self.directions, from, to, place) else {
@@ -120,53 +123,11 @@ impl World {
         Ok(true)
     }
 
-    /// An idle worker of a front takes a request.
-    pub fn pick(&mut self, front: NodeNo, worker: u64) -> bool
-        ensures { Outcome (after_pick_at self.old front worker (front_at front self.old.fronts)) result self.old self.new }
+    /// A message in flight is lost.
+    pub fn lose(&mut self, from: NodeNo, to: NodeNo, place: u64) -> bool
+        ensures { Outcome (after_loss self.old (flight_at self.old.directions from to place)) result self.old self.new }
     {
-        match place_of_front(&self.fronts, front) {
-            Some(place) => self.fronts[place].front.pick(worker),
-            None => false,
-        }
-    }
-
-    /// A worker of a front sends its answer.
-    pub fn emit(&mut self, alloc: Global, front: NodeNo, worker: u64) -> Result<bool, AllocError>
-        ensures ok { IfOk result (λ applied. Outcome (after_emit_at self.old front worker (front_at front self.old.fronts)) applied self.old self.new) }
-        ensures err { OnErr result (TellsSame self.old self.new) }
-    {
-        let Some(place) = place_of_front(&self.fronts, front) else {
-            return Ok(false);
-        };
-        match self.fronts[place].front.emit(alloc, worker) {
-            Ok(Some(out)) => {
-                post(&mut self.directions, front, out)?;
-                Ok(true)
-            }
-            Ok(None) => Ok(false),
-            Err(_) => Err(AllocError),
-        }
-    }
-
-    /// A worker of a front charges its request in the book.
-    pub fn charge<W: Wire>(
-        &mut self,
-        alloc: Global,
-        front: NodeNo,
-        worker: u64,
-        moment: Moment,
-    ) -> Result<bool, AllocError>
-        ensures ok { IfOk result (λ applied. Outcome (after_charge_at self.old front worker moment (front_at front self.old.fronts)) applied self.old self.new) }
-        ensures err { OnErr result (TellsSame self.old self.new) }
-    {
-        let Some(place) = place_of_front(&self.fronts, front) else {
-            return Ok(false);
-        };
-        let at = &mut self.fronts[place];
-        let Ok(applied) = at.front.charge::<W>(alloc, worker, &mut self.book, moment) else {
-            return Err(AllocError);
-        };
-        Ok(applied)
+        take_off(&mut self.directions, from, to, place).is_some()
     }
 
     /// One step. The answer is whether it applied.
@@ -176,7 +137,7 @@ impl World {
         site: &Site,
         step: &Step,
     ) -> Result<bool, AllocError>
-        ensures ok { IfOk result (λ applied. FarmStep site.now self.old step.now applied self.new) }
+        ensures ok { IfOk result (λ applied. (losses : List LossAt) × FarmStep site.now self.old step.now applied losses self.new) }
         ensures err { OnErr result (TellsSame self.old self.new) }
     {
         match step {
@@ -187,12 +148,16 @@ impl World {
                 message,
             } => self.send(site, *client, *to, message),
             Step::Deliver { from, to, place } => self.deliver::<W>(alloc, site, *from, *to, *place),
+            Step::Lose { from, to, place } => Ok(self.lose(*from, *to, *place)),
+            Step::Cut { a, b } => self.cut::<W>(alloc, *a, *b),
+            Step::Restart { node } => self.restart::<W>(alloc, site, *node),
             Step::Pick { front, worker } => Ok(self.pick(*front, *worker)),
             Step::Charge {
                 front,
                 worker,
                 moment,
             } => self.charge::<W>(alloc, *front, *worker, *moment),
+            Step::Refuse { front, worker } => self.refuse::<W>(alloc, *front, *worker),
             Step::Emit { front, worker } => self.emit(alloc, *front, *worker),
         }
     }

@@ -3,7 +3,7 @@
 use cc_book::Book;
 use dia_base::{ConnId, NodeNo};
 use dia_message::Message;
-use farm_model::{Direction, FrontNode};
+use farm_model::{Direction, FrontAt, RelayAt};
 use std::marker::Model;
 
 /// The farm.
@@ -11,7 +11,8 @@ use std::marker::Model;
 pub struct World {
     /// Two for each connection.
     pub directions: Vec<Direction>,
-    pub fronts: Vec<FrontNode>,
+    pub fronts: Vec<FrontAt>,
+    pub relays: Vec<RelayAt>,
     pub book: Book,
     /// What clients have sent, each message with its connection.
     pub sent: Vec<(ConnId, Message)>,
@@ -29,6 +30,7 @@ impl Model for World {
     ghost view = { λ w. record {
       directions = w.directions.items;
       fronts = w.fronts.items;
+      relays = w.relays.items;
       book = w.book;
       sent = w.sent.items;
       received = w.received.items;

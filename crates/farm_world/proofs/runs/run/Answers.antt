@@ -1,4 +1,4 @@
-use Rattle.std.proofs.Common.{◌≡◌, ◌+◌, ◌<◌, ◌≤◌, List, [], ◌∷◌, ◌++◌, length, take, refl, sym, subst, ap, ◌∙◌, arith}
+use Rattle.std.proofs.Common.{◌≡◌, ◌+◌, ◌<◌, ◌≤◌, List, [], ◌∷◌, ◌++◌, length, take, refl, sym, ap, ◌∙◌, arith}
 use Rattle.std.proofs.lemmas.List.{take_all, take_more}
 use Rattle.farm_model.specs.declared.site.Site.{Site}
 use Rattle.farm_model.specs.declared.state.Trace.{Trace}
@@ -17,14 +17,15 @@ loop-place-preserved g c =
     let place = c.loop-place.place in
     let step : Step = c.index-steps-place.result in
     let past : Past = c.loop-place.invariant.0 in
-    let t : Transition = record { step = step; before = c.loop-place.world; applied = c.in-Ok-step.applied; after = c.step.new.self } in
+    let made = c.in-Ok-step.ensures.ok in
+    let t : Transition = record { step = step; before = c.loop-place.world; applied = c.in-Ok-step.applied; losses = made.0; after = c.step.new.self } in
     let within : place < length steps = omega arith in
     let more : take (place + 1) steps ≡ take place steps ++ step ∷ [] =
     take_more steps place step within ∙ ap (λ (s : Step). take place steps ++ s ∷ []) (sym c.index-steps-place.is) in
     let counted : c.loop-place.skipped ≤ place = c.loop-place.invariant.4 in
     let most = c.skips-skipped.ensures.most in (
       past ++ t ∷ [],
-      Run-push site (start site) past c.loop-place.world step c.in-Ok-step.applied c.step.new.self c.loop-place.invariant.1 c.in-Ok-step.ensures.ok,
+      Run-push site (start site) past c.loop-place.world step c.in-Ok-step.applied made.0 c.step.new.self c.loop-place.invariant.1 made.1,
       steps_in-push past t ∙ ap (λ (done : List Step). done ++ step ∷ []) c.loop-place.invariant.2 ∙ sym more,
       (let before = c.loop-place.invariant.3 in let one = c.skips-skipped.ensures.count in let push = skipped_in-push past t in omega (arith, before, one, push)),
       omega (arith, counted, most),

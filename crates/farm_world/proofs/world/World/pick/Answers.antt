@@ -5,6 +5,6 @@ use Rattle.farm_world.proofs.world.World.pick.Goals as goal
 pub returns-in-Some : goal.returns-in-Some
 returns-in-Some c =
     let i = c.self.inside in
-    let w : WorldState = record { directions = i.directions.items; fronts = i.fronts.items; book = i.book; sent = i.sent.items; received = i.received.items; ends = i.ends.items } in
+    let w : WorldState = record { directions = i.directions.items; fronts = i.fronts.items; relays = i.relays.items; book = i.book; sent = i.sent.items; received = i.received.items; ends = i.ends.items } in
     let first = rw c.deref.ensures.value at c.in-Some.ensures.found in
     rw (← c.self.view_is) (pick_turn w c.args.front c.args.worker c.in-Some.place c.index_mut.result.now c.pick.result c.pick.new.self first c.index_mut.ensures.value c.pick.ensures)

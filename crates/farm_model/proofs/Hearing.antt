@@ -1,0 +1,191 @@
+-- What clients have sent and received stands on connections of one client, and the book is the site's.
+use Rattle.std.proofs.Common.{◌≡◌, ℕ, ◌+◌, ◌-◌, ◌≤◌, Bool, true, false, cond, not, List, [], ◌∷◌, ◌++◌, length, Option, Some, None, inl, inr, refl, sym, subst, ap, ◌∙◌}
+use Rattle.std.specs.Prelude.{◌⊎◌, ◌&&◌, ◌||◌, slice_get, MatchBool, if◌then◌else◌}
+use Rattle.std.specs.List.{find}
+use Rattle.dia_base.specs.declared.number.ConnId.{ConnId}
+use Rattle.dia_base.specs.declared.number.Moment.{Moment}
+use Rattle.dia_base.specs.declared.number.NodeNo.{NodeNo}
+use Rattle.dia_message.specs.declared.message.Message.{Message}
+use Rattle.dia_message.specs.Traffic.{Traffic}
+use Rattle.cc_book.specs.Taking.{Ledger, answer_of, is_fresh, with_take}
+use Rattle.front_core.specs.declared.preparing.Prepared.{Prepared}
+use Rattle.front_core.specs.declared.preparing.Prepared.TheVariants.{Refused, Ask}
+use Rattle.front_core.specs.declared.worker.Worker.{Worker}
+use Rattle.front_core.specs.declared.worker.Worker.TheVariants.{Idle, Picked, Done}
+use Rattle.front_core.specs.Charging.{book_after}
+use Rattle.front_core.specs.FrontState.{FrontState}
+use Rattle.front_core.specs.FrontStep.{after_charge_by, after_emit, after_pick, after_refusal, preparation_at}
+use Rattle.relay_core.specs.declared.run.RelayEvent.{RelayEvent}
+use Rattle.relay_core.specs.declared.run.RelayEvent.TheVariants.{Lost}
+use Rattle.relay_core.specs.RelayState.{RelayState}
+use Rattle.farm_law.specs.Lists.{Has}
+use Rattle.farm_model.specs.declared.site.Site.{Site}
+use Rattle.farm_model.specs.declared.state.Direction.{Direction}
+use Rattle.farm_model.specs.Arrival.{AtRelay}
+use Rattle.farm_model.specs.CheckedSite.{IsChecked}
+use Rattle.farm_model.specs.FarmStep.{Outcome, Flight, after_loss, after_up, with_new_connection, can_connect, after_send, after_send_in, with_pick, after_pick_at, after_refusal_at, with_emit, after_emit_at, with_charge, after_charge_at}
+use Rattle.farm_model.specs.Loss.{Loss, LearnsLoss, LossAt, LearnLosses, all_know, learns}
+use Rattle.farm_model.specs.Nodes.{is_client}
+use Rattle.farm_model.specs.Promise.{HasOneClient}
+use Rattle.farm_model.specs.Run.{empty_book, TellsSame}
+use Rattle.farm_model.specs.World.{Ends, WorldState, is_between, front_at, relay_at}
+use Rattle.farm_model.proofs.ListLemmas.{find-passes}
+use Rattle.farm_model.proofs.Placing.{Has-found, Has-parts, Has-cons}
+use Rattle.farm_model.proofs.Wired.{Joins, IsWired}
+use Rattle.farm_model.proofs.WorldLemmas.{direction_nodes}
+
+pub record Heard (site : Site) (all : Ends) (sent received : Traffic) (book : Ledger) : Type 0 where
+  pub senders : (item : ConnId × Message) → Has item sent → HasOneClient site all item.0
+  pub receivers : (item : ConnId × Message) → Has item received → HasOneClient site all item.0
+  pub terms : book.terms ≡ (empty_book site).terms
+  pub limit : book.limit ≡ site.limit
+
+abbrev pub HeardIn : Site → Ends → WorldState → Type 0
+HeardIn site all w = Heard site all w.sent w.received w.book
+
+-- ---- what is told stays
+
+pub tells_heard : {site : Site} {all : Ends} (old new : WorldState) → TellsSame old new → HeardIn site all old → HeardIn site all new
+tells_heard {site} {all} old new same h =
+    let one = subst (λ (s : Traffic). Heard site all s old.received old.book) (sym same.0) h in
+    let two = subst (λ (s : Traffic). Heard site all new.sent s old.book) (sym same.1) one in
+    subst (λ (b : Ledger). Heard site all new.sent new.received b) (sym same.2) two
+
+pub at_relay_tells : (w : WorldState) (node : NodeNo) (event : RelayEvent) (relay : Option RelayState) (next : WorldState) → AtRelay w node event relay next → TellsSame w next
+at_relay_tells w node event None next same = (ap (λ (v : WorldState). v.sent) same, ap (λ (v : WorldState). v.received) same, ap (λ (v : WorldState). v.book) same, ap (λ (v : WorldState). v.ends) same)
+at_relay_tells w node event (Some relay) next turn =
+    let same = turn.next_is in (ap (λ (v : WorldState). v.sent) same, ap (λ (v : WorldState). v.received) same, ap (λ (v : WorldState). v.book) same, ap (λ (v : WorldState). v.ends) same)
+
+one_loss_tells : (w : WorldState) (loss : Loss) (front : Option FrontState) (next : WorldState) → LearnsLoss w loss front next → TellsSame w next
+one_loss_tells w loss (Some front) next same = (ap (λ (v : WorldState). v.sent) same, ap (λ (v : WorldState). v.received) same, ap (λ (v : WorldState). v.book) same, ap (λ (v : WorldState). v.ends) same)
+one_loss_tells w loss None next turn = at_relay_tells w loss.node (Lost loss.conn) (relay_at loss.node w.relays) next turn
+
+pub losses_tell : {losses : List Loss} {w last : WorldState} {later : List LossAt} → LearnLosses losses w later last → TellsSame w last
+losses_tell all_know = (refl, refl, refl, refl)
+losses_tell (learns {loss = loss} {w = w} {next = mid} one more) =
+    let a = one_loss_tells w loss (front_at loss.node w.fronts) mid one in
+    let b = losses_tell more in
+    (b.0 ∙ a.0, b.1 ∙ a.1, b.2 ∙ a.2, b.3 ∙ a.3)
+
+-- ---- the client of a connection
+
+or_left : (p q : Bool) → p ≡ true → (p || q) ≡ true
+or_left true q e = refl
+or_left false q e = absurd cc
+
+or_right : (p q : Bool) → q ≡ true → (p || q) ≡ true
+or_right true q e = refl
+or_right false q e = e
+
+and_none : (p q : Bool) → (p ≡ true → q ≡ false) → (p && q) ≡ false
+and_none true q f = f refl
+and_none false q f = refl
+
+-- a connection between a client and a node that is none
+pub one_client : {site : Site} {all : Ends} {conn : ConnId} {client other : NodeNo} → Joins all conn client other → is_client site client ≡ true → is_client site other ≡ false → HasOneClient site all conn
+one_client {site} {all} {conn} {client} {other} j is none = elim j.pair [
+  | inl e ↦ record {
+    numbered = j.numbered;
+    nodes = j.nodes;
+    made = j.made;
+    a_client = ap (λ (n : NodeNo × NodeNo). is_client site n.0 || is_client site n.1) e ∙ or_left (is_client site client) (is_client site other) is;
+    not_both = ap (λ (n : NodeNo × NodeNo). is_client site n.0 && is_client site n.1) e ∙ and_none (is_client site client) (is_client site other) (λ k. none);
+  }
+  | inr e ↦ record {
+    numbered = j.numbered;
+    nodes = j.nodes;
+    made = j.made;
+    a_client = ap (λ (n : NodeNo × NodeNo). is_client site n.0 || is_client site n.1) e ∙ or_right (is_client site other) (is_client site client) is;
+    not_both = ap (λ (n : NodeNo × NodeNo). is_client site n.0 && is_client site n.1) e ∙ and_none (is_client site other) (is_client site client) (λ k. absurd (Rattle.std.proofs.Common.true≢false (sym k ∙ none)));
+  }
+]
+
+-- ---- each step
+
+module _ (site : Site) (all : Ends) (checked : IsChecked site) (old new : WorldState) (applied : Bool) (wired : IsWired site all old) (heard : HeardIn site all old) where
+  same_state : (next : WorldState) → next ≡ old → HeardIn site all next
+  same_state next e = subst (HeardIn site all) (sym e) heard
+
+  outcome_heard : (found : Option WorldState) → ((next : WorldState) → found ≡ Some next → HeardIn site all next) → Outcome found applied old new → HeardIn site all new
+  outcome_heard None f out = same_state new out.1
+  outcome_heard (Some next) f out = subst (HeardIn site all) (sym out.1) (f next refl)
+
+  pub up_heard : (a b : NodeNo) → Outcome (after_up site old a b) applied old new → HeardIn site all new
+  up_heard a b out = outcome_heard (after_up site old a b) (λ next e. go next (can_connect site old a b) e) out
+    where
+      go : (next : WorldState) (b' : Bool) → cond b' (Some (with_new_connection old a b)) None ≡ Some next → HeardIn site all next
+      go next true e = let same : with_new_connection old a b ≡ next = cc in subst (HeardIn site all) same (record { senders = heard.senders; receivers = heard.receivers; terms = heard.terms; limit = heard.limit })
+      go next false e = absurd cc
+
+  pub send_heard : (client to : NodeNo) (message : Message) → Outcome (after_send site old client to message) applied old new → HeardIn site all new
+  send_heard client to message out = outcome_heard (after_send site old client to message) (λ next e. go next (is_client site client) refl e) out
+    where
+      sent_on : (direction : Direction) → is_client site client ≡ true → find (is_between client to) old.directions ≡ Some direction → HasOneClient site all direction.conn
+      sent_on direction is e =
+          let k = wired.directions direction (Has-found (is_between client to) old.directions e) in
+          let nodes = direction_nodes client to direction (find-passes (is_between client to) old.directions direction e) in
+          let from_client : is_client site direction.from ≡ true = subst (λ (n : NodeNo). is_client site n ≡ true) (sym nodes.0) is in
+          one_client k.joins from_client (Rattle.farm_model.proofs.Linked.beside_client site checked direction.from direction.to k.linked from_client)
+
+      found : (next : WorldState) → is_client site client ≡ true → (direction : Option Direction) → find (is_between client to) old.directions ≡ direction → after_send_in old client to message direction ≡ Some next → HeardIn site all next
+      found next is None q e = absurd cc
+      found next is (Some direction) q e =
+          let same = ap (λ (o : Option WorldState). Rattle.std.specs.Prelude.unwrap_or o next) e in
+          subst (HeardIn site all) same (record {
+            senders = λ item h. elim (Has-parts old.sent h) [
+              | inl g ↦ heard.senders item g
+              | inr g ↦ elim (Has-cons g) [ inl is_it ↦ subst (λ (i : ConnId × Message). HasOneClient site all i.0) (sym is_it) (sent_on direction is q) | inr none ↦ elim none [ ] ]
+            ];
+            receivers = heard.receivers;
+            terms = heard.terms;
+            limit = heard.limit;
+          })
+
+      go : (next : WorldState) (b : Bool) → is_client site client ≡ b → cond b (after_send_in old client to message (find (is_between client to) old.directions)) None ≡ Some next → HeardIn site all next
+      go next true is e = found next is (find (is_between client to) old.directions) refl e
+      go next false is e = absurd cc
+
+  pub lose_heard : (flight : Option Flight) → Outcome (after_loss old flight) applied old new → HeardIn site all new
+  lose_heard None out = same_state new out.1
+  lose_heard (Some flight) out = subst (HeardIn site all) (sym out.1) (record { senders = heard.senders; receivers = heard.receivers; terms = heard.terms; limit = heard.limit })
+
+  pick_heard : (node : NodeNo) (front : Option FrontState) → Outcome (with_pick old node front) applied old new → HeardIn site all new
+  pick_heard node None out = same_state new out.1
+  pick_heard node (Some front) out = subst (HeardIn site all) (sym out.1) (record { senders = heard.senders; receivers = heard.receivers; terms = heard.terms; limit = heard.limit })
+
+  pub pick_at_heard : (node : NodeNo) (worker : ℕ) (front : Option FrontState) → Outcome (after_pick_at old node worker front) applied old new → HeardIn site all new
+  pick_at_heard node worker None out = same_state new out.1
+  pick_at_heard node worker (Some front) out = pick_heard node (after_pick front worker) out
+
+  pub refusal_at_heard : (node : NodeNo) (worker : ℕ) (front : Option FrontState) → Outcome (after_refusal_at old node worker front) applied old new → HeardIn site all new
+  refusal_at_heard node worker None out = same_state new out.1
+  refusal_at_heard node worker (Some front) out = pick_heard node (after_refusal front worker) out
+
+  emit_heard : (node : NodeNo) (turn : Option (FrontState × Traffic)) → Outcome (with_emit old node turn) applied old new → HeardIn site all new
+  emit_heard node None out = same_state new out.1
+  emit_heard node (Some turn) out = subst (HeardIn site all) (sym out.1) (record { senders = heard.senders; receivers = heard.receivers; terms = heard.terms; limit = heard.limit })
+
+  pub emit_at_heard : (node : NodeNo) (worker : ℕ) (front : Option FrontState) → Outcome (after_emit_at old node worker front) applied old new → HeardIn site all new
+  emit_at_heard node worker None out = same_state new out.1
+  emit_at_heard node worker (Some front) out = emit_heard node (after_emit front worker) out
+
+  -- the book keeps its terms and its limit
+  same_book : (book : Ledger) (moment : Moment) (prepared : Prepared) → ((book_after book moment prepared).terms ≡ book.terms) × ((book_after book moment prepared).limit ≡ book.limit)
+  same_book book moment (Refused refusal) = (refl, refl)
+  same_book book moment (Ask request) = go (is_fresh (answer_of book request))
+    where
+      go : (b : Bool) → ((cond b (with_take book moment request) book).terms ≡ book.terms) × ((cond b (with_take book moment request) book).limit ≡ book.limit)
+      go true = (refl, refl)
+      go false = (refl, refl)
+
+  charge_heard : (node : NodeNo) (front : FrontState) (moment : Moment) (worker : ℕ) (held : Option Worker) → Outcome (with_charge old node (after_charge_by front old.book moment worker held)) applied old new → HeardIn site all new
+  charge_heard node front moment worker None out = same_state new out.1
+  charge_heard node front moment worker (Some Idle) out = same_state new out.1
+  charge_heard node front moment worker (Some (Done conn answer)) out = same_state new out.1
+  charge_heard node front moment worker (Some (Picked conn message)) out =
+      let same = same_book old.book moment (preparation_at front.site message) in
+      subst (HeardIn site all) (sym out.1) (record { senders = heard.senders; receivers = heard.receivers; terms = same.0 ∙ heard.terms; limit = same.1 ∙ heard.limit })
+
+  pub charge_at_heard : (node : NodeNo) (worker : ℕ) (moment : Moment) (front : Option FrontState) → Outcome (after_charge_at old node worker moment front) applied old new → HeardIn site all new
+  charge_at_heard node worker moment None out = same_state new out.1
+  charge_at_heard node worker moment (Some front) out = charge_heard node front moment worker (slice_get front.workers worker) out

@@ -1,0 +1,130 @@
+-- A cut and a restart as moves: connections end, what was in flight is gone, and one node after the other learns it.
+use Rattle.std.proofs.Common.{◌≡◌, true, not, List, ◌++◌, Option, Some, None, inl, inr, refl, sym, subst, ◌∙◌}
+use Rattle.std.specs.Prelude.{flat_map, Err}
+use Rattle.dia_base.specs.declared.number.ConnId.{ConnId}
+use Rattle.dia_base.specs.declared.number.NodeNo.{NodeNo}
+use Rattle.dia_message.specs.declared.message.Message.{Message}
+use Rattle.cc_view.specs.declared.code.ResultCode.{ResultCode}
+use Rattle.cc_view.specs.Refusal.{refusal_with}
+use Rattle.front_core.specs.FrontState.{FrontState}
+use Rattle.front_core.specs.FrontStep.{without_connection}
+use Rattle.relay_core.specs.declared.run.RelayEvent.TheVariants.{Lost}
+use Rattle.relay_core.specs.Failover.{next_hop_again, after_end}
+use Rattle.relay_core.specs.RelayState.{RelayState}
+use Rattle.farm_law.specs.Farm.{Item, Refused}
+use Rattle.farm_law.specs.Lists.{Has, here, there}
+use Rattle.farm_law.specs.Moves.{Moves, next, done, ends, loses}
+use Rattle.farm_model.specs.declared.site.Site.{Site}
+use Rattle.farm_model.specs.declared.state.Direction.{Direction}
+use Rattle.farm_model.specs.Arrival.{RelayTurn, AtRelay}
+use Rattle.farm_model.specs.Cause.{IsStranded}
+use Rattle.farm_model.specs.Loss.{Loss, LearnsLoss, LossAt, LearnLosses, all_know, learns, losses_of_cut, after_cut}
+use Rattle.farm_model.specs.Nodes.{is_relay}
+use Rattle.farm_model.specs.World.{Ends, WorldState, is_on, without_conn, with_traffic_from, with_front, front_at, relay_at}
+use Rattle.farm_model.proofs.AsFarm.{parties, flights, flights_in, items_at, has_ended_in, farm_of, LeadsTo}
+use Rattle.farm_model.proofs.Ending.{same_ended, still_ended, ended_by_cut}
+use Rattle.farm_model.proofs.Placing.{Has-filter, Left-all, Left-parts, Left-filter}
+use Rattle.farm_model.proofs.Posting.{traffic_stands, join}
+use Rattle.farm_model.proofs.Wired.{IsWired}
+use Rattle.farm_model.proofs.WiredLemmas.{same_items, front_wired, fronts_wired, relay_wired}
+
+-- what a relay does when it learns of a loss is moves
+abbrev pub RelayLoses : Site → Ends → Type 1
+RelayLoses site all =
+    (HasReason : Refused → Type 0) (refused : List Refused) (w : WorldState) (loss : Loss) (relay : RelayState) (after : WorldState) → IsWired site all w → relay_at loss.node w.relays ≡ Some relay → has_ended_in w.ends w.directions loss.conn ≡ true →
+    RelayTurn w loss.node relay (Lost loss.conn) after →
+    ((message : Message) (code : ResultCode) → IsStranded relay loss.conn message → next_hop_again (after_end loss.conn relay.node) message ≡ Err code → HasReason (record { node = loss.node; conn = loss.conn; request = message; refusal = refusal_with code })) →
+    LeadsTo (parties site all) all HasReason (farm_of all refused w) after × IsWired site all after
+
+-- what nodes that learn of losses have reason to refuse
+abbrev pub GivesReasons : Site → (Refused → Type 0) → List LossAt → Type 0
+GivesReasons site HasReason losses = (w : WorldState) (loss : Loss) (relay : RelayState) (message : Message) (code : ResultCode) → Has (record { loss = loss; before = w }) losses → relay_at loss.node w.relays ≡ Some relay → is_relay site loss.node ≡ true → IsStranded relay loss.conn message →
+    next_hop_again (after_end loss.conn relay.node) message ≡ Err code → HasReason (record { node = loss.node; conn = loss.conn; request = message; refusal = refusal_with code })
+
+-- ---- one node learns
+
+module _ (site : Site) (all : Ends) (relay_loses : RelayLoses site all) (HasReason : Refused → Type 0) where
+  abbrev pub Leads : List Refused → WorldState → WorldState → Type 0
+  Leads refused w after = LeadsTo (parties site all) all HasReason (farm_of all refused w) after × IsWired site all after
+
+  nothing_moves : (refused : List Refused) (w : WorldState) → IsWired site all w → Leads refused w w
+  nothing_moves refused w wired = (record { refused = refused; moves = done; caused = λ r h. inl h }, wired)
+
+  front_learns : (refused : List Refused) (w : WorldState) (loss : Loss) (front : FrontState) → front_at loss.node w.fronts ≡ Some front → IsWired site all w → Leads refused w (record w { fronts = with_front loss.node (without_connection front loss.conn) w.fronts })
+  front_learns refused w loss front e wired = (
+    record {
+      refused = refused;
+      moves = subst (λ (is : List Item). Moves (parties site all) (farm_of all refused w) (record (farm_of all refused w) { items = flights_in w.directions ++ is })) (sym (same_items all loss.node w.fronts front (without_connection front loss.conn) e refl refl)) done;
+      caused = λ r h. inl h;
+    },
+    record {
+      begins = wired.begins;
+      directions = wired.directions;
+      fronts = (let k = front_wired wired.fronts e in fronts_wired loss.node (without_connection front loss.conn) wired.fronts (record { is_front = k.is_front; site_is = k.site_is }));
+      relays = wired.relays;
+      alone = wired.alone;
+    },
+  )
+
+  one_learns : (refused : List Refused) (w : WorldState) (loss : Loss) (after : WorldState) (front : Option FrontState) → front_at loss.node w.fronts ≡ front → IsWired site all w → has_ended_in w.ends w.directions loss.conn ≡ true → LearnsLoss w loss front after
+      → ((relay : RelayState) (message : Message) (code : ResultCode) → relay_at loss.node w.relays ≡ Some relay → is_relay site loss.node ≡ true → IsStranded relay loss.conn message → next_hop_again (after_end loss.conn relay.node) message ≡ Err code →
+      HasReason (record { node = loss.node; conn = loss.conn; request = message; refusal = refusal_with code }))
+      → Leads refused w after
+  one_learns refused w loss after (Some front) e wired ended is reasons = subst (Leads refused w) (sym is) (front_learns refused w loss front e wired)
+  one_learns refused w loss after None e wired ended is reasons = by_relay (relay_at loss.node w.relays) refl is
+    where
+      by_relay : (relay : Option RelayState) → relay_at loss.node w.relays ≡ relay → AtRelay w loss.node (Lost loss.conn) relay after → Leads refused w after
+      by_relay None none same = subst (Leads refused w) (sym same) (nothing_moves refused w wired)
+      by_relay (Some relay) at turn = relay_loses HasReason refused w loss relay after wired at ended turn (λ message code s h. reasons relay message code at (relay_wired wired.relays at).is_relay s h)
+
+  -- what has ended before has ended afterwards
+  ended_later : (w : WorldState) (loss : Loss) (after : WorldState) (front : Option FrontState) → LearnsLoss w loss front after → (conn : ConnId) → has_ended_in w.ends w.directions conn ≡ true → has_ended_in after.ends after.directions conn ≡ true
+  ended_later w loss after (Some front) is conn e = subst (λ (v : WorldState). has_ended_in v.ends v.directions conn ≡ true) (sym is) e
+  ended_later w loss after None is conn e = by_relay (relay_at loss.node w.relays) is
+    where
+      by_relay : (relay : Option RelayState) → AtRelay w loss.node (Lost loss.conn) relay after → has_ended_in after.ends after.directions conn ≡ true
+      by_relay None same = subst (λ (v : WorldState). has_ended_in v.ends v.directions conn ≡ true) (sym same) e
+      by_relay (Some relay) turn = subst (λ (v : WorldState). has_ended_in v.ends v.directions conn ≡ true) (sym turn.next_is) (same_ended w.ends w.directions (with_traffic_from loss.node w.directions turn.sent) conn (traffic_stands loss.node w.directions turn.sent conn) ∙ e)
+
+  -- one after the other
+  pub all_learn : {losses : List Loss} {w after : WorldState} {later : List LossAt} (refused : List Refused) → LearnLosses losses w later after → IsWired site all w → ((loss : Loss) → Has loss losses → has_ended_in w.ends w.directions loss.conn ≡ true) → GivesReasons site HasReason later
+      → Leads refused w after
+  all_learn refused all_know wired ended reasons = nothing_moves refused _ wired
+  all_learn refused (learns {loss = loss} {w = w} {next = mid} one more) wired ended reasons =
+      let first_one = one_learns refused w loss mid (front_at loss.node w.fronts) refl wired (ended loss here) one (λ relay message code at is s h. reasons w loss relay message code here at is s h) in
+      let others = all_learn (first_one.0).refused more first_one.1 (λ l h. ended_later w loss mid (front_at loss.node w.fronts) one l.conn (ended l (there h))) (λ v l relay message code h. reasons v l relay message code (there h)) in (
+        record {
+          refused = (others.0).refused;
+          moves = join (first_one.0).moves (others.0).moves;
+          caused = λ r h. elim ((others.0).caused r h) [ inl g ↦ (first_one.0).caused r g | inr g ↦ inr g ];
+        },
+        others.1,
+      )
+
+  -- ---- a cut
+
+  cut_wired : (w : WorldState) (conn : ConnId) → IsWired site all w → IsWired site all (after_cut w conn)
+  cut_wired w conn wired = record {
+    begins = wired.begins;
+    directions = λ d h. wired.directions d (Has-filter (λ direction. not (is_on conn direction)) w.directions h).0;
+    fronts = wired.fronts;
+    relays = wired.relays;
+    alone = wired.alone;
+  }
+
+  cut_moves : (refused : List Refused) (w : WorldState) (conn : ConnId) → Moves (parties site all) (farm_of all refused w) (farm_of all refused (after_cut w conn))
+  cut_moves refused w conn =
+      next (loses (Left-parts (Left-filter flights (λ direction. not (is_on conn direction)) w.directions (λ d h e b g. tt)) (Left-all (flat_map (items_at all) w.fronts))))
+      (next (ends (has_ended_in w.ends (without_conn conn w.directions)) (λ c e. still_ended w.ends w.directions (without_conn conn w.directions) c (λ d h. (Has-filter (λ direction. not (is_on conn direction)) w.directions h).0) e)) done)
+
+  pub cut_goes : (refused : List Refused) (w : WorldState) (a b : NodeNo) (direction : Direction) (after : WorldState) (later : List LossAt) → Has direction w.directions → IsWired site all w → LearnLosses (losses_of_cut a b direction.conn) (after_cut w direction.conn) later after
+      → GivesReasons site HasReason later → Leads refused w after
+  cut_goes refused w a b direction after later among wired learn reasons =
+      let ended = ended_by_cut w.directions direction (wired.directions direction among) in
+      let rest = all_learn refused learn (cut_wired w direction.conn wired) (λ loss h. both loss h ended) reasons in
+      (record { refused = (rest.0).refused; moves = join (cut_moves refused w direction.conn) (rest.0).moves; caused = (rest.0).caused }, rest.1)
+    where
+      both : (loss : Loss) → Has loss (losses_of_cut a b direction.conn) → has_ended_in w.ends (without_conn direction.conn w.directions) direction.conn ≡ true → has_ended_in w.ends (without_conn direction.conn w.directions) loss.conn ≡ true
+      both loss here e = e
+      both loss (there here) e = e
+      both loss (there (there h)) e = elim h [ ]

@@ -1,0 +1,150 @@
+-- What a relay that hangs together knows of itself and of its peers.
+use Rattle.std.proofs.Common.{◌≡◌, ℕ, ◌+◌, ◌<◌, ◌^◌, ◌≤◌, true, false, List, length, length-append, Option, Some, None, option_map, Result, Ok, Err, refl, sym, subst, ap, ◌∙◌, arith}
+use Rattle.std.specs.Prelude.{◌==◌, nat_lt}
+use Rattle.std.specs.Option.{option_and_then}
+use Rattle.std.specs.List.{find}
+use Rattle.std.proofs.lemmas.Bool.{eqb-true, ltb-false}
+use Rattle.dia_base.specs.declared.number.ConnId.{ConnId}
+use Rattle.dia_base.specs.declared.number.NodeNo.{NodeNo}
+use Rattle.dia_base.specs.Limits.{message_limit}
+use Rattle.dia_avp.specs.declared.avp.RawAvp.{RawAvp}
+use Rattle.dia_avp.specs.declared.fault.AvpFault.{AvpFault}
+use Rattle.dia_avp.specs.AvpList.{HasSpelling, length_of, padding_of, with_padding, written}
+use Rattle.dia_avp.specs.AvpReading.{split_of}
+use Rattle.dia_avp.proofs.ReadBack.{length_spelling}
+use Rattle.dia_message.specs.declared.message.Message.{Message}
+use Rattle.cc_view.specs.Refusal.{avps_by}
+use Rattle.relay_peers.specs.declared.peers.Link.{Link}
+use Rattle.relay_peers.specs.declared.peers.LinkedPeer.{LinkedPeer}
+use Rattle.relay_peers.specs.PeerTable.{is_of, is_on, conn_in, peer_in, peer_numbered}
+use Rattle.relay_routes.specs.Routing.{record_of}
+use Rattle.relay_hops.specs.declared.row.Held.{Held}
+use Rattle.relay_core.specs.declared.node.RelayNode.{RelayNode}
+use Rattle.relay_core.specs.Forwarding.{recorded, is_too_long}
+use Rattle.relay_core.specs.NextHop.{next_hop}
+use Rattle.relay_core.specs.RelayState.{RelayState, peer_on}
+use Rattle.relay_core.specs.RelayStep.{row_of}
+use Rattle.relay_core.specs.Verdict.{decision}
+use Rattle.relay_core.proofs.Rules.{forwarded-by}
+use Rattle.farm_law.specs.Lists.{Has}
+use Rattle.farm_model.specs.declared.site.Site.{Site}
+use Rattle.farm_model.specs.CheckedSite.{IsChecked}
+use Rattle.farm_model.specs.Nodes.{is_client}
+use Rattle.farm_model.specs.Run.{peers_from, routes_at}
+use Rattle.farm_model.specs.World.{Ends}
+use Rattle.farm_model.proofs.AsFarm.{other_end, name_at}
+use Rattle.farm_model.proofs.Deciding.{next_server}
+use Rattle.farm_model.proofs.LinkedPeers.{linked_node}
+use Rattle.farm_model.proofs.ListLemmas.{find-passes}
+use Rattle.farm_model.proofs.Placing.{Has-found}
+use Rattle.farm_model.proofs.Posting.{Joins-other, Joins-same}
+use Rattle.farm_model.proofs.Wired.{Joins, RelayIsWired, RowIsWired}
+use Rattle.farm_model.proofs.WorldLemmas.{same_node}
+
+-- ---- links
+
+same_conn : (a b : ConnId) → (a.0 == b.0) ≡ true → a ≡ b
+same_conn a b e = ap (λ (n : ℕ). record { 0 = n }) (eqb-true a.0 b.0 e)
+
+record IsLink (links : List Link) (peer : NodeNo) (conn : ConnId) : Type 0 where
+  pub link : Link
+  pub among : Has link links
+  pub peer_is : link.peer ≡ peer
+  pub conn_is : link.conn ≡ conn
+
+link_of_peer : (links : List Link) (peer : NodeNo) (conn : ConnId) → conn_in links peer ≡ Some conn → IsLink links peer conn
+link_of_peer links peer conn e = go (find (is_of peer) links) refl e
+  where
+    go : (found : Option Link) → find (is_of peer) links ≡ found → option_map (λ (l : Link). l.conn) found ≡ Some conn → IsLink links peer conn
+    go None is k = absurd cc
+    go (Some link) is k =
+        let same : link.conn ≡ conn = cc in record { link = link; among = Has-found (is_of peer) links is; peer_is = same_node link.peer peer (find-passes (is_of peer) links link is); conn_is = same }
+
+link_on : (links : List Link) (peer : NodeNo) (conn : ConnId) → peer_in links conn ≡ Some peer → IsLink links peer conn
+link_on links peer conn e = go (find (is_on conn) links) refl e
+  where
+    go : (found : Option Link) → find (is_on conn) links ≡ found → option_map (λ (l : Link). l.peer) found ≡ Some peer → IsLink links peer conn
+    go None is k = absurd cc
+    go (Some link) is k =
+        let same : link.peer ≡ peer = cc in record { link = link; among = Has-found (is_on conn) links is; peer_is = same; conn_is = same_conn link.conn conn (find-passes (is_on conn) links link is) }
+
+-- ---- what is forwarded
+
+short : (record_len whole body : ℕ) → nat_lt message_limit (20 + whole) ≡ false → whole ≡ body + record_len → record_len < 2 ^ 24
+short record_len whole body e f = let le : 20 + whole ≤ 65536 = ltb-false 65536 (20 + whole) e in omega arith
+
+below : (len whole pad : ℕ) → whole ≡ len + pad → whole < 2 ^ 24 → len < 2 ^ 24
+below len whole pad f lt = omega arith
+
+-- the Route-Record of a sender with which a request is not too long can be written
+record_spelled : (sender body : List ℕ) → is_too_long (recorded sender body) ≡ false → HasSpelling (record_of sender)
+record_spelled sender body e =
+    let whole = length-append (with_padding body) (written (record_of sender)) in
+    let small = short (length (written (record_of sender))) (length (recorded sender body)) (length (with_padding body)) e whole in
+    record {
+      code = omega arith;
+      vendor = omega arith;
+      no_vendor = λ _. refl;
+      long = below (length_of (record_of sender)) (length (written (record_of sender))) (padding_of (length_of (record_of sender))) (length_spelling (record_of sender)) small;
+    }
+
+read_first : (octets : List ℕ) (avps : List RawAvp) (r : Result (List RawAvp) AvpFault) → avps_by octets r ≡ Ok avps → r ≡ Ok avps
+read_first octets avps (Ok others) e = let same : others ≡ avps = cc in ap (λ (xs : List RawAvp). Ok xs) same
+read_first octets avps (Err fault) e = absurd cc
+
+-- a request that a relay forwards
+pub record IsForwardedTo (relay : RelayState) (sender : List ℕ) (request : Message) (to : ConnId) : Type 0 where
+  pub avps : List RawAvp
+  pub split : split_of request.body ≡ Ok avps
+  pub spelled : HasSpelling (record_of sender)
+  pub hop : next_hop relay.node avps request.header.application ≡ Ok to
+
+pub is_forwarded : (relay : RelayState) (sender : List ℕ) (request : Message) (to : ConnId) → decision relay sender request ≡ Ok to → IsForwardedTo relay sender request to
+is_forwarded relay sender request to e =
+    let by = forwarded-by relay sender request (avps_by request.body (split_of request.body)) to e in
+    record { avps = by.2.0; split = read_first request.body by.2.0 (split_of request.body) by.2.1; spelled = record_spelled sender request.body by.1; hop = by.2.3 }
+
+-- ---- a relay
+
+module _ (site : Site) (ends made : Ends) (node : NodeNo) (relay : RelayState) (wired : RelayIsWired site ends made node relay) where
+  pub own_name : relay.node.name ≡ name_at site node
+  own_name = ap (λ (n : RelayNode). n.name) wired.node_is
+
+  pub own_realm : relay.node.realm ≡ site.realm
+  own_realm = ap (λ (n : RelayNode). n.realm) wired.node_is
+
+  own_linked : relay.node.peers.linked ≡ peers_from site node 0 site.nodes
+  own_linked = ap (λ (n : RelayNode). n.peers.linked) wired.node_is
+
+  own_routes : relay.node.routes ≡ routes_at site.routes node
+  own_routes = ap (λ (n : RelayNode). n.routes) wired.node_is
+
+  -- the sender of what comes on a connection is the node at its other end
+  pub sender_is : (conn : ConnId) (from : NodeNo) (sender : LinkedPeer) → Joins ends conn node from → peer_on relay.node conn ≡ Some sender → sender.name ≡ name_at site from
+  sender_is conn from sender joins e = go (peer_in relay.node.peers.links conn) refl e
+    where
+      go : (o : Option NodeNo) → peer_in relay.node.peers.links conn ≡ o → option_and_then (peer_numbered relay.node.peers.linked) o ≡ Some sender → sender.name ≡ name_at site from
+      go None is k = absurd cc
+      go (Some peer) is k =
+          let link = link_on relay.node.peers.links peer conn is in
+          let its = wired.links link.link link.among in
+          let peer_joins : Joins ends conn node peer = subst (λ (c : ConnId). Joins ends c node peer) link.conn_is (subst (λ (n : NodeNo). Joins ends link.link.conn node n) link.peer_is its.joins) in
+          let same : peer ≡ from = Joins-same peer_joins joins in
+          let number : sender.peer ≡ peer = same_node sender.peer peer (find-passes (λ (p : LinkedPeer). p.peer.0 == peer.0) relay.node.peers.linked sender k) in
+          (linked_node site node sender (subst (Has sender) own_linked (Has-found (λ (p : LinkedPeer). p.peer.0 == peer.0) relay.node.peers.linked k))).1
+          ∙ ap (name_at site) (number ∙ same)
+
+  -- a request that goes out by some of the links goes to a node that is no client
+  pub row_sent : (checked : IsChecked site) (out : RelayNode) → out.peers.linked ≡ relay.node.peers.linked → out.routes ≡ relay.node.routes → ((link : Link) → Has link out.peers.links → Has link relay.node.peers.links)
+      → (avps : List RawAvp) (app : ℕ) (to : ConnId) → next_hop out avps app ≡ Ok to → (held : Held) → RowIsWired site ends made node (row_of to held)
+  row_sent checked out linked routes among avps app to e held =
+      let server = next_server site node out (linked ∙ own_linked) (routes ∙ own_routes) checked.sound_routes avps app to e in
+      let link = link_of_peer out.peers.links server.peer to server.conn in
+      let its = wired.links link.link (among link.link link.among) in
+      let joins : Joins ends to node server.peer = subst (λ (c : ConnId). Joins ends c node server.peer) link.conn_is (subst (λ (n : NodeNo). Joins ends link.link.conn node n) link.peer_is its.joins) in
+      let other : other_end ends to node ≡ server.peer = Joins-other joins in
+      record {
+        joins = subst (λ (n : NodeNo). Joins ends to node n) (sym other) joins;
+        below = subst (λ (c : ConnId). c.0 ≤ length made) link.conn_is its.below;
+        peer = ap (is_client site) other ∙ server.no_client;
+      }

@@ -1,0 +1,14 @@
+-- An event at one of the relays of the farm.
+use Rattle.std.specs.Prelude.{◌≡◌, List, [], Option, Some, None}
+use Rattle.dia_base.specs.declared.number.NodeNo.{NodeNo}
+use Rattle.dia_message.specs.Traffic.{Traffic}
+use Rattle.relay_core.specs.declared.run.RelayEvent.{RelayEvent}
+use Rattle.relay_core.specs.RelayRun.{OnEvent}
+use Rattle.relay_core.specs.RelayState.{RelayState}
+use Rattle.farm_model.specs.declared.state.RelayAt.{RelayAt}
+use Rattle.farm_model.specs.World.{with_relay}
+
+-- The relay that is the node, if there is one, does what it may do at the event. None sends nothing.
+abbrev pub RelayTakes : NodeNo → RelayEvent → List RelayAt → Option RelayState → Traffic → List RelayAt → Type 0
+RelayTakes node event relays None sent next = (sent ≡ []) × (next ≡ relays)
+RelayTakes node event relays (Some relay) sent next = (after : RelayState) × OnEvent relay event sent after × (next ≡ with_relay node after relays)

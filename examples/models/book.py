@@ -1,0 +1,140 @@
+"""The accounts, the open sessions, and the replies that are kept (RFC 8506, sections 5, 6 and 8).
+
+What the RFC leaves open is this farm's choice:
+
+- A service is named by its Rating-Group and the first of its Service-Identifiers.
+- What an account has free is its balance less what is reserved of it, in all its sessions.
+- A service that is settled loses its reservation and pays what was used in full, below zero too; all services of a
+  request do so before the first is granted anew. A grant reserves what it costs. Where not all can be paid, the blocks
+  that can be paid are granted, and are the last; where that is none, the service is answered 4012.
+- A service of the command itself, without Multiple-Services-Credit-Control, gives the command its result; a session
+  opens with 2001 alone.
+- The first request with a Session-Id and a CC-Request-Number settles what is answered to all later ones.
+"""
+from dataclasses import dataclass
+
+from credit_control import (CHECK_BALANCE, CREDIT_LIMIT_REACHED, EVENT, INITIAL, PRICE_ENQUIRY, RATING_FAILED,
+                            REFUND_ACCOUNT, SUCCESS, TERMINATION, UNABLE_TO_COMPLY, UNKNOWN_SESSION_ID, UPDATE,
+                            USER_UNKNOWN, Reply, ServiceReply)
+
+# The greatest Value-Digits.
+DIGITS_LIMIT = 2**63 - 1
+
+
+class Full(Exception):
+    """The history has as many entries as the site allows."""
+
+
+@dataclass
+class Session:
+    """`held` has what is reserved for each name of a service."""
+
+    account: tuple
+    held: dict
+
+
+class Book:
+    """`kept` has a reply for each Session-Id and CC-Request-Number; these are the entries of the history."""
+
+    def __init__(self, site):
+        self.site, self.balances, self.sessions, self.kept = site, dict(site.accounts), {}, {}
+
+    def reserved(self, account):
+        return sum(sum(it.held.values()) for it in self.sessions.values() if it.account == account)
+
+    def free(self, account):
+        return self.balances[account] - self.reserved(account)
+
+    def take(self, request):
+        """The reply to a request: the kept one, or that of a new entry. Raises Full."""
+        key = request.session, request.number
+        if key not in self.kept:
+            if len(self.kept) >= self.site.limit:
+                raise Full
+            turns = {INITIAL: self.initial, UPDATE: self.update, TERMINATION: self.termination, EVENT: self.event}
+            self.kept[key] = turns[request.kind](request)
+        return self.kept[key]
+
+    def account_of(self, request):
+        return next((subscriber for subscriber in request.subscribers if subscriber in self.balances), None)
+
+    def tariff(self, service):
+        return self.site.tariff(*service.name)
+
+    def initial(self, request):
+        if request.session in self.sessions:
+            return Reply(UNABLE_TO_COMPLY)
+        account = self.account_of(request)
+        if account is None:
+            return Reply(USER_UNKNOWN)
+        self.sessions[request.session] = Session(account, {})
+        reply = self.settled(request)
+        if reply.code != SUCCESS:
+            del self.sessions[request.session]
+        return reply
+
+    def update(self, request):
+        return self.settled(request) if request.session in self.sessions else Reply(UNKNOWN_SESSION_ID)
+
+    def termination(self, request):
+        reply = self.update(request)
+        self.sessions.pop(request.session, None)
+        return reply
+
+    def settled(self, request):
+        session = self.sessions[request.session]
+        for service in request.services:
+            tariff = self.tariff(service)
+            if tariff:
+                session.held.pop(service.name, None)
+                self.balances[session.account] -= tariff.cost(service.used[tariff.unit])
+        replies = tuple(self.granted(session, request, service) for service in request.services)
+        bare = next((reply for reply in replies if reply.bare), None)
+        return Reply(bare.code if bare else SUCCESS, replies)
+
+    def granted(self, session, request, service):
+        """What a service of a session is answered, with a grant where one is asked and can be paid."""
+        tariff = self.tariff(service)
+        if tariff is None:
+            return ServiceReply(*service.name, service.bare, RATING_FAILED)
+        if service.asked is None or request.kind == TERMINATION:
+            return ServiceReply(*service.name, service.bare, SUCCESS)
+        units, last = tariff.grant(self.free(session.account), asked_units(service, tariff))
+        if last and units == 0:
+            return ServiceReply(*service.name, service.bare, CREDIT_LIMIT_REACHED)
+        session.held[service.name] = tariff.cost(units)
+        return ServiceReply(*service.name, service.bare, SUCCESS, tariff.unit, units, self.site.validity, last)
+
+    def event(self, request):
+        account = self.account_of(request)
+        if account is None and request.action != PRICE_ENQUIRY:
+            return Reply(USER_UNKNOWN)
+        tariffs = [self.tariff(service) for service in request.services]
+        if not tariffs or None in tariffs:
+            return Reply(RATING_FAILED)
+        asked = [asked_units(*pair) for pair in zip(request.services, tariffs)]
+        total = sum(tariff.cost(units or 0) for tariff, units in zip(tariffs, asked))
+        if request.action == PRICE_ENQUIRY:
+            return Reply(SUCCESS, cost=total) if total <= DIGITS_LIMIT else Reply(RATING_FAILED)
+        if request.action == CHECK_BALANCE:
+            return Reply(SUCCESS, check=0 if total <= self.free(account) else 1)
+        if request.action == REFUND_ACCOUNT:
+            self.balances[account] += total
+            return Reply(SUCCESS)
+        if total > self.free(account):
+            return Reply(CREDIT_LIMIT_REACHED)
+        self.balances[account] -= total
+        shown = [ServiceReply(*service.name, service.bare, SUCCESS, tariff.unit, units)
+                 for service, tariff, units in zip(request.services, tariffs, asked)]
+        return Reply(SUCCESS, tuple(shown))
+
+    def report(self):
+        yield f"entries {len(self.kept)} open {len(self.sessions)}\n"
+        for (kind, subscriber), balance in self.balances.items():
+            reserved = self.reserved((kind, subscriber))
+            yield f"account {kind} {subscriber} balance {balance} reserved {reserved}\n"
+
+
+def asked_units(service, tariff):
+    """The units that a service asks for, None where it asks nothing; the tariff's quantum where no count is there."""
+    return None if service.asked is None else service.asked.get(tariff.unit, tariff.quantum)

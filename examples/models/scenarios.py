@@ -1,0 +1,232 @@
+"""Schedules written by hand, each with what it shows. `SCENARIOS` has those that are stored."""
+import textwrap
+from dataclasses import replace
+
+from credit_control import CC_REQUEST_NUMBER, RATING_GROUP
+from diameter import DESTINATION_REALM, MESSAGE_LIMIT, PROXIABLE, ROUTE_RECORD, Avp, number, text
+from messages import DEBIT, PROXY, again, appended, of_session, to_host, to_realm, without
+from row_site import C1, C2, F1, F2, R1, R2, ROW_SITE
+from world import World, spelled_step
+
+
+class Script:
+    """A schedule: steps one by one, and those that mostly come together."""
+
+    def __init__(self, comment):
+        self.comment, self.steps = " ".join(comment.split()), []
+
+    def step(self, word, *arguments):
+        self.steps.append((word, *arguments))
+        return self
+
+    def up(self, *pairs):
+        for pair in pairs:
+            self.step("up", *pair)
+        return self
+
+    def send(self, *path, message):
+        """A client's message to the first node, delivered along the whole path."""
+        return self.step("send", *path[:2], message).carry(*path)
+
+    def carry(self, *path):
+        """The first message in flight, delivered from node to node."""
+        for pair in zip(path, path[1:]):
+            self.step("deliver", *pair, 0)
+        return self
+
+    def charge(self, front, worker, moment):
+        return self.step("pick", front, worker).step("charge", front, worker, moment)
+
+    def answer(self, front, moment, worker=0):
+        return self.charge(front, worker, moment).step("emit", front, worker)
+
+    def text(self):
+        comment = textwrap.wrap(self.comment, 116, break_on_hyphens=False)
+        return "".join([f"# {line}\n" for line in comment] + [spelled_step(*step) for step in self.steps])
+
+    def played(self, site=ROW_SITE, **options):
+        world = World(site, **options)
+        for step in self.steps:
+            world.play(*step)
+        return world
+
+
+def relayed_debit():
+    script = Script("""A debit goes from c1 by r1 to f1, is charged there, and its answer comes back the same way. r1
+        tells in a Route-Record who sent it, and puts an identifier of its own in the place of the client's, which
+        the answer has again.""")
+    return script.up((C1, R1), (R1, F1)).send(C1, R1, F1, message=DEBIT).answer(F1, 1000).carry(F1, R1, C1)
+
+
+def lost_answer():
+    script = Script("""A debit by r1 is charged at f1, and its answer is lost on the way. The client sends it again with
+        the flag T and Hop-by-Hop Identifier 8: it is charged once, and the one answer that comes has identifier 8.""")
+    script.up((C1, R1), (R1, F1)).send(C1, R1, F1, message=DEBIT).answer(F1, 1000).step("lose", F1, R1, 0)
+    return script.send(C1, R1, F1, message=again(DEBIT, 8)).answer(F1, 2000).carry(F1, R1, C1)
+
+
+def restarted_relay():
+    script = Script("""A debit by r1 is charged at f1. r1 restarts before the answer goes out, so that f1 has nowhere to
+        send it. The client connects anew, by connection 3, and sends the debit again with the flag T: it is
+        charged once, and answered once.""")
+    script.up((C1, R1), (R1, F1)).send(C1, R1, F1, message=DEBIT).charge(F1, 0, 1000)
+    script.step("restart", R1).step("emit", F1, 0).up((C1, R1), (R1, F1))
+    return script.send(C1, R1, F1, message=again(DEBIT, 8)).answer(F1, 2000).carry(F1, R1, C1)
+
+
+def loop():
+    script = Script("""The realm loop.example leads from r1 to r2 and from r2 to r1. r1 finds itself in a Route-Record
+        and refuses the request, LOOP_DETECTED; the refusal goes back by r2 and r1 to the client.""")
+    script.up((C1, R1), (R1, R2)).send(C1, R1, R2, R1, message=to_realm(DEBIT, "loop.example"))
+    return script.carry(R1, R2, R1, C1)
+
+
+def failover():
+    script = Script("""f1 has charged a debit when its connection with r1 is cut. r1 sends the debit to f2, with the
+        flag T; all fronts share one account book, so that it is charged once. The answer comes from f2.""")
+    script.up((C1, R1), (R1, F1), (R1, F2)).send(C1, R1, F1, message=DEBIT).charge(F1, 0, 1000).step("cut", R1, F1)
+    return script.carry(R1, F2).answer(F2, 2000).carry(F2, R1, C1)
+
+
+def failover_while_picked():
+    script = Script("""A worker of f1 has picked a debit, and not yet charged it, when the connection with r1 is cut. r1
+        sends the debit to f2, which charges it first; what f1 charges after that is a repeat.""")
+    script.up((C1, R1), (R1, F1), (R1, F2)).send(C1, R1, F1, message=DEBIT).step("pick", F1, 0).step("cut", R1, F1)
+    script.carry(R1, F2).charge(F2, 0, 1000).step("charge", F1, 0, 2000).step("emit", F2, 0)
+    return script.carry(F2, R1, C1)
+
+
+def failover_of_two():
+    script = Script("""Two debits, of one account and from two clients, wait at f1 when it restarts. r1 sends both to
+        f2, in the order of identifiers that it chose itself; no line of the output can tell which came first,
+        since each client gets one answer, and they are delivered in an order of this schedule.""")
+    script.up((C1, R1), (C2, R1), (R1, F1), (R1, F2)).send(C1, R1, F1, message=DEBIT)
+    script.send(C2, R1, F1, message=of_session(DEBIT, "c2;1;1")).step("restart", F1).carry(R1, F2).carry(R1, F2)
+    script.charge(F2, 0, 1000).charge(F2, 1, 2000).step("emit", F2, 0).step("emit", F2, 1)
+    return script.carry(F2, R1).carry(F2, R1).carry(R1, C2).carry(R1, C1)
+
+
+def by_two_relays():
+    script = Script("""Neither front is connected with r1, so that debits go by r2, which is the last of its route. f1
+        restarts while one waits there: r2 sends it to f2, and its answer comes back by r2 and r1. Then r2
+        restarts, and r1 has nowhere to send the next debit, which waits at f2: the client gets UNABLE_TO_DELIVER
+        from r1, though that debit is charged.""")
+    script.up((C1, R1), (R1, R2), (R2, F1), (R2, F2)).send(C1, R1, R2, F1, message=DEBIT).step("restart", F1)
+    script.carry(R2, F2).answer(F2, 1000).carry(F2, R2, R1, C1)
+    script.send(C1, R1, R2, F2, message=replace(of_session(DEBIT, "c1;1;2"), hop=8)).step("restart", R2)
+    return script.answer(F2, 2000).carry(R1, C1)
+
+
+def three_ways():
+    script = Script("""One debit takes three ways. f1 has its answer on the way back when the connection with r1 is cut:
+        r1 sends the debit to f2. f2 has picked it when it restarts: r1 sends the debit to r2, and r2 to f1. It is
+        charged there as a repeat, and the answer comes back by r2 and r1. Of the first answer nothing is left, and
+        f2 has forgotten what it had picked.""")
+    script.up((C1, R1), (R1, F1), (R1, F2), (R1, R2), (R2, F1)).send(C1, R1, F1, message=DEBIT).answer(F1, 1000)
+    script.step("cut", F1, R1).carry(R1, F2).step("pick", F2, 1).step("restart", F2).step("charge", F2, 1, 2000)
+    return script.carry(R1, R2, F1).answer(F1, 3000).carry(F1, R2, R1, C1)
+
+
+def loop_cut():
+    script = Script("""A debit for loop.example is on its way back from r2 to r1 when their connection is cut. r2 has
+        sent it to where it came from: nobody is left to whom r2 could say anything. r1 has no other peer for that
+        realm, and refuses it, UNABLE_TO_DELIVER, though two fronts are connected. After the connection is made
+        again, nothing is in flight there, so that two steps do not apply.""")
+    script.up((C1, R1), (R1, R2), (R1, F1), (R2, F2)).send(C1, R1, R2, message=to_realm(DEBIT, "loop.example"))
+    return script.step("cut", R2, R1).carry(R1, C1).up((R1, R2)).carry(R1, R2).carry(R2, R1)
+
+
+def old_connection():
+    script = Script("""Answers go back on the connection that their requests came on, and on no other one between the
+        same nodes. c1 sends a debit to f1 directly and one by r1; both connections of c1 are cut and made again
+        before the answers go out, so that the last three steps do not apply. Both debits are charged. r1 still
+        takes the answer to the second, and has nobody to give it to.""")
+    script.up((C1, F1), (C1, R1), (R1, F1)).send(C1, F1, message=DEBIT)
+    script.send(C1, R1, F1, message=of_session(DEBIT, "c1;1;2")).step("pick", F1, 0)
+    script.step("cut", C1, F1).step("cut", R1, C1).up((C1, F1), (C1, R1))
+    script.step("charge", F1, 0, 1000).answer(F1, 2000, worker=1).step("emit", F1, 0).carry(F1, R1)
+    return script.carry(F1, C1).carry(R1, C1).carry(F1, R1)
+
+
+def host_gone():
+    script = Script("""A debit for Destination-Host f1 is charged there, and the connection with r1 is cut before its
+        answer goes out. f1 alone may get that debit, so that r1 refuses it, UNABLE_TO_DELIVER. The client sends
+        the debit without Destination-Host, and f2 answers what was answered to the first.""")
+    script.up((C1, R1), (R1, F1), (R1, F2)).send(C1, R1, F1, message=to_host(DEBIT, F1)).charge(F1, 0, 1000)
+    script.step("cut", R1, F1).carry(R1, C1)
+    return script.send(C1, R1, F2, message=DEBIT).answer(F2, 2000).carry(F2, R1, C1)
+
+
+def client_gone():
+    script = Script("""Two clients send debits by r1, both with Hop-by-Hop Identifier 7. The connection of c1 is cut
+        before its answer comes: that answer goes nowhere, and c2 gets its own.""")
+    script.up((C1, R1), (C2, R1), (R1, F1)).send(C1, R1, F1, message=DEBIT)
+    script.send(C2, R1, F1, message=of_session(DEBIT, "c2;1;1"))
+    script.charge(F1, 0, 1000).charge(F1, 1, 2000).step("cut", C1, R1).step("emit", F1, 0).step("emit", F1, 1)
+    return script.carry(F1, R1).carry(F1, R1).carry(R1, C2)
+
+
+def nowhere_to_go():
+    script = Script("""A debit waits in f1's queue when the client that sent it is gone, and then the connection of r1
+        and f1 is cut. Nobody waits for an answer: r1 sends nothing, neither to f2 nor to the client that has
+        connected anew, so that the last two steps do not apply.""")
+    script.up((C1, R1), (R1, F1), (R1, F2)).send(C1, R1, F1, message=DEBIT).step("cut", C1, R1).up((C1, R1))
+    return script.step("cut", R1, F1).carry(R1, F2).carry(R1, C1)
+
+
+def relay_refusals():
+    script = Script("""What a relay refuses, in the order in which it looks: a body that is no list of AVPs; a
+        Route-Record with its own name, in either case; P clear; Destination-Host without Destination-Realm; its
+        own name as Destination-Host, and a request without either; a client as Destination-Host, and a front that
+        is not connected; an unknown realm, but not where a front is named; another application; a realm whose only
+        peer is not connected. The last request names f1, and is forwarded in spite of its realm.""")
+    script.up((C1, R1), (R1, F1))
+    proxied = appended(DEBIT, PROXY)
+    no_list = replace(proxied, body=proxied.body + number(RATING_GROUP, 10).octets()[:8])
+    looping = appended(proxied, text(ROUTE_RECORD, C1), text(ROUTE_RECORD, "R1.Example"))
+    realmless = without(DEBIT, DESTINATION_REALM)
+    for message in [no_list, looping, replace(looping, flags=looping.flags ^ PROXIABLE),
+                    replace(proxied, flags=proxied.flags ^ PROXIABLE), to_host(realmless, F1), to_host(realmless, R1),
+                    to_host(DEBIT, "R1.EXAMPLE"), realmless, to_host(DEBIT, C2), to_host(DEBIT, F2),
+                    to_realm(DEBIT, "example"), to_realm(DEBIT, "loop.example"), replace(DEBIT, application=5),
+                    to_host(replace(DEBIT, application=5), C1)]:
+        script.send(C1, R1, message=message).carry(R1, C1)
+    return script.send(C1, R1, F1, message=to_host(to_realm(DEBIT, "x"), F1)).answer(F1, 1000).carry(F1, R1, C1)
+
+
+def no_room():
+    script = Script("""A debit so long that it has no room for a Route-Record: r1 refuses it, UNABLE_TO_DELIVER. The
+        largest that has room is forwarded, and charged; f1 does not mind an AVP that it does not know, if that
+        lacks the flag M.""")
+    script.up((C1, R1), (R1, F1))
+    # An AVP without M has 8 octets before its value, and a Route-Record with this client's name takes 20.
+    room = MESSAGE_LIMIT - DEBIT.length - 8
+    script.send(C1, R1, message=appended(DEBIT, Avp(999, bytes(room - 16), 0))).carry(R1, C1)
+    script.send(C1, R1, F1, message=appended(DEBIT, Avp(999, bytes(room - 20), 0)))
+    return script.answer(F1, 1000).carry(F1, R1, C1)
+
+
+def front_refusals():
+    script = Script("""Requests that r1 forwards and f1 refuses: another application for Destination-Host f1, another
+        command, a request without CC-Request-Number, one whose Rating-Group reaches beyond its group, an unknown
+        AVP with the flag M; and one that f1 refuses without a look, TOO_BUSY, and charges when it comes again.
+        Proxy-Info comes back in each answer.""")
+    script.up((C1, R1), (R1, F1))
+    proxied = appended(DEBIT, PROXY)
+    rating_group = number(RATING_GROUP, 10).octets()
+    beyond = proxied.body.replace(rating_group, rating_group[:7] + b"\x10" + rating_group[8:])
+    for message in [to_host(replace(proxied, application=5), F1), replace(proxied, command=271),
+                    without(proxied, CC_REQUEST_NUMBER), replace(proxied, body=beyond),
+                    appended(proxied, number(9999, 1))]:
+        script.send(C1, R1, F1, message=message).answer(F1, 1000).carry(F1, R1, C1)
+    script.send(C1, R1, F1, message=proxied).step("pick", F1, 1).step("refuse", F1, 1).step("emit", F1, 1)
+    script.carry(F1, R1, C1)
+    return script.send(C1, R1, F1, message=again(proxied, 8)).answer(F1, 2000).carry(F1, R1, C1)
+
+
+SCENARIOS = {"relayed-debit": relayed_debit, "lost-answer": lost_answer, "restarted-relay": restarted_relay,
+             "loop": loop, "loop-cut": loop_cut, "failover": failover, "failover-while-picked": failover_while_picked,
+             "failover-of-two": failover_of_two, "three-ways": three_ways, "by-two-relays": by_two_relays,
+             "host-gone": host_gone, "client-gone": client_gone, "old-connection": old_connection,
+             "nowhere-to-go": nowhere_to_go, "relay-refusals": relay_refusals, "no-room": no_room,
+             "front-refusals": front_refusals}

@@ -1,0 +1,235 @@
+"""The farm as a whole: its connections, what is in flight on them, the steps of a schedule, and what is printed.
+
+A connection is two lists of messages in flight, one for each direction. Connections are numbered from 1 in the order
+in which they are made. A step that does not apply changes nothing and is counted.
+"""
+import re
+from dataclasses import dataclass, field
+
+from book import Book
+from diameter import Message
+from nodes import Client, Front, Relay
+from row_site import CLIENT, FRONT, RELAY
+
+SCHEDULE_LIMIT, STEPS_LIMIT = 16_777_216, 1_000_000
+# The words of a schedule, each with what follows it.
+WORDS = {"up": "node node", "send": "node node message", "deliver": "node node number", "lose": "node node number",
+         "cut": "node node", "restart": "node", "pick": "node number", "charge": "node number number",
+         "refuse": "node number", "emit": "node number"}
+
+
+def lowest_free(used, old):
+    """The lowest Hop-by-Hop Identifier that is free."""
+    return next(hop for hop in range(len(used) + 1) if hop not in used)
+
+
+@dataclass
+class Connection:
+    """`flights` has a list of messages for each direction, by the name of the node that sends."""
+
+    number: int
+    flights: dict = field(default_factory=dict)
+
+    def other(self, node):
+        return next(name for name in self.flights if name != node)
+
+
+class World:
+    """A farm over a site. `choose` is how relays choose Hop-by-Hop Identifiers, which clients never see."""
+
+    def __init__(self, site, choose=lowest_free):
+        self.site, self.book, self.received = site, Book(site), []
+        self.connections, self.made, self.steps, self.skipped = {}, 0, 0, 0
+        makers = {RELAY: lambda name: Relay(name, site, choose), FRONT: lambda name: Front(name, site, self.book),
+                  CLIENT: lambda name: Client(name, self.received)}
+        self.nodes = {name: makers[kind](name) for name, kind in site.nodes.items()}
+
+    def play(self, word, *arguments):
+        """Takes one step, and tells whether it applies."""
+        applies = getattr(self, word)(*arguments)
+        self.steps += 1
+        self.skipped += not applies
+        return applies
+
+    def connection(self, a, b):
+        return self.connections.get(frozenset((a, b)))
+
+    def flight(self, a, b):
+        """What is in flight from `a` to `b`, or None where they are not connected."""
+        connection = self.connection(a, b)
+        return connection and connection.flights[a]
+
+    def post(self, sender, outs):
+        """What a node sends joins the ends of the lists of its connections."""
+        for number, message in outs:
+            for connection in self.connections.values():
+                if connection.number == number:
+                    connection.flights[sender].append(message)
+
+    def up(self, a, b):
+        if frozenset((a, b)) not in self.site.linked or self.connection(a, b):
+            return False
+        self.made += 1
+        self.connections[frozenset((a, b))] = Connection(self.made, {a: [], b: []})
+        self.nodes[a].conn_up(b, self.made)
+        self.nodes[b].conn_up(a, self.made)
+        return True
+
+    def send(self, client, node, message):
+        if self.site.nodes[client] != CLIENT or not self.connection(client, node):
+            return False
+        self.flight(client, node).append(message)
+        return True
+
+    def taken(self, a, b, place):
+        """The message at this place from `a` to `b`, which leaves the list; None where there is none."""
+        flight = self.flight(a, b) or []
+        return flight.pop(place) if place < len(flight) else None
+
+    def deliver(self, a, b, place):
+        message = self.taken(a, b, place)
+        if message is None:
+            return False
+        self.post(b, self.nodes[b].on_message(self.connection(a, b).number, message))
+        return True
+
+    def lose(self, a, b, place):
+        return self.taken(a, b, place) is not None
+
+    def cut(self, a, b):
+        connection = self.connections.pop(frozenset((a, b)), None)
+        if connection is None:
+            return False
+        for node in (a, b):
+            self.post(node, self.nodes[node].conn_lost(connection.number))
+        return True
+
+    def restart(self, node):
+        if self.site.nodes[node] == CLIENT:
+            return False
+        self.nodes[node].restart()
+        for pair, connection in sorted(self.connections.items(), key=lambda item: item[1].number):
+            if node in pair:
+                del self.connections[pair]
+                other = connection.other(node)
+                self.post(other, self.nodes[other].conn_lost(connection.number))
+        return True
+
+    def front(self, name):
+        return self.nodes[name] if self.site.nodes[name] == FRONT else None
+
+    def pick(self, name, worker):
+        front = self.front(name)
+        if not front or not front.can_pick(worker):
+            return False
+        front.pick(worker)
+        return True
+
+    def charge(self, name, worker, _moment):
+        """The moment would matter to a sweep alone, and there is none in these schedules."""
+        front = self.front(name)
+        if not front or not front.can_answer(worker):
+            return False
+        front.charge(worker)
+        return True
+
+    def refuse(self, name, worker):
+        front = self.front(name)
+        if not front or not front.can_answer(worker):
+            return False
+        front.refuse(worker)
+        return True
+
+    def emit(self, name, worker):
+        front = self.front(name)
+        if not front or not front.can_emit(worker):
+            return False
+        self.post(name, front.emit(worker))
+        return True
+
+    def output(self):
+        """What is printed after the last step."""
+        for client, conn, message in self.received:
+            yield f"recv {client} {conn} {message.octets().hex()}\n"
+        yield f"end steps {self.steps} skipped {self.skipped} entries {len(self.book.kept)}\n"
+        yield from self.book.report()
+
+
+class BadSchedule(Exception):
+    """A text that is no schedule, and what is told of it."""
+
+
+def steps_of(octets, site):
+    """The steps of a schedule. Raises BadSchedule with the first fault."""
+    if len(octets) > SCHEDULE_LIMIT:
+        raise BadSchedule("schedule: too long")
+    lines = octets.split(b"\n")
+    steps = []
+    for at, line in enumerate(lines, 1):
+        if at < len(lines):
+            line = line.removesuffix(b"\r")
+        if not line or line.startswith(b"#"):
+            continue
+        try:
+            step = step_of(line, site)
+            if len(steps) >= STEPS_LIMIT:
+                raise BadSchedule("too many steps")
+        except BadSchedule as fault:
+            raise BadSchedule(f"schedule: line {at}: {fault}") from None
+        steps.append(step)
+    return steps
+
+
+def step_of(line, site):
+    """One step: a word and its arguments. Faults of names come before those of numbers, and those of messages last."""
+    words = [word.decode("latin-1") for word in line.split(b" ") if word]
+    if not words or words[0] not in WORDS:
+        raise BadSchedule("unknown word")
+    kinds = WORDS[words[0]].split()
+    if len(words) != 1 + len(kinds):
+        raise BadSchedule("wrong count")
+    readings = {"node": lambda word: node_of(word, site), "number": number_of, "message": message_of}
+    read = {}
+    for kind in ("node", "number", "message"):
+        for at, word in enumerate(words[1:]):
+            if kinds[at] == kind:
+                read[at] = readings[kind](word)
+    return words[0], *(read[at] for at in range(len(kinds)))
+
+
+def node_of(word, site):
+    """Names of nodes are compared without case; those of a site are written in lower case here."""
+    for name in site.nodes:
+        if word.encode("latin-1").lower() == name.encode().lower():
+            return name
+    raise BadSchedule("unknown name")
+
+
+def number_of(word):
+    digits = word.lstrip("0") or "0"
+    if not re.fullmatch("[0-9]+", word) or len(digits) > 20 or int(digits) >= 2**64:
+        raise BadSchedule("bad number")
+    return int(digits)
+
+
+def message_of(word):
+    if len(word) % 2 or not re.fullmatch("[0-9a-fA-F]+", word):
+        raise BadSchedule("bad hex")
+    message = Message.read(bytes.fromhex(word))
+    if message is None:
+        raise BadSchedule("bad message")
+    return message
+
+
+def spelled_step(word, *arguments):
+    """A step as a line of a schedule."""
+    words = [argument.octets().hex() if isinstance(argument, Message) else str(argument) for argument in arguments]
+    return " ".join([word, *words]) + "\n"
+
+
+def played(octets, site, choose=lowest_free):
+    """The farm after a schedule."""
+    world = World(site, choose)
+    for step in steps_of(octets, site):
+        world.play(*step)
+    return world
