@@ -1,24 +1,26 @@
 -- Wherever a message can come to a relay, the connection stands in the other direction too, so that its answer is put in flight.
 use Rattle.std.proofs.Common.{◌≡◌, ℕ, Bool, true, false, List, [], ◌∷◌, map, Option, Some, None, inl, inr, refl, sym, subst, ap, ◌∙◌, eq-eqb}
-use Rattle.std.specs.Prelude.{◌⊎◌, ◌&&◌, ◌==◌, option_map, IsSome, is_some}
-use Rattle.std.specs.List.{find, list_any}
+use Rattle.std.specs.Prelude.{◌⊎◌, ◌&&◌, option_map, IsSome, is_some}
+use Rattle.std.specs.List.{find}
 use Rattle.std.proofs.lemmas.Bool.{eqb-true}
 use Rattle.dia_base.specs.declared.number.ConnId.{ConnId}
 use Rattle.dia_base.specs.declared.number.NodeNo.{NodeNo}
 use Rattle.relay_peers.specs.declared.peers.Link.{Link}
 use Rattle.relay_peers.specs.PeerTable as peer_table
 use Rattle.relay_core.specs.RelayState.{RelayState}
-use Rattle.farm_law.specs.Lists.{Has, here, there}
+use Rattle.farm_law.specs.Lists.{Has}
 use Rattle.farm_model.specs.declared.site.Site.{Site}
 use Rattle.farm_model.specs.declared.state.Direction.{Direction}
 use Rattle.farm_model.specs.FarmStep.{Flight, flight_at}
-use Rattle.farm_model.specs.Nodes.{is_node, is_relay}
+use Rattle.farm_model.specs.Nodes.{is_relay}
 use Rattle.farm_model.specs.World.{WorldState, is_on, is_outward, relay_at}
-use Rattle.farm_model.proofs.KnowsPeers.{Side, side_of, sides, LinkStandsBut, KnowsPeers}
-use Rattle.farm_model.proofs.ListLemmas.{find-passes}
-use Rattle.farm_model.proofs.Placing.{Has-cons, Has-found, Has-map}
+use Rattle.farm_model.proofs.KnowsPeers.{LinkStandsBut, KnowsPeers}
+use Rattle.farm_model.proofs.Sides.{Side, side_of, sides}
+use Rattle.dia_base.proofs.Finding.{found_passes}
+use Rattle.farm_model.proofs.Among.{Has-cons, Has-map}
+use Rattle.farm_model.proofs.Finding.{Has-found}
 use Rattle.farm_model.proofs.RelayPlaces.{relay_there}
-use Rattle.farm_model.proofs.SamePeers.{FlightStands, flight_stands}
+use Rattle.farm_model.proofs.SamePeers.{flight_stands}
 
 goes_forth : (directions : List Direction) (node : NodeNo) (link : Link) (conn : ConnId) (from : NodeNo) → link.conn ≡ conn → link.peer ≡ from → LinkStandsBut [] directions node link → Has (conn, node, from) (sides directions)
 goes_forth directions node link conn from conn_is peer_is stands = elim stands [
@@ -33,7 +35,7 @@ answer_stands {w} known node relay conn from at h = go (find (peer_table.is_on c
     go : (o : Option Link) → find (peer_table.is_on conn) relay.node.peers.links ≡ o → option_map (λ (link : Link). link.peer) o ≡ Some from → Has (conn, node, from) (sides w.directions)
     go None e k = absurd cc
     go (Some link) e k =
-        let conn_is : link.conn ≡ conn = ap (λ (n : ℕ). record { 0 = n }) (eqb-true link.conn.0 conn.0 (find-passes (peer_table.is_on conn) relay.node.peers.links link e)) in
+        let conn_is : link.conn ≡ conn = ap (λ (n : ℕ). record { 0 = n }) (eqb-true link.conn.0 conn.0 (found_passes (peer_table.is_on conn) relay.node.peers.links link e)) in
         let peer_is : link.peer ≡ from = cc in
         goes_forth w.directions node link conn from conn_is peer_is (known.stands node relay link at (Has-found (peer_table.is_on conn) relay.node.peers.links e))
 

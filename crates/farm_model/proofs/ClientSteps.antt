@@ -1,10 +1,11 @@
 -- A client sends and receives, and a message is lost.
-use Rattle.std.proofs.Common.{◌≡◌, ℕ, Bool, true, false, cond, List, [], ◌∷◌, ◌++◌, Option, Some, None, inl, inr, refl, sym, subst, ap, ◌∙◌}
+use Rattle.std.proofs.Common.{◌≡◌, ℕ, Bool, true, false, cond, List, [], ◌∷◌, ◌++◌, Option, Some, None, refl, sym, subst, ap, ◌∙◌}
 use Rattle.std.specs.Prelude.{flat_map}
 use Rattle.std.specs.List.{find}
 use Rattle.std.proofs.lemmas.Option.{same_Some}
 use Rattle.dia_base.specs.declared.number.ConnId.{ConnId}
 use Rattle.dia_base.specs.declared.number.NodeNo.{NodeNo}
+use Rattle.dia_base.proofs.Finding.{found_passes}
 use Rattle.dia_message.specs.declared.message.Message.{Message}
 use Rattle.farm_law.specs.Farm.{Item, Refused, Farm}
 use Rattle.farm_law.specs.Lists.{Without}
@@ -14,20 +15,25 @@ use Rattle.farm_model.specs.declared.state.Direction.{Direction}
 use Rattle.farm_model.specs.declared.step.Step.TheVariants.{Send, Lose}
 use Rattle.farm_model.specs.Arrival.{after_arrival_at_client}
 use Rattle.farm_model.specs.CheckedSite.{IsChecked}
-use Rattle.farm_model.specs.FarmStep.{after_send_in, after_send, Flight, flight_at, after_loss, Outcome}
+use Rattle.farm_model.specs.FarmStep.{after_send_in, after_send, Flight, flight_at, after_lost_message, Outcome}
 use Rattle.farm_model.specs.Lists.{replace_first}
 use Rattle.farm_model.specs.Nodes.{is_client, is_linked}
 use Rattle.farm_model.specs.Run.{Transition}
-use Rattle.farm_model.specs.World.{Ends, WorldState, is_between, is_on, with_message}
+use Rattle.farm_model.specs.World.{Ends, WorldState, is_between, with_message}
 use Rattle.farm_model.proofs.AsFarm.{parties, ends_of, client_in, in_flight, flights, items_at, items_of, has_ended_in, farm_of}
-use Rattle.farm_model.proofs.Linked.{beside_client, client_beside, client_is, server_is}
-use Rattle.farm_model.proofs.ListLemmas.{find-passes}
-use Rattle.farm_model.proofs.Placing.{Has-found, Has-replaced, Without-last, Without-left, Without-map, Left-without, parts_gain}
-use Rattle.farm_model.proofs.Posting.{Joins-turned, any_replaced}
-use Rattle.farm_model.proofs.Sending.{ended_same}
-use Rattle.farm_model.proofs.StepGoes.{QueuesHoldRequests, Reason, Goes, StepGoes, outcome_goes, one_move, settled, as_before}
+use Rattle.farm_model.proofs.Ending.{same_ended}
+use Rattle.farm_model.proofs.Finding.{Has-found}
+use Rattle.farm_model.proofs.FrontRequests.{QueuesHoldRequests}
+use Rattle.farm_model.proofs.Joined.{Joins-turned, client_is, server_is}
+use Rattle.farm_model.proofs.Linked.{beside_client, client_beside}
+use Rattle.farm_model.proofs.Moving.{one_move, settled}
+use Rattle.farm_model.proofs.Placing.{Without-last, Without-left, Without-map, Left-without, parts_gain}
+use Rattle.farm_model.proofs.Replacing.{map_replaced}
+use Rattle.farm_model.proofs.Sides.{same_on, side_of}
+use Rattle.farm_model.proofs.StepGoes.{Reason, Goes, StepGoes, outcome_goes, as_before}
 use Rattle.farm_model.proofs.Taken.{taken, after_taken}
-use Rattle.farm_model.proofs.Wired.{Joins, DirectionIsWired, IsWired}
+use Rattle.farm_model.proofs.Wired.{Joins, IsWired}
+use Rattle.farm_model.proofs.WiredLemmas.{directions_wired}
 use Rattle.farm_model.proofs.WorldLemmas.{direction_nodes}
 
 module _ (site : Site) (made : Ends) (refused : List Refused) (HasReason : Refused → Type 0) where
@@ -39,7 +45,7 @@ module _ (site : Site) (made : Ends) (refused : List Refused) (HasReason : Refus
   send_as : (w : WorldState) (client to : NodeNo) (message : Message) (direction : Direction) → IsChecked site → is_client site client ≡ true → find (is_between client to) w.directions ≡ Some direction → IsWired site made w → QueuesHoldRequests w.fronts
       → Goes-on w (record w { directions = replace_first (is_between client to) (with_message message direction) w.directions; sent = w.sent ++ (direction.conn, message) ∷ [] })
   send_as w client to message direction checked of_client found wired requests =
-      let is = direction_nodes client to direction (find-passes (is_between client to) w.directions direction found) in
+      let is = direction_nodes client to direction (found_passes (is_between client to) w.directions direction found) in
       let k = wired.directions direction (Has-found (is_between client to) w.directions found) in
       let more : Direction = with_message message direction in
       let sent_on : List Direction = replace_first (is_between client to) more w.directions in
@@ -54,20 +60,16 @@ module _ (site : Site) (made : Ends) (refused : List Refused) (HasReason : Refus
       let moves : Moves (parties site made) old (record old { items = items_of made sent_on w.fronts; sent = w.sent ++ (direction.conn, message) ∷ [] }) =
       one_move (sends direction.conn direction.to message (ap (is_client site) client_on ∙ from_client) to_none
       (subst (λ (n : NodeNo). Without (record { conn = direction.conn; from = n; to = direction.to; message = message }) (items_of made sent_on w.fronts) (items_of made w.directions w.fronts)) (sym client_on) new)) in
-      let stands = λ (c : ConnId). any_replaced (is_on c) (is_between client to) direction more w.directions found refl in
+      let stands = λ (c : ConnId). same_on w.directions sent_on c (map_replaced side_of (is_between client to) direction more w.directions found refl) in
       record {
         leads = record {
           refused = refused;
-          moves = settled (parties site made) made refused old after (has_ended_in w.ends w.directions) moves (λ c e. sym (ended_same w.ends w.directions sent_on c (stands c)) ∙ e);
+          moves = settled (parties site made) made refused old after (has_ended_in w.ends w.directions) moves (λ c e. same_ended w.ends w.directions sent_on c (stands c) ∙ e);
           caused = as_before HasReason refused;
         };
         wired = record {
           begins = wired.begins;
-          directions = λ d h.
-              elim (Has-replaced (is_between client to) more w.directions h) [
-                | inl e ↦ subst (DirectionIsWired site made w.ends) (sym e) (record { joins = k.joins; below = k.below; linked = k.linked })
-                | inr g ↦ wired.directions d g
-              ];
+          directions = directions_wired (is_between client to) direction (direction.messages ++ message ∷ []) w.directions found wired.directions;
           fronts = wired.fronts;
           relays = wired.relays;
           alone = wired.alone;
@@ -90,7 +92,7 @@ module _ (site : Site) (made : Ends) (refused : List Refused) (HasReason : Refus
 
   -- ---- lose
 
-  loss_in_goes : (w after : WorldState) (from to : NodeNo) (place : ℕ) (found : Option Flight) → flight_at w.directions from to place ≡ found → after_loss w found ≡ Some after → IsWired site made w → QueuesHoldRequests w.fronts → Goes-on w after
+  loss_in_goes : (w after : WorldState) (from to : NodeNo) (place : ℕ) (found : Option Flight) → flight_at w.directions from to place ≡ found → after_lost_message w found ≡ Some after → IsWired site made w → QueuesHoldRequests w.fronts → Goes-on w after
   loss_in_goes w after from to place None e is wired requests = absurd cc
   loss_in_goes w after from to place (Some flight) e is wired requests =
       let t = taken site made w from to place wired flight e in
@@ -100,7 +102,7 @@ module _ (site : Site) (made : Ends) (refused : List Refused) (HasReason : Refus
         requests = requests;
       }))
 
-  pub after_loss_goes : (w after : WorldState) (from to : NodeNo) (place : ℕ) → after_loss w (flight_at w.directions from to place) ≡ Some after → IsWired site made w → QueuesHoldRequests w.fronts → Goes-on w after
+  pub after_loss_goes : (w after : WorldState) (from to : NodeNo) (place : ℕ) → after_lost_message w (flight_at w.directions from to place) ≡ Some after → IsWired site made w → QueuesHoldRequests w.fronts → Goes-on w after
   after_loss_goes w after from to place is wired requests = loss_in_goes w after from to place (flight_at w.directions from to place) refl is wired requests
 
   -- ---- a message comes to a client
@@ -123,7 +125,7 @@ pub send_goes : (site : Site) (made : Ends) (t : Transition) (refused : List Ref
 send_goes site made t refused client to message checked step o wired requests =
     outcome_goes site made t refused (after_send site t.before client to message) o wired requests (λ after is. after_send_goes site made refused (Reason t) t.before after client to message checked is wired requests)
 
-pub lose_goes : (site : Site) (made : Ends) (t : Transition) (refused : List Refused) (from to : NodeNo) (place : ℕ) → t.step ≡ Lose from to place → Outcome (after_loss t.before (flight_at t.before.directions from to place)) t.applied t.before t.after
+pub lose_goes : (site : Site) (made : Ends) (t : Transition) (refused : List Refused) (from to : NodeNo) (place : ℕ) → t.step ≡ Lose from to place → Outcome (after_lost_message t.before (flight_at t.before.directions from to place)) t.applied t.before t.after
     → IsWired site made t.before → QueuesHoldRequests t.before.fronts → StepGoes site made t refused
 lose_goes site made t refused from to place step o wired requests =
-    outcome_goes site made t refused (after_loss t.before (flight_at t.before.directions from to place)) o wired requests (λ after is. after_loss_goes site made refused (Reason t) t.before after from to place is wired requests)
+    outcome_goes site made t refused (after_lost_message t.before (flight_at t.before.directions from to place)) o wired requests (λ after is. after_loss_goes site made refused (Reason t) t.before after from to place is wired requests)

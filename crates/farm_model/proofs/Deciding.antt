@@ -1,5 +1,5 @@
 -- A request that goes out goes to a peer that is up and is no client.
-use Rattle.std.proofs.Common.{◌≡◌, ℕ, Bool, true, false, List, [], ◌∷◌, Option, Some, None, Result, Ok, Err, refl, sym, subst, ap, ◌∙◌}
+use Rattle.std.proofs.Common.{◌≡◌, ℕ, Bool, true, false, List, [], ◌∷◌, Option, Some, None, refl, sym, subst, ap, ◌∙◌, Result, Ok, Err}
 use Rattle.std.specs.Prelude.{◌&&◌, ◌||◌, nat_le, filter, length}
 use Rattle.std.specs.List.{find, list_all, list_any}
 use Rattle.std.proofs.lemmas.Bool.{and_parts}
@@ -13,6 +13,7 @@ use Rattle.relay_peers.specs.declared.peers.LinkedPeer.{LinkedPeer}
 use Rattle.relay_peers.specs.PeerTable.{conn_in}
 use Rattle.relay_routes.specs.declared.routes.RouteFault.{RouteFault}
 use Rattle.relay_routes.specs.declared.routes.RouteFault.TheVariants.{RealmUnknown, NoApplication}
+use Rattle.relay_routes.specs.declared.routes.Route.{Route as RelayRoute}
 use Rattle.relay_routes.specs.Routing.{has_realm, has_realm_and_app, peers_of}
 use Rattle.relay_core.specs.declared.node.RelayNode.{RelayNode}
 use Rattle.relay_core.specs.NextHop.{or_later, first_up, deliverable, hop_to_host, hop_by_realm, hop_by_host, candidates_for, peer_for, host_in, realm_in, next_hop}
@@ -20,34 +21,18 @@ use Rattle.farm_law.specs.Lists.{Has, here, there}
 use Rattle.farm_model.specs.declared.site.Route.{Route}
 use Rattle.farm_model.specs.declared.site.Site.{Site}
 use Rattle.farm_model.specs.CheckedSite.{is_candidate, is_sound_route}
-use Rattle.farm_model.specs.Nodes.{means_client, means_front, means_relay, kind_at, is_node, is_client, is_front, is_relay, is_linked}
+use Rattle.farm_model.specs.Nodes.{means_client, kind_at, is_node, is_client, is_front, is_relay, is_linked}
 use Rattle.farm_model.specs.Run.{peers_from, route_of, routes_at}
-use Rattle.farm_model.proofs.Among.{all_has, Has-unmap}
+use Rattle.farm_model.proofs.Among.{Has-unmap, Has-filter}
+use Rattle.farm_model.proofs.Finding.{Has-found, all_has}
 use Rattle.farm_model.proofs.LinkedPeers.{linked_node}
-use Rattle.farm_model.proofs.Placing.{Has-filter, Has-found}
-
-abbrev RelayRoute : Type 0
-RelayRoute = Rattle.relay_routes.specs.declared.routes.Route.Route
+use Rattle.farm_model.proofs.OneKind.{server_no_client}
 
 -- the connection is that of a peer that is up and is no client
 pub record LeadsToServer (site : Site) (links : List Link) (to : ConnId) : Type 0 where
   pub peer : NodeNo
   pub conn : conn_in links peer ≡ Some to
   pub no_client : is_client site peer ≡ false
-
--- ---- kinds
-
-pub relay_no_client : (k : Option NodeKind) → means_relay k ≡ true → means_client k ≡ false
-relay_no_client None e = refl
-relay_no_client (Some Client) e = absurd cc
-relay_no_client (Some Front) e = refl
-relay_no_client (Some Relay) e = refl
-
-server_no_client : (k : Option NodeKind) → (means_relay k || means_front k) ≡ true → means_client k ≡ false
-server_no_client None e = refl
-server_no_client (Some Client) e = absurd cc
-server_no_client (Some Front) e = refl
-server_no_client (Some Relay) e = refl
 
 -- ---- the first that is up
 
@@ -80,10 +65,10 @@ module _ (site : Site) (node : NodeNo) (relay : RelayNode) (linked : relay.peers
       let from = Has-unmap route_of (filter (λ (r : Route). is_node r.at node) site.routes) (subst (Has route) routes h) in
       let its = from.0 in
       let among = Has-filter (λ (r : Route). is_node r.at node) site.routes from.1 in
-      let good = all_has (is_sound_route site) site.routes sound among.0 in
+      let good = all_has (is_sound_route site) sound among.0 in
       let parts = and_parts (is_relay site its.at && nat_le (length its.peers) 16) (list_all (is_candidate site its.at) its.peers) good in
       let there_too : Has peer its.peers = subst (Has peer) (sym (ap (λ (r : RelayRoute). r.peers) from.2)) g in
-      let fit = all_has (is_candidate site its.at) its.peers parts.1 there_too in
+      let fit = all_has (is_candidate site its.at) parts.1 there_too in
       server_no_client (kind_at site peer) (and_parts (is_linked site its.at peer) (is_relay site peer || is_front site peer) fit).1
 
   by_realm : (found : Result (List NodeNo) RouteFault) (to : ConnId) → ((peers : List NodeNo) → found ≡ Ok peers → (peer : NodeNo) → Has peer peers → is_client site peer ≡ false) → hop_by_realm relay.peers.links found ≡ Ok to → LeadsToServer site relay.peers.links to

@@ -17,7 +17,8 @@ use Rattle.farm_model.specs.World.{Ends, WorldState, front_at, relay_at}
 use Rattle.farm_model.proofs.AsFarm.{items_of, farm_of}
 use Rattle.farm_model.proofs.ClientSteps.{client_receives}
 use Rattle.farm_model.proofs.FrontArrival.{front_receives}
-use Rattle.farm_model.proofs.StepGoes.{QueuesHoldRequests, Reason, Goes, StepGoes, step_goes, idle_goes}
+use Rattle.farm_model.proofs.FrontRequests.{QueuesHoldRequests}
+use Rattle.farm_model.proofs.StepGoes.{Reason, Goes, StepGoes, step_goes, idle_goes}
 use Rattle.farm_model.proofs.Taken.{IsTaken, taken, after_taken}
 use Rattle.farm_model.proofs.Wired.{IsWired}
 

@@ -1,13 +1,13 @@
 -- A relay that has lost a connection sends again, gives up or drops what it had sent on it: moves of the farm, one a request.
-use Rattle.std.proofs.Common.{◌≡◌, ℕ, true, not, List, [], ◌∷◌, ◌++◌, map, Option, Some, None, Ok, Err, inl, inr, refl, sym, subst, ap, ◌∙◌}
+use Rattle.std.proofs.Common.{◌≡◌, ℕ, true, not, List, [], ◌∷◌, ◌++◌, map, Option, Some, None, inl, inr, refl, sym, subst, ap, ◌∙◌, Ok, Err}
 use Rattle.std.specs.Prelude.{◌⊎◌, MatchOption}
 use Rattle.dia_base.specs.declared.number.ConnId.{ConnId}
 use Rattle.dia_base.specs.declared.number.NodeNo.{NodeNo}
 use Rattle.dia_message.specs.declared.message.Message.{Message}
 use Rattle.dia_message.specs.Traffic.{Traffic}
+use Rattle.cc_view.specs.declared.code.ResultCode.{ResultCode}
 use Rattle.cc_view.specs.Answer.{refusal_of}
 use Rattle.cc_view.specs.Refusal.{avps_of, refusal_with}
-use Rattle.cc_view.specs.declared.code.ResultCode.{ResultCode}
 use Rattle.relay_peers.specs.declared.peers.Link.{Link}
 use Rattle.relay_peers.specs.PeerTable.{is_on, peer_in}
 use Rattle.relay_hops.specs.declared.row.Held.{Held}
@@ -24,6 +24,7 @@ use Rattle.farm_law.specs.Farm.{Asker, Pending, Refused, Farm}
 use Rattle.farm_law.specs.Lists.{Has, Without}
 use Rattle.farm_law.specs.Moves.{Moves, done, next as then_moves, Orphaned, orphans, drops, sends_again, gives_up}
 use Rattle.farm_law.specs.Parties.{Parties}
+use Rattle.farm_law.proofs.Lists.{Has-without, Has-more, Has-split, all-in}
 use Rattle.farm_model.specs.declared.site.Site.{Site}
 use Rattle.farm_model.specs.declared.state.Direction.{Direction}
 use Rattle.farm_model.specs.Arrival.{RelayTurn, after_relay_turn}
@@ -31,15 +32,20 @@ use Rattle.farm_model.specs.Cause.{IsStranded}
 use Rattle.farm_model.specs.CheckedSite.{IsChecked}
 use Rattle.farm_model.specs.Loss.{Loss}
 use Rattle.farm_model.specs.World.{Ends, WorldState, with_message_from, with_traffic_from, relay_at}
+use Rattle.farm_model.proofs.Among.{Has-unmap, Has-filter}
 use Rattle.farm_model.proofs.AsFarm.{other_end, name_at, parties, items_of, asker_of, pending_of, has_ended_in, farm_of, LeadsTo}
-use Rattle.farm_model.proofs.Among.{Has-unmap, Has-more, Has-either}
+use Rattle.farm_model.proofs.Moving.{join, put}
 use Rattle.farm_model.proofs.Orphaning.{rows_orphaned, is_stranded}
-use Rattle.farm_model.proofs.Placing.{Has-cons, Has-parts, Has-filter, Has-without, Left-without}
-use Rattle.farm_model.proofs.Posting.{with_traffic_from-more, traffic_wired, join, put}
+use Rattle.farm_model.proofs.Placing.{Left-without}
+use Rattle.farm_model.proofs.Posting.{traffic_wired}
 use Rattle.farm_model.proofs.RelayPeers.{own_name, own_realm, row_sent}
 use Rattle.farm_model.proofs.RowsOf.{RowsStand, rows_stand, IsWith-without, row_less, not_in_use}
-use Rattle.farm_model.proofs.Turning.{seen, posted_across, turn_seen, relay_wired, turn_wired}
+use Rattle.farm_model.proofs.Sending.{posted_across}
+use Rattle.farm_model.proofs.StepGoes.{one_more_refused}
+use Rattle.farm_model.proofs.Turning.{seen, turn_seen, turn_wired}
 use Rattle.farm_model.proofs.Wired.{DirectionIsWired, RelayIsWired, RowIsWired, IsWired}
+use Rattle.farm_model.proofs.WiredLemmas.{relay_wired}
+use Rattle.farm_model.proofs.WorldLemmas.{with_traffic_from-more}
 
 module _ (site : Site) (ends : Ends) (Reason : Refused → Type 0) (checked : IsChecked site) (w : WorldState) (wired : IsWired site ends w) (node : NodeNo) (lost : ConnId) (relay : RelayState)
     (stands : relay_at node w.relays ≡ Some relay) (ended : has_ended_in w.ends w.directions lost ≡ true)
@@ -48,7 +54,7 @@ module _ (site : Site) (ends : Ends) (Reason : Refused → Type 0) (checked : Is
   p = parties site ends
 
   own : RelayIsWired site ends w.ends node relay
-  own = relay_wired site ends w node relay wired stands
+  own = relay_wired wired.relays stands
 
   rows_are : RowsStand ends node w.relays relay
   rows_are = rows_stand ends node w.relays relay (wired.alone node) stands
@@ -99,8 +105,8 @@ module _ (site : Site) (ends : Ends) (Reason : Refused → Type 0) (checked : Is
             (λ some wo. sends_again to (other_end ends to node) hop (row_less ends node rows_are.front rows_are.back out) ended new.peer unused wo (row_less ends node rows_are.front rows_are.back back_in));
         caused = λ r h. inl h;
         left = record {
-          fit = λ r h. elim (Has-either back_in h) [ inl q ↦ subst (RowIsWired site ends w.ends node) (sym q) new | inr g ↦ are.fit r (Has-more out g) ];
-          old = λ r h on. elim (Has-either back_in h) [
+          fit = all-in (RowIsWired site ends w.ends node) back_in (λ r g. are.fit r (Has-more out g)) new;
+          old = λ r h on. elim (Has-split back_in h) [
             | inl q ↦ absurd (next_hop-never (after_end lost relay.node) lost (none_on relay.node.peers.links lost) (avps_in (avps_of held.request.body)) held.request.header.application
                 (goes_to ∙ ap (λ (c : ConnId). Ok c) (ap (λ (x : Row). x.conn) (sym q) ∙ on)))
             | inr g ↦ are.old r (Has-more out g) on
@@ -123,7 +129,7 @@ module _ (site : Site) (ends : Ends) (Reason : Refused → Type 0) (checked : Is
             (items_of ends (with_message_from node directions origin.conn answer) w.fronts) (posted_across site ends w.ends node origin.conn answer directions w.fronts good)
             (λ some wo. gives_up asker (refusal_with code) (row_less ends node rows_are.front rows_are.back out) ended (ap (asker_of ends node) from) own.is_relay
             (subst (λ (m : Message). Without (record { conn = origin.conn; from = node; to = other_end ends origin.conn node; message = under origin.hop m }) some (items_of ends directions w.fronts)) same wo));
-        caused = λ r h. elim (Has-parts refusals h) [ inl g ↦ inl g | inr g ↦ elim (Has-cons g) [ inl q ↦ inr (subst Reason (sym q) reason) | inr k ↦ elim k [ ] ] ];
+        caused = one_more_refused Reason refusals entry reason;
         left = fewer_left less are;
       }
 

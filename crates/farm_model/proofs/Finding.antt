@@ -1,45 +1,53 @@
--- What is among a list that is mapped or filtered, and what a search finds there.
-use Rattle.std.proofs.Common.{◌≡◌, Bool, true, false, cond, List, [], ◌∷◌, ◌++◌, map, Some, None, inl, inr, refl, sym, subst, ap, ◌∙◌}
-use Rattle.std.specs.Prelude.{◌||◌, filter}
+-- What a search in a list finds, and what any, all or none of its items pass.
+use Rattle.std.proofs.Common.{◌≡◌, Bool, true, false, cond, List, [], ◌∷◌, ◌++◌, Option, Some, None, inl, inr, refl, sym, subst, ap, ◌∙◌, arith}
+use Rattle.std.specs.Prelude.{◌||◌, filter, count_by, option_map}
 use Rattle.std.specs.List.{find, list_any, list_all}
 use Rattle.std.proofs.lemmas.Bool.{and_parts}
+use Rattle.std.proofs.lemmas.Option.{same_Some}
+use Rattle.dia_base.proofs.Counting.{one, count-cons}
 use Rattle.farm_law.specs.Lists.{Has, here, there}
-use Rattle.farm_model.proofs.Placing.{Has-cons}
-
--- ---- mapped
-
-pub Has-of_map : {A B : Type 0} (f : A → B) {y : B} (xs : List A) → Has y (map f xs) → (x : A) × Has x xs × (f x ≡ y)
-Has-of_map f [] h = elim h [ ]
-Has-of_map f (x ∷ xs) h = elim (Has-cons h) [ inl e ↦ (x, here, sym e) | inr g ↦ let t = Has-of_map f xs g in (t.0, there t.1, t.2) ]
-
--- ---- filtered
-
--- an item that passes is left
-pub Has-kept : {A : Type 0} (test : A → Bool) {x : A} {xs : List A} → Has x xs → test x ≡ true → Has x (filter test xs)
-Has-kept test {x} (here {xs}) e = subst (λ (b : Bool). Has x (cond b (x ∷ filter test xs) (filter test xs))) (sym e) here
-Has-kept test {x} (there {y} {xs} h) e = go (test y) (Has-kept test h e)
-  where
-    go : (b : Bool) → Has x (filter test xs) → Has x (cond b (y ∷ filter test xs) (filter test xs))
-    go true g = there g
-    go false g = g
+use Rattle.farm_model.proofs.Among.{Has-cons}
 
 -- ---- found
+
+pub Has-found : {A : Type 0} (test : A → Bool) {x : A} (xs : List A) → find test xs ≡ Some x → Has x xs
+Has-found test [] e = absurd cc
+Has-found test {x} (y ∷ ys) e = go (Has-found test ys) (test y) e
+  where
+    go : (find test ys ≡ Some x → Has x ys) → (b : Bool) → cond b (Some y) (find test ys) ≡ Some x → Has x (y ∷ ys)
+    go more true k = let same : y ≡ x = cc in subst (λ (z : _). Has z (y ∷ ys)) same here
+    go more false k = there (more k)
 
 pub find_none : {A : Type 0} (test : A → Bool) (xs : List A) → ((x : A) → Has x xs → test x ≡ false) → find test xs ≡ None
 find_none test [] none = refl
 find_none test (x ∷ xs) none = subst (λ (b : Bool). cond b (Some x) (find test xs) ≡ None) (sym (none x here)) (find_none test xs (λ y h. none y (there h)))
 
-pub none_passes : {A : Type 0} (test : A → Bool) {x : A} {xs : List A} → find test xs ≡ None → Has x xs → test x ≡ false
-none_passes test {x} e (here {xs}) = go (test x) e
+pub not_found : {A : Type 0} (test : A → Bool) {x : A} {xs : List A} → find test xs ≡ None → Has x xs → test x ≡ false
+not_found test {x} e (here {xs}) = go (test x) e
   where
     go : (b : Bool) → cond b (Some x) (find test xs) ≡ None → b ≡ false
     go true k = absurd cc
     go false k = refl
-none_passes test {x} e (there {y} {xs} h) = go (test y) (λ k. none_passes test k h) e
+not_found test {x} e (there {y} {xs} h) = go (test y) (λ k. not_found test k h) e
   where
     go : (b : Bool) → (find test xs ≡ None → test x ≡ false) → cond b (Some y) (find test xs) ≡ None → test x ≡ false
     go true more k = absurd cc
     go false more k = more k
+
+-- what is made of the item that is found
+pub found_mapped : {A B : Type 0} (f : A → B) (test : A → Bool) (xs : List A) {y : B} → option_map f (find test xs) ≡ Some y → (x : A) × (find test xs ≡ Some x) × (f x ≡ y)
+found_mapped {A} f test xs {y} e = go (find test xs) refl e
+  where
+    go : (found : Option A) → find test xs ≡ found → option_map f found ≡ Some y → (x : A) × (find test xs ≡ Some x) × (f x ≡ y)
+    go None is k = absurd cc
+    go (Some x) is k = (x, is, same_Some _ _ k)
+
+pub none_mapped : {A B : Type 0} (f : A → B) (test : A → Bool) (xs : List A) → option_map f (find test xs) ≡ None → find test xs ≡ None
+none_mapped {A} f test xs e = go (find test xs) refl e
+  where
+    go : (found : Option A) → find test xs ≡ found → option_map f found ≡ None → find test xs ≡ None
+    go None is k = is
+    go (Some x) is k = absurd cc
 
 -- the first that passes is the same with more items behind
 pub find_before : {A : Type 0} (test : A → Bool) {x : A} (xs ys : List A) → find test xs ≡ Some x → find test (xs ++ ys) ≡ Some x
@@ -91,6 +99,25 @@ any_has test (there {y} {xs} h) e = go (test y) (any_has test h e)
     go true k = refl
     go false k = k
 
+pub any_none : {A : Type 0} (test : A → Bool) (xs : List A) → ((x : A) → Has x xs → test x ≡ false) → list_any test xs ≡ false
+any_none test [] f = refl
+any_none test (x ∷ xs) f = ap (λ (b : Bool). b || list_any test xs) (f x here) ∙ any_none test xs (λ y h. f y (there h))
+
 pub all_has : {A : Type 0} (test : A → Bool) {x : A} {xs : List A} → list_all test xs ≡ true → Has x xs → test x ≡ true
 all_has test {x} e (here {xs}) = (and_parts (test x) (list_all test xs) e).0
 all_has test {x} e (there {y} {xs} h) = all_has test (and_parts (test y) (list_all test xs) e).1 h
+
+pub none_pass : {A : Type 0} (test : A → Bool) (xs : List A) → ((x : A) → Has x xs → test x ≡ false) → count_by test xs ≡ 0
+none_pass test [] f = refl
+none_pass test (x ∷ xs) f =
+    let more = none_pass test xs (λ y h. f y (there h)) in
+    let this : one (test x) ≡ 0 = ap one (f x here) in
+    omega (arith, count-cons test x xs)
+
+pub does_not_pass : {A : Type 0} (test : A → Bool) {x : A} (xs : List A) → count_by test xs ≡ 0 → Has x xs → test x ≡ false
+does_not_pass test [] e h = elim h [ ]
+does_not_pass test {x} (y ∷ ys) e h = go (does_not_pass test ys) (test y) refl
+  where
+    go : (count_by test ys ≡ 0 → Has x ys → test x ≡ false) → (b : Bool) → test y ≡ b → test x ≡ false
+    go more true is = let this : one (test y) ≡ 1 = ap one is in absurd (omega (arith, count-cons test y ys))
+    go more false is = let this : one (test y) ≡ 0 = ap one is in let less : count_by test ys ≡ 0 = omega (arith, count-cons test y ys) in elim (Has-cons h) [ inl q ↦ ap test q ∙ is | inr k ↦ more less k ]

@@ -1,5 +1,5 @@
 -- A message comes to a front: it joins the queue, is refused at once, or is lost.
-use Rattle.std.proofs.Common.{◌≡◌, ◌≤◌, Bool, true, false, cond, ltb, List, [], ◌∷◌, ◌++◌, length, Some, inl, inr, refl, sym, subst, ap, ◌∙◌}
+use Rattle.std.proofs.Common.{◌≡◌, ◌≤◌, Bool, true, false, cond, List, [], ◌∷◌, ◌++◌, length, Some, refl, sym, subst, ap, ◌∙◌, ltb}
 use Rattle.std.specs.Prelude.{flat_map}
 use Rattle.std.proofs.lemmas.Bool.{ltb-false}
 use Rattle.dia_base.specs.declared.number.ConnId.{ConnId}
@@ -10,7 +10,6 @@ use Rattle.cc_view.specs.declared.refusal.Refusal.{Refusal}
 use Rattle.cc_view.specs.Answer.{refusal_of}
 use Rattle.cc_view.specs.Refusal.{refusal_with}
 use Rattle.front_core.specs.declared.site.FrontSite.{FrontSite}
-use Rattle.front_core.specs.declared.worker.Job.{Job}
 use Rattle.front_core.specs.Cause.{ArrivalCause, queue_full}
 use Rattle.front_core.specs.FrontState.{FrontState, is_among}
 use Rattle.front_core.specs.FrontStep.{with_job, too_busy}
@@ -23,22 +22,16 @@ use Rattle.farm_model.specs.Arrival.{after_arrival_at_front, after_arrival_by}
 use Rattle.farm_model.specs.Run.{front_site}
 use Rattle.farm_model.specs.World.{Ends, WorldState, with_message_from, with_traffic_from, with_front, front_at}
 use Rattle.farm_model.proofs.AsFarm.{parties, name_at, other_end, come_to, gone_from, waiting, held_by, items_of, has_ended_in, farm_of}
-use Rattle.farm_model.proofs.FrontItems.{the_front, front_has, with_front_wired, with_front_holds, front_gain, front_same}
-use Rattle.farm_model.proofs.Placing.{Has-cons, Has-parts, Without-last, Without-left, Without-map, Left-without}
-use Rattle.farm_model.proofs.Posting.{Joins-turned, Joins-other, Posted, posted_wired, put}
-use Rattle.farm_model.proofs.Sending.{gone_posted, posted_ended}
-use Rattle.farm_model.proofs.StepGoes.{FrontHoldsRequests, QueuesHoldRequests, Goes, one_move, settled, as_before, one_more_refused}
+use Rattle.farm_model.proofs.FrontItems.{front_gain, front_same}
+use Rattle.farm_model.proofs.FrontRequests.{FrontHoldsRequests, QueuesHoldRequests, with_front_holds, front_holds, with_job_holds}
+use Rattle.farm_model.proofs.Joined.{Joins-turned, Joins-other}
+use Rattle.farm_model.proofs.Moving.{one_move, put, settled}
+use Rattle.farm_model.proofs.Placing.{Without-last, Without-left, Without-map, Left-without}
+use Rattle.farm_model.proofs.Posting.{Posted, posted_wired}
+use Rattle.farm_model.proofs.Sending.{posted_across, traffic_ended}
+use Rattle.farm_model.proofs.StepGoes.{Goes, as_before, one_more_refused}
 use Rattle.farm_model.proofs.Wired.{Joins, IsWired}
-
-with_job_holds : (front : FrontState) (conn : ConnId) (message : Message) → message.header.request ≡ true → FrontHoldsRequests front → FrontHoldsRequests (with_job front conn message)
-with_job_holds front conn message request holds = record {
-  waiting = λ job h.
-      elim (Has-parts front.queue h) [
-        | inl g ↦ holds.waiting job g
-        | inr g ↦ elim (Has-cons g) [ inl e ↦ subst (λ (j : Job). j.request.header.request ≡ true) (sym e) request | inr k ↦ elim k [ ] ]
-      ];
-  working = holds.working;
-}
+use Rattle.farm_model.proofs.WiredLemmas.{with_front_wired, front_wired}
 
 module _ (site : Site) (made : Ends) (refused : List Refused) (HasReason : Refused → Type 0) (w : WorldState) (items : List Item) (from node : NodeNo) (conn : ConnId) (message : Message) (front : FrontState) (joins : Joins made conn from node)
     (looked : front_at node w.fronts ≡ Some front) (out : Without (record { conn = conn; from = from; to = node; message = message }) items (items_of made w.directions w.fronts)) (wired : IsWired site made w) (requests : QueuesHoldRequests w.fronts)
@@ -53,7 +46,7 @@ module _ (site : Site) (made : Ends) (refused : List Refused) (HasReason : Refus
   arriving = record { conn = conn; from = from; to = node; message = message }
 
   holds : FrontHoldsRequests front
-  holds = requests.each (the_front node front) (front_has node w.fronts front looked)
+  holds = front_holds node w.fronts front requests looked
 
   from_is : other_end made conn node ≡ from
   from_is = Joins-other (Joins-turned joins)
@@ -95,13 +88,13 @@ module _ (site : Site) (made : Ends) (refused : List Refused) (HasReason : Refus
       ap (λ (n : NodeNo). record { conn = conn; from = node; to = n; message = answer }) from_is ∙ ap (λ (m : Message). record { conn = conn; from = node; to = from; message = m }) written in
       let posts : Posted reply (items_of made w.directions w.fronts) (items_of made sent_on fronts) =
       subst (λ (item : Item). Posted item (items_of made w.directions w.fronts) (items_of made sent_on fronts)) gone_is
-      (subst (λ (is : List Item). Posted (gone_from made node conn answer) is (items_of made sent_on fronts)) same_items (gone_posted site made w.ends node conn answer w.directions fronts wired.directions)) in
+      (subst (λ (is : List Item). Posted (gone_from made node conn answer) is (items_of made sent_on fronts)) same_items (posted_across site made w.ends node conn answer w.directions fronts wired.directions)) in
       let moves : Moves (parties site made) old (record grown { items = items_of made sent_on fronts }) =
       put old grown reply (items_of made w.directions w.fronts) (items_of made sent_on fronts) posts (λ some h. refuses refusal out request h) in
       record {
         leads = record {
           refused = more;
-          moves = settled (parties site made) made more old after (has_ended_in w.ends w.directions) moves (posted_ended w.ends node w.directions conn answer);
+          moves = settled (parties site made) made more old after (has_ended_in w.ends w.directions) moves (traffic_ended w.ends node w.directions ((conn, answer) ∷ []));
           caused = one_more_refused HasReason refused here_refused cause;
         };
         wired = record {
@@ -133,7 +126,7 @@ module _ (site : Site) (made : Ends) (refused : List Refused) (HasReason : Refus
       })
   arrival_if true true request room = joins_queue request
   arrival_if true false request room =
-      let site_is : front.site ≡ front_site site (name_at site node) = (wired.fronts (the_front node front) (front_has node w.fronts front looked)).site_is in
+      let site_is : front.site ≡ front_site site (name_at site node) = (front_wired wired.fronts looked).site_is in
       let full : front.site.queue ≤ length front.queue = ltb-false _ _ room in
       refused_there (too_busy front.site message) (refusal_with TooBusy) request (reason (refusal_with TooBusy) (queue_full request full)) (ap (λ (s : FrontSite). refusal_of s.name s.realm message (refusal_with TooBusy)) site_is)
   arrival_if false room request e = ignored

@@ -1,5 +1,5 @@
 -- A front's worker charges what it picked: it refuses it, repeats a reply, or takes it into the book and answers it.
-use Rattle.std.proofs.Common.{◌≡◌, ℕ, ◌<◌, arith, true, List, length, Option, Some, None, Ok, inl, inr, refl, sym, subst}
+use Rattle.std.proofs.Common.{◌≡◌, ℕ, ◌<◌, true, List, length, Option, Some, None, inl, inr, refl, sym, subst, arith, Ok}
 use Rattle.std.specs.Prelude.{slice_get}
 use Rattle.std.proofs.lemmas.Option.{same_Some}
 use Rattle.dia_base.specs.declared.number.ConnId.{ConnId}
@@ -26,6 +26,7 @@ use Rattle.front_core.specs.FrontState.{FrontState}
 use Rattle.front_core.specs.FrontStep.{with_worker, preparation_at, after_charge_by}
 use Rattle.farm_law.specs.Farm.{Refused}
 use Rattle.farm_law.specs.Moves.{Moves, next, answers as book_answers, takes as book_takes}
+use Rattle.farm_law.proofs.Lists.{Has-without}
 use Rattle.farm_model.specs.declared.site.Site.{Site}
 use Rattle.farm_model.specs.declared.step.Step.TheVariants.{Charge}
 use Rattle.farm_model.specs.Cause.{at_charge}
@@ -33,13 +34,16 @@ use Rattle.farm_model.specs.FarmStep.{with_charge, after_charge_at, Outcome}
 use Rattle.farm_model.specs.Nodes.{is_front}
 use Rattle.farm_model.specs.Run.{Transition, front_site}
 use Rattle.farm_model.specs.World.{Ends, WorldState, with_front, front_at}
+use Rattle.farm_model.proofs.Among.{Has-get}
 use Rattle.farm_model.proofs.AsFarm.{parties, name_at, come_to, gone_from, items_of, farm_of}
-use Rattle.farm_model.proofs.FrontItems.{the_front, front_has, with_worker_holds}
+use Rattle.farm_model.proofs.FrontRequests.{FrontHoldsRequests, QueuesHoldRequests, with_worker_holds, front_holds}
 use Rattle.farm_model.proofs.FrontSteps.{front_goes, done_turn, done_refuses}
-use Rattle.farm_model.proofs.Placing.{Has-get, Has-without, Turned}
+use Rattle.farm_model.proofs.Moving.{one_move}
+use Rattle.farm_model.proofs.Placing.{Turned}
 use Rattle.farm_model.proofs.Premises.{Premises}
-use Rattle.farm_model.proofs.StepGoes.{FrontHoldsRequests, QueuesHoldRequests, Reason, Goes, StepGoes, outcome_goes, one_move, as_before}
+use Rattle.farm_model.proofs.StepGoes.{Reason, Goes, StepGoes, outcome_goes, as_before}
 use Rattle.farm_model.proofs.Wired.{IsWired}
+use Rattle.farm_model.proofs.WiredLemmas.{front_wired}
 
 -- where the message is new and the book has room, it is not refused
 not_refused : (site : FrontSite) (ledger : Ledger) (message : Message) (refusal : Refusal) (request : CcRequest) → view_of site.vendors message ≡ Ok request → length ledger.history < ledger.limit → ChargeCause site ledger message refusal → ⊥
@@ -67,13 +71,13 @@ module _ (premises : Premises) (site : Site) (made : Ends) (refused : List Refus
     named = front_site site (name_at site node)
 
     site_is : front.site ≡ named
-    site_is = (wired.fronts (the_front node front) (front_has node w.fronts front looked)).site_is
+    site_is = (front_wired wired.fronts looked).site_is
 
     front_is_one : is_front site node ≡ true
-    front_is_one = (wired.fronts (the_front node front) (front_has node w.fronts front looked)).is_front
+    front_is_one = (front_wired wired.fronts looked).is_front
 
     holds : FrontHoldsRequests front
-    holds = requests.each (the_front node front) (front_has node w.fronts front looked)
+    holds = front_holds node w.fronts front requests looked
 
     is_request : message.header.request ≡ true
     is_request = holds.working (Picked conn message) (Has-get front.workers worker picked)

@@ -20,13 +20,15 @@ use Rattle.farm_model.specs.FarmStep.{with_emit, after_emit_at, Outcome}
 use Rattle.farm_model.specs.Run.{Transition}
 use Rattle.farm_model.specs.World.{Ends, WorldState, with_message_from, with_traffic_from, with_front, front_at}
 use Rattle.farm_model.proofs.AsFarm.{parties, gone_from, waiting, held_by, items_of, has_ended_in, farm_of}
-use Rattle.farm_model.proofs.FrontItems.{the_front, front_has, with_front_wired, with_front_holds, with_worker_holds, front_lose}
-use Rattle.farm_model.proofs.Placing.{Without-right, Left-without}
-use Rattle.farm_model.proofs.Posting.{posted_wired, put}
-use Rattle.farm_model.proofs.Sending.{gone_posted, posted_ended}
-use Rattle.farm_model.proofs.StepGoes.{QueuesHoldRequests, Reason, Goes, StepGoes, outcome_goes, one_move, settled, as_before}
+use Rattle.farm_model.proofs.FrontItems.{front_lose}
+use Rattle.farm_model.proofs.FrontRequests.{QueuesHoldRequests, with_front_holds, with_worker_holds, front_holds}
+use Rattle.farm_model.proofs.Moving.{one_move, put, settled}
+use Rattle.farm_model.proofs.Placing.{Without-right, Left-without, set_lose}
+use Rattle.farm_model.proofs.Posting.{posted_wired}
+use Rattle.farm_model.proofs.Sending.{posted_across, traffic_ended}
+use Rattle.farm_model.proofs.StepGoes.{Reason, Goes, StepGoes, outcome_goes, as_before}
 use Rattle.farm_model.proofs.Wired.{FrontIsWired, IsWired}
-use Rattle.farm_model.proofs.Workers.{set_lose}
+use Rattle.farm_model.proofs.WiredLemmas.{with_front_wired}
 
 module _ (site : Site) (made : Ends) (refused : List Refused) (HasReason : Refused → Type 0) where
   abbrev Goes-on : WorldState → WorldState → Type 0
@@ -49,20 +51,20 @@ module _ (site : Site) (made : Ends) (refused : List Refused) (HasReason : Refus
     fronts_wired = with_front_wired site node w.fronts front freed looked refl wired.fronts
 
     freed_requests : QueuesHoldRequests fronts_freed
-    freed_requests = with_front_holds node w.fronts freed (with_worker_holds front worker Idle tt (requests.each (the_front node front) (front_has node w.fronts front looked))) requests
+    freed_requests = with_front_holds node w.fronts freed (with_worker_holds front worker Idle tt (front_holds node w.fronts front requests looked)) requests
 
     emit_if : (known : Bool) → Goes-on w (record w { directions = with_traffic_from node w.directions (cond known ((conn, answer) ∷ []) []); fronts = fronts_freed })
     emit_if true =
         let sent_on = with_message_from node w.directions conn answer in
         let old : Farm = farm_of made refused w in
         let after : WorldState = record w { directions = sent_on; fronts = fronts_freed } in
-        let posts = gone_posted site made w.ends node conn answer w.directions fronts_freed wired.directions in
+        let posts = posted_across site made w.ends node conn answer w.directions fronts_freed wired.directions in
         let moves : Moves (parties site made) old (record old { items = items_of made sent_on fronts_freed }) =
         put old old (gone_from made node conn answer) (items_of made w.directions fronts_freed) (items_of made sent_on fronts_freed) posts (λ some h. moves_on taken_out h) in
         record {
           leads = record {
             refused = refused;
-            moves = settled (parties site made) made refused old after (has_ended_in w.ends w.directions) moves (posted_ended w.ends node w.directions conn answer);
+            moves = settled (parties site made) made refused old after (has_ended_in w.ends w.directions) moves (traffic_ended w.ends node w.directions ((conn, answer) ∷ []));
             caused = as_before HasReason refused;
           };
           wired = record {

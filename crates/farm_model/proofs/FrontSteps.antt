@@ -27,12 +27,15 @@ use Rattle.farm_model.specs.Cause.{by_order}
 use Rattle.farm_model.specs.FarmStep.{with_pick, after_pick_at, after_refusal_at, Outcome}
 use Rattle.farm_model.specs.Run.{Transition, front_site}
 use Rattle.farm_model.specs.World.{Ends, WorldState, with_front, front_at}
+use Rattle.farm_model.proofs.Among.{Has-get}
 use Rattle.farm_model.proofs.AsFarm.{parties, name_at, come_to, gone_from, waiting, held_by, items_of, farm_of}
-use Rattle.farm_model.proofs.FrontItems.{the_front, front_has, with_front_wired, with_front_holds, with_worker_holds, front_turn, worker_turn}
-use Rattle.farm_model.proofs.Placing.{Has-get, Without-right, Turned}
-use Rattle.farm_model.proofs.StepGoes.{FrontHoldsRequests, QueuesHoldRequests, Reason, Goes, StepGoes, outcome_goes, one_move, as_before, one_more_refused}
+use Rattle.farm_model.proofs.FrontItems.{front_turn, worker_turn}
+use Rattle.farm_model.proofs.FrontRequests.{FrontHoldsRequests, QueuesHoldRequests, with_front_holds, with_worker_holds, front_holds}
+use Rattle.farm_model.proofs.Moving.{one_move}
+use Rattle.farm_model.proofs.Placing.{Without-right, Turned, set_gain}
+use Rattle.farm_model.proofs.StepGoes.{Reason, Goes, StepGoes, outcome_goes, as_before, one_more_refused}
 use Rattle.farm_model.proofs.Wired.{IsWired}
-use Rattle.farm_model.proofs.Workers.{set_gain}
+use Rattle.farm_model.proofs.WiredLemmas.{with_front_wired, front_wired}
 
 module _ (site : Site) (made : Ends) (refused : List Refused) (HasReason : Refused → Type 0) where
   abbrev Goes-on : WorldState → WorldState → Type 0
@@ -69,7 +72,7 @@ module _ (site : Site) (made : Ends) (refused : List Refused) (HasReason : Refus
       → after_pick_from front worker queue ≡ Some changed → Goes-on w (record w { fronts = with_front node changed w.fronts })
   pick_from w node worker front changed [] looked e idle wired requests is = absurd cc
   pick_from w node worker front changed (job ∷ jobs) looked e idle wired requests is =
-      let holds = requests.each (the_front node front) (front_has node w.fronts front looked) in
+      let holds = front_holds node w.fronts front requests looked in
       let it : FrontState = with_worker (record front { queue = jobs }) worker (Picked job.conn job.request) in
       let request : job.request.header.request ≡ true = holds.waiting job (subst (Has job) (sym e) here) in
       let rest : FrontHoldsRequests (record front { queue = jobs }) = record { waiting = λ j h. holds.waiting j (subst (Has j) (sym e) (there h)); working = holds.working } in
@@ -106,7 +109,7 @@ module _ (site : Site) (made : Ends) (refused : List Refused) (HasReason : Refus
       → answer ≡ refusal_of (name_at site node) site.realm message refusal → IsWired site made w → QueuesHoldRequests w.fronts → HasReason (record { node = node; conn = conn; request = message; refusal = refusal })
       → Goes-on w (record w { fronts = with_front node (with_worker front worker (Done conn answer)) w.fronts })
   done_refuses w node worker front conn message answer refusal looked picked written wired requests reason =
-      let holds = requests.each (the_front node front) (front_has node w.fronts front looked) in
+      let holds = front_holds node w.fronts front requests looked in
       let is_request : message.header.request ≡ true = holds.working (Picked conn message) (Has-get front.workers worker picked) in
       let here_refused : Refused = record { node = node; conn = conn; request = message; refusal = refusal } in
       let t = done_turn w.directions node w.fronts front worker conn message answer looked picked in
@@ -121,7 +124,7 @@ module _ (site : Site) (made : Ends) (refused : List Refused) (HasReason : Refus
   refusal_by w node worker front changed (Some Idle) looked e wired requests reason is = absurd cc
   refusal_by w node worker front changed (Some (Done conn answer)) looked e wired requests reason is = absurd cc
   refusal_by w node worker front changed (Some (Picked conn message)) looked e wired requests reason is =
-      let site_is : front.site ≡ front_site site (name_at site node) = (wired.fronts (the_front node front) (front_has node w.fronts front looked)).site_is in
+      let site_is : front.site ≡ front_site site (name_at site node) = (front_wired wired.fronts looked).site_is in
       let written = ap (λ (s : FrontSite). refusal_of s.name s.realm message (refusal_with TooBusy)) site_is in
       subst (λ (f : FrontState). Goes-on w (record w { fronts = with_front node f w.fronts })) (same_Some _ _ is)
       (done_refuses w node worker front conn message (too_busy front.site message) (refusal_with TooBusy) looked e written wired requests (reason conn message e))

@@ -1,10 +1,11 @@
 -- What clients have sent and received stands on connections of one client, and the book is the site's.
-use Rattle.std.proofs.Common.{◌≡◌, ℕ, ◌+◌, ◌-◌, ◌≤◌, Bool, true, false, cond, not, List, [], ◌∷◌, ◌++◌, length, Option, Some, None, inl, inr, refl, sym, subst, ap, ◌∙◌}
-use Rattle.std.specs.Prelude.{◌⊎◌, ◌&&◌, ◌||◌, slice_get, MatchBool, if◌then◌else◌}
+use Rattle.std.proofs.Common.{◌≡◌, ℕ, Bool, true, false, cond, List, Option, Some, None, refl, sym, subst, ap, ◌∙◌}
+use Rattle.std.specs.Prelude.{slice_get, unwrap_or}
 use Rattle.std.specs.List.{find}
 use Rattle.dia_base.specs.declared.number.ConnId.{ConnId}
 use Rattle.dia_base.specs.declared.number.Moment.{Moment}
 use Rattle.dia_base.specs.declared.number.NodeNo.{NodeNo}
+use Rattle.dia_base.proofs.Finding.{found_passes}
 use Rattle.dia_message.specs.declared.message.Message.{Message}
 use Rattle.dia_message.specs.Traffic.{Traffic}
 use Rattle.cc_book.specs.Taking.{Ledger, answer_of, is_fresh, with_take}
@@ -19,19 +20,21 @@ use Rattle.relay_core.specs.declared.run.RelayEvent.{RelayEvent}
 use Rattle.relay_core.specs.declared.run.RelayEvent.TheVariants.{Lost}
 use Rattle.relay_core.specs.RelayState.{RelayState}
 use Rattle.farm_law.specs.Lists.{Has}
+use Rattle.farm_law.proofs.Lists.{all-end}
 use Rattle.farm_model.specs.declared.site.Site.{Site}
 use Rattle.farm_model.specs.declared.state.Direction.{Direction}
 use Rattle.farm_model.specs.Arrival.{AtRelay}
 use Rattle.farm_model.specs.CheckedSite.{IsChecked}
-use Rattle.farm_model.specs.FarmStep.{Outcome, Flight, after_loss, after_up, with_new_connection, can_connect, after_send, after_send_in, with_pick, after_pick_at, after_refusal_at, with_emit, after_emit_at, with_charge, after_charge_at}
+use Rattle.farm_model.specs.FarmStep.{Outcome, Flight, after_lost_message, after_up, with_new_connection, can_connect, after_send, after_send_in, with_pick, after_pick_at, after_refusal_at, with_emit, after_emit_at, with_charge, after_charge_at}
 use Rattle.farm_model.specs.Loss.{Loss, LearnsLoss, LossAt, LearnLosses, all_know, learns}
 use Rattle.farm_model.specs.Nodes.{is_client}
 use Rattle.farm_model.specs.Promise.{HasOneClient}
 use Rattle.farm_model.specs.Run.{empty_book, TellsSame}
 use Rattle.farm_model.specs.World.{Ends, WorldState, is_between, front_at, relay_at}
-use Rattle.farm_model.proofs.ListLemmas.{find-passes}
-use Rattle.farm_model.proofs.Placing.{Has-found, Has-parts, Has-cons}
-use Rattle.farm_model.proofs.Wired.{Joins, IsWired}
+use Rattle.farm_model.proofs.Finding.{Has-found}
+use Rattle.farm_model.proofs.Joined.{one_client}
+use Rattle.farm_model.proofs.Linked.{beside_client}
+use Rattle.farm_model.proofs.Wired.{IsWired}
 use Rattle.farm_model.proofs.WorldLemmas.{direction_nodes}
 
 pub record Heard (site : Site) (all : Ends) (sent received : Traffic) (book : Ledger) : Type 0 where
@@ -67,39 +70,6 @@ losses_tell (learns {loss = loss} {w = w} {next = mid} one more) =
     let b = losses_tell more in
     (b.0 ∙ a.0, b.1 ∙ a.1, b.2 ∙ a.2, b.3 ∙ a.3)
 
--- ---- the client of a connection
-
-or_left : (p q : Bool) → p ≡ true → (p || q) ≡ true
-or_left true q e = refl
-or_left false q e = absurd cc
-
-or_right : (p q : Bool) → q ≡ true → (p || q) ≡ true
-or_right true q e = refl
-or_right false q e = e
-
-and_none : (p q : Bool) → (p ≡ true → q ≡ false) → (p && q) ≡ false
-and_none true q f = f refl
-and_none false q f = refl
-
--- a connection between a client and a node that is none
-pub one_client : {site : Site} {all : Ends} {conn : ConnId} {client other : NodeNo} → Joins all conn client other → is_client site client ≡ true → is_client site other ≡ false → HasOneClient site all conn
-one_client {site} {all} {conn} {client} {other} j is none = elim j.pair [
-  | inl e ↦ record {
-    numbered = j.numbered;
-    nodes = j.nodes;
-    made = j.made;
-    a_client = ap (λ (n : NodeNo × NodeNo). is_client site n.0 || is_client site n.1) e ∙ or_left (is_client site client) (is_client site other) is;
-    not_both = ap (λ (n : NodeNo × NodeNo). is_client site n.0 && is_client site n.1) e ∙ and_none (is_client site client) (is_client site other) (λ k. none);
-  }
-  | inr e ↦ record {
-    numbered = j.numbered;
-    nodes = j.nodes;
-    made = j.made;
-    a_client = ap (λ (n : NodeNo × NodeNo). is_client site n.0 || is_client site n.1) e ∙ or_right (is_client site other) (is_client site client) is;
-    not_both = ap (λ (n : NodeNo × NodeNo). is_client site n.0 && is_client site n.1) e ∙ and_none (is_client site other) (is_client site client) (λ k. absurd (Rattle.std.proofs.Common.true≢false (sym k ∙ none)));
-  }
-]
-
 -- ---- each step
 
 module _ (site : Site) (all : Ends) (checked : IsChecked site) (old new : WorldState) (applied : Bool) (wired : IsWired site all old) (heard : HeardIn site all old) where
@@ -123,19 +93,16 @@ module _ (site : Site) (all : Ends) (checked : IsChecked site) (old new : WorldS
       sent_on : (direction : Direction) → is_client site client ≡ true → find (is_between client to) old.directions ≡ Some direction → HasOneClient site all direction.conn
       sent_on direction is e =
           let k = wired.directions direction (Has-found (is_between client to) old.directions e) in
-          let nodes = direction_nodes client to direction (find-passes (is_between client to) old.directions direction e) in
+          let nodes = direction_nodes client to direction (found_passes (is_between client to) old.directions direction e) in
           let from_client : is_client site direction.from ≡ true = subst (λ (n : NodeNo). is_client site n ≡ true) (sym nodes.0) is in
-          one_client k.joins from_client (Rattle.farm_model.proofs.Linked.beside_client site checked direction.from direction.to k.linked from_client)
+          one_client k.joins from_client (beside_client site checked direction.from direction.to k.linked from_client)
 
       found : (next : WorldState) → is_client site client ≡ true → (direction : Option Direction) → find (is_between client to) old.directions ≡ direction → after_send_in old client to message direction ≡ Some next → HeardIn site all next
       found next is None q e = absurd cc
       found next is (Some direction) q e =
-          let same = ap (λ (o : Option WorldState). Rattle.std.specs.Prelude.unwrap_or o next) e in
+          let same = ap (λ (o : Option WorldState). unwrap_or o next) e in
           subst (HeardIn site all) same (record {
-            senders = λ item h. elim (Has-parts old.sent h) [
-              | inl g ↦ heard.senders item g
-              | inr g ↦ elim (Has-cons g) [ inl is_it ↦ subst (λ (i : ConnId × Message). HasOneClient site all i.0) (sym is_it) (sent_on direction is q) | inr none ↦ elim none [ ] ]
-            ];
+            senders = all-end (λ (i : ConnId × Message). HasOneClient site all i.0) old.sent (direction.conn, message) heard.senders (sent_on direction is q);
             receivers = heard.receivers;
             terms = heard.terms;
             limit = heard.limit;
@@ -145,7 +112,7 @@ module _ (site : Site) (all : Ends) (checked : IsChecked site) (old new : WorldS
       go next true is e = found next is (find (is_between client to) old.directions) refl e
       go next false is e = absurd cc
 
-  pub lose_heard : (flight : Option Flight) → Outcome (after_loss old flight) applied old new → HeardIn site all new
+  pub lose_heard : (flight : Option Flight) → Outcome (after_lost_message old flight) applied old new → HeardIn site all new
   lose_heard None out = same_state new out.1
   lose_heard (Some flight) out = subst (HeardIn site all) (sym out.1) (record { senders = heard.senders; receivers = heard.receivers; terms = heard.terms; limit = heard.limit })
 

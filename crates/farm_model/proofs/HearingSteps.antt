@@ -1,30 +1,30 @@
 -- Each step keeps what clients have sent and received on connections of one client; and the connections that were made stay.
-use Rattle.std.proofs.Common.{◌≡◌, ℕ, zero, suc, Bool, true, false, cond, List, [], ◌∷◌, ◌++◌, Option, Some, None, inl, inr, refl, sym, subst, ap}
-use Rattle.std.specs.Prelude.{slice_get, MatchBool, if◌then◌else◌}
+use Rattle.std.proofs.Common.{◌≡◌, ℕ, zero, suc, Bool, true, false, cond, List, [], ◌∷◌, ◌++◌, Option, Some, None, refl, sym, subst, ap}
+use Rattle.std.specs.Prelude.{slice_get, MatchBool, unwrap_or}
 use Rattle.std.specs.List.{find}
 use Rattle.dia_base.specs.declared.number.ConnId.{ConnId}
 use Rattle.dia_base.specs.declared.number.NodeNo.{NodeNo}
 use Rattle.dia_message.specs.declared.message.Message.{Message}
 use Rattle.dia_message.specs.Traffic.{Traffic}
 use Rattle.front_core.specs.FrontState.{FrontState, is_among}
-use Rattle.front_core.specs.FrontStep.{after_pick, after_refusal, after_emit, after_charge_by}
+use Rattle.front_core.specs.FrontStep.{after_pick, after_refusal, after_emit, after_charge}
 use Rattle.relay_core.specs.declared.run.RelayEvent.TheVariants.{Received}
+use Rattle.farm_law.proofs.Lists.{all-end}
 use Rattle.farm_model.specs.declared.site.Site.{Site}
 use Rattle.farm_model.specs.declared.state.Direction.{Direction}
 use Rattle.farm_model.specs.declared.step.Step.{Step}
 use Rattle.farm_model.specs.declared.step.Step.TheVariants.{Up, Send, Deliver, Lose, Cut, Restart, Pick, Charge, Refuse, Emit}
 use Rattle.farm_model.specs.Arrival.{ArrivesAtServer, after_arrival_at_front}
 use Rattle.farm_model.specs.CheckedSite.{IsChecked}
-use Rattle.farm_model.specs.FarmStep.{FarmStep, Outcome, Flight, flight_at, Delivers, after_loss, after_up, with_new_connection, can_connect, after_send, after_send_in, with_pick, after_pick_at, after_refusal_at, with_emit, after_emit_at, with_charge, after_charge_at, Cuts, can_restart}
+use Rattle.farm_model.specs.FarmStep.{FarmStep, Outcome, Flight, flight_at, Delivers, after_lost_message, after_up, with_new_connection, can_connect, after_send, after_send_in, with_pick, after_pick_at, after_refusal_at, with_emit, after_emit_at, with_charge, after_charge_at, Cuts, can_restart}
 use Rattle.farm_model.specs.Loss.{LossAt, LearnLosses, after_cut, after_restart, losses_of_restart}
 use Rattle.farm_model.specs.Nodes.{is_client}
 use Rattle.farm_model.specs.Promise.{HasOneClient}
 use Rattle.farm_model.specs.Run.{TellsSame}
 use Rattle.farm_model.specs.World.{Ends, WorldState, is_between, conn_between, front_at, relay_at}
-use Rattle.farm_model.proofs.Hearing.{HeardIn, tells_heard, at_relay_tells, losses_tell, one_client, up_heard, send_heard, lose_heard, pick_at_heard, refusal_at_heard, emit_at_heard, charge_at_heard}
+use Rattle.farm_model.proofs.Hearing.{HeardIn, tells_heard, at_relay_tells, losses_tell, up_heard, send_heard, lose_heard, pick_at_heard, refusal_at_heard, emit_at_heard, charge_at_heard}
+use Rattle.farm_model.proofs.Joined.{Joins-turned, one_client}
 use Rattle.farm_model.proofs.Linked.{client_beside}
-use Rattle.farm_model.proofs.Placing.{Has-parts, Has-cons}
-use Rattle.farm_model.proofs.Posting.{Joins-turned}
 use Rattle.farm_model.proofs.Taken.{taken}
 use Rattle.farm_model.proofs.Wired.{IsWired}
 
@@ -44,10 +44,7 @@ module _ (site : Site) (all : Ends) (checked : IsChecked site) where
   arrives_heard w from node conn message next false e on heard turn = tells_heard w next (at_server_tells w node conn message (front_at node w.fronts) next turn) heard
   arrives_heard w from node conn message next true e on heard same = subst (HeardIn site all) (sym same) (record {
     senders = heard.senders;
-    receivers = λ item h. elim (Has-parts w.received h) [
-      | inl g ↦ heard.receivers item g
-      | inr g ↦ elim (Has-cons g) [ inl is ↦ subst (λ (i : ConnId × Message). HasOneClient site all i.0) (sym is) (on e) | inr none ↦ elim none [ ] ]
-    ];
+    receivers = all-end (λ (i : ConnId × Message). HasOneClient site all i.0) w.received (conn, message) heard.receivers (on e);
     terms = heard.terms;
     limit = heard.limit;
   })
@@ -107,7 +104,7 @@ module _ (site : Site) (old new : WorldState) (applied : Bool) where
   same_outcome found f out = outcome_ends found (λ next e. same_ends old.ends next.ends (f next e)) out
 
   of_some : {next next' : WorldState} → Some next ≡ Some next' → next'.ends ≡ next.ends
-  of_some e = sym (ap (λ (o : Option WorldState). (Rattle.std.specs.Prelude.unwrap_or o old).ends) e)
+  of_some e = sym (ap (λ (o : Option WorldState). (unwrap_or o old).ends) e)
 
   up_ends : (a b : NodeNo) → Outcome (after_up site old a b) applied old new → MoreEnds old.ends new.ends
   up_ends a b out = outcome_ends (after_up site old a b) (λ next e. go next (can_connect site old a b) e) out
@@ -159,9 +156,9 @@ module _ (site : Site) (old new : WorldState) (applied : Bool) where
 
   charge_at_ends : (node : NodeNo) (worker : ℕ) (moment : _) (front : Option FrontState) → Outcome (after_charge_at old node worker moment front) applied old new → MoreEnds old.ends new.ends
   charge_at_ends node worker moment None out = charge_ends node None out
-  charge_at_ends node worker moment (Some front) out = charge_ends node (Rattle.front_core.specs.FrontStep.after_charge front old.book moment worker) out
+  charge_at_ends node worker moment (Some front) out = charge_ends node (after_charge front old.book moment worker) out
 
-  lose_ends : (flight : Option Flight) → Outcome (after_loss old flight) applied old new → MoreEnds old.ends new.ends
+  lose_ends : (flight : Option Flight) → Outcome (after_lost_message old flight) applied old new → MoreEnds old.ends new.ends
   lose_ends None out = same_ends old.ends new.ends (ap (λ (w : WorldState). w.ends) out.1)
   lose_ends (Some flight) out = same_ends old.ends new.ends (ap (λ (w : WorldState). w.ends) out.1)
 

@@ -1,28 +1,24 @@
 -- Fronts and relays stand at nodes of their kind, also while losses of connections are learned.
-use Rattle.std.proofs.Common.{◌≡◌, true, List, Option, Some, None, inl, inr, refl, sym, subst, ap, ◌∙◌}
-use Rattle.std.specs.Prelude.{option_map}
-use Rattle.std.specs.List.{find}
-use Rattle.dia_base.specs.declared.node.NodeKind.{NodeKind}
-use Rattle.dia_base.specs.declared.node.NodeKind.TheVariants.{Relay, Front, Client}
+use Rattle.std.proofs.Common.{◌≡◌, true, List, Option, Some, None, inl, inr, refl, sym, subst, ap, ◌∙◌, true≢false}
 use Rattle.dia_base.specs.declared.number.NodeNo.{NodeNo}
 use Rattle.front_core.specs.FrontState.{FrontState}
-use Rattle.front_core.specs.FrontStep.{without_connection}
-use Rattle.relay_core.specs.RelayState.{RelayState}
+use Rattle.front_core.specs.FrontStep.{without_connection, after_restart as front_after_restart}
 use Rattle.relay_core.specs.declared.run.RelayEvent.{RelayEvent}
 use Rattle.relay_core.specs.declared.run.RelayEvent.TheVariants.{Lost}
+use Rattle.relay_core.specs.RelayState.{RelayState}
+use Rattle.relay_core.specs.Connecting.{after_restart as relay_after_restart}
 use Rattle.farm_law.specs.Lists.{Has}
 use Rattle.farm_model.specs.declared.site.Site.{Site}
 use Rattle.farm_model.specs.declared.state.FrontAt.{FrontAt}
 use Rattle.farm_model.specs.declared.state.RelayAt.{RelayAt}
 use Rattle.farm_model.specs.Arrival.{AtRelay}
 use Rattle.farm_model.specs.Loss.{Loss, LearnsLoss, after_restart, with_restart_of_front, with_restart_of_relay}
-use Rattle.farm_model.specs.Nodes.{is_front, is_relay, means_front, means_relay, kind_at}
+use Rattle.farm_model.specs.Nodes.{is_front, is_relay, kind_at}
 use Rattle.farm_model.specs.World.{Ends, WorldState, is_front_at, with_front, front_at, is_relay_at, with_relay, relay_at}
-use Rattle.farm_model.proofs.ListLemmas.{find-passes}
-use Rattle.farm_model.proofs.Placing.{Has-found, Has-replaced}
-use Rattle.farm_model.proofs.RelayPlaces.{relay_among}
+use Rattle.farm_model.proofs.OneKind.{relay_no_front}
+use Rattle.farm_model.proofs.Replacing.{Has-replaced}
 use Rattle.farm_model.proofs.Wired.{IsWired}
-use Rattle.farm_model.proofs.WorldLemmas.{same_node}
+use Rattle.farm_model.proofs.WorldLemmas.{relay_among, the_front, front_among}
 
 pub record KindsAgree (site : Site) (w : WorldState) : Type 0 where
   pub fronts : (at : FrontAt) → Has at w.fronts → is_front site at.node ≡ true
@@ -33,28 +29,15 @@ wired_kinds wired = record { fronts = λ at h. (wired.fronts at h).is_front; rel
 
 -- ---- who stands at a node
 
-front_is : (o : Option FrontAt) (front : FrontState) → option_map (λ (at : FrontAt). at.front) o ≡ Some front → (at : FrontAt) × (o ≡ Some at)
-front_is None front e = absurd cc
-front_is (Some at) front e = (at, refl)
-
 pub front_kind : {site : Site} {w : WorldState} → KindsAgree site w → (node : NodeNo) (front : FrontState) → front_at node w.fronts ≡ Some front → is_front site node ≡ true
-front_kind {site} {w} kinds node front e =
-    let found = front_is (find (is_front_at node) w.fronts) front e in
-    let same : found.0.node ≡ node = same_node found.0.node node (find-passes (is_front_at node) w.fronts found.0 found.1) in
-    ap (is_front site) (sym same) ∙ kinds.fronts found.0 (Has-found (is_front_at node) w.fronts found.1)
+front_kind {w} kinds node front e = kinds.fronts (the_front node front) (front_among node w.fronts front e)
 
 pub relay_kind : {site : Site} {w : WorldState} → KindsAgree site w → (node : NodeNo) (relay : RelayState) → relay_at node w.relays ≡ Some relay → is_relay site node ≡ true
 relay_kind {w} kinds node relay e = kinds.relays (record { node = node; relay = relay }) (relay_among node w.relays relay e)
 
-one_kind : (kind : Option NodeKind) → means_relay kind ≡ true → means_front kind ≡ true → ⊥
-one_kind None e f = absurd cc
-one_kind (Some Relay) e f = absurd cc
-one_kind (Some Front) e f = absurd cc
-one_kind (Some Client) e f = absurd cc
-
 -- no node has both a front and a relay
 pub not_both : {site : Site} {w : WorldState} → KindsAgree site w → (node : NodeNo) (front : FrontState) (relay : RelayState) → front_at node w.fronts ≡ Some front → relay_at node w.relays ≡ Some relay → ⊥
-not_both {site} kinds node front relay e f = one_kind (kind_at site node) (relay_kind kinds node relay f) (front_kind kinds node front e)
+not_both {site} kinds node front relay e f = true≢false (sym (front_kind kinds node front e) ∙ relay_no_front (kind_at site node) (relay_kind kinds node relay f))
 
 -- ---- one of them changed
 
@@ -77,11 +60,11 @@ restart_kinds {site} w node kinds = record { fronts = of_fronts (front_at node w
   where
     of_fronts : (o : Option FrontState) → front_at node w.fronts ≡ o → (at : FrontAt) → Has at (with_restart_of_front node w.fronts o) → is_front site at.node ≡ true
     of_fronts None e = kinds.fronts
-    of_fronts (Some front) e = fronts_changed site node (Rattle.front_core.specs.FrontStep.after_restart front) w.fronts (front_kind kinds node front e) kinds.fronts
+    of_fronts (Some front) e = fronts_changed site node (front_after_restart front) w.fronts (front_kind kinds node front e) kinds.fronts
 
     of_relays : (o : Option RelayState) → relay_at node w.relays ≡ o → (at : RelayAt) → Has at (with_restart_of_relay node w.relays o) → is_relay site at.node ≡ true
     of_relays None e = kinds.relays
-    of_relays (Some relay) e = relays_changed site node (Rattle.relay_core.specs.Connecting.after_restart relay) w.relays (relay_kind kinds node relay e) kinds.relays
+    of_relays (Some relay) e = relays_changed site node (relay_after_restart relay) w.relays (relay_kind kinds node relay e) kinds.relays
 
 at_relay_kinds : {site : Site} (w next : WorldState) (node : NodeNo) (event : RelayEvent) → KindsAgree site w → (o : Option RelayState) → relay_at node w.relays ≡ o → AtRelay w node event o next → KindsAgree site next
 at_relay_kinds {site} w next node event kinds None e next_is = subst (KindsAgree site) (sym next_is) kinds

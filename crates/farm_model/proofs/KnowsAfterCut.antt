@@ -1,79 +1,35 @@
 -- A cut: the connections that still stand are known as before, and both ends of the one that is cut are to learn it.
-use Rattle.std.proofs.Common.{◌≡◌, ℕ, Bool, true, false, List, [], Option, Some, None, inl, inr, refl, sym, subst, ap, ◌∙◌, eq-eqb}
-use Rattle.std.specs.Prelude.{◌⊎◌, ◌==◌, filter, not, option_map}
-use Rattle.std.specs.List.{find}
-use Rattle.std.proofs.lemmas.Bool.{both_ways, eqb-true, not-true}
+use Rattle.std.proofs.Common.{◌≡◌, Bool, true, false, [], Some, inl, inr, refl, sym, subst, ap, ◌∙◌, eq-eqb}
+use Rattle.std.specs.Prelude.{◌⊎◌, ◌==◌, not}
+use Rattle.std.proofs.lemmas.Bool.{both_ways, not-true}
 use Rattle.dia_base.specs.declared.number.ConnId.{ConnId}
 use Rattle.dia_base.specs.declared.number.NodeNo.{NodeNo}
+use Rattle.dia_base.proofs.Finding.{found_passes}
 use Rattle.relay_peers.specs.declared.peers.Link.{Link}
 use Rattle.farm_law.specs.Lists.{Has, here, there}
 use Rattle.farm_model.specs.declared.site.Site.{Site}
 use Rattle.farm_model.specs.declared.state.Direction.{Direction}
 use Rattle.farm_model.specs.Loss.{Loss, after_cut, losses_of_cut}
 use Rattle.farm_model.specs.World.{Ends, WorldState, is_between, is_on, conn_between, without_conn}
-use Rattle.farm_model.proofs.Finding.{Has-of_map, Has-kept}
-use Rattle.farm_model.proofs.KnowsPeers.{Side, side_of, sides, LinkStandsBut, KnowsPeersBut, KnowsPeers}
-use Rattle.farm_model.proofs.ListLemmas.{find-passes}
-use Rattle.farm_model.proofs.Placing.{Has-cons, Has-filter, Has-found, Has-map}
-use Rattle.farm_model.proofs.RelayPlaces.{relay_among}
+use Rattle.farm_model.proofs.Among.{Has-cons}
+use Rattle.farm_model.proofs.Finding.{Has-found}
+use Rattle.farm_model.proofs.Joined.{is_one_end}
+use Rattle.farm_model.proofs.KnowsPeers.{LinkStandsBut, KnowsPeersBut, KnowsPeers}
+use Rattle.farm_model.proofs.Numbering.{same_conn}
+use Rattle.farm_model.proofs.Sides.{Side, sides, side_was, old_side, side_kept}
 use Rattle.farm_model.proofs.Wired.{Joins, IsWired}
-use Rattle.farm_model.proofs.WorldLemmas.{direction_nodes}
-
--- ---- the sides of some directions
-
--- the direction of a side
-pub record DirectionOf (directions : List Direction) (side : Side) : Type 0 where
-  pub direction : Direction
-  pub among : Has direction directions
-  pub side_is : side_of direction ≡ side
-
-pub direction_of : (directions : List Direction) (side : Side) → Has side (sides directions) → DirectionOf directions side
-direction_of directions side h = let found = Has-of_map side_of directions h in record { direction = found.0; among = found.1; side_is = found.2 }
-
-pub side_was : (keep : Direction → Bool) (directions : List Direction) (side : Side) → Has side (sides (filter keep directions)) → (of : DirectionOf directions side) × (keep of.direction ≡ true)
-side_was keep directions side h =
-    let of = direction_of (filter keep directions) side h in
-    let was = Has-filter keep directions of.among in
-    (record { direction = of.direction; among = was.0; side_is = of.side_is }, was.1)
-
-pub old_side : (directions : List Direction) (side : Side) → DirectionOf directions side → Has side (sides directions)
-old_side directions side of = subst (λ (s : Side). Has s (sides directions)) of.side_is (Has-map side_of of.among)
-
-pub side_kept : (keep : Direction → Bool) (directions : List Direction) (side : Side) → ((direction : Direction) → side_of direction ≡ side → keep direction ≡ true) → Has side (sides directions) → Has side (sides (filter keep directions))
-side_kept keep directions side passes h =
-    let of = direction_of directions side h in
-    subst (λ (s : Side). Has s (sides (filter keep directions))) of.side_is (Has-map side_of (Has-kept keep of.among (passes of.direction of.side_is)))
-
--- ---- the two ends of a connection
-
-same_pair : {a b node peer : NodeNo} {nodes : NodeNo × NodeNo} → nodes ≡ (a, b) → nodes ≡ (node, peer) → (node ≡ a) × (peer ≡ b)
-same_pair e f = let same = sym f ∙ e in (ap (λ (n : NodeNo × NodeNo). n.0) same, ap (λ (n : NodeNo × NodeNo). n.1) same)
-
--- a node that a connection joins with another one is one of its two ends
-pub is_one_end : {ends : Ends} {conn : ConnId} {a b node peer : NodeNo} → Joins ends conn a b → Joins ends conn node peer → (node ≡ a) ⊎ (node ≡ b)
-is_one_end {node} {peer} j k =
-    let some : Some j.nodes ≡ Some k.nodes = sym j.made ∙ k.made in
-    let same : j.nodes ≡ k.nodes = cc in
-    elim j.pair [
-      | inl e ↦ elim k.pair [ inl f ↦ inl (same_pair e (same ∙ f)).0 | inr f ↦ inr (same_pair e (same ∙ f)).1 ]
-      | inr e ↦ elim k.pair [ inl f ↦ inr (same_pair e (same ∙ f)).0 | inr f ↦ inl (same_pair e (same ∙ f)).1 ]
-    ]
-
-same_conn : (a b : ConnId) → (a.0 == b.0) ≡ true → a ≡ b
-same_conn a b e = ap (λ (n : ℕ). record { 0 = n }) (eqb-true a.0 b.0 e)
+use Rattle.farm_model.proofs.WiredLemmas.{relay_wired}
+use Rattle.farm_model.proofs.WorldLemmas.{direction_nodes, direction_between}
 
 -- ---- a cut
 
 found_on : {site : Site} {ends : Ends} {w : WorldState} → IsWired site ends w → (a b : NodeNo) (conn : ConnId) → conn_between w.directions a b ≡ Some conn → Joins ends conn a b
-found_on {site} {ends} {w} wired a b conn e = go (find (is_between a b) w.directions) refl e
-  where
-    go : (o : Option Direction) → find (is_between a b) w.directions ≡ o → option_map (λ (direction : Direction). direction.conn) o ≡ Some conn → Joins ends conn a b
-    go None f k = absurd cc
-    go (Some direction) f k =
-        let conn_is : direction.conn ≡ conn = cc in
-        let nodes = direction_nodes a b direction (find-passes (is_between a b) w.directions direction f) in
-        let joins = (wired.directions direction (Has-found (is_between a b) w.directions f)).joins in
-        subst (λ (n : NodeNo). Joins ends conn a n) nodes.1 (subst (λ (n : NodeNo). Joins ends conn n direction.to) nodes.0 (subst (λ (c : ConnId). Joins ends c direction.from direction.to) conn_is joins))
+found_on {ends = ends} {w = w} wired a b conn e =
+    let found = direction_between w.directions a b conn e in
+    let direction = found.0 in
+    let nodes = direction_nodes a b direction (found_passes (is_between a b) w.directions direction found.1) in
+    let joins = (wired.directions direction (Has-found (is_between a b) w.directions found.1)).joins in
+    subst (λ (n : NodeNo). Joins ends conn a n) nodes.1 (subst (λ (n : NodeNo). Joins ends conn n direction.to) nodes.0 (subst (λ (c : ConnId). Joins ends c direction.from direction.to) found.2 joins))
 
 module _ {site : Site} {ends : Ends} (w : WorldState) (wired : IsWired site ends w) (known : KnowsPeers site w) (a b : NodeNo) (conn : ConnId) where
   abbrev is_left : Direction → Bool
@@ -121,7 +77,7 @@ module _ {site : Site} {ends : Ends} (w : WorldState) (wired : IsWired site ends
   cut_knows between = record {
     knows = λ node relay c from at h. known.knows node relay c from at (old_side w.directions (c, from, node) (side_was is_left w.directions (c, from, node) h).0);
     stands = λ node relay link at h.
-        let joins = ((wired.relays (record { node = node; relay = relay }) (relay_among node w.relays relay at)).links link h).joins in
+        let joins = ((relay_wired wired.relays at).links link h).joins in
         link_then (found_on wired a b conn between) node link joins (known.stands node relay link at h) (link.conn.0 == conn.0) refl;
     present = known.present;
     ended = λ loss from to h side. none_left loss.conn from to (lost_conn loss h) side;

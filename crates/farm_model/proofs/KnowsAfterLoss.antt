@@ -18,12 +18,13 @@ use Rattle.farm_model.specs.declared.site.Site.{Site}
 use Rattle.farm_model.specs.Arrival.{AtRelay, RelayTurn, after_relay_turn}
 use Rattle.farm_model.specs.Loss.{Loss, LossAt, LearnsLoss, LearnLosses, all_know, learns}
 use Rattle.farm_model.specs.World.{WorldState, front_at, relay_at}
-use Rattle.farm_model.proofs.Finding.{none_passes, find_kept}
+use Rattle.farm_model.proofs.Among.{Has-filter, Has-cons}
+use Rattle.farm_model.proofs.Finding.{find_kept, not_found, found_mapped, none_mapped}
 use Rattle.farm_model.proofs.KindsAgree.{KindsAgree, learn_kinds, not_both}
-use Rattle.farm_model.proofs.KnowsPeers.{Side, sides, LinkStandsBut, KnowsPeersBut, KnowsPeers}
-use Rattle.farm_model.proofs.Placing.{Has-cons, Has-filter}
+use Rattle.farm_model.proofs.KnowsPeers.{LinkStandsBut, KnowsPeersBut, KnowsPeers}
 use Rattle.farm_model.proofs.RelayPlaces.{relay_after_change, present_after_change}
-use Rattle.farm_model.proofs.SamePeers.{sides_sent, same_links_after, same_knows}
+use Rattle.farm_model.proofs.SamePeers.{same_links_after, same_knows}
+use Rattle.farm_model.proofs.Sides.{Side, sides, sides_sent}
 
 -- a loss is learned where the node has no link on the connection
 pub loss_learned : {site : Site} {losses : List Loss} (w : WorldState) (loss : Loss) → ((relay : RelayState) (link : Link) → relay_at loss.node w.relays ≡ Some relay → Has link relay.node.peers.links → link.conn ≡ loss.conn → ⊥)
@@ -45,17 +46,15 @@ loss_learned {site} {losses} w loss none known = record {
 
 -- the peers on other connections stay
 peer_kept : (links : List Link) (ended conn : ConnId) (peer : NodeNo) → (conn ≡ ended → ⊥) → peer_in links conn ≡ Some peer → peer_in (without_conn links ended) conn ≡ Some peer
-peer_kept links ended conn peer other e = go (find (is_on conn) links) refl e
+peer_kept links ended conn peer other e =
+    let found = found_mapped (λ (l : Link). l.peer) (is_on conn) links e in
+    ap (option_map (λ (l : Link). l.peer)) (find_kept (is_on conn) (λ l. not (is_on ended l)) links kept found.1) ∙ ap (λ (p : NodeNo). Some p) found.2
   where
     kept : (link : Link) → is_on conn link ≡ true → not (is_on ended link) ≡ true
     kept link on =
         let same : link.conn.0 ≡ conn.0 = eqb-true link.conn.0 conn.0 on in
         let off : is_on ended link ≡ false = ne_eqb link.conn.0 ended.0 (λ is. other (ap (λ (n : ℕ). record { 0 = n }) (sym same ∙ is))) in
         ap not off
-
-    go : (o : Option Link) → find (is_on conn) links ≡ o → option_map (λ (link : Link). link.peer) o ≡ Some peer → peer_in (without_conn links ended) conn ≡ Some peer
-    go None f k = absurd cc
-    go (Some link) f k = ap (option_map (λ (l : Link). l.peer)) (find_kept (is_on conn) (λ l. not (is_on ended l)) links kept f) ∙ k
 
 -- a link that is left was there, on another connection
 link_left : (links : List Link) (ended : ConnId) (link : Link) → Has link (without_conn links ended) → Has link links × (link.conn ≡ ended → ⊥)
@@ -121,20 +120,16 @@ module _ {site : Site} {losses : List Loss} (w : WorldState) (loss : Loss) (know
       let links : after.node.peers.links ≡ relay.node.peers.links = ap (λ (r : RelayState). r.node.peers.links) same_relay in
       loss_learned afterwards loss (λ found link e h same.
       let was : Has link relay.node.peers.links = subst (λ (ls : List Link). Has link ls) (ap (λ (r : RelayState). r.node.peers.links) (relay_then found e) ∙ links) h in
-      both_ways (is_on loss.conn link) (none_passes (is_on loss.conn) none was) (eq-eqb link.conn.0 loss.conn.0 (ap (λ (c : ConnId). c.0) same)))
+      both_ways (is_on loss.conn link) (not_found (is_on loss.conn) none was) (eq-eqb link.conn.0 loss.conn.0 (ap (λ (c : ConnId). c.0) same)))
       (same_knows w afterwards directions_same (same_links_after loss.node relay after w.relays at links) known)
 
 -- ---- any node learns it
-
-unlinked : (links : List Link) (conn : ConnId) → (o : Option Link) → find (is_on conn) links ≡ o → option_map (λ (link : Link). link.peer) o ≡ None → find (is_on conn) links ≡ None
-unlinked links conn None f e = f
-unlinked links conn (Some link) f e = absurd cc
 
 turn_known : {site : Site} {losses : List Loss} (w next : WorldState) (loss : Loss) → KnowsPeersBut site (loss ∷ losses) w → (relay : RelayState) → relay_at loss.node w.relays ≡ Some relay → RelayTurn w loss.node relay (Lost loss.conn) next → KnowsPeersBut site losses next
 turn_known {site} {losses} w next loss known relay at turn = subst (KnowsPeersBut site losses) (sym turn.next_is) (go (peer_in relay.node.peers.links loss.conn) refl turn.turn)
   where
     go : (o : Option NodeNo) → peer_in relay.node.peers.links loss.conn ≡ o → MatchOption o (IsIdle relay turn.sent turn.after) (λ peer. OnConnLost relay loss.conn turn.sent turn.after) → KnowsPeersBut site losses (after_relay_turn w loss.node turn.sent turn.after)
-    go None e idle = unlinked_known w loss known relay at turn.sent turn.after (unlinked relay.node.peers.links loss.conn (find (is_on loss.conn) relay.node.peers.links) refl e) idle.1
+    go None e idle = unlinked_known w loss known relay at turn.sent turn.after (none_mapped (λ (l : Link). l.peer) (is_on loss.conn) relay.node.peers.links e) idle.1
     go (Some peer) e lost = lost_known w loss known relay at turn.sent turn.after lost
 
 at_relay_known : {site : Site} {losses : List Loss} (w next : WorldState) (loss : Loss) → KnowsPeersBut site (loss ∷ losses) w → (o : Option RelayState) → relay_at loss.node w.relays ≡ o → AtRelay w loss.node (Lost loss.conn) o next → KnowsPeersBut site losses next

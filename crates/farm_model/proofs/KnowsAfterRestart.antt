@@ -2,12 +2,13 @@
 use Rattle.std.proofs.Common.{◌≡◌, Bool, true, false, List, [], Option, Some, None, inl, inr, refl, sym, subst, ap, ◌∙◌}
 use Rattle.std.specs.Prelude.{◌⊎◌, ◌||◌, filter, not}
 use Rattle.std.specs.List.{list_any}
-use Rattle.std.proofs.lemmas.Bool.{both_ways, not-true}
+use Rattle.std.proofs.lemmas.Bool.{both_ways, not-true, or_left, or_right}
 use Rattle.dia_base.specs.declared.number.ConnId.{ConnId}
 use Rattle.dia_base.specs.declared.number.NodeNo.{NodeNo}
 use Rattle.relay_peers.specs.declared.peers.Link.{Link}
 use Rattle.relay_peers.specs.PeerTable.{peer_in}
 use Rattle.relay_core.specs.RelayState.{RelayState}
+use Rattle.relay_core.specs.Connecting.{after_restart as restarted_relay}
 use Rattle.farm_law.specs.Lists.{Has}
 use Rattle.farm_model.specs.declared.site.Site.{Site}
 use Rattle.farm_model.specs.declared.state.Direction.{Direction}
@@ -15,14 +16,13 @@ use Rattle.farm_model.specs.declared.state.RelayAt.{RelayAt}
 use Rattle.farm_model.specs.Loss.{Loss, touches, losses_of_restart, with_restart_of_relay, after_restart}
 use Rattle.farm_model.specs.Nodes.{is_node}
 use Rattle.farm_model.specs.World.{Ends, WorldState, is_relay_at, relay_at}
-use Rattle.farm_model.proofs.Finding.{Has-of_map, Has-kept}
-use Rattle.farm_model.proofs.KnowsAfterCut.{direction_of, side_was, old_side, side_kept, is_one_end}
-use Rattle.farm_model.proofs.KnowsPeers.{Side, side_of, sides, LinkStandsBut, KnowsPeersBut, KnowsPeers}
-use Rattle.farm_model.proofs.LinkedNodes.{or_left, or_right}
-use Rattle.farm_model.proofs.Placing.{Has-filter, Has-map}
-use Rattle.farm_model.proofs.RelayPlaces.{node_itself, nodes_turned, relay_after_change, present_after_change}
+use Rattle.farm_model.proofs.Among.{Has-filter, Has-map, Has-kept, Has-unmap}
+use Rattle.farm_model.proofs.Joined.{is_one_end}
+use Rattle.farm_model.proofs.KnowsPeers.{LinkStandsBut, KnowsPeersBut, KnowsPeers}
+use Rattle.farm_model.proofs.Numbering.{same_node, node_itself, nodes_turned}
+use Rattle.farm_model.proofs.RelayPlaces.{relay_after_change, present_after_change}
+use Rattle.farm_model.proofs.Sides.{Side, side_of, sides, direction_of, side_was, old_side, side_kept}
 use Rattle.farm_model.proofs.Wired.{Joins, IsWired}
-use Rattle.farm_model.proofs.WorldLemmas.{same_node}
 
 -- ---- the relays, with that at one node begun anew
 
@@ -39,7 +39,7 @@ relay_after_restart node relays other found e = go (relay_at node relays) refl e
 
     go : (o : Option RelayState) → relay_at node relays ≡ o → relay_at other (with_restart_of_relay node relays o) ≡ Some found → IsAfterRestart node relays other found
     go None f k = absent f k (is_node node other) refl
-    go (Some relay) f k = elim (relay_after_change node (Rattle.relay_core.specs.Connecting.after_restart relay) relays other found k) [
+    go (Some relay) f k = elim (relay_after_change node (restarted_relay relay) relays other found k) [
       | inl is ↦ inl (is.0, ap (λ (r : RelayState). r.node.peers.links) is.1)
       | inr is ↦ inr is
     ]
@@ -49,7 +49,7 @@ present_after_restart node relays other = go (relay_at node relays)
   where
     go : (o : Option RelayState) → list_any (is_relay_at other) (with_restart_of_relay node relays o) ≡ list_any (is_relay_at other) relays
     go None = refl
-    go (Some relay) = present_after_change node (Rattle.relay_core.specs.Connecting.after_restart relay) relays other
+    go (Some relay) = present_after_change node (restarted_relay relay) relays other
 
 -- ---- the farm then
 
@@ -123,7 +123,7 @@ module _ {site : Site} {ends : Ends} (w : WorldState) (wired : IsWired site ends
   -- nothing is left of a connection of which the loss is to be learned
   none_left : (loss : Loss) (from to : NodeNo) → Has loss (losses_of_restart node w.directions) → Has (loss.conn, from, to) (sides left) → ⊥
   none_left loss from to h side =
-      let lost = Has-of_map loss_on (filter goes_out w.directions) h in
+      let lost = Has-unmap loss_on (filter goes_out w.directions) h in
       let direction = lost.0 in
       let out = Has-filter goes_out w.directions lost.1 in
       let from_is : direction.from ≡ node = same_node direction.from node out.1 in

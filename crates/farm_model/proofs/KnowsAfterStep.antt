@@ -2,45 +2,24 @@
 use Rattle.std.proofs.Common.{◌≡◌, ℕ, Bool, true, false, cond, List, [], Option, Some, None, refl, sym, subst, ap}
 use Rattle.std.specs.Prelude.{MatchBool, IfSome}
 use Rattle.std.specs.List.{find}
-use Rattle.cc_book.specs.Taking.{Ledger}
 use Rattle.dia_base.specs.declared.number.ConnId.{ConnId}
 use Rattle.dia_base.specs.declared.number.Moment.{Moment}
 use Rattle.dia_base.specs.declared.number.NodeNo.{NodeNo}
 use Rattle.dia_message.specs.declared.message.Message.{Message}
 use Rattle.dia_message.specs.Traffic.{Traffic}
+use Rattle.cc_book.specs.Taking.{Ledger}
 use Rattle.front_core.specs.FrontState.{FrontState, is_among}
 use Rattle.front_core.specs.FrontStep.{after_pick, after_charge, after_refusal, after_emit, sent_at_arrival}
-use Rattle.relay_core.specs.RelayState.{RelayState}
 use Rattle.relay_core.specs.declared.node.RelayNode.{RelayNode}
 use Rattle.relay_core.specs.declared.run.RelayEvent.TheVariants.{Received}
+use Rattle.relay_core.specs.RelayState.{RelayState}
 use Rattle.farm_model.specs.declared.site.Site.{Site}
 use Rattle.farm_model.specs.declared.state.Direction.{Direction}
 use Rattle.farm_model.specs.declared.step.Step.{Step}
 use Rattle.farm_model.specs.declared.step.Step.TheVariants.{Up, Send, Deliver, Lose, Cut, Restart, Pick, Charge, Refuse, Emit}
 use Rattle.farm_model.specs.Arrival.{AtRelay, after_relay_turn, after_arrival_at_front, after_arrival_at_client, ArrivesAtServer, Arrives}
 use Rattle.farm_model.specs.CheckedSite.{IsChecked}
-use Rattle.farm_model.specs.FarmStep.{
-  Flight,
-  FarmStep,
-  Outcome,
-  Delivers,
-  Cuts,
-  flight_at,
-  after_loss,
-  after_send_in,
-  after_send,
-  can_connect,
-  with_new_connection,
-  after_up,
-  with_pick,
-  after_pick_at,
-  after_refusal_at,
-  with_emit,
-  after_emit_at,
-  with_charge,
-  after_charge_at,
-  can_restart,
-}
+use Rattle.farm_model.specs.FarmStep.{Flight, FarmStep, Outcome, Delivers, Cuts, flight_at, after_lost_message, after_send_in, after_send, can_connect, with_new_connection, after_up, with_pick, after_pick_at, after_refusal_at, with_emit, after_emit_at, with_charge, after_charge_at, can_restart}
 use Rattle.farm_model.specs.Loss.{LossAt, LearnLosses, after_restart, losses_of_restart}
 use Rattle.farm_model.specs.Nodes.{is_client}
 use Rattle.farm_model.specs.World.{Ends, WorldState, is_between, conn_between, with_message, front_at, relay_at}
@@ -49,8 +28,10 @@ use Rattle.farm_model.proofs.KnowsAfterCut.{cut_knows}
 use Rattle.farm_model.proofs.KnowsAfterLoss.{losses_known}
 use Rattle.farm_model.proofs.KnowsAfterRestart.{restart_knows}
 use Rattle.farm_model.proofs.KnowsAfterUp.{up_knows}
-use Rattle.farm_model.proofs.KnowsPeers.{sides, KnowsPeers}
-use Rattle.farm_model.proofs.SamePeers.{SameLinks, sides_replaced, sides_sent, flight_stands, same_relays, same_links_after, received_same_node, same_knows}
+use Rattle.farm_model.proofs.KnowsPeers.{KnowsPeers}
+use Rattle.farm_model.proofs.Replacing.{map_replaced}
+use Rattle.farm_model.proofs.SamePeers.{SameLinks, flight_stands, same_relays, same_links_after, received_same_node, same_knows}
+use Rattle.farm_model.proofs.Sides.{sides, sides_sent, side_of}
 use Rattle.farm_model.proofs.Wired.{IsWired}
 
 -- the same relays, and the same directions but for their messages
@@ -66,7 +47,7 @@ module _ {site : Site} (w : WorldState) (known : KnowsPeers site w) where
 
   send_in_knows : (client to : NodeNo) (message : Message) (o : Option Direction) → find (is_between client to) w.directions ≡ o → IfSome (after_send_in w client to message o) (KnowsPeers site)
   send_in_knows client to message None e = tt
-  send_in_knows client to message (Some direction) e = same_directions_know w _ (sides_replaced (is_between client to) direction (with_message message direction) w.directions e refl) refl known
+  send_in_knows client to message (Some direction) e = same_directions_know w _ (map_replaced side_of (is_between client to) direction (with_message message direction) w.directions e refl) refl known
 
   send_knows : (client to : NodeNo) (message : Message) → IfSome (after_send site w client to message) (KnowsPeers site)
   send_knows client to message = go (is_client site client)
@@ -78,7 +59,7 @@ module _ {site : Site} (w : WorldState) (known : KnowsPeers site w) where
   flown_knows : (from to : NodeNo) (place : ℕ) (flight : Flight) → flight_at w.directions from to place ≡ Some flight → KnowsPeers site (record w { directions = flight.directions })
   flown_knows from to place flight e = same_directions_know w (record w { directions = flight.directions }) (flight_stands w.directions from to place flight e).same refl known
 
-  lose_knows : (from to : NodeNo) (place : ℕ) (o : Option Flight) → flight_at w.directions from to place ≡ o → IfSome (after_loss w o) (KnowsPeers site)
+  lose_knows : (from to : NodeNo) (place : ℕ) (o : Option Flight) → flight_at w.directions from to place ≡ o → IfSome (after_lost_message w o) (KnowsPeers site)
   lose_knows from to place None e = tt
   lose_knows from to place (Some flight) e = flown_knows from to place flight e
 
@@ -166,7 +147,7 @@ pub step_knows : {site : Site} {ends : Ends} → IsChecked site → (old new : W
 step_knows {site} checked old new (Up a b) applied losses wired made known = outcome_knows old known (after_up site old a b) applied new (connect_knows old wired known checked a b) made.0
 step_knows {site} checked old new (Send client to message) applied losses wired made known = outcome_knows old known (after_send site old client to message) applied new (send_knows old known client to message) made.0
 step_knows checked old new (Deliver from to place) applied losses wired made known = deliver_knows old known from to place applied new (flight_at old.directions from to place) refl made.0
-step_knows checked old new (Lose from to place) applied losses wired made known = outcome_knows old known (after_loss old (flight_at old.directions from to place)) applied new (lose_knows old known from to place (flight_at old.directions from to place) refl) made.0
+step_knows checked old new (Lose from to place) applied losses wired made known = outcome_knows old known (after_lost_message old (flight_at old.directions from to place)) applied new (lose_knows old known from to place (flight_at old.directions from to place) refl) made.0
 step_knows checked old new (Cut a b) applied losses wired made known = cutting_knows old wired known a b applied losses new (conn_between old.directions a b) refl made
 step_knows {site} checked old new (Restart node) applied losses wired made known = restarting_knows old wired known node applied losses new (can_restart site node) made
 step_knows checked old new (Pick node worker) applied losses wired made known = outcome_knows old known (after_pick_at old node worker (front_at node old.fronts)) applied new (pick_knows old known node worker (front_at node old.fronts)) made.0

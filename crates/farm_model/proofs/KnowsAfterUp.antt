@@ -9,31 +9,29 @@ use Rattle.relay_peers.specs.PeerTable.{peer_in, with_link}
 use Rattle.relay_core.specs.Connecting.{up_fault}
 use Rattle.relay_core.specs.RelayState.{RelayState}
 use Rattle.farm_law.specs.Lists.{Has, here, there}
+use Rattle.farm_law.proofs.Lists.{all-end}
 use Rattle.farm_model.specs.declared.site.Site.{Site}
 use Rattle.farm_model.specs.declared.state.Direction.{Direction}
 use Rattle.farm_model.specs.CheckedSite.{IsChecked}
 use Rattle.farm_model.specs.FarmStep.{next_conn, with_link_at, empty_direction, with_new_connection, can_connect}
 use Rattle.farm_model.specs.Nodes.{is_node, is_linked}
 use Rattle.farm_model.specs.World.{Ends, WorldState, is_connected, relay_at}
-use Rattle.farm_model.proofs.Finding.{Has-of_map}
-use Rattle.farm_model.proofs.KnowsPeers.{Side, side_of, sides, LinkStands, KnowsPeers}
-use Rattle.farm_model.proofs.LinkedNodes.{linked_turned, linked_are_two}
-use Rattle.farm_model.proofs.NewLinks.{side_connects, peer_before, peer_behind, conn_is_new, no_fault, relay_after_up, present_after_up}
-use Rattle.farm_model.proofs.Placing.{Has-cons, Has-parts, Has-left, Has-right, Has-map}
-use Rattle.farm_model.proofs.RelayPlaces.{node_itself}
+use Rattle.farm_model.proofs.Among.{Has-map, Has-parts, Has-cons, Has-right, Has-unmap}
+use Rattle.farm_model.proofs.KnowsPeers.{LinkStands, KnowsPeers}
+use Rattle.farm_model.proofs.Linked.{linked_turned, linked_are_two}
+use Rattle.farm_model.proofs.NewLinks.{peer_before, peer_behind, conn_is_new, no_fault, relay_after_up, present_after_up}
+use Rattle.farm_model.proofs.Numbering.{node_itself}
+use Rattle.farm_model.proofs.Sides.{Side, side_of, sides, sides_left, side_connects}
 use Rattle.farm_model.proofs.Wired.{IsWired}
 
 -- ---- the sides of more directions
-
-pub sides_left : (directions more : List Direction) {side : Side} → Has side (sides directions) → Has side (sides (directions ++ more))
-sides_left directions more {side} h = let found = Has-of_map side_of directions h in subst (λ (s : Side). Has s (sides (directions ++ more))) found.2 (Has-map side_of (Has-left more found.1))
 
 abbrev two_directions : ConnId → NodeNo → NodeNo → List Direction
 two_directions conn a b = empty_direction conn a b ∷ empty_direction conn b a ∷ []
 
 sides_of_new : (directions : List Direction) (conn : ConnId) (a b : NodeNo) (side : Side) → Has side (sides (directions ++ two_directions conn a b)) → Has side (sides directions) ⊎ (((conn, a, b) ≡ side) ⊎ ((conn, b, a) ≡ side))
 sides_of_new directions conn a b side h =
-    let found = Has-of_map side_of (directions ++ two_directions conn a b) h in
+    let found = Has-unmap side_of (directions ++ two_directions conn a b) h in
     elim (Has-parts directions found.1) [
       | inl old ↦ inl (subst (λ (s : Side). Has s (sides directions)) found.2 (Has-map side_of old))
       | inr new ↦ elim (Has-cons new) [
@@ -164,13 +162,8 @@ module _ {site : Site} {ends : Ends} (checked : IsChecked site) (w : WorldState)
   -- the link that is new
   new_link : (node peer : NodeNo) (relay : RelayState) (link : Link) → relay_at node w.relays ≡ Some relay → Has (conn, node, peer) (sides after.directions) → Has (conn, peer, node) (sides after.directions) → Has link (with_link relay.node.peers.links peer conn)
       → LinkStands after.directions node link
-  new_link node peer relay link at forth back h = elim (Has-parts relay.node.peers.links h) [
-    | inl old ↦ stands_before node relay link at old
-    | inr new ↦ elim (Has-cons new) [
-      | inl is ↦ subst (λ (l : Link). LinkStands after.directions node l) (sym is) (record { forth = forth; back = back })
-      | inr none ↦ elim none [ ]
-    ]
-  ]
+  new_link node peer relay link at forth back h =
+      all-end (λ (l : Link). LinkStands after.directions node l) relay.node.peers.links (record { peer = peer; conn = conn }) (λ l old. stands_before node relay l at old) (record { forth = forth; back = back }) link h
 
   stands_after : (node : NodeNo) (found : RelayState) (link : Link) → Grown node found → Has link found.node.peers.links → LinkStands after.directions node link
   stands_after node found link g h = elim g.learned [

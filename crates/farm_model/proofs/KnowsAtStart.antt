@@ -3,6 +3,7 @@ use Rattle.std.proofs.Common.{◌≡◌, ℕ, zero, suc, ◌+◌, Bool, true, fa
 use Rattle.std.specs.Prelude.{◌||◌, ◌==◌, slice_get}
 use Rattle.std.specs.List.{list_any}
 use Rattle.std.proofs.lemmas.List.Folds.{list_any-append}
+use Rattle.std.proofs.lemmas.Bool.{or_left, or_right}
 use Rattle.dia_base.specs.declared.number.NodeNo.{NodeNo}
 use Rattle.dia_base.specs.declared.node.NodeKind.{NodeKind}
 use Rattle.dia_base.specs.declared.node.NodeKind.TheVariants.{Relay, Front, Client}
@@ -14,10 +15,9 @@ use Rattle.farm_model.specs.declared.state.RelayAt.{RelayAt}
 use Rattle.farm_model.specs.Nodes.{kind_in, means_relay}
 use Rattle.farm_model.specs.Run.{relay_if, relays_from, start}
 use Rattle.farm_model.specs.World.{is_relay_at}
+use Rattle.farm_model.proofs.Among.{Has-parts, Has-cons}
 use Rattle.farm_model.proofs.KnowsPeers.{KnowsPeers}
-use Rattle.farm_model.proofs.LinkedNodes.{or_left, or_right}
-use Rattle.farm_model.proofs.Placing.{Has-cons, Has-parts}
-use Rattle.farm_model.proofs.RelayPlaces.{relay_among}
+use Rattle.farm_model.proofs.WorldLemmas.{relay_among}
 
 no_links_if : (site : Site) (place : ℕ) (node : Node) (kind : NodeKind) (at : RelayAt) → Has at (relay_if site place node kind) → at.relay.node.peers.links ≡ []
 no_links_if site place node Relay at h = elim (Has-cons h) [ inl is ↦ ap (λ (a : RelayAt). a.relay.node.peers.links) is | inr g ↦ elim g [ ] ]

@@ -1,5 +1,5 @@
 -- A relay knows the peer at the other end of each connection that stands, and each connection of its links stands.
-use Rattle.std.proofs.Common.{◌≡◌, true, List, [], map, Some}
+use Rattle.std.proofs.Common.{◌≡◌, true, List, [], Some}
 use Rattle.std.specs.Prelude.{◌⊎◌}
 use Rattle.std.specs.List.{list_any}
 use Rattle.dia_base.specs.declared.number.ConnId.{ConnId}
@@ -13,17 +13,7 @@ use Rattle.farm_model.specs.declared.state.Direction.{Direction}
 use Rattle.farm_model.specs.Loss.{Loss}
 use Rattle.farm_model.specs.Nodes.{is_relay}
 use Rattle.farm_model.specs.World.{WorldState, is_relay_at, relay_at}
-
--- ---- directions but for their messages: the connection, and from which node to which
-
-abbrev pub Side : Type 0
-Side = ConnId × NodeNo × NodeNo
-
-abbrev pub side_of : Direction → Side
-side_of direction = (direction.conn, direction.from, direction.to)
-
-abbrev pub sides : List Direction → List Side
-sides directions = map side_of directions
+use Rattle.farm_model.proofs.Sides.{sides}
 
 -- ---- what a relay knows of its peers
 

@@ -1,17 +1,14 @@
 -- The steps by which connections come and go: what they lead on to, and the causes that they show.
-use Rattle.std.proofs.Common.{◌≡◌, Bool, true, false, cond, not, List, [], Option, Some, None, inl, inr, refl, sym, subst, ap, arith}
-use Rattle.std.specs.Prelude.{◌⊎◌, ◌&&◌, Contains, MatchBool, option_map, slice_get, Err}
-use Rattle.std.specs.List.{find}
+use Rattle.std.proofs.Common.{◌≡◌, Bool, true, false, cond, not, List, [], Option, Some, None, inl, inr, refl, sym, subst, arith}
+use Rattle.std.specs.Prelude.{Contains, MatchBool}
 use Rattle.std.proofs.lemmas.Bool.{and_parts}
 use Rattle.dia_base.specs.declared.number.ConnId.{ConnId}
 use Rattle.dia_base.specs.declared.number.NodeNo.{NodeNo}
 use Rattle.dia_message.specs.declared.message.Message.{Message}
 use Rattle.cc_view.specs.declared.refusal.Refusal.{Refusal}
 use Rattle.farm_law.specs.Farm.{Refused}
-use Rattle.farm_law.specs.Lists.{Has}
 use Rattle.farm_law.specs.Moves.{done}
 use Rattle.farm_model.specs.declared.site.Site.{Site}
-use Rattle.farm_model.specs.declared.state.Direction.{Direction}
 use Rattle.farm_model.specs.Cause.{HasCause, at_front, at_charge, by_order, at_relay, at_lost_link}
 use Rattle.farm_model.specs.CheckedSite.{IsChecked}
 use Rattle.farm_model.specs.FarmStep.{Outcome, after_up, can_connect, with_new_connection, next_conn, with_connection_at, Cuts}
@@ -19,17 +16,19 @@ use Rattle.farm_model.specs.Loss.{LossAt, LearnLosses, after_cut, losses_of_cut,
 use Rattle.farm_model.specs.Nodes.{is_linked}
 use Rattle.farm_model.specs.Run.{Transition}
 use Rattle.farm_model.specs.World.{Ends, WorldState, is_between, is_connected, conn_between, front_at}
+use Rattle.farm_model.proofs.Among.{Contains-has}
 use Rattle.farm_model.proofs.AsFarm.{farm_of}
 use Rattle.farm_model.proofs.Connecting.{up_wired, up_leads}
+use Rattle.farm_model.proofs.Finding.{Has-found}
+use Rattle.farm_model.proofs.FrontRequests.{QueuesHoldRequests, losses_hold, with_restart_of_front_holds, with_connection_at_holds}
 use Rattle.farm_model.proofs.HearingSteps.{MoreEnds}
 use Rattle.farm_model.proofs.Losing.{RelayLoses, GivesReasons, cut_goes}
-use Rattle.farm_model.proofs.Placing.{Has-found}
-use Rattle.farm_model.proofs.QueueLemmas.{connected_holds, losses_hold, restarted_holds}
 use Rattle.farm_model.proofs.Restarting.{restart_goes}
-use Rattle.farm_model.proofs.RunHolds.{IsServer, Has-contained}
-use Rattle.farm_model.proofs.StepGoes.{Reason, Goes, StepGoes, QueuesHoldRequests}
+use Rattle.farm_model.proofs.RunHolds.{IsServer}
+use Rattle.farm_model.proofs.StepGoes.{Reason, Goes, StepGoes}
 use Rattle.farm_model.proofs.Wired.{IsWired}
 use Rattle.farm_model.proofs.WiredLemmas.{front_wired, relay_wired}
+use Rattle.farm_model.proofs.WorldLemmas.{direction_between}
 
 -- ---- a step, with the causes of what nodes of the site refuse at it
 
@@ -80,28 +79,23 @@ module _ (site : Site) (all : Ends) (checked : IsChecked site) (relay_loses : Re
           subst (Goes site all (IsShown site t) (farm_of all refused t.before)) (sym o.1) (record {
             leads = up_leads site all checked t.before a b wired linked begins (IsShown site t) refused;
             wired = up_wired site all checked t.before a b wired linked begins;
-            requests = connected_holds b (next_conn t.before) (with_connection_at a (next_conn t.before) t.before.fronts) (front_at b (with_connection_at a (next_conn t.before) t.before.fronts)) refl
-                (connected_holds a (next_conn t.before) t.before.fronts (front_at a t.before.fronts) refl requests);
+            requests = with_connection_at_holds b (next_conn t.before) (with_connection_at a (next_conn t.before) t.before.fronts) (with_connection_at_holds a (next_conn t.before) t.before.fronts requests);
           })
 
   -- who learns of a loss has the cause that the transition shows
   reasons : GivesReasons site (IsShown site t) t.losses
-  reasons w loss relay message code among at is_one stranded nowhere = (at_lost_link w relay code (Has-contained among) at stranded nowhere, inr is_one)
-
-  found_direction : (a b : NodeNo) (conn : ConnId) (found : Option Direction) → find (is_between a b) t.before.directions ≡ found → option_map (λ (direction : Direction). direction.conn) found ≡ Some conn → (direction : Direction) × Has direction t.before.directions × (direction.conn ≡ conn)
-  found_direction a b conn None e is = absurd cc
-  found_direction a b conn (Some direction) e is = (direction, Has-found (is_between a b) t.before.directions e, ap (λ (o : Option ConnId). Rattle.std.specs.Prelude.unwrap_or o conn) is)
+  reasons w loss relay message code among at is_one stranded nowhere = (at_lost_link w relay code (Contains-has among) at stranded nowhere, inr is_one)
 
   pub cut_shows : (a b : NodeNo) (conn : Option ConnId) → conn_between t.before.directions a b ≡ conn → Cuts t.before a b conn t.applied t.losses t.after → StepShows site all t refused
   cut_shows a b None e c = idle_shows c.2
   cut_shows a b (Some conn) e c =
-      let d = found_direction a b conn (find (is_between a b) t.before.directions) refl e in
+      let d = direction_between t.before.directions a b conn e in
       let learn = subst (λ (k : ConnId). LearnLosses (losses_of_cut a b k) (after_cut t.before k) t.losses t.after) (sym d.2) c.1 in
-      let g = cut_goes site all relay_loses (IsShown site t) refused t.before a b d.0 t.after t.losses d.1 wired learn reasons in
+      let g = cut_goes site all relay_loses (IsShown site t) refused t.before a b d.0 t.after t.losses (Has-found (is_between a b) t.before.directions d.1) wired learn reasons in
       record { leads = g.0; wired = g.1; requests = losses_hold c.1 requests }
 
   pub restart_shows : (node : NodeNo) (b : Bool) → MatchBool b ((t.applied ≡ true) × LearnLosses (losses_of_restart node t.before.directions) (after_restart t.before node) t.losses t.after) ((t.applied ≡ false) × (t.losses ≡ []) × (t.after ≡ t.before)) → StepShows site all t refused
   restart_shows node false c = idle_shows c.2
   restart_shows node true c =
       let g = restart_goes site all t.before node wired relay_loses (IsShown site t) refused t.after t.losses c.1 reasons in
-      record { leads = g.0; wired = g.1; requests = losses_hold c.1 (restarted_holds node t.before.fronts (front_at node t.before.fronts) requests) }
+      record { leads = g.0; wired = g.1; requests = losses_hold c.1 (with_restart_of_front_holds node t.before.fronts (front_at node t.before.fronts) requests) }

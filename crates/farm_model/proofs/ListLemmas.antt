@@ -1,9 +1,9 @@
 -- Places of the first item that passes.
-use Rattle.std.proofs.Common.{◌≡◌, ℕ, zero, suc, ◌+◌, ◌≤◌, Bool, true, false, not, cond, List, [], ◌∷◌, ◌++◌, length, get_or, Option, Some, None, refl, sym, subst, ap, ◌∙◌, arith, ltb}
+use Rattle.std.proofs.Common.{◌≡◌, ℕ, suc, ◌+◌, Bool, true, false, cond, not, List, [], ◌∷◌, ◌++◌, length, get_or, Option, Some, None, refl, sym, subst, ap, ◌∙◌, arith, ltb}
 use Rattle.std.specs.Prelude.{slice_get, slice_set, IfSome, IfNone}
 use Rattle.std.specs.List.{find, position, position_or_len}
 use Rattle.std.proofs.lemmas.List.Folds.{find_at}
-use Rattle.std.proofs.lemmas.Option.{slice_get_read}
+use Rattle.std.proofs.lemmas.Option.{slice_get_past, slice_get_read}
 use Rattle.std.proofs.lemmas.Bool.{ltb-true, ltb-false}
 use Rattle.farm_model.specs.Lists.{replace_first, IsFirst}
 
@@ -16,11 +16,6 @@ replace_cons false x y ys rs n e =
 pub replace_first-at : {A : Type 0} (test : A → Bool) (x : A) (xs : List A) → replace_first test x xs ≡ slice_set xs (position_or_len test xs) x
 replace_first-at test x [] = refl
 replace_first-at test x (y ∷ ys) = replace_cons (test y) x y ys (replace_first test x ys) (position_or_len test ys) (replace_first-at test x ys)
-
-past : {A : Type 0} (xs : List A) (i : ℕ) → length xs ≤ i → slice_get xs i ≡ None
-past [] i le = refl
-past (x ∷ xs) zero le = absurd (omega arith)
-past (x ∷ xs) (suc i) le = past xs i (omega arith)
 
 some_is : (b : Bool) (n i : ℕ) → cond b (Some n) None ≡ Some i → (b ≡ true) × (n ≡ i)
 some_is true n i e = (refl, cc)
@@ -42,7 +37,7 @@ place_first test xs i e =
 
 pub place_none : {A : Type 0} (test : A → Bool) (xs : List A) → position test xs ≡ None → find test xs ≡ None
 place_none test xs e =
-    find_at test xs ∙ past xs (position_or_len test xs) (ltb-false _ _ (none_is (ltb (position_or_len test xs) (length xs)) (position_or_len test xs) e))
+    find_at test xs ∙ slice_get_past xs (position_or_len test xs) (ltb-false _ _ (none_is (ltb (position_or_len test xs) (length xs)) (position_or_len test xs) e))
 
 -- the same for an answer
 pub found_first : {A : Type 0} (test : A → Bool) (xs : List A) (r : Option ℕ) → r ≡ position test xs → IfSome r (IsFirst test xs)
@@ -52,15 +47,6 @@ found_first test xs (Some i) e = place_first test xs i (sym e)
 pub found_none : {A : Type 0} (test : A → Bool) (xs : List A) (r : Option ℕ) → r ≡ position test xs → IfNone r (find test xs ≡ None)
 found_none test xs None e = place_none test xs (sym e)
 found_none test xs (Some i) e = tt
-
-passes_cons : {A : Type 0} (test : A → Bool) (b : Bool) (y x : A) (r : Option A) → test y ≡ b → (r ≡ Some x → test x ≡ true) → cond b (Some y) r ≡ Some x → test x ≡ true
-passes_cons test true y x r t more e = let same : y ≡ x = cc in ap test (sym same) ∙ t
-passes_cons test false y x r t more e = more e
-
--- what is found passes
-pub find-passes : {A : Type 0} (test : A → Bool) (xs : List A) (x : A) → find test xs ≡ Some x → test x ≡ true
-find-passes test [] x e = absurd cc
-find-passes test (y ∷ ys) x e = passes_cons test (test y) y x (find test ys) refl (find-passes test ys x) e
 
 -- what stands at the place of the first that passes
 pub first_item : {A : Type 0} (test : A → Bool) (xs : List A) (place : ℕ) (x : A) → IsFirst test xs place → x ≡ get_or xs place x → find test xs ≡ Some x

@@ -3,15 +3,13 @@ use Rattle.std.proofs.Common.{◌≡◌, ℕ, Bool, true, false, List, Option, S
 use Rattle.std.specs.Prelude.{MatchOption, option_map}
 use Rattle.std.specs.Option.{option_and_then}
 use Rattle.std.proofs.lemmas.Bool.{MatchBool-at_true, MatchBool-at_false}
-use Rattle.cc_view.specs.Answer.{refusal_of}
-use Rattle.cc_view.specs.Refusal.{refusal_with}
-use Rattle.cc_view.specs.declared.code.ResultCode.TheVariants.{LoopDetected}
-use Rattle.dia_base.specs.declared.node.NodeKind.{NodeKind}
-use Rattle.dia_base.specs.declared.node.NodeKind.TheVariants.{Relay, Front, Client}
 use Rattle.dia_base.specs.declared.number.ConnId.{ConnId}
 use Rattle.dia_base.specs.declared.number.NodeNo.{NodeNo}
 use Rattle.dia_message.specs.declared.message.Message.{Message}
 use Rattle.dia_message.specs.Traffic.{Traffic}
+use Rattle.cc_view.specs.declared.code.ResultCode.TheVariants.{LoopDetected}
+use Rattle.cc_view.specs.Answer.{refusal_of}
+use Rattle.cc_view.specs.Refusal.{refusal_with}
 use Rattle.front_core.specs.FrontState.{FrontState}
 use Rattle.relay_peers.specs.declared.peers.LinkedPeer.{LinkedPeer}
 use Rattle.relay_peers.specs.PeerTable.{peer_numbered}
@@ -31,19 +29,23 @@ use Rattle.farm_model.specs.declared.step.Step.TheVariants.{Deliver}
 use Rattle.farm_model.specs.Arrival.{AtRelay, ArrivesAtServer, RelayTurn, after_arrival_at_client, after_relay_turn}
 use Rattle.farm_model.specs.CheckedSite.{IsChecked}
 use Rattle.farm_model.specs.FarmStep.{flight_at, Flight, Delivers, FarmStep}
-use Rattle.farm_model.specs.Nodes.{is_node, is_relay, means_client, means_front, means_relay, kind_at, is_linked}
-use Rattle.farm_model.specs.Promise.{IsNamed, RefusesLoop}
+use Rattle.farm_model.specs.Nodes.{is_node, is_relay, means_front, kind_at, is_linked}
+use Rattle.farm_model.specs.Promise.{IsNamed}
 use Rattle.farm_model.specs.Run.{Transition}
 use Rattle.farm_model.specs.World.{Ends, WorldState, with_message_from, is_front_at, front_at, relay_at}
+use Rattle.farm_model.proofs.Among.{Has-map}
 use Rattle.farm_model.proofs.AsFarm.{name_in, name_at}
 use Rattle.farm_model.proofs.Finding.{find_none}
-use Rattle.farm_model.proofs.KnowsPeers.{KnowsPeers, Side, side_of, sides}
-use Rattle.farm_model.proofs.LinkedNodes.{linked_turned, peer_is_listed}
-use Rattle.farm_model.proofs.Placing.{Has-map}
-use Rattle.farm_model.proofs.RelayPlaces.{relay_among, relay_there, with_relay_same}
+use Rattle.farm_model.proofs.KnowsPeers.{KnowsPeers}
+use Rattle.farm_model.proofs.Linked.{linked_turned}
+use Rattle.farm_model.proofs.LinkedPeers.{peer_is_listed}
+use Rattle.farm_model.proofs.Numbering.{same_node}
+use Rattle.farm_model.proofs.OneKind.{relay_no_client, relay_no_front}
+use Rattle.farm_model.proofs.RelayPlaces.{relay_there, with_relay_same}
 use Rattle.farm_model.proofs.SamePeers.{FlightStands, flight_stands}
+use Rattle.farm_model.proofs.Sides.{Side, side_of, sides}
 use Rattle.farm_model.proofs.Wired.{IsWired, FrontIsWired}
-use Rattle.farm_model.proofs.WorldLemmas.{same_node}
+use Rattle.farm_model.proofs.WiredLemmas.{relay_wired}
 
 -- the law of relays
 abbrev pub LoopsAreRefused : Type 0
@@ -51,18 +53,6 @@ LoopsAreRefused = (relay : RelayState) (conn : ConnId) (sender : List ℕ) (requ
     (sent ≡ refusal_to relay.node conn request (refusal_with LoopDetected)) × (next ≡ relay)
 
 -- ---- a node is of one kind
-
-relay_no_client : (kind : Option NodeKind) → means_relay kind ≡ true → means_client kind ≡ false
-relay_no_client None e = refl
-relay_no_client (Some Relay) e = refl
-relay_no_client (Some Front) e = refl
-relay_no_client (Some Client) e = absurd cc
-
-relay_no_front : (kind : Option NodeKind) → means_relay kind ≡ true → means_front kind ≡ false
-relay_no_front None e = refl
-relay_no_front (Some Relay) e = refl
-relay_no_front (Some Front) e = absurd cc
-relay_no_front (Some Client) e = refl
 
 -- no front stands where the site has a relay
 pub no_front_at : (site : Site) (node : NodeNo) (fronts : List FrontAt) → is_relay site node ≡ true → ((at : FrontAt) → Has at fronts → FrontIsWired site at) → front_at node fronts ≡ None
@@ -101,7 +91,7 @@ sender_known {site} {ends} {w} {from} {node} {relay} {flight} checked wired know
     ap (λ (c : ConnId). (c, direction.from, direction.to)) stands.conn_is ∙ ap (λ (n : NodeNo). (flight.conn, n, direction.to)) stands.from_is ∙ ap (λ (n : NodeNo). (flight.conn, from, n)) stands.to_is in
     let on = known.knows node relay flight.conn from at (subst (λ (s : Side). Has s (sides w.directions)) side (Has-map side_of stands.among)) in
     let linked = ap (λ (n : NodeNo). is_linked site n node) (sym stands.from_is) ∙ ap (λ (n : NodeNo). is_linked site direction.from n) (sym stands.to_is) ∙ (wired.directions direction stands.among).linked in
-    let listed = peer_is_listed checked (wired.relays (record { node = node; relay = relay }) (relay_among node w.relays relay at)) from (linked_turned site from node linked) in
+    let listed = peer_is_listed checked (relay_wired wired.relays at) from (linked_turned site from node linked) in
     (listed.0, ap (option_and_then (peer_numbered relay.node.peers.linked)) on ∙ listed.1)
 
 -- ---- the whole
@@ -124,7 +114,7 @@ loop_refused {site} {ends} law checked t wired known made from node place conn m
     let relay = there.0 in
     let relay_turn = subst (λ (o : Option FrontState). ArrivesAtServer flown node conn message o t.after) (no_front_at site node w.fronts relay_is wired.fronts) at_server in
     let turn : RelayTurn flown node relay (Received conn message) t.after = subst (λ (o : Option RelayState). AtRelay flown node (Received conn message) o t.after) there.1 relay_turn in
-    let is_wired = wired.relays (record { node = node; relay = relay }) (relay_among node w.relays relay there.1) in
+    let is_wired = relay_wired wired.relays there.1 in
     let called : relay.node.name ≡ name = ap (λ (n : RelayNode). n.name) is_wired.node_is ∙ name_is named in
     let realm : relay.node.realm ≡ site.realm = ap (λ (n : RelayNode). n.realm) is_wired.node_is in
     let sender = sender_known checked wired known (flight_stands w.directions from node place flight flies) there.1 in

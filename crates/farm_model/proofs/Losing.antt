@@ -1,5 +1,5 @@
 -- A cut and a restart as moves: connections end, what was in flight is gone, and one node after the other learns it.
-use Rattle.std.proofs.Common.{◌≡◌, true, not, List, ◌++◌, Option, Some, None, inl, inr, refl, sym, subst, ◌∙◌}
+use Rattle.std.proofs.Common.{◌≡◌, true, not, List, ◌++◌, Option, Some, None, inl, inr, refl, sym, subst}
 use Rattle.std.specs.Prelude.{flat_map, Err}
 use Rattle.dia_base.specs.declared.number.ConnId.{ConnId}
 use Rattle.dia_base.specs.declared.number.NodeNo.{NodeNo}
@@ -20,13 +20,15 @@ use Rattle.farm_model.specs.Arrival.{RelayTurn, AtRelay}
 use Rattle.farm_model.specs.Cause.{IsStranded}
 use Rattle.farm_model.specs.Loss.{Loss, LearnsLoss, LossAt, LearnLosses, all_know, learns, losses_of_cut, after_cut}
 use Rattle.farm_model.specs.Nodes.{is_relay}
-use Rattle.farm_model.specs.World.{Ends, WorldState, is_on, without_conn, with_traffic_from, with_front, front_at, relay_at}
+use Rattle.farm_model.specs.World.{Ends, WorldState, is_on, without_conn, with_front, front_at, relay_at}
+use Rattle.farm_model.proofs.Among.{Has-filter}
 use Rattle.farm_model.proofs.AsFarm.{parties, flights, flights_in, items_at, has_ended_in, farm_of, LeadsTo}
-use Rattle.farm_model.proofs.Ending.{same_ended, still_ended, ended_by_cut}
-use Rattle.farm_model.proofs.Placing.{Has-filter, Left-all, Left-parts, Left-filter}
-use Rattle.farm_model.proofs.Posting.{traffic_stands, join}
+use Rattle.farm_model.proofs.Ending.{still_ended, ended_by_cut}
+use Rattle.farm_model.proofs.Moving.{join}
+use Rattle.farm_model.proofs.Placing.{Left-all, Left-parts, Left-filter}
+use Rattle.farm_model.proofs.Sending.{traffic_ended}
 use Rattle.farm_model.proofs.Wired.{IsWired}
-use Rattle.farm_model.proofs.WiredLemmas.{same_items, front_wired, fronts_wired, relay_wired}
+use Rattle.farm_model.proofs.WiredLemmas.{same_items, relay_wired, with_front_wired}
 
 -- what a relay does when it learns of a loss is moves
 abbrev pub RelayLoses : Site → Ends → Type 1
@@ -60,7 +62,7 @@ module _ (site : Site) (all : Ends) (relay_loses : RelayLoses site all) (HasReas
     record {
       begins = wired.begins;
       directions = wired.directions;
-      fronts = (let k = front_wired wired.fronts e in fronts_wired loss.node (without_connection front loss.conn) wired.fronts (record { is_front = k.is_front; site_is = k.site_is }));
+      fronts = with_front_wired site loss.node w.fronts front (without_connection front loss.conn) e refl wired.fronts;
       relays = wired.relays;
       alone = wired.alone;
     },
@@ -84,7 +86,7 @@ module _ (site : Site) (all : Ends) (relay_loses : RelayLoses site all) (HasReas
     where
       by_relay : (relay : Option RelayState) → AtRelay w loss.node (Lost loss.conn) relay after → has_ended_in after.ends after.directions conn ≡ true
       by_relay None same = subst (λ (v : WorldState). has_ended_in v.ends v.directions conn ≡ true) (sym same) e
-      by_relay (Some relay) turn = subst (λ (v : WorldState). has_ended_in v.ends v.directions conn ≡ true) (sym turn.next_is) (same_ended w.ends w.directions (with_traffic_from loss.node w.directions turn.sent) conn (traffic_stands loss.node w.directions turn.sent conn) ∙ e)
+      by_relay (Some relay) turn = subst (λ (v : WorldState). has_ended_in v.ends v.directions conn ≡ true) (sym turn.next_is) (traffic_ended w.ends loss.node w.directions turn.sent conn e)
 
   -- one after the other
   pub all_learn : {losses : List Loss} {w after : WorldState} {later : List LossAt} (refused : List Refused) → LearnLosses losses w later after → IsWired site all w → ((loss : Loss) → Has loss losses → has_ended_in w.ends w.directions loss.conn ≡ true) → GivesReasons site HasReason later

@@ -1,22 +1,17 @@
 -- The Route-Record of each node of a checked site has a spelling.
-use Rattle.std.proofs.Common.{◌≡◌, ℕ, ◌≤◌, Bool, true, List, [], ◌∷◌, length, Option, Some, None, refl, arith, leb-true, lit≤}
+use Rattle.std.proofs.Common.{◌≡◌, ℕ, ◌≤◌, List, [], length, Option, Some, None, refl, arith, leb-true, lit≤}
 use Rattle.std.specs.Prelude.{nat_le, slice_get}
 use Rattle.std.specs.List.{list_all}
 use Rattle.std.proofs.lemmas.Bool.{and_parts}
 use Rattle.dia_base.specs.declared.number.NodeNo.{NodeNo}
 use Rattle.dia_avp.specs.AvpList.{HasSpelling}
 use Rattle.relay_routes.specs.Routing.{record_of}
-use Rattle.farm_law.specs.Lists.{Has, here, there}
 use Rattle.farm_model.specs.declared.site.Node.{Node}
 use Rattle.farm_model.specs.declared.site.Site.{Site}
 use Rattle.farm_model.specs.CheckedSite.{is_within, is_visible, is_sound_name, IsChecked}
+use Rattle.farm_model.proofs.Among.{Has-get}
 use Rattle.farm_model.proofs.AsFarm.{name_in, name_at}
-use Rattle.farm_model.proofs.Placing.{Has-get}
-
-all_pass : {A : Type 0} (test : A → Bool) {x : A} (xs : List A) → list_all test xs ≡ true → Has x xs → test x ≡ true
-all_pass test (y ∷ ys) e here = (and_parts (test y) (list_all test ys) e).0
-all_pass test (y ∷ ys) e (there h) = all_pass test ys (and_parts (test y) (list_all test ys) e).1 h
-all_pass test [] e h = elim h [ ]
+use Rattle.farm_model.proofs.Finding.{all_has}
 
 short_spells : (name : List ℕ) → length name ≤ 255 → HasSpelling (record_of name)
 short_spells name short = record { code = lit≤ tt; vendor = lit≤ tt; no_vendor = λ e. refl; long = (omega (arith, short)) }
@@ -27,6 +22,6 @@ spells site checked node = go (slice_get site.nodes node.0) refl
     go : (found : Option Node) → slice_get site.nodes node.0 ≡ found → HasSpelling (record_of (name_in found))
     go None at = short_spells [] (omega arith)
     go (Some found) at =
-        let sound = all_pass is_sound_name site.nodes checked.sound_names (Has-get site.nodes node.0 at) in
+        let sound = all_has is_sound_name checked.sound_names (Has-get site.nodes node.0 at) in
         let sized = (and_parts (is_within 1 255 (length found.name)) (list_all is_visible found.name) sound).0 in
         short_spells found.name (leb-true (length found.name) 255 (and_parts (nat_le 1 (length found.name)) (nat_le (length found.name) 255) sized).1)

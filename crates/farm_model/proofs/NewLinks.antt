@@ -2,52 +2,36 @@
 use Rattle.std.proofs.Common.{◌≡◌, ℕ, ◌+◌, ◌≤◌, Bool, true, false, cond, List, [], ◌∷◌, ◌++◌, length, Option, Some, None, inl, inr, refl, sym, ap, ◌∙◌, arith, eq-eqb}
 use Rattle.std.specs.Prelude.{◌⊎◌, ◌||◌, ◌==◌, is_some, is_none, option_map, if◌then◌else◌}
 use Rattle.std.specs.List.{find, list_any}
-use Rattle.std.proofs.lemmas.Bool.{and_from, ne_eqb}
+use Rattle.std.proofs.lemmas.Bool.{ne_eqb}
 use Rattle.dia_base.specs.declared.node.NodeKind.{NodeKind}
 use Rattle.dia_base.specs.declared.number.ConnId.{ConnId}
 use Rattle.dia_base.specs.declared.number.NodeNo.{NodeNo}
 use Rattle.relay_peers.specs.declared.peers.Link.{Link}
 use Rattle.relay_peers.specs.declared.peers.LinkedPeer.{LinkedPeer}
 use Rattle.relay_peers.specs.PeerTable.{is_of, is_on, conn_in, peer_in, with_link}
-use Rattle.relay_core.specs.Connecting.{up_fault}
-use Rattle.relay_core.specs.RelayState.{RelayState}
 use Rattle.relay_core.specs.declared.error.RelayError.TheVariants.{PeerUp, UnknownPeer}
+use Rattle.relay_core.specs.Connecting.{up_fault, after_up}
+use Rattle.relay_core.specs.RelayState.{RelayState}
 use Rattle.farm_law.specs.Lists.{Has}
 use Rattle.farm_model.specs.declared.site.Site.{Site}
-use Rattle.farm_model.specs.declared.state.Direction.{Direction}
 use Rattle.farm_model.specs.declared.state.RelayAt.{RelayAt}
 use Rattle.farm_model.specs.CheckedSite.{IsChecked}
 use Rattle.farm_model.specs.FarmStep.{next_conn, after_up_by, with_link_of, with_link_at}
 use Rattle.farm_model.specs.Nodes.{is_node, is_linked}
-use Rattle.farm_model.specs.World.{Ends, WorldState, is_between, is_connected, is_relay_at, relay_at}
-use Rattle.farm_model.proofs.Finding.{Has-of_map, find_none, find_before, find_behind, any_has}
-use Rattle.farm_model.proofs.KnowsPeers.{Side, side_of, sides}
-use Rattle.farm_model.proofs.LinkedNodes.{peer_is_listed}
-use Rattle.farm_model.proofs.RelayPlaces.{node_itself, relay_among, relay_after_change, present_after_change}
+use Rattle.farm_model.specs.World.{Ends, WorldState, is_relay_at, relay_at}
+use Rattle.farm_model.proofs.Finding.{find_none, find_before, find_behind, found_mapped}
+use Rattle.farm_model.proofs.LinkedPeers.{peer_is_listed}
+use Rattle.farm_model.proofs.Numbering.{same_node}
+use Rattle.farm_model.proofs.RelayPlaces.{relay_after_change, present_after_change}
 use Rattle.farm_model.proofs.Wired.{IsWired}
-use Rattle.farm_model.proofs.WorldLemmas.{same_node}
-
--- ---- connections that stand
-
--- nodes are connected where a direction stands from the one to the other
-pub side_connects : (directions : List Direction) (conn : ConnId) (a b : NodeNo) → Has (conn, a, b) (sides directions) → is_connected directions a b ≡ true
-side_connects directions conn a b h =
-    let found = Has-of_map side_of directions h in
-    let direction = found.0 in
-    let from_is : direction.from ≡ a = ap (λ (s : Side). s.1) found.2 in
-    let to_is : direction.to ≡ b = ap (λ (s : Side). s.2) found.2 in
-    let from_here : is_node direction.from a ≡ true = ap (λ (n : NodeNo). is_node n a) from_is ∙ node_itself a in
-    let to_here : is_node direction.to b ≡ true = ap (λ (n : NodeNo). is_node n b) to_is ∙ node_itself b in
-    any_has (is_between a b) found.1 (and_from (is_node direction.from a) (is_node direction.to b) from_here to_here)
+use Rattle.farm_model.proofs.WiredLemmas.{relay_wired}
 
 -- ---- the peer on a connection, with one link more
 
 pub peer_before : (links more : List Link) (conn : ConnId) (peer : NodeNo) → peer_in links conn ≡ Some peer → peer_in (links ++ more) conn ≡ Some peer
-peer_before links more conn peer e = go (find (is_on conn) links) refl e
-  where
-    go : (o : Option Link) → find (is_on conn) links ≡ o → option_map (λ (link : Link). link.peer) o ≡ Some peer → peer_in (links ++ more) conn ≡ Some peer
-    go None f k = absurd cc
-    go (Some link) f k = ap (option_map (λ (l : Link). l.peer)) (find_before (is_on conn) links more f) ∙ k
+peer_before links more conn peer e =
+    let found = found_mapped (λ (l : Link). l.peer) (is_on conn) links e in
+    ap (option_map (λ (l : Link). l.peer)) (find_before (is_on conn) links more found.1) ∙ ap (λ (p : NodeNo). Some p) found.2
 
 pub peer_behind : (links : List Link) (peer : NodeNo) (conn : ConnId) → find (is_on conn) links ≡ None → peer_in (with_link links peer conn) conn ≡ Some peer
 peer_behind links peer conn e =
@@ -68,13 +52,13 @@ module _ {site : Site} {ends : Ends} (checked : IsChecked site) (w : WorldState)
   -- no link has the number of the next connection
   pub conn_is_new : (node : NodeNo) (relay : RelayState) → relay_at node w.relays ≡ Some relay → find (is_on (next_conn w)) relay.node.peers.links ≡ None
   conn_is_new node relay at = find_none (is_on (next_conn w)) relay.node.peers.links (λ link h.
-      let below : link.conn.0 ≤ length w.ends = ((wired.relays (record { node = node; relay = relay }) (relay_among node w.relays relay at)).links link h).below in
+      let below : link.conn.0 ≤ length w.ends = ((relay_wired wired.relays at).links link h).below in
       ne_eqb link.conn.0 (length w.ends + 1) (λ same. absurd (omega arith)))
 
   -- the relay has no link with a peer, where none of its links that stand is with it
   pub no_fault : (node peer : NodeNo) (relay : RelayState) → relay_at node w.relays ≡ Some relay → is_linked site node peer ≡ true → ((link : Link) → Has link relay.node.peers.links → link.peer ≡ peer → ⊥) → up_fault relay peer (next_conn w) ≡ None
   no_fault node peer relay at linked none =
-      let listed = peer_is_listed checked (wired.relays (record { node = node; relay = relay }) (relay_among node w.relays relay at)) peer linked in
+      let listed = peer_is_listed checked (relay_wired wired.relays at) peer linked in
       let not_up : conn_in relay.node.peers.links peer ≡ None = ap (option_map (λ (l : Link). l.conn)) (find_none (is_of peer) relay.node.peers.links (λ link h. ne_eqb link.peer.0 peer.0 (λ same. none link h (ap (λ (n : ℕ). record { 0 = n }) same)))) in
       let not_on : peer_in relay.node.peers.links (next_conn w) ≡ None = ap (option_map (λ (l : Link). l.peer)) (conn_is_new node relay at) in
       no_fault_where peer listed.0.kind _ _ _ (ap (option_map (λ (p : LinkedPeer). p.kind)) listed.1) not_up not_on
@@ -97,7 +81,7 @@ relay_after_up node peer conn relays sound other found e = go (relay_at node rel
     go : (o : Option RelayState) → relay_at node relays ≡ o → relay_at other (with_link_of node peer conn relays o) ≡ Some found → IsAfterUp node peer conn relays other found
     go None f k = absent f k (is_node node other) refl
     go (Some relay) f k =
-        let up : after_up_by relay peer conn (up_fault relay peer conn) ≡ Rattle.relay_core.specs.Connecting.after_up relay peer conn = ap (after_up_by relay peer conn) (sound relay f) in
+        let up : after_up_by relay peer conn (up_fault relay peer conn) ≡ after_up relay peer conn = ap (after_up_by relay peer conn) (sound relay f) in
         elim (relay_after_change node (after_up_by relay peer conn (up_fault relay peer conn)) relays other found k) [
           | inl is ↦ inl (is.0, (relay, f, ap (λ (r : RelayState). r.node.peers.links) (is.1 ∙ up)))
           | inr is ↦ inr is

@@ -16,8 +16,8 @@ use Rattle.farm_law.specs.Lists.{Has}
 use Rattle.farm_law.specs.Moves.{Orphaned, none, as_it_was, orphan}
 use Rattle.farm_model.specs.Cause.{IsStranded}
 use Rattle.farm_model.specs.World.{Ends}
-use Rattle.farm_model.proofs.AsFarm.{asker_of, pending_of}
 use Rattle.farm_model.proofs.Among.{Has-unmap, Contains-has}
+use Rattle.farm_model.proofs.AsFarm.{asker_of, pending_of}
 
 -- ---- the rows of the farm
 

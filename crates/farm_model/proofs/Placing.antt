@@ -1,67 +1,9 @@
 -- Where one part of a list changes, and what is made of the parts: one item more or less in the whole, or some left out.
-use Rattle.std.proofs.Common.{◌≡◌, ℕ, zero, suc, Bool, true, false, cond, List, [], ◌∷◌, ◌++◌, map, Some, inl, inr, refl, sym, subst, ap, ◌∙◌}
-use Rattle.std.specs.Prelude.{◌⊎◌, flat_map, filter, slice_get, remove}
+use Rattle.std.proofs.Common.{◌≡◌, ℕ, zero, suc, Bool, true, false, cond, List, [], ◌∷◌, ◌++◌, map, Some, refl, subst, ap}
+use Rattle.std.specs.Prelude.{flat_map, filter, slice_get, remove, slice_set}
 use Rattle.std.specs.List.{find}
 use Rattle.farm_law.specs.Lists.{Has, here, there, Without, first, later, Left, nothing, stays, goes}
 use Rattle.farm_model.specs.Lists.{replace_first}
-
--- ---- one item
-
-pub Has-left : {A : Type 0} {x : A} {xs : List A} (ys : List A) → Has x xs → Has x (xs ++ ys)
-Has-left ys here = here
-Has-left ys (there h) = there (Has-left ys h)
-
-pub Has-right : {A : Type 0} {x : A} (xs : List A) {ys : List A} → Has x ys → Has x (xs ++ ys)
-Has-right [] h = h
-Has-right (y ∷ xs) h = there (Has-right xs h)
-
-pub Has-cons : {A : Type 0} {x y : A} {ys : List A} → Has x (y ∷ ys) → (x ≡ y) ⊎ Has x ys
-Has-cons here = inl refl
-Has-cons (there h) = inr h
-
-pub Has-parts : {A : Type 0} {x : A} (xs : List A) {ys : List A} → Has x (xs ++ ys) → Has x xs ⊎ Has x ys
-Has-parts [] h = inr h
-Has-parts (y ∷ xs) here = inl here
-Has-parts (y ∷ xs) (there h) = elim (Has-parts xs h) [ inl g ↦ inl (there g) | inr g ↦ inr g ]
-
-pub Has-map : {A B : Type 0} (f : A → B) {x : A} {xs : List A} → Has x xs → Has (f x) (map f xs)
-Has-map f here = here
-Has-map f (there h) = there (Has-map f h)
-
-pub Has-filter : {A : Type 0} (test : A → Bool) {x : A} (xs : List A) → Has x (filter test xs) → Has x xs × (test x ≡ true)
-Has-filter test [] h = elim h [ ]
-Has-filter test {x} (y ∷ ys) h = go (Has-filter test ys) (test y) refl h
-  where
-    go : (Has x (filter test ys) → Has x ys × (test x ≡ true)) → (b : Bool) → test y ≡ b → Has x (cond b (y ∷ filter test ys) (filter test ys)) → Has x (y ∷ ys) × (test x ≡ true)
-    go more true e g = elim (Has-cons g) [
-      | inl q ↦ (subst (λ (z : _). Has z (y ∷ ys)) (sym q) here, ap test q ∙ e)
-      | inr k ↦ let t = more k in (there t.0, t.1)
-    ]
-    go more false e g = let t = more g in (there t.0, t.1)
-
-pub Has-found : {A : Type 0} (test : A → Bool) {x : A} (xs : List A) → find test xs ≡ Some x → Has x xs
-Has-found test [] e = absurd cc
-Has-found test {x} (y ∷ ys) e = go (Has-found test ys) (test y) e
-  where
-    go : (find test ys ≡ Some x → Has x ys) → (b : Bool) → cond b (Some y) (find test ys) ≡ Some x → Has x (y ∷ ys)
-    go more true k = let same : y ≡ x = cc in subst (λ (z : _). Has z (y ∷ ys)) same here
-    go more false k = there (more k)
-
-pub Has-replaced : {A : Type 0} (test : A → Bool) (y : A) {x : A} (xs : List A) → Has x (replace_first test y xs) → (x ≡ y) ⊎ Has x xs
-Has-replaced test y [] h = inr h
-Has-replaced test y {x} (z ∷ zs) h = go (Has-replaced test y zs) (test z) h
-  where
-    go : (Has x (replace_first test y zs) → (x ≡ y) ⊎ Has x zs) → (b : Bool) → Has x (cond b (y ∷ zs) (z ∷ replace_first test y zs)) → (x ≡ y) ⊎ Has x (z ∷ zs)
-    go more true g = elim (Has-cons g) [ inl q ↦ inl q | inr k ↦ inr (there k) ]
-    go more false g = elim (Has-cons g) [
-      | inl q ↦ inr (subst (λ (v : _). Has v (z ∷ zs)) (sym q) here)
-      | inr k ↦ elim (more k) [ inl q ↦ inl q | inr j ↦ inr (there j) ]
-    ]
-
-pub Has-get : {A : Type 0} {x : A} (xs : List A) (k : ℕ) → slice_get xs k ≡ Some x → Has x xs
-Has-get [] k e = absurd cc
-Has-get (y ∷ ys) zero e = let same : y ≡ _ = cc in subst (λ (z : _). Has z (y ∷ ys)) same here
-Has-get (y ∷ ys) (suc k) e = there (Has-get ys k e)
 
 -- ---- one item less
 
@@ -89,10 +31,6 @@ pub Without-removed : {A : Type 0} {x : A} (xs : List A) (k : ℕ) → slice_get
 Without-removed [] k e = absurd cc
 Without-removed (y ∷ ys) zero e = let same : y ≡ _ = cc in subst (λ (z : _). Without z (y ∷ ys) ys) same first
 Without-removed (y ∷ ys) (suc k) e = later (Without-removed ys k e)
-
-pub Has-without : {A : Type 0} {x : A} {xs ys : List A} → Without x xs ys → Has x xs
-Has-without first = here
-Has-without (later h) = there (Has-without h)
 
 -- one item in the place of another, or the same in another place
 pub record Turned {A : Type 0} (x y : A) (xs ys : List A) : Type 0 where
@@ -159,5 +97,28 @@ module _ {A B : Type 0} (f : A → List B) (test : A → Bool) {x y : A} where
   -- one of its items gives way to another
   pub parts_turn : {b c : B} → Turned b c (f x) (f y) → (xs : List A) → find test xs ≡ Some x → Turned b c (flat_map f xs) (flat_map f (replace_first test y xs))
   parts_turn {b} {c} w = replaced (Turned b c) w
+      (λ bs cs zs h. record { rest = h.rest ++ zs; old = Without-left zs h.old; new = Without-left zs h.new })
+      (λ zs bs cs h. record { rest = zs ++ h.rest; old = Without-right zs h.old; new = Without-right zs h.new })
+
+-- ---- one item is set, and gives way to another one
+
+module _ {A B : Type 0} (f : A → List B) {x y : A} where
+  set_parts : (P : List B → List B → Type 0) → P (f x) (f y) → ((bs cs zs : List B) → P bs cs → P (bs ++ zs) (cs ++ zs)) → ((zs bs cs : List B) → P bs cs → P (zs ++ bs) (zs ++ cs)) → (xs : List A) (k : ℕ) → slice_get xs k ≡ Some x
+      → P (flat_map f xs) (flat_map f (slice_set xs k y))
+  set_parts P p left right [] k e = absurd cc
+  set_parts P p left right (z ∷ zs) zero e = let same : x ≡ z = cc in left _ _ (flat_map f zs) (subst (λ (v : A). P (f v) (f y)) same p)
+  set_parts P p left right (z ∷ zs) (suc k) e = right (f z) _ _ (set_parts P p left right zs k e)
+
+  -- one item less is made of it
+  pub set_lose : {b : B} → Without b (f x) (f y) → (xs : List A) (k : ℕ) → slice_get xs k ≡ Some x → Without b (flat_map f xs) (flat_map f (slice_set xs k y))
+  set_lose {b} w = set_parts (Without b) w (λ bs cs zs h. Without-left zs h) (λ zs bs cs h. Without-right zs h)
+
+  -- one item more
+  pub set_gain : {b : B} → Without b (f y) (f x) → (xs : List A) (k : ℕ) → slice_get xs k ≡ Some x → Without b (flat_map f (slice_set xs k y)) (flat_map f xs)
+  set_gain {b} w = set_parts (λ bs cs. Without b cs bs) w (λ bs cs zs h. Without-left zs h) (λ zs bs cs h. Without-right zs h)
+
+  -- another one
+  pub set_turn : {b c : B} → Turned b c (f x) (f y) → (xs : List A) (k : ℕ) → slice_get xs k ≡ Some x → Turned b c (flat_map f xs) (flat_map f (slice_set xs k y))
+  set_turn {b} {c} w = set_parts (Turned b c) w
       (λ bs cs zs h. record { rest = h.rest ++ zs; old = Without-left zs h.old; new = Without-left zs h.new })
       (λ zs bs cs h. record { rest = zs ++ h.rest; old = Without-right zs h.old; new = Without-right zs h.new })

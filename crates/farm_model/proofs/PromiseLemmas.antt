@@ -1,7 +1,8 @@
 -- The promise, by what holds at the end of a run.
-use Rattle.std.proofs.Common.{◌≡◌, ℕ, ◌≤◌, Bool, true, false, cond, List, [], ◌∷◌, ◌++◌, length, Option, Some, None, inl, inr, refl, sym, subst, ap, ◌∙◌, arith, true≢false, eq-eqb}
-use Rattle.std.specs.Prelude.{◌&&◌, ◌||◌, ◌==◌, slice_get, unwrap_or}
+use Rattle.std.proofs.Common.{◌≡◌, ℕ, ◌≤◌, Bool, true, false, cond, List, [], ◌∷◌, ◌++◌, length, Option, Some, None, inl, inr, refl, sym, subst, ap, ◌∙◌, arith, true≢false}
+use Rattle.std.specs.Prelude.{◌&&◌, ◌||◌, ◌==◌, slice_get}
 use Rattle.std.proofs.lemmas.Bool.{and_parts, eqb-true}
+use Rattle.std.proofs.Math.Bool.{or-true}
 use Rattle.dia_base.specs.declared.node.NodeKind.{NodeKind}
 use Rattle.dia_base.specs.declared.node.NodeKind.TheVariants.{Relay, Front, Client}
 use Rattle.dia_base.specs.declared.number.ConnId.{ConnId}
@@ -19,6 +20,7 @@ use Rattle.cc_book.specs.AccountMachine.{kept_reply, reply_to}
 use Rattle.cc_book.specs.Laws.{RepliesToEntry}
 use Rattle.front_core.specs.Answered.{IsAnswered}
 use Rattle.front_core.specs.Counts.{is_with, requests_with, answers_with}
+use Rattle.relay_core.specs.Forwarding.{Descends}
 use Rattle.farm_law.specs.Answers.{Answers, of_front, of_refusal, TellsAnswer, TellsRefusal}
 use Rattle.farm_law.specs.Farm.{Refused}
 use Rattle.farm_law.specs.Invariant.{IsOwed, IsTaken}
@@ -26,12 +28,14 @@ use Rattle.farm_law.specs.Lists.{Has, here, there}
 use Rattle.farm_model.specs.declared.site.Node.{Node}
 use Rattle.farm_model.specs.declared.site.Site.{Site}
 use Rattle.farm_model.specs.Nodes.{is_node, is_client, is_front, kind_in, means_front, means_relay}
-use Rattle.farm_model.specs.Promise.{Journal, IsEndOf, IsNamed, IsFrontNamed, AnswersOn, itself, over_relay, HasOneClient, WasRequested, IsRefusedThere, IsRightAnswer, IsFromClient, HasOneContent, IsMachineReply, RefusesLoop, RefusesWhatComesBack, KeepsPromise}
+use Rattle.farm_model.specs.Promise.{Journal, IsEndOf, IsNamed, IsFrontNamed, AnswersOn, itself, over_relay, HasOneClient, IsRefusedThere, IsRightAnswer, IsFromClient, HasOneContent, IsMachineReply, RefusesLoop, RefusesWhatComesBack, KeepsPromise}
 use Rattle.farm_model.specs.Run.{Past, front_site, trace_of}
 use Rattle.farm_model.specs.World.{Ends, WorldState}
+use Rattle.farm_model.proofs.Among.{Has-right, Contains-has, all_of}
 use Rattle.farm_model.proofs.AsFarm.{parties, ends_of, client_in, server_in, name_in, name_at}
-use Rattle.farm_model.proofs.Placing.{Has-right}
-use Rattle.farm_model.proofs.RunHolds.{IsServer, RunHolds, Has-contained, all_of}
+use Rattle.farm_model.proofs.Joined.{nodes_are}
+use Rattle.farm_model.proofs.Numbering.{is_same_node}
+use Rattle.farm_model.proofs.RunHolds.{IsServer, RunHolds}
 
 -- ---- nodes of the site
 
@@ -57,22 +61,15 @@ server_found site node (inr e) = go (slice_get site.nodes node.0) refl e
 
 -- ---- the ends of a client's connection
 
-same_is : (n m : NodeNo) → n ≡ m → is_node n m ≡ true
-same_is n m e = eq-eqb n.0 m.0 (ap (λ (k : NodeNo). k.0) e)
-
 ends_are : {site : Site} {all : Ends} {conn : ConnId} (h : HasOneClient site all conn) → ends_of all conn ≡ h.nodes
-ends_are h = ap (λ (o : Option (NodeNo × NodeNo)). unwrap_or o (record { 0 = 0 }, record { 0 = 0 })) h.made
+ends_are {all = all} {conn = conn} h = nodes_are all conn h.nodes h.made
 
 server_end : {site : Site} {all : Ends} {conn : ConnId} → HasOneClient site all conn → IsEndOf all conn (server_in site (ends_of all conn))
 server_end {site} {all} {conn} h = record { numbered = h.numbered; nodes = h.nodes; made = h.made; joined = ap (λ (n : NodeNo × NodeNo). is_node h.nodes.0 (server_in site n) || is_node h.nodes.1 (server_in site n)) (ends_are h) ∙ go (is_client site h.nodes.0) }
   where
-    or_true : (b : Bool) → (b || true) ≡ true
-    or_true true = refl
-    or_true false = refl
-
     go : (b : Bool) → (is_node h.nodes.0 (cond b h.nodes.1 h.nodes.0) || is_node h.nodes.1 (cond b h.nodes.1 h.nodes.0)) ≡ true
-    go true = ap (λ (b : Bool). is_node h.nodes.0 h.nodes.1 || b) (same_is h.nodes.1 h.nodes.1 refl) ∙ or_true (is_node h.nodes.0 h.nodes.1)
-    go false = ap (λ (b : Bool). b || is_node h.nodes.1 h.nodes.0) (same_is h.nodes.0 h.nodes.0 refl)
+    go true = ap (λ (b : Bool). is_node h.nodes.0 h.nodes.1 || b) (is_same_node h.nodes.1 h.nodes.1 refl) ∙ or-true (is_node h.nodes.0 h.nodes.1)
+    go false = ap (λ (b : Bool). b || is_node h.nodes.1 h.nodes.0) (is_same_node h.nodes.0 h.nodes.0 refl)
 
 client_end : {site : Site} {all : Ends} {conn : ConnId} → HasOneClient site all conn → is_client site (client_in site (ends_of all conn)) ≡ true
 client_end {site} {all} {conn} h = ap (λ (n : NodeNo × NodeNo). is_client site (client_in site n)) (ends_are h) ∙ go (is_client site h.nodes.0) refl h.a_client
@@ -106,7 +103,7 @@ module _ (site : Site) (past : Past) (w : WorldState) (h : RunHolds site w.ends 
   from_client entry among = go entry (h.kept.taken entry among)
     where
       go : (e : Entry) → IsTaken (parties site w.ends) w.sent e → IsFromClient site w.sent e
-      go (Take moment request) t = (t.0, t.1, (Has-contained t.2, t.3), t.4)
+      go (Take moment request) t = (t.0, t.1, (Contains-has t.2, t.3), t.4)
       go (Sweep moment) t = absurd t
 
   -- where requests of one key are one request, its entry is the one that is replied to
@@ -130,7 +127,7 @@ module _ (site : Site) (past : Past) (w : WorldState) (h : RunHolds site w.ends 
   tells_on conn node client (inl relay) = over_relay (server_in site (ends_of w.ends conn)) (server_end client) relay
   tells_on conn node client (inr same) = itself (subst (IsEndOf w.ends conn) (sym same) (server_end client))
 
-  refused_there : (conn : ConnId) (message : Message) (r : Refused) → HasOneClient site w.ends conn → TellsRefusal (parties site w.ends) (server_in site (ends_of w.ends conn)) conn message r → Rattle.relay_core.specs.Forwarding.Descends message r.request
+  refused_there : (conn : ConnId) (message : Message) (r : Refused) → HasOneClient site w.ends conn → TellsRefusal (parties site w.ends) (server_in site (ends_of w.ends conn)) conn message r → Descends message r.request
       → IsRefusedThere site w.ends conn message r.node r.conn r.request
   refused_there conn message r client (inl relay) descends = IsRefusedThere.over_relay (server_in site (ends_of w.ends conn)) r.conn r.request (server_end client) relay descends
   refused_there conn message r client (inr same) descends =
@@ -145,7 +142,7 @@ module _ (site : Site) (past : Past) (w : WorldState) (h : RunHolds site w.ends 
       front = front_found site front is;
       on = tells_on conn front client tells;
       message = owed.message;
-      requested = (Has-contained owed.was_sent, owed.request);
+      requested = (Contains-has owed.was_sent, owed.request);
       answered = answered;
       by_machine = by_machine of_entries (name_at site front) owed.message answer answered;
     };
@@ -160,13 +157,13 @@ module _ (site : Site) (past : Past) (w : WorldState) (h : RunHolds site w.ends 
           name = name_at site r.node;
           named = server_found site r.node c.server;
           message = owed.message;
-          requested = (Has-contained owed.was_sent, owed.request);
+          requested = (Contains-has owed.was_sent, owed.request);
           at = r.conn;
           there = r.request;
           refused = refused_there conn owed.message r client tells descends;
           refusal = r.refusal;
           transition = c.transition;
-          passed = Has-contained c.passed;
+          passed = Contains-has c.passed;
           cause = c.cause;
           written = written;
         };

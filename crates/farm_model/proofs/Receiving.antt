@@ -1,12 +1,12 @@
 -- A message that comes to a relay is lost, refused, forwarded or sent back, or nobody waits for it.
-use Rattle.std.proofs.Common.{◌≡◌, ℕ, Bool, true, false, List, [], ◌∷◌, ◌++◌, map, Option, Some, None, Err, inl, inr, refl, sym, subst, ap, ◌∙◌}
+use Rattle.std.proofs.Common.{◌≡◌, ℕ, Bool, true, false, List, [], ◌∷◌, ◌++◌, map, Option, Some, None, inl, refl, sym, subst, ap, ◌∙◌, Err}
 use Rattle.std.specs.Prelude.{◌⊎◌, MatchBool, MatchOption, count_by}
 use Rattle.dia_base.specs.declared.number.ConnId.{ConnId}
 use Rattle.dia_base.specs.declared.number.NodeNo.{NodeNo}
 use Rattle.dia_message.specs.declared.message.Message.{Message}
 use Rattle.dia_message.specs.Traffic.{Traffic}
-use Rattle.cc_view.specs.Answer.{refusal_of}
 use Rattle.cc_view.specs.declared.refusal.Refusal.{Refusal}
+use Rattle.cc_view.specs.Answer.{refusal_of}
 use Rattle.relay_peers.specs.declared.peers.LinkedPeer.{LinkedPeer}
 use Rattle.relay_hops.specs.declared.row.Held.{Held}
 use Rattle.relay_hops.specs.declared.row.Origin.{Origin}
@@ -22,20 +22,24 @@ use Rattle.farm_law.specs.Farm.{Item, Asker, Pending, Refused, Farm}
 use Rattle.farm_law.specs.Lists.{Has, Without}
 use Rattle.farm_law.specs.Counts.{with_hop, row_in}
 use Rattle.farm_law.specs.Moves.{Moves, done, next as then_moves, loses, refuses, forwards, returns, forgets, row_for}
+use Rattle.farm_law.proofs.Lists.{Has-without, Has-more, all-in}
 use Rattle.farm_model.specs.declared.site.Site.{Site}
 use Rattle.farm_model.specs.Arrival.{RelayTurn, after_relay_turn}
 use Rattle.farm_model.specs.CheckedSite.{IsChecked}
 use Rattle.farm_model.specs.Nodes.{kind_at, is_client}
 use Rattle.farm_model.specs.World.{Ends, WorldState, with_message_from, with_traffic_from, relay_at}
 use Rattle.farm_model.proofs.AsFarm.{other_end, name_at, parties, items_of, asker_of, pending_of, rows_of, has_ended_in, farm_of, LeadsTo}
-use Rattle.farm_model.proofs.Among.{Has-more, Has-either}
-use Rattle.farm_model.proofs.Deciding.{relay_no_client}
-use Rattle.farm_model.proofs.Placing.{Has-cons, Has-parts, Has-without, Left-without}
-use Rattle.farm_model.proofs.Posting.{Joins-turned, Joins-other, put}
+use Rattle.farm_model.proofs.Joined.{Joins-turned, Joins-other}
+use Rattle.farm_model.proofs.Moving.{put}
+use Rattle.farm_model.proofs.OneKind.{relay_no_client}
+use Rattle.farm_model.proofs.Placing.{Left-without}
 use Rattle.farm_model.proofs.RelayPeers.{IsForwardedTo, is_forwarded, own_name, own_realm, sender_is, row_sent}
 use Rattle.farm_model.proofs.RowsOf.{RowsStand, rows_stand, IsWith-without, row_less, not_in_use, held_key}
-use Rattle.farm_model.proofs.Turning.{seen, posted_items, posted_across, turn_seen, rows_wired, relay_wired, turn_wired}
+use Rattle.farm_model.proofs.Sending.{posted_items, posted_across}
+use Rattle.farm_model.proofs.StepGoes.{one_more_refused}
+use Rattle.farm_model.proofs.Turning.{seen, turn_seen, rows_wired, turn_wired}
 use Rattle.farm_model.proofs.Wired.{Joins, RelayIsWired, RowIsWired, IsWired}
+use Rattle.farm_model.proofs.WiredLemmas.{relay_wired}
 
 module _ (site : Site) (ends : Ends) (Reason : Refused → Type 0) (checked : IsChecked site) (w : WorldState) (wired : IsWired site ends w) (node from : NodeNo) (conn : ConnId) (message : Message) (relay : RelayState)
     (stands : relay_at node w.relays ≡ Some relay) (joins : Joins ends conn from node) (items : List Item) (taken : Without (record { conn = conn; from = from; to = node; message = message }) items (items_of ends w.directions w.fronts))
@@ -50,7 +54,7 @@ module _ (site : Site) (ends : Ends) (Reason : Refused → Type 0) (checked : Is
   Outcome last = LeadsTo (parties site ends) ends Reason old last × IsWired site ends last
 
   own : RelayIsWired site ends w.ends node relay
-  own = relay_wired site ends w node relay wired stands
+  own = relay_wired wired.relays stands
 
   rows_are : RowsStand ends node w.relays relay
   rows_are = rows_stand ends node w.relays relay (wired.alone node) stands
@@ -89,7 +93,7 @@ module _ (site : Site) (ends : Ends) (Reason : Refused → Type 0) (checked : Is
       ap (λ (n : List ℕ). refusal_of n relay.node.realm message refusal) (own_name site ends w.ends node relay own) ∙ ap (λ (r : List ℕ). refusal_of (name_at site node) r message refusal) (own_realm site ends w.ends node relay own) in
       let entry : Refused = record { node = node; conn = conn; request = message; refusal = refusal } in
       outcome (refusal_to relay.node conn message refusal) relay.pending.rows last (refusals ++ entry ∷ []) is own.rows
-      (λ r h. elim (Has-parts refusals h) [ inl g ↦ inl g | inr g ↦ elim (Has-cons g) [ inl q ↦ inr (subst Reason (sym q) reason) | inr k ↦ elim k [ ] ] ])
+      (one_more_refused Reason refusals entry reason)
       (subst (λ (rs : List Pending). Moves (parties site ends) old (seen ends w (with_message_from node w.directions conn told) rs (refusals ++ entry ∷ []))) rows_are.now
       (put old (record old { refused = refusals ++ entry ∷ [] }) (record { conn = conn; from = node; to = from; message = told }) (items_of ends w.directions w.fronts) (items_of ends (with_message_from node w.directions conn told) w.fronts)
       (posted_items site ends w.ends node from conn told (Joins-turned joins) w.directions w.fronts wired.directions)
@@ -111,7 +115,7 @@ module _ (site : Site) (ends : Ends) (Reason : Refused → Type 0) (checked : Is
       let unused : count_by (row_in (with_hop to node hop)) (rows_of ends w.relays) ≡ 0 =
       subst (λ (rs : List Pending). count_by (row_in (with_hop to node hop)) rs ≡ 0) (sym rows_are.now) (not_in_use ends node rows_are.front rows_are.back relay.pending.rows relay.pending.rows to hop rows_are.front_others rows_are.back_others free (λ r h. h)) in
       outcome ((to, sent) ∷ []) rows last refusals is
-      (λ r h. elim (Has-either out h) [ inl q ↦ subst (RowIsWired site ends w.ends node) (sym q) new | inr g ↦ own.rows r g ]) (λ r h. inl h)
+      (all-in (RowIsWired site ends w.ends node) out own.rows new) (λ r h. inl h)
       (put old (record old { rows = with_own rows }) (record { conn = to; from = node; to = other_end ends to node; message = sent }) (items_of ends w.directions w.fronts) (items_of ends (with_message_from node w.directions to sent) w.fronts)
       (posted_across site ends w.ends node to sent w.directions w.fronts wired.directions)
       (λ some wo. forwards to (other_end ends to node) hop goes_to.avps taken flag goes_to.split goes_to.spelled own.is_relay (relay_no_client (kind_at site node) own.is_relay) new.peer unused wo row_out))

@@ -1,12 +1,12 @@
 -- What a relay that hangs together knows of itself and of its peers.
-use Rattle.std.proofs.Common.{◌≡◌, ℕ, ◌+◌, ◌<◌, ◌^◌, ◌≤◌, true, false, List, length, length-append, Option, Some, None, option_map, Result, Ok, Err, refl, sym, subst, ap, ◌∙◌, arith}
+use Rattle.std.proofs.Common.{◌≡◌, ℕ, ◌+◌, ◌≤◌, ◌<◌, false, List, length, Option, Some, None, refl, sym, subst, ap, ◌∙◌, arith, ◌^◌, length-append, Result, Ok, Err}
 use Rattle.std.specs.Prelude.{◌==◌, nat_lt}
 use Rattle.std.specs.Option.{option_and_then}
-use Rattle.std.specs.List.{find}
-use Rattle.std.proofs.lemmas.Bool.{eqb-true, ltb-false}
+use Rattle.std.proofs.lemmas.Bool.{ltb-false}
 use Rattle.dia_base.specs.declared.number.ConnId.{ConnId}
 use Rattle.dia_base.specs.declared.number.NodeNo.{NodeNo}
 use Rattle.dia_base.specs.Limits.{message_limit}
+use Rattle.dia_base.proofs.Finding.{found_passes}
 use Rattle.dia_avp.specs.declared.avp.RawAvp.{RawAvp}
 use Rattle.dia_avp.specs.declared.fault.AvpFault.{AvpFault}
 use Rattle.dia_avp.specs.AvpList.{HasSpelling, length_of, padding_of, with_padding, written}
@@ -34,17 +34,13 @@ use Rattle.farm_model.specs.Run.{peers_from, routes_at}
 use Rattle.farm_model.specs.World.{Ends}
 use Rattle.farm_model.proofs.AsFarm.{other_end, name_at}
 use Rattle.farm_model.proofs.Deciding.{next_server}
+use Rattle.farm_model.proofs.Finding.{Has-found, found_mapped}
+use Rattle.farm_model.proofs.Joined.{Joins-other, Joins-same}
 use Rattle.farm_model.proofs.LinkedPeers.{linked_node}
-use Rattle.farm_model.proofs.ListLemmas.{find-passes}
-use Rattle.farm_model.proofs.Placing.{Has-found}
-use Rattle.farm_model.proofs.Posting.{Joins-other, Joins-same}
+use Rattle.farm_model.proofs.Numbering.{same_node, same_conn}
 use Rattle.farm_model.proofs.Wired.{Joins, RelayIsWired, RowIsWired}
-use Rattle.farm_model.proofs.WorldLemmas.{same_node}
 
 -- ---- links
-
-same_conn : (a b : ConnId) → (a.0 == b.0) ≡ true → a ≡ b
-same_conn a b e = ap (λ (n : ℕ). record { 0 = n }) (eqb-true a.0 b.0 e)
 
 record IsLink (links : List Link) (peer : NodeNo) (conn : ConnId) : Type 0 where
   pub link : Link
@@ -53,20 +49,14 @@ record IsLink (links : List Link) (peer : NodeNo) (conn : ConnId) : Type 0 where
   pub conn_is : link.conn ≡ conn
 
 link_of_peer : (links : List Link) (peer : NodeNo) (conn : ConnId) → conn_in links peer ≡ Some conn → IsLink links peer conn
-link_of_peer links peer conn e = go (find (is_of peer) links) refl e
-  where
-    go : (found : Option Link) → find (is_of peer) links ≡ found → option_map (λ (l : Link). l.conn) found ≡ Some conn → IsLink links peer conn
-    go None is k = absurd cc
-    go (Some link) is k =
-        let same : link.conn ≡ conn = cc in record { link = link; among = Has-found (is_of peer) links is; peer_is = same_node link.peer peer (find-passes (is_of peer) links link is); conn_is = same }
+link_of_peer links peer conn e =
+    let found = found_mapped (λ (l : Link). l.conn) (is_of peer) links e in
+    record { link = found.0; among = Has-found (is_of peer) links found.1; peer_is = same_node found.0.peer peer (found_passes (is_of peer) links found.0 found.1); conn_is = found.2 }
 
 link_on : (links : List Link) (peer : NodeNo) (conn : ConnId) → peer_in links conn ≡ Some peer → IsLink links peer conn
-link_on links peer conn e = go (find (is_on conn) links) refl e
-  where
-    go : (found : Option Link) → find (is_on conn) links ≡ found → option_map (λ (l : Link). l.peer) found ≡ Some peer → IsLink links peer conn
-    go None is k = absurd cc
-    go (Some link) is k =
-        let same : link.peer ≡ peer = cc in record { link = link; among = Has-found (is_on conn) links is; peer_is = same; conn_is = same_conn link.conn conn (find-passes (is_on conn) links link is) }
+link_on links peer conn e =
+    let found = found_mapped (λ (l : Link). l.peer) (is_on conn) links e in
+    record { link = found.0; among = Has-found (is_on conn) links found.1; peer_is = found.2; conn_is = same_conn found.0.conn conn (found_passes (is_on conn) links found.0 found.1) }
 
 -- ---- what is forwarded
 
@@ -130,7 +120,7 @@ module _ (site : Site) (ends made : Ends) (node : NodeNo) (relay : RelayState) (
           let its = wired.links link.link link.among in
           let peer_joins : Joins ends conn node peer = subst (λ (c : ConnId). Joins ends c node peer) link.conn_is (subst (λ (n : NodeNo). Joins ends link.link.conn node n) link.peer_is its.joins) in
           let same : peer ≡ from = Joins-same peer_joins joins in
-          let number : sender.peer ≡ peer = same_node sender.peer peer (find-passes (λ (p : LinkedPeer). p.peer.0 == peer.0) relay.node.peers.linked sender k) in
+          let number : sender.peer ≡ peer = same_node sender.peer peer (found_passes (λ (p : LinkedPeer). p.peer.0 == peer.0) relay.node.peers.linked sender k) in
           (linked_node site node sender (subst (Has sender) own_linked (Has-found (λ (p : LinkedPeer). p.peer.0 == peer.0) relay.node.peers.linked k))).1
           ∙ ap (name_at site) (number ∙ same)
 

@@ -1,41 +1,16 @@
 -- The relay at a node, where one is changed or new to the list.
-use Rattle.std.proofs.Common.{◌≡◌, Bool, true, false, cond, List, [], ◌∷◌, Option, Some, None, inl, inr, refl, sym, subst, ap, ◌∙◌, eq-eqb}
+use Rattle.std.proofs.Common.{◌≡◌, Bool, true, false, cond, List, [], ◌∷◌, Some, inl, inr, refl, sym, subst, ap, ◌∙◌}
 use Rattle.std.specs.Prelude.{◌⊎◌, ◌||◌, option_map}
 use Rattle.std.specs.List.{find, list_any}
-use Rattle.std.proofs.lemmas.Bool.{ne_eqb, eqb-false}
 use Rattle.dia_base.specs.declared.number.NodeNo.{NodeNo}
 use Rattle.relay_core.specs.RelayState.{RelayState}
-use Rattle.farm_law.specs.Lists.{Has}
 use Rattle.farm_model.specs.declared.state.RelayAt.{RelayAt}
 use Rattle.farm_model.specs.Nodes.{is_node}
 use Rattle.farm_model.specs.World.{is_relay_at, with_relay, relay_at}
 use Rattle.farm_model.proofs.Finding.{any_found}
-use Rattle.farm_model.proofs.ListLemmas.{find-passes}
-use Rattle.farm_model.proofs.Placing.{Has-found}
-use Rattle.farm_model.proofs.WorldLemmas.{same_node}
-
--- ---- nodes
-
-pub node_itself : (node : NodeNo) → is_node node node ≡ true
-node_itself node = eq-eqb node.0 node.0 refl
-
-pub nodes_turned : (a b : NodeNo) → is_node a b ≡ false → is_node b a ≡ false
-nodes_turned a b e = ne_eqb b.0 a.0 (λ same. eqb-false a.0 b.0 e (sym same))
+use Rattle.farm_model.proofs.Numbering.{same_node, nodes_turned}
 
 -- ---- who is at a node
-
-found_of : (o : Option RelayAt) (relay : RelayState) → option_map (λ (at : RelayAt). at.relay) o ≡ Some relay → (at : RelayAt) × (o ≡ Some at) × (at.relay ≡ relay)
-found_of None relay e = absurd cc
-found_of (Some at) relay e = (at, refl, cc)
-
--- the relay at a node is among the relays
-pub relay_among : (node : NodeNo) (relays : List RelayAt) (relay : RelayState) → relay_at node relays ≡ Some relay → Has (record { node = node; relay = relay }) relays
-relay_among node relays relay e =
-    let found = found_of (find (is_relay_at node) relays) relay e in
-    let at = found.0 in
-    let here_is : at.node ≡ node = same_node at.node node (find-passes (is_relay_at node) relays at found.1) in
-    let whole : at ≡ record { node = node; relay = relay } = ap (λ (n : NodeNo). record { node = n; relay = at.relay }) here_is ∙ ap (λ (r : RelayState). record { node = node; relay = r }) found.2 in
-    subst (λ (z : RelayAt). Has z relays) whole (Has-found (is_relay_at node) relays found.1)
 
 -- a node with a relay has one in the list
 pub relay_there : (node : NodeNo) (relays : List RelayAt) → list_any (is_relay_at node) relays ≡ true → (relay : RelayState) × (relay_at node relays ≡ Some relay)

@@ -1,12 +1,12 @@
 -- The rows of one relay among those of all, and which identifiers they use.
-use Rattle.std.proofs.Common.{◌≡◌, ℕ, ◌≤◌, Bool, true, false, List, [], ◌∷◌, ◌++◌, map, Option, Some, None, option_map, inl, inr, refl, sym, subst, ap, ◌∙◌, arith, eq-eqb}
+use Rattle.std.proofs.Common.{◌≡◌, ℕ, ◌≤◌, Bool, true, false, List, [], ◌∷◌, ◌++◌, map, Some, None, inl, inr, refl, sym, subst, ap, ◌∙◌, arith, eq-eqb}
 use Rattle.std.specs.Prelude.{◌&&◌, ◌==◌, count_by}
-use Rattle.std.specs.List.{find}
-use Rattle.std.proofs.lemmas.Bool.{and_parts, eqb-true}
-use Rattle.std.proofs.lemmas.List.{append_assoc}
+use Rattle.std.proofs.lemmas.Bool.{and_parts, eqb-true, and_left, and_right}
+use Rattle.std.proofs.lemmas.Grind.{flat_map-append}
 use Rattle.dia_base.specs.declared.number.ConnId.{ConnId}
 use Rattle.dia_base.specs.declared.number.NodeNo.{NodeNo}
 use Rattle.dia_base.proofs.Counting.{one, count-cons}
+use Rattle.dia_base.proofs.Finding.{found_passes}
 use Rattle.relay_hops.specs.declared.row.Held.{Held}
 use Rattle.relay_hops.specs.declared.row.Row.{Row}
 use Rattle.relay_hops.specs.PendingTable.{hop_of, is_sent_on, has_key, held_at, IsWith}
@@ -14,14 +14,16 @@ use Rattle.relay_core.specs.RelayState.{RelayState}
 use Rattle.farm_law.specs.Counts.{with_hop, row_in}
 use Rattle.farm_law.specs.Farm.{Pending}
 use Rattle.farm_law.specs.Lists.{Has, here, there, Without}
+use Rattle.farm_law.proofs.Lists.{count-has}
 use Rattle.farm_model.specs.declared.state.RelayAt.{RelayAt}
 use Rattle.farm_model.specs.Nodes.{is_node}
 use Rattle.farm_model.specs.World.{Ends, is_relay_at, with_relay, relay_at}
+use Rattle.farm_model.proofs.Among.{Has-unmap, Has-parts, Has-right}
 use Rattle.farm_model.proofs.AsFarm.{pending_of, rows_at, rows_of}
-use Rattle.farm_model.proofs.Among.{Has-unmap, parted, none_pass, does_not_pass, not_found}
-use Rattle.farm_model.proofs.ListLemmas.{find-passes}
-use Rattle.farm_model.proofs.Placing.{Has-parts, Without-map, Without-left, Without-right, Without-middle}
-use Rattle.farm_model.proofs.WorldLemmas.{same_node}
+use Rattle.farm_model.proofs.Finding.{none_pass, does_not_pass, not_found, found_mapped, none_mapped}
+use Rattle.farm_model.proofs.Placing.{Without-map, Without-left, Without-right, Without-middle}
+use Rattle.farm_model.proofs.Replacing.{parted}
+use Rattle.farm_model.proofs.WorldLemmas.{relay_stands}
 
 -- ---- the rows of a relay, between those of the others
 
@@ -32,23 +34,6 @@ pub record RowsStand (ends : Ends) (node : NodeNo) (relays : List RelayAt) (rela
   pub change : (next : RelayState) → rows_of ends (with_relay node next relays) ≡ front ++ (map (pending_of ends node) next.pending.rows ++ back)
   pub front_others : (row : Pending) → Has row front → is_node row.relay node ≡ false
   pub back_others : (row : Pending) → Has row back → is_node row.relay node ≡ false
-
-pub relay_stands : (node : NodeNo) (relays : List RelayAt) (relay : RelayState) → relay_at node relays ≡ Some relay → find (is_relay_at node) relays ≡ Some (record { node = node; relay = relay })
-relay_stands node relays relay e = go (find (is_relay_at node) relays) refl e
-  where
-    is_that : (at : RelayAt) → at.node ≡ node → at.relay ≡ relay → find (is_relay_at node) relays ≡ Some at → find (is_relay_at node) relays ≡ Some (record { node = node; relay = relay })
-    is_that at n r is = is ∙ ap (λ (m : NodeNo). Some (record { node = m; relay = at.relay })) n ∙ ap (λ (s : RelayState). Some (record { node = node; relay = s })) r
-
-    go : (found : Option RelayAt) → find (is_relay_at node) relays ≡ found → option_map (λ (at : RelayAt). at.relay) found ≡ Some relay → find (is_relay_at node) relays ≡ Some (record { node = node; relay = relay })
-    go None is k = absurd cc
-    go (Some at) is k =
-        let same : at.relay ≡ relay = cc in
-        let its = same_node at.node node (find-passes (is_relay_at node) relays at is) in
-        is_that at its same is
-
-rows-append : (ends : Ends) (xs ys : List RelayAt) → rows_of ends (xs ++ ys) ≡ rows_of ends xs ++ rows_of ends ys
-rows-append ends [] ys = refl
-rows-append ends (x ∷ xs) ys = ap (λ (rows : List Pending). rows_at ends x ++ rows) (rows-append ends xs ys) ∙ sym (append_assoc (rows_at ends x) (rows_of ends xs) (rows_of ends ys))
 
 -- a row is of a relay among these
 rows_from : (ends : Ends) (row : Pending) (xs : List RelayAt) → Has row (rows_of ends xs) → (at : RelayAt) × Has at xs × (row.relay ≡ at.node)
@@ -68,12 +53,8 @@ others_not node (x ∷ before) after at le is =
     let first_part = count-cons (is_relay_at node) x before in
     let more = others_not node before after at (omega arith) is in
     let back_part = more.0 in
-    let count = at_least node before after at is in
+    let count : 1 ≤ count_by (is_relay_at node) (before ++ at ∷ after) = count-has (is_relay_at node) (Has-right before here) is in
     (omega arith, more.1)
-  where
-    at_least : (n : NodeNo) (bs cs : List RelayAt) (a : RelayAt) → is_relay_at n a ≡ true → 1 ≤ count_by (is_relay_at n) (bs ++ a ∷ cs)
-    at_least n [] cs a e = let this : one (is_relay_at n a) ≡ 1 = ap one e in let whole = count-cons (is_relay_at n) a cs in omega arith
-    at_least n (b ∷ bs) cs a e = let more = at_least n bs cs a e in let whole = count-cons (is_relay_at n) b (bs ++ a ∷ cs) in omega arith
 
 pub rows_stand : (ends : Ends) (node : NodeNo) (relays : List RelayAt) (relay : RelayState) → count_by (is_relay_at node) relays ≤ 1 → relay_at node relays ≡ Some relay → RowsStand ends node relays relay
 rows_stand ends node relays relay alone e =
@@ -84,8 +65,8 @@ rows_stand ends node relays relay alone e =
     record {
       front = rows_of ends cut.before;
       back = rows_of ends cut.after;
-      now = ap (rows_of ends) cut.whole ∙ rows-append ends cut.before (its ∷ cut.after);
-      change = λ next. ap (rows_of ends) (cut.change (record { node = node; relay = next })) ∙ rows-append ends cut.before (record { node = node; relay = next } ∷ cut.after);
+      now = ap (rows_of ends) cut.whole ∙ flat_map-append (rows_at ends) cut.before (its ∷ cut.after);
+      change = λ next. ap (rows_of ends) (cut.change (record { node = node; relay = next })) ∙ flat_map-append (rows_at ends) cut.before (record { node = node; relay = next } ∷ cut.after);
       front_others = λ row h. let m = rows_from ends row cut.before h in ap (λ (n : NodeNo). is_node n node) m.2 ∙ does_not_pass (is_relay_at node) cut.before none.0 m.1;
       back_others = λ row h. let m = rows_from ends row cut.after h in ap (λ (n : NodeNo). is_node n node) m.2 ∙ does_not_pass (is_relay_at node) cut.after none.1 m.1;
     }
@@ -103,21 +84,12 @@ row_less ends node front back w = Without-right front (Without-left back (Withou
 
 -- nothing is held under the key
 held_none : (rows : List Row) (conn : ConnId) (hop : ℕ) (row : Row) → held_at rows conn hop ≡ None → Has row rows → has_key conn hop row ≡ false
-held_none rows conn hop row e h = go (find (has_key conn hop) rows) refl e
-  where
-    go : (found : Option Row) → find (has_key conn hop) rows ≡ found → option_map (λ (r : Row). r.held) found ≡ None → has_key conn hop row ≡ false
-    go None is k = not_found (has_key conn hop) rows is h
-    go (Some r) is k = absurd cc
+held_none rows conn hop row e h = not_found (has_key conn hop) (none_mapped (λ (r : Row). r.held) (has_key conn hop) rows e) h
 
 not_both : (a b c : Bool) → (a && c) ≡ false → (a && b && c) ≡ false
 not_both true true c e = e
 not_both true false c e = refl
 not_both false b c e = refl
-
-not_first : (a b c : Bool) → b ≡ false → (a && b && c) ≡ false
-not_first true true c e = absurd cc
-not_first true false c e = refl
-not_first false b c e = refl
 
 -- an identifier under which the relay holds nothing on the connection is not in use
 pub not_in_use : (ends : Ends) (node : NodeNo) (front back : List Pending) (rows others : List Row) (conn : ConnId) (hop : ℕ)
@@ -127,7 +99,7 @@ pub not_in_use : (ends : Ends) (node : NodeNo) (front back : List Pending) (rows
 not_in_use ends node front back rows others conn hop f b free among = none_pass (row_in (with_hop conn node hop)) (front ++ (map (pending_of ends node) others ++ back)) none
   where
     of_other : (row : Pending) → is_node row.relay node ≡ false → row_in (with_hop conn node hop) row ≡ false
-    of_other row e = not_first (row.conn.0 == conn.0) (row.relay.0 == node.0) (row.request.header.hop == hop) e
+    of_other row e = and_left (row.conn.0 == conn.0 && row.relay.0 == node.0) (row.request.header.hop == hop) (and_right (row.conn.0 == conn.0) (row.relay.0 == node.0) e)
 
     own : (row : Pending) → Has row (map (pending_of ends node) others) → row_in (with_hop conn node hop) row ≡ false
     own row h =
@@ -146,11 +118,7 @@ not_in_use ends node front back rows others conn hop f b free among = none_pass 
 
 -- what is held under a key is of it
 pub held_key : (rows : List Row) (conn : ConnId) (hop : ℕ) (held : Held) → held_at rows conn hop ≡ Some held → held.request.header.hop ≡ hop
-held_key rows conn hop held e = go (find (has_key conn hop) rows) refl e
-  where
-    go : (found : Option Row) → find (has_key conn hop) rows ≡ found → option_map (λ (r : Row). r.held) found ≡ Some held → held.request.header.hop ≡ hop
-    go None is k = absurd cc
-    go (Some r) is k =
-        let same : r.held ≡ held = cc in
-        let parts = and_parts (is_sent_on conn r) (hop_of r == hop) (find-passes (has_key conn hop) rows r is) in
-        ap (λ (h : Held). h.request.header.hop) (sym same) ∙ eqb-true (hop_of r) hop parts.1
+held_key rows conn hop held e =
+    let found = found_mapped (λ (r : Row). r.held) (has_key conn hop) rows e in
+    let parts = and_parts (is_sent_on conn found.0) (hop_of found.0 == hop) (found_passes (has_key conn hop) rows found.0 found.1) in
+    ap (λ (h : Held). h.request.header.hop) (sym found.2) ∙ eqb-true (hop_of found.0) hop parts.1

@@ -1,11 +1,10 @@
 -- What holds between two steps of a run, with the connections of the whole run.
-use Rattle.std.proofs.Common.{◌≡◌, true, List, [], ◌∷◌, suc, refl, arith}
-use Rattle.std.specs.Prelude.{◌⊎◌, All, Contains}
-use Rattle.std.proofs.lemmas.List.Elements.{All-cons, All-nil}
+use Rattle.std.proofs.Common.{◌≡◌, true, List}
+use Rattle.std.specs.Prelude.{◌⊎◌}
 use Rattle.dia_base.specs.declared.number.NodeNo.{NodeNo}
 use Rattle.farm_law.specs.Farm.{Refused}
 use Rattle.farm_law.specs.Invariant.{IsKept}
-use Rattle.farm_law.specs.Lists.{Has, here, there}
+use Rattle.farm_law.specs.Lists.{Has}
 use Rattle.farm_model.specs.declared.site.Site.{Site}
 use Rattle.farm_model.specs.Cause.{HasCause}
 use Rattle.farm_model.specs.Nodes.{is_front, is_relay}
@@ -13,9 +12,9 @@ use Rattle.farm_model.specs.Promise.{RefusesLoop, RefusesWhatComesBack}
 use Rattle.farm_model.specs.Run.{Past, Transition}
 use Rattle.farm_model.specs.World.{Ends, WorldState}
 use Rattle.farm_model.proofs.AsFarm.{parties, farm_of}
+use Rattle.farm_model.proofs.FrontRequests.{QueuesHoldRequests}
 use Rattle.farm_model.proofs.Hearing.{HeardIn}
 use Rattle.farm_model.proofs.KnowsPeers.{KnowsPeers}
-use Rattle.farm_model.proofs.StepGoes.{QueuesHoldRequests}
 use Rattle.farm_model.proofs.Wired.{IsWired}
 
 -- a node of the site that answers requests
@@ -39,13 +38,3 @@ pub record RunHolds (site : Site) (all : Ends) (past : Past) (w : WorldState) : 
   pub heard : HeardIn site all w
   pub loops : (t : Transition) → Has t past → RefusesLoop site t
   pub come_back : (t : Transition) → Has t past → RefusesWhatComesBack site t
-
--- ---- what is among a list, in the two words for it
-
-pub Has-contained : {A : Type 0} {x : A} {xs : List A} → Has x xs → Contains xs x
-Has-contained here = (0, omega arith, refl)
-Has-contained (there h) = let t = Has-contained h in let below = t.1 in (suc t.0, omega (arith, below), t.2)
-
-pub all_of : {A : Type 0} (P : A → Type 0) (xs : List A) → ((x : A) → Has x xs → P x) → All P xs
-all_of P [] f = All-nil P
-all_of P (x ∷ xs) f = All-cons P x xs (f x here) (all_of P xs (λ y h. f y (there h)))

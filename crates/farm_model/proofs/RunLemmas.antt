@@ -1,7 +1,8 @@
 -- Runs that go on by one step.
-use Rattle.std.proofs.Common.{◌≡◌, ℕ, ◌+◌, Bool, true, false, not, cond, List, [], ◌∷◌, ◌++◌, refl, sym, subst, ap, ◌∙◌, arith}
+use Rattle.std.proofs.Common.{◌≡◌, ℕ, ◌+◌, Bool, true, false, cond, not, List, [], ◌∷◌, ◌++◌, refl, sym, subst, ap, ◌∙◌, arith}
 use Rattle.std.proofs.lemmas.List.Sums.{sum_by_push}
 use Rattle.dia_base.specs.declared.number.NodeNo.{NodeNo}
+use Rattle.dia_message.specs.Traffic.{Traffic}
 use Rattle.cc_book.specs.Taking.{Ledger}
 use Rattle.farm_model.specs.declared.site.Site.{Site}
 use Rattle.farm_model.specs.declared.state.Trace.{Trace}
@@ -9,7 +10,6 @@ use Rattle.farm_model.specs.declared.step.Step.{Step}
 use Rattle.farm_model.specs.FarmStep.{FarmStep}
 use Rattle.farm_model.specs.Loss.{LossAt}
 use Rattle.farm_model.specs.Run.{Past, Transition, Run, start, steps_in, skips, skipped_in, trace_of, TellsSame, IsTrace}
-use Rattle.dia_message.specs.Traffic.{Traffic}
 use Rattle.farm_model.specs.World.{WorldState}
 
 pub Run-push : (site : Site) (old : WorldState) (past : Past) (mid : WorldState) (step : Step) (applied : Bool) (losses : List LossAt) (new : WorldState) → Run site old past mid → FarmStep site mid step applied losses new

@@ -3,12 +3,14 @@ use Rattle.std.proofs.Common.{◌≡◌, ℕ, List, [], ◌∷◌, ◌++◌, Opt
 use Rattle.std.specs.Prelude.{slice_get}
 use Rattle.dia_base.specs.declared.number.NodeNo.{NodeNo}
 use Rattle.dia_avp.specs.AvpList.{HasSpelling}
+use Rattle.cc_book.specs.History.{IsLegal}
 use Rattle.relay_routes.specs.Routing.{record_of}
 use Rattle.relay_core.specs.declared.run.RelayEvent.TheVariants.{Received}
 use Rattle.relay_core.specs.RelayState.{RelayState}
 use Rattle.farm_law.specs.Farm.{Refused}
-use Rattle.farm_law.specs.Lists.{Has}
 use Rattle.farm_law.specs.Moves.{loses, next, done}
+use Rattle.farm_law.specs.Lists.{here}
+use Rattle.farm_law.proofs.Lists.{Has-append, all-end}
 use Rattle.farm_model.specs.declared.site.Site.{Site}
 use Rattle.farm_model.specs.declared.state.Trace.{Trace}
 use Rattle.farm_model.specs.declared.step.Step.{Step}
@@ -20,14 +22,16 @@ use Rattle.farm_model.specs.FarmStep.{FarmStep, Flight, flight_at, can_restart}
 use Rattle.farm_model.specs.Promise.{IsNamed, RefusesLoop, RefusesWhatComesBack, KeepsPromise}
 use Rattle.farm_model.specs.Run.{Past, Transition, Run, start, empty_book, skipped_in, IsTrace}
 use Rattle.farm_model.specs.World.{Ends, WorldState, conn_between, relay_at}
+use Rattle.farm_model.proofs.Among.{Has-right}
 use Rattle.farm_model.proofs.AnswerStands.{answer_goes}
-use Rattle.farm_model.proofs.AsFarm.{parties, name_in, name_at, farm_of}
+use Rattle.farm_model.proofs.AsFarm.{parties, name_in, farm_of, items_of}
 use Rattle.farm_model.proofs.ClientSteps.{send_goes, lose_goes}
-use Rattle.farm_model.proofs.Deliveries.{RelayReceives, deliver_goes}
+use Rattle.farm_model.proofs.Deliveries.{RelayReceives, deliver_goes, farm_before}
+use Rattle.farm_model.proofs.Ending.{same_ended}
 use Rattle.farm_model.proofs.FailingOver.{relay_loses}
 use Rattle.farm_model.proofs.FrontCharge.{charge_goes}
 use Rattle.farm_model.proofs.FrontEmit.{emit_goes}
-use Rattle.farm_model.proofs.FrontRequests.{fronts_from_hold}
+use Rattle.farm_model.proofs.FrontRequests.{fronts_from_hold, QueuesHoldRequests}
 use Rattle.farm_model.proofs.FrontSteps.{pick_goes, refuse_goes}
 use Rattle.farm_model.proofs.HearingSteps.{MoreEnds, step_ends, step_heard}
 use Rattle.farm_model.proofs.KnowsAfterStep.{step_knows}
@@ -36,13 +40,13 @@ use Rattle.farm_model.proofs.LinkSteps.{StepShows, shown, up_shows, cut_shows, r
 use Rattle.farm_model.proofs.LoopRefused.{loop_refused}
 use Rattle.farm_model.proofs.Losing.{RelayLoses}
 use Rattle.farm_model.proofs.Naming.{spells}
-use Rattle.farm_model.proofs.Placing.{Has-left, Has-right, Has-parts, Has-cons, Left-without}
+use Rattle.farm_model.proofs.Placing.{Left-without}
 use Rattle.farm_model.proofs.Premises.{Premises}
 use Rattle.farm_model.proofs.PromiseLemmas.{promise_of}
 use Rattle.farm_model.proofs.Receiving.{relay_receives}
 use Rattle.farm_model.proofs.RunHolds.{RunHolds}
 use Rattle.farm_model.proofs.Starting.{start_wired, start_heard, start_moves}
-use Rattle.farm_model.proofs.StepGoes.{StepGoes, QueuesHoldRequests}
+use Rattle.farm_model.proofs.StepGoes.{Goes, Reason}
 use Rattle.farm_model.proofs.Wired.{IsWired}
 
 -- ---- a step
@@ -58,20 +62,20 @@ module _ (premises : Premises) (site : Site) (all : Ends) (checked : IsChecked s
       w : WorldState
       w = record t.before { directions = flight.directions }
 
-      go : (relay : Option RelayState) → relay_at to t.before.relays ≡ relay → AtRelay w to (Received flight.conn flight.message) relay t.after → Rattle.farm_model.proofs.StepGoes.Goes site all (Rattle.farm_model.proofs.StepGoes.Reason t) (Rattle.farm_model.proofs.Deliveries.farm_before all refused t.before flight) t.after
-      go None at same = subst (λ (v : WorldState). Rattle.farm_model.proofs.StepGoes.Goes site all (Rattle.farm_model.proofs.StepGoes.Reason t) (Rattle.farm_model.proofs.Deliveries.farm_before all refused t.before flight) v) (sym same) (record {
+      go : (relay : Option RelayState) → relay_at to t.before.relays ≡ relay → AtRelay w to (Received flight.conn flight.message) relay t.after → Goes site all (Reason t) (farm_before all refused t.before flight) t.after
+      go None at same = subst (λ (v : WorldState). Goes site all (Reason t) (farm_before all refused t.before flight) v) (sym same) (record {
         leads = record { refused = refused; moves = next (loses (Left-without tt k.out)) done; caused = λ r h. inl h };
         wired = k.wired;
         requests = requests;
       })
       go (Some relay) at turn =
-          let stands = Rattle.farm_model.proofs.Ending.same_ended t.before.ends t.before.directions flight.directions flight.conn (k.stands flight.conn) ∙ k.lives in
-          let g = relay_receives site all (Rattle.farm_model.proofs.StepGoes.Reason t) checked w k.wired to from flight.conn flight.message relay at k.joins
-          (Rattle.farm_model.proofs.AsFarm.items_of all t.before.directions t.before.fronts) k.out stands refused t.after turn
+          let stands = same_ended t.before.ends t.before.directions flight.directions flight.conn (k.stands flight.conn) ∙ k.lives in
+          let g = relay_receives site all (Reason t) checked w k.wired to from flight.conn flight.message relay at k.joins
+          (items_of all t.before.directions t.before.fronts) k.out stands refused t.after turn
           (λ sender refusal flag peer refuses. at_relay relay sender refusal (record { from = from; place = place; directions = flight.directions; step = step; flight = flies }) flag at peer refuses) in
           record { leads = g.0; wired = g.1; requests = subst (λ (v : WorldState). QueuesHoldRequests v.fronts) (sym turn.next_is) requests }
 
-  step_shows : (t : Transition) (refused : List Refused) (step : Step) → t.step ≡ step → FarmStep site t.before step t.applied t.losses t.after → Rattle.cc_book.specs.History.IsLegal t.before.book.terms t.before.book.history → IsWired site all t.before → QueuesHoldRequests t.before.fronts
+  step_shows : (t : Transition) (refused : List Refused) (step : Step) → t.step ≡ step → FarmStep site t.before step t.applied t.losses t.after → IsLegal t.before.book.terms t.before.book.history → IsWired site all t.before → QueuesHoldRequests t.before.fronts
       → MoreEnds t.after.ends all → StepShows site all t refused
   step_shows t refused (Up a b) is s legal wired requests more = up_shows site all checked a_relay_loses t refused wired requests a b s.0 more
   step_shows t refused (Send client to message) is s legal wired requests more = shown site all t wired s.1 refused (send_goes site all t refused client to message checked is s.0 wired requests)
@@ -108,21 +112,15 @@ module _ (premises : Premises) (site : Site) (all : Ends) (checked : IsChecked s
         refused = g.leads.refused;
         kept = premises.moves_keep (parties site all) (farm_of all h.refused t.before) (farm_of all g.leads.refused t.after) g.leads.moves h.kept;
         caused = λ r among. elim (g.leads.caused r among) [
-          | inl old ↦ let c = h.caused r old in record { transition = c.transition; passed = Has-left (t ∷ []) c.passed; cause = c.cause; server = c.server }
-          | inr new ↦ record { transition = t; passed = Has-right past Rattle.farm_law.specs.Lists.here; cause = new.0; server = new.1 }
+          | inl old ↦ let c = h.caused r old in record { transition = c.transition; passed = Has-append (t ∷ []) c.passed; cause = c.cause; server = c.server }
+          | inr new ↦ record { transition = t; passed = Has-right past here; cause = new.0; server = new.1 }
         ];
         wired = g.wired;
         requests = g.requests;
         knows = step_knows checked t.before t.after t.step t.applied t.losses h.wired s h.knows;
         heard = step_heard site all checked t.before t.after t.step t.applied t.losses s h.wired h.heard;
-        loops = λ other among. elim (Has-parts past among) [
-          | inl old ↦ h.loops other old
-          | inr new ↦ elim (Has-cons new) [ inl is ↦ subst (RefusesLoop site) (sym is) loop | inr none ↦ elim none [ ] ]
-        ];
-        come_back = λ other among. elim (Has-parts past among) [
-          | inl old ↦ h.come_back other old
-          | inr new ↦ elim (Has-cons new) [ inl is ↦ subst (RefusesWhatComesBack site) (sym is) (comes_back t loop) | inr none ↦ elim none [ ] ]
-        ];
+        loops = all-end (RefusesLoop site) past t h.loops loop;
+        come_back = all-end (RefusesWhatComesBack site) past t h.come_back (comes_back t loop);
       }
 
   -- the connections of a state are among those of the run's end

@@ -1,9 +1,10 @@
 -- What relays know of their peers stays where directions change in their messages alone, and relays in what they await answers for.
-use Rattle.std.proofs.Common.{◌≡◌, ℕ, Bool, true, false, cond, List, [], ◌∷◌, Option, Some, None, inl, inr, refl, sym, subst, ap, ◌∙◌}
+use Rattle.std.proofs.Common.{◌≡◌, ℕ, Bool, true, false, List, Option, Some, None, inl, inr, refl, sym, subst, ap, ◌∙◌}
 use Rattle.std.specs.Prelude.{MatchBool, MatchOption, remove, slice_get}
 use Rattle.std.specs.List.{find, list_any}
 use Rattle.dia_base.specs.declared.number.ConnId.{ConnId}
 use Rattle.dia_base.specs.declared.number.NodeNo.{NodeNo}
+use Rattle.dia_base.proofs.Finding.{found_passes}
 use Rattle.dia_message.specs.declared.message.Message.{Message}
 use Rattle.dia_message.specs.Traffic.{Traffic}
 use Rattle.relay_peers.specs.declared.peers.Link.{Link}
@@ -20,33 +21,15 @@ use Rattle.farm_model.specs.declared.state.RelayAt.{RelayAt}
 use Rattle.farm_model.specs.FarmStep.{Flight, flight_of, flight_in, flight_at}
 use Rattle.farm_model.specs.Lists.{replace_first}
 use Rattle.farm_model.specs.Loss.{Loss}
-use Rattle.farm_model.specs.World.{WorldState, is_between, is_outward, with_message, with_message_in, with_message_from, with_traffic_from, is_relay_at, with_relay, relay_at}
-use Rattle.farm_model.proofs.KnowsPeers.{Side, side_of, sides, KnowsPeersBut}
-use Rattle.farm_model.proofs.ListLemmas.{find-passes}
-use Rattle.farm_model.proofs.Placing.{Has-found}
+use Rattle.farm_model.specs.World.{WorldState, is_between, is_relay_at, with_relay, relay_at}
+use Rattle.farm_model.proofs.Finding.{Has-found}
+use Rattle.farm_model.proofs.KnowsPeers.{KnowsPeersBut}
 use Rattle.farm_model.proofs.RelayPlaces.{relay_after_change, present_after_change}
+use Rattle.farm_model.proofs.Replacing.{map_replaced}
+use Rattle.farm_model.proofs.Sides.{Side, side_of, sides}
 use Rattle.farm_model.proofs.WorldLemmas.{direction_nodes}
 
 -- ---- directions that change in their messages
-
-pub sides_replaced : (test : Direction → Bool) (x y : Direction) (directions : List Direction) → find test directions ≡ Some x → side_of y ≡ side_of x → sides (replace_first test y directions) ≡ sides directions
-sides_replaced test x y [] e same = refl
-sides_replaced test x y (z ∷ zs) e same = go (test z) (sides_replaced test x y zs) e
-  where
-    go : (b : Bool) → (find test zs ≡ Some x → side_of y ≡ side_of x → sides (replace_first test y zs) ≡ sides zs) → cond b (Some z) (find test zs) ≡ Some x → sides (cond b (y ∷ zs) (z ∷ replace_first test y zs)) ≡ sides (z ∷ zs)
-    go true more k = let is : z ≡ x = cc in ap (λ (side : Side). side ∷ sides zs) (same ∙ ap side_of (sym is))
-    go false more k = ap (λ (rest : List Side). side_of z ∷ rest) (more k same)
-
-pub sides_posted : (node : NodeNo) (directions : List Direction) (conn : ConnId) (message : Message) → sides (with_message_from node directions conn message) ≡ sides directions
-sides_posted node directions conn message = go (find (is_outward node conn) directions) refl
-  where
-    go : (found : Option Direction) → find (is_outward node conn) directions ≡ found → sides (with_message_in (is_outward node conn) message directions found) ≡ sides directions
-    go None e = refl
-    go (Some direction) e = sides_replaced (is_outward node conn) direction (with_message message direction) directions e refl
-
-pub sides_sent : (node : NodeNo) (directions : List Direction) (items : Traffic) → sides (with_traffic_from node directions items) ≡ sides directions
-sides_sent node directions [] = refl
-sides_sent node directions (item ∷ items) = sides_sent node (with_message_from node directions item.0 item.1) items ∙ sides_posted node directions item.0 item.1
 
 -- a message that was in flight, on a direction that stands
 pub record FlightStands (directions : List Direction) (from to : NodeNo) (flight : Flight) : Type 0 where
@@ -65,9 +48,9 @@ flight_stands directions from to place flight e = go (find (is_between from to) 
     taken direction f (Some message) k =
         let rest = replace_first (is_between from to) (record direction { messages = remove direction.messages place }) directions in
         let is : record { conn = direction.conn; message = message; directions = rest } ≡ flight = cc in
-        let nodes = direction_nodes from to direction (find-passes (is_between from to) directions direction f) in
+        let nodes = direction_nodes from to direction (found_passes (is_between from to) directions direction f) in
         subst (FlightStands directions from to) is (record {
-          same = sides_replaced (is_between from to) direction (record direction { messages = remove direction.messages place }) directions f refl;
+          same = map_replaced side_of (is_between from to) direction (record direction { messages = remove direction.messages place }) directions f refl;
           direction = direction;
           among = Has-found (is_between from to) directions f;
           conn_is = refl;

@@ -1,10 +1,14 @@
 -- What holds before the first step.
-use Rattle.std.proofs.Common.{◌≡◌, ℕ, zero, suc, ◌+◌, ◌-◌, ◌≤◌, ◌<◌, Bool, true, false, cond, List, [], ◌∷◌, ◌++◌, length, map, Option, Some, None, inl, inr, refl, sym, subst, ap, ◌∙◌, arith, append_assoc, ne_eqb}
+use Rattle.std.proofs.Common.{◌≡◌, ℕ, ◌+◌, ◌≤◌, ◌<◌, Bool, true, false, cond, List, [], ◌∷◌, ◌++◌, length, Option, Some, inl, inr, refl, sym, subst, ap, ◌∙◌, arith, append_assoc, ne_eqb, length-append}
 use Rattle.std.specs.Prelude.{flat_map, count_by, slice_get}
+use Rattle.std.proofs.lemmas.Bool.{eqb-true}
+use Rattle.std.proofs.lemmas.Grind.{flat_map-append}
+use Rattle.std.proofs.lemmas.List.Sums.{count_by-le-length, sum_by-append}
 use Rattle.dia_base.specs.declared.node.NodeKind.{NodeKind}
 use Rattle.dia_base.specs.declared.node.NodeKind.TheVariants.{Relay, Front, Client}
 use Rattle.dia_base.specs.declared.number.NodeNo.{NodeNo}
-use Rattle.dia_base.proofs.Counting.{count-cons}
+use Rattle.dia_base.proofs.Counting.{one}
+use Rattle.relay_core.specs.Connecting.{new_node}
 use Rattle.farm_law.specs.Farm.{Item, Pending}
 use Rattle.farm_law.specs.Invariant.{new_farm}
 use Rattle.farm_law.specs.Lists.{Has}
@@ -14,12 +18,12 @@ use Rattle.farm_model.specs.declared.site.Site.{Site}
 use Rattle.farm_model.specs.declared.state.FrontAt.{FrontAt}
 use Rattle.farm_model.specs.declared.state.RelayAt.{RelayAt}
 use Rattle.farm_model.specs.Nodes.{is_node, kind_in, means_front, means_relay}
-use Rattle.farm_model.specs.Run.{front_site, front_if, fronts_from, relay_if, relays_from, empty_book, start}
+use Rattle.farm_model.specs.Run.{front_site, front_if, fronts_from, relay_if, relays_from, empty_book, start, relay_site}
 use Rattle.farm_model.specs.World.{Ends, is_relay_at}
+use Rattle.farm_model.proofs.Among.{Has-parts, Has-cons}
 use Rattle.farm_model.proofs.AsFarm.{parties, items_at, rows_at, has_ended_in, name_in, farm_of}
 use Rattle.farm_model.proofs.Hearing.{HeardIn}
 use Rattle.farm_model.proofs.ListLemmas.{slice_get-behind}
-use Rattle.farm_model.proofs.Placing.{Has-cons, Has-parts}
 use Rattle.farm_model.proofs.Restarting.{idle_hold}
 use Rattle.farm_model.proofs.Wired.{FrontIsWired, RelayIsWired, IsWired}
 
@@ -35,7 +39,7 @@ module _ (site : Site) where
   one_on before node nodes e = e ∙ sym (append_assoc before (node ∷ []) nodes)
 
   place_on : (before : List Node) (node : Node) → length (before ++ node ∷ []) ≡ length before + 1
-  place_on before node = Rattle.std.proofs.Common.length-append before (node ∷ [])
+  place_on before node = length-append before (node ∷ [])
 
   -- ---- fronts
 
@@ -65,7 +69,7 @@ module _ (site : Site) where
   no_items : (all : Ends) (place : ℕ) (nodes : List Node) → flat_map (items_at all) (fronts_from site place nodes) ≡ []
   no_items all place [] = refl
   no_items all place (node ∷ nodes) =
-      Rattle.std.proofs.lemmas.Grind.flat_map-append (items_at all) (front_if site place node node.kind) (fronts_from site (place + 1) nodes)
+      flat_map-append (items_at all) (front_if site place node node.kind) (fronts_from site (place + 1) nodes)
       ∙ ap (λ (is : List Item). is ++ flat_map (items_at all) (fronts_from site (place + 1) nodes)) (no_items_if all place node node.kind)
       ∙ no_items all (place + 1) nodes
 
@@ -77,7 +81,7 @@ module _ (site : Site) where
   relay_if_wired all before node nodes Relay e k at h = elim (Has-cons h) [
     | inl is ↦ subst (λ (a : RelayAt). RelayIsWired site all [] a.node a.relay) (sym is) (record {
       is_relay = ap (λ (o : Option Node). means_relay (kind_in o)) (at_place before node nodes e) ∙ ap (λ (q : NodeKind). means_relay (Some q)) k;
-      node_is = ap (λ (name : List ℕ). Rattle.relay_core.specs.Connecting.new_node (Rattle.farm_model.specs.Run.relay_site site (record { 0 = length before }) name)) (sym (ap name_in (at_place before node nodes e)));
+      node_is = ap (λ (name : List ℕ). new_node (relay_site site (record { 0 = length before }) name)) (sym (ap name_in (at_place before node nodes e)));
       links = λ link g. elim g [ ];
       rows = λ row g. elim g [ ];
     })
@@ -99,14 +103,11 @@ module _ (site : Site) where
   no_rows : (all : Ends) (place : ℕ) (nodes : List Node) → flat_map (rows_at all) (relays_from site place nodes) ≡ []
   no_rows all place [] = refl
   no_rows all place (node ∷ nodes) =
-      Rattle.std.proofs.lemmas.Grind.flat_map-append (rows_at all) (relay_if site place node node.kind) (relays_from site (place + 1) nodes)
+      flat_map-append (rows_at all) (relay_if site place node node.kind) (relays_from site (place + 1) nodes)
       ∙ ap (λ (rs : List Pending). rs ++ flat_map (rows_at all) (relays_from site (place + 1) nodes)) (no_rows_if all place node node.kind)
       ∙ no_rows all (place + 1) nodes
 
-  -- a relay stands once: those from a place on have numbers from there on
-  count_append : {A : Type 0} (p : A → Bool) (xs ys : List A) → count_by p (xs ++ ys) ≡ count_by p xs + count_by p ys
-  count_append p [] ys = omega arith
-  count_append p (x ∷ xs) ys = let a = count-cons p x (xs ++ ys) in let b = count-cons p x xs in let c = count_append p xs ys in omega arith
+  -- ---- a relay stands once: those from a place on have numbers from there on
 
   -- another node is none of those at this place
   other_if : (n : NodeNo) (place : ℕ) (node : Node) (kind : NodeKind) → is_node (record { 0 = place }) n ≡ false → count_by (is_relay_at n) (relay_if site place node kind) ≡ 0
@@ -120,13 +121,13 @@ module _ (site : Site) where
   none_before : (n : NodeNo) (place : ℕ) (nodes : List Node) → n.0 < place → count_by (is_relay_at n) (relays_from site place nodes) ≡ 0
   none_before n place [] lt = refl
   none_before n place (node ∷ nodes) lt =
-      let a = count_append (is_relay_at n) (relay_if site place node node.kind) (relays_from site (place + 1) nodes) in
+      let a = sum_by-append (λ (at : RelayAt). one (is_relay_at n at)) (relay_if site place node node.kind) (relays_from site (place + 1) nodes) in
       let b = other_if n place node node.kind (ne_eqb place n.0 (λ (q : place ≡ n.0). absurd (omega (arith, lt, q)))) in
       let c = none_before n (place + 1) nodes (omega (arith, lt)) in
       omega (arith, a, b, c)
 
   at_most_one : (n : NodeNo) (place : ℕ) (node : Node) (kind : NodeKind) → count_by (is_relay_at n) (relay_if site place node kind) ≤ 1
-  at_most_one n place node Relay = Rattle.std.proofs.lemmas.List.Sums.count_by-le-length (is_relay_at n) (relay_if site place node Relay)
+  at_most_one n place node Relay = count_by-le-length (is_relay_at n) (relay_if site place node Relay)
   at_most_one n place node Front = omega arith
   at_most_one n place node Client = omega arith
 
@@ -135,12 +136,12 @@ module _ (site : Site) where
   one_each n place (node ∷ nodes) = go (one_each n (place + 1) nodes) (is_node (record { 0 = place }) n) refl
     where
       parts : count_by (is_relay_at n) (relays_from site place (node ∷ nodes)) ≡ count_by (is_relay_at n) (relay_if site place node node.kind) + count_by (is_relay_at n) (relays_from site (place + 1) nodes)
-      parts = count_append (is_relay_at n) (relay_if site place node node.kind) (relays_from site (place + 1) nodes)
+      parts = sum_by-append (λ (at : RelayAt). one (is_relay_at n at)) (relay_if site place node node.kind) (relays_from site (place + 1) nodes)
 
       go : count_by (is_relay_at n) (relays_from site (place + 1) nodes) ≤ 1 → (b : Bool) → is_node (record { 0 = place }) n ≡ b → count_by (is_relay_at n) (relays_from site place (node ∷ nodes)) ≤ 1
       go more false e = let first = other_if n place node node.kind e in let whole = parts in omega (arith, more, first, whole)
       go more true e =
-          let same = Rattle.std.proofs.lemmas.Bool.eqb-true place n.0 e in
+          let same = eqb-true place n.0 e in
           let first = at_most_one n place node node.kind in
           let rest = none_before n (place + 1) nodes (omega (arith, same)) in
           let whole = parts in

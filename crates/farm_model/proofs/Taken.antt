@@ -1,13 +1,14 @@
 -- A message is taken out of flight: what is left, and whom it was between.
-use Rattle.std.proofs.Common.{◌≡◌, ℕ, Bool, true, false, not, List, length, Option, Some, None, inl, inr, refl, sym, subst, ap, ◌∙◌, eq-eqb}
-use Rattle.std.specs.Prelude.{◌&&◌, ◌||◌, nat_le, flat_map, slice_get, remove}
+use Rattle.std.proofs.Common.{◌≡◌, ℕ, true, false, List, Option, Some, None, refl, subst, ap, ◌∙◌, eq-eqb}
+use Rattle.std.specs.Prelude.{flat_map, slice_get, remove}
 use Rattle.std.specs.List.{find, list_any}
 use Rattle.std.proofs.lemmas.Option.{same_Some}
 use Rattle.dia_base.specs.declared.number.ConnId.{ConnId}
 use Rattle.dia_base.specs.declared.number.NodeNo.{NodeNo}
+use Rattle.dia_base.proofs.Finding.{found_passes}
 use Rattle.dia_message.specs.declared.message.Message.{Message}
 use Rattle.farm_law.specs.Farm.{Item, Refused}
-use Rattle.farm_law.specs.Lists.{Has, here, there, Without}
+use Rattle.farm_law.specs.Lists.{Without}
 use Rattle.farm_law.specs.Moves.{next, ends as have_ended}
 use Rattle.farm_model.specs.declared.site.Site.{Site}
 use Rattle.farm_model.specs.declared.state.Direction.{Direction}
@@ -16,12 +17,14 @@ use Rattle.farm_model.specs.Lists.{replace_first}
 use Rattle.farm_model.specs.Nodes.{is_linked}
 use Rattle.farm_model.specs.World.{Ends, WorldState, is_between, is_on}
 use Rattle.farm_model.proofs.AsFarm.{in_flight, flights, items_at, items_of, has_ended_in, farm_of}
-use Rattle.farm_model.proofs.ListLemmas.{find-passes}
-use Rattle.farm_model.proofs.Placing.{Has-found, Has-replaced, Without-left, Without-map, Without-removed, parts_lose}
-use Rattle.farm_model.proofs.Posting.{any_replaced}
-use Rattle.farm_model.proofs.Sending.{ended_same}
+use Rattle.farm_model.proofs.Ending.{same_ended, stands_if}
+use Rattle.farm_model.proofs.Finding.{Has-found, any_has}
+use Rattle.farm_model.proofs.Placing.{Without-left, Without-map, Without-removed, parts_lose}
+use Rattle.farm_model.proofs.Replacing.{map_replaced}
+use Rattle.farm_model.proofs.Sides.{same_on, side_of}
 use Rattle.farm_model.proofs.StepGoes.{Goes}
-use Rattle.farm_model.proofs.Wired.{Joins, DirectionIsWired, IsWired}
+use Rattle.farm_model.proofs.Wired.{Joins, IsWired}
+use Rattle.farm_model.proofs.WiredLemmas.{directions_wired}
 use Rattle.farm_model.proofs.WorldLemmas.{direction_nodes}
 
 pub record IsTaken (site : Site) (made : Ends) (w : WorldState) (from to : NodeNo) (flight : Flight) : Type 0 where
@@ -32,30 +35,11 @@ pub record IsTaken (site : Site) (made : Ends) (w : WorldState) (from to : NodeN
   pub stands : (c : ConnId) → list_any (is_on c) flight.directions ≡ list_any (is_on c) w.directions
   pub lives : has_ended_in w.ends w.directions flight.conn ≡ false
 
--- a direction stands among the others
-stands_on : (direction : Direction) (directions : List Direction) → Has direction directions → list_any (is_on direction.conn) directions ≡ true
-stands_on direction directions here = go (is_on direction.conn direction) (eq-eqb direction.conn.0 direction.conn.0 refl) _
-  where
-    go : (b : Bool) → b ≡ true → (more : Bool) → (b || more) ≡ true
-    go true e more = refl
-    go false e more = absurd cc
-stands_on direction directions (there {y} {xs} h) = go (is_on direction.conn y) (stands_on direction xs h)
-  where
-    go : (b : Bool) → list_any (is_on direction.conn) xs ≡ true → (b || list_any (is_on direction.conn) xs) ≡ true
-    go true e = refl
-    go false e = e
-
-none_ended : (p q b : Bool) → b ≡ true → (p && q && not b) ≡ false
-none_ended p q false e = absurd cc
-none_ended true true true e = refl
-none_ended true false true e = refl
-none_ended false q true e = refl
-
 module _ (site : Site) (made : Ends) (w : WorldState) (from to : NodeNo) (place : ℕ) (wired : IsWired site made w) where
   taken_as : (direction : Direction) (message : Message) → find (is_between from to) w.directions ≡ Some direction → slice_get direction.messages place ≡ Some message
       → IsTaken site made w from to (record { conn = direction.conn; message = message; directions = replace_first (is_between from to) (record direction { messages = remove direction.messages place }) w.directions })
   taken_as direction message found got =
-      let is = direction_nodes from to direction (find-passes (is_between from to) w.directions direction found) in
+      let is = direction_nodes from to direction (found_passes (is_between from to) w.directions direction found) in
       let has = Has-found (is_between from to) w.directions found in
       let k = wired.directions direction has in
       let less : Direction = record direction { messages = remove direction.messages place } in
@@ -72,17 +56,13 @@ module _ (site : Site) (made : Ends) (w : WorldState) (from to : NodeNo) (place 
         linked = subst (λ (n : NodeNo). is_linked site from n ≡ true) is.1 (subst (λ (n : NodeNo). is_linked site n direction.to ≡ true) is.0 k.linked);
         wired = record {
           begins = wired.begins;
-          directions = λ d h.
-              elim (Has-replaced (is_between from to) less w.directions h) [
-                | inl e ↦ subst (DirectionIsWired site made w.ends) (sym e) (record { joins = k.joins; below = k.below; linked = k.linked })
-                | inr g ↦ wired.directions d g
-              ];
+          directions = directions_wired (is_between from to) direction (remove direction.messages place) w.directions found wired.directions;
           fronts = wired.fronts;
           relays = wired.relays;
           alone = wired.alone;
         };
-        stands = λ c. any_replaced (is_on c) (is_between from to) direction less w.directions found refl;
-        lives = none_ended (nat_le 1 direction.conn.0) (nat_le direction.conn.0 (length w.ends)) (list_any (is_on direction.conn) w.directions) (stands_on direction w.directions has);
+        stands = λ c. same_on w.directions left c (map_replaced side_of (is_between from to) direction less w.directions found refl);
+        lives = stands_if w.ends w.directions direction.conn (any_has (is_on direction.conn) has (eq-eqb direction.conn.0 direction.conn.0 refl));
       }
 
   taken_of : (direction : Direction) (flight : Flight) (got : Option Message) → find (is_between from to) w.directions ≡ Some direction → slice_get direction.messages place ≡ got → flight_of w.directions from to place direction got ≡ Some flight
@@ -103,7 +83,7 @@ pub after_taken : (site : Site) (made : Ends) (refused : List Refused) (HasReaso
 after_taken site made refused HasReason w after from to flight t g = record {
   leads = record {
     refused = g.leads.refused;
-    moves = next (have_ended (has_ended_in w.ends flight.directions) (λ c e. sym (ended_same w.ends w.directions flight.directions c (t.stands c)) ∙ e)) g.leads.moves;
+    moves = next (have_ended (has_ended_in w.ends flight.directions) (λ c e. same_ended w.ends w.directions flight.directions c (t.stands c) ∙ e)) g.leads.moves;
     caused = g.leads.caused;
   };
   wired = g.wired;

@@ -3,8 +3,8 @@ use Rattle.std.proofs.Common.{◌≡◌, ℕ, ◌-◌, ◌≤◌, true, false, [
 use Rattle.std.specs.Prelude.{◌⊎◌, count_by, slice_get}
 use Rattle.dia_base.specs.declared.number.ConnId.{ConnId}
 use Rattle.dia_base.specs.declared.number.NodeNo.{NodeNo}
-use Rattle.relay_hops.specs.declared.row.Row.{Row}
 use Rattle.relay_peers.specs.declared.peers.Link.{Link}
+use Rattle.relay_hops.specs.declared.row.Row.{Row}
 use Rattle.relay_core.specs.Connecting.{new_node}
 use Rattle.relay_core.specs.RelayState.{RelayState, with_links}
 use Rattle.farm_law.specs.Lists.{Has}

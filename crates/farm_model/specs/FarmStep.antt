@@ -109,9 +109,9 @@ abbrev pub Delivers : Site → WorldState → NodeNo → Option Flight → Bool 
 Delivers site w to None applied next = (applied ≡ false) × (next ≡ w)
 Delivers site w to (Some flight) applied next = (applied ≡ true) × Arrives site (record w { directions = flight.directions }) to flight.conn flight.message next
 
-abbrev pub after_loss : WorldState → Option Flight → Option WorldState
-after_loss w None = None
-after_loss w (Some flight) = Some (record w { directions = flight.directions })
+abbrev pub after_lost_message : WorldState → Option Flight → Option WorldState
+after_lost_message w None = None
+after_lost_message w (Some flight) = Some (record w { directions = flight.directions })
 
 -- what a call takes out of flight: where there is no such message, nothing
 abbrev pub Takes : Option Flight → Option (ConnId × Message) → List Direction → List Direction → Type 0
@@ -178,7 +178,7 @@ abbrev pub FarmStep : Site → WorldState → Step → Bool → List LossAt → 
 FarmStep site old (Up a b) applied losses new = Outcome (after_up site old a b) applied old new × (losses ≡ [])
 FarmStep site old (Send client to message) applied losses new = Outcome (after_send site old client to message) applied old new × (losses ≡ [])
 FarmStep site old (Deliver from to place) applied losses new = Delivers site old to (flight_at old.directions from to place) applied new × (losses ≡ [])
-FarmStep site old (Lose from to place) applied losses new = Outcome (after_loss old (flight_at old.directions from to place)) applied old new × (losses ≡ [])
+FarmStep site old (Lose from to place) applied losses new = Outcome (after_lost_message old (flight_at old.directions from to place)) applied old new × (losses ≡ [])
 FarmStep site old (Cut a b) applied losses new = Cuts old a b (conn_between old.directions a b) applied losses new
 FarmStep site old (Restart node) applied losses new = Restarts site old node applied losses new
 FarmStep site old (Pick front worker) applied losses new = Outcome (after_pick_at old front worker (front_at front old.fronts)) applied old new × (losses ≡ [])

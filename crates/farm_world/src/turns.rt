@@ -2,7 +2,7 @@
 
 ghost use Rattle.std.specs.Prelude.{◌≡◌, List, IfOk, OnOk, OnErr};
 ghost use Rattle.farm_model.specs.Arrival.{Arrives};
-ghost use Rattle.farm_model.specs.FarmStep.{Outcome, can_connect, after_up, after_send, flight_at, Delivers, after_loss, FarmStep};
+ghost use Rattle.farm_model.specs.FarmStep.{Outcome, can_connect, after_up, after_send, flight_at, Delivers, after_lost_message, FarmStep};
 ghost use Rattle.farm_model.specs.Loss.{LossAt};
 ghost use Rattle.farm_model.specs.Run.{TellsSame};
 
@@ -125,7 +125,7 @@ impl World {
 
     /// A message in flight is lost.
     pub fn lose(&mut self, from: NodeNo, to: NodeNo, place: u64) -> bool
-        ensures { Outcome (after_loss self.old (flight_at self.old.directions from to place)) result self.old self.new }
+        ensures { Outcome (after_lost_message self.old (flight_at self.old.directions from to place)) result self.old self.new }
     {
         take_off(&mut self.directions, from, to, place).is_some()
     }
