@@ -31,6 +31,7 @@ use Rattle.farm_model.specs.World.{Ends, WorldState, with_message_from, with_tra
 use Rattle.farm_model.proofs.AsFarm.{other_end, name_at, parties, items_of, asker_of, pending_of, rows_of, has_ended_in, farm_of, LeadsTo}
 use Rattle.farm_model.proofs.Joined.{Joins-turned, Joins-other}
 use Rattle.farm_model.proofs.Moving.{put}
+use Rattle.farm_model.proofs.Naming.{spells}
 use Rattle.farm_model.proofs.OneKind.{relay_no_client}
 use Rattle.farm_model.proofs.Placing.{Left-without}
 use Rattle.farm_model.proofs.RelayPeers.{IsForwardedTo, is_forwarded, own_name, own_realm, sender_is, row_sent}
@@ -118,7 +119,7 @@ module _ (site : Site) (ends : Ends) (Reason : Refused → Type 0) (checked : Is
       (all-in (RowIsWired site ends w.ends node) out own.rows new) (λ r h. inl h)
       (put old (record old { rows = with_own rows }) (record { conn = to; from = node; to = other_end ends to node; message = sent }) (items_of ends w.directions w.fronts) (items_of ends (with_message_from node w.directions to sent) w.fronts)
       (posted_across site ends w.ends node to sent w.directions w.fronts wired.directions)
-      (λ some wo. forwards to (other_end ends to node) hop goes_to.avps taken flag goes_to.split goes_to.spelled own.is_relay (relay_no_client (kind_at site node) own.is_relay) new.peer unused wo row_out))
+      (λ some wo. forwards to (other_end ends to node) hop goes_to.avps taken flag goes_to.split (spells site checked from) own.is_relay (relay_no_client (kind_at site node) own.is_relay) new.peer unused wo row_out))
 
   -- ---- an answer
 

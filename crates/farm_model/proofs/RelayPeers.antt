@@ -1,26 +1,20 @@
 -- What a relay that hangs together knows of itself and of its peers.
-use Rattle.std.proofs.Common.{◌≡◌, ℕ, ◌+◌, ◌≤◌, ◌<◌, false, List, length, Option, Some, None, refl, sym, subst, ap, ◌∙◌, arith, ◌^◌, length-append, Result, Ok, Err}
-use Rattle.std.specs.Prelude.{◌==◌, nat_lt}
+use Rattle.std.proofs.Common.{◌≡◌, ℕ, ◌≤◌, List, length, Option, Some, None, refl, sym, subst, ap, ◌∙◌, Result, Ok, Err}
+use Rattle.std.specs.Prelude.{◌==◌}
 use Rattle.std.specs.Option.{option_and_then}
-use Rattle.std.proofs.lemmas.Bool.{ltb-false}
 use Rattle.dia_base.specs.declared.number.ConnId.{ConnId}
 use Rattle.dia_base.specs.declared.number.NodeNo.{NodeNo}
-use Rattle.dia_base.specs.Limits.{message_limit}
 use Rattle.dia_base.proofs.Finding.{found_passes}
 use Rattle.dia_avp.specs.declared.avp.RawAvp.{RawAvp}
 use Rattle.dia_avp.specs.declared.fault.AvpFault.{AvpFault}
-use Rattle.dia_avp.specs.AvpList.{HasSpelling, length_of, padding_of, with_padding, written}
 use Rattle.dia_avp.specs.AvpReading.{split_of}
-use Rattle.dia_avp.proofs.ReadBack.{length_spelling}
 use Rattle.dia_message.specs.declared.message.Message.{Message}
 use Rattle.cc_view.specs.Refusal.{avps_by}
 use Rattle.relay_peers.specs.declared.peers.Link.{Link}
 use Rattle.relay_peers.specs.declared.peers.LinkedPeer.{LinkedPeer}
 use Rattle.relay_peers.specs.PeerTable.{is_of, is_on, conn_in, peer_in, peer_numbered}
-use Rattle.relay_routes.specs.Routing.{record_of}
 use Rattle.relay_hops.specs.declared.row.Held.{Held}
 use Rattle.relay_core.specs.declared.node.RelayNode.{RelayNode}
-use Rattle.relay_core.specs.Forwarding.{recorded, is_too_long}
 use Rattle.relay_core.specs.NextHop.{next_hop}
 use Rattle.relay_core.specs.RelayState.{RelayState, peer_on}
 use Rattle.relay_core.specs.RelayStep.{row_of}
@@ -60,24 +54,6 @@ link_on links peer conn e =
 
 -- ---- what is forwarded
 
-short : (record_len whole body : ℕ) → nat_lt message_limit (20 + whole) ≡ false → whole ≡ body + record_len → record_len < 2 ^ 24
-short record_len whole body e f = let le : 20 + whole ≤ 65536 = ltb-false 65536 (20 + whole) e in omega arith
-
-below : (len whole pad : ℕ) → whole ≡ len + pad → whole < 2 ^ 24 → len < 2 ^ 24
-below len whole pad f lt = omega arith
-
--- the Route-Record of a sender with which a request is not too long can be written
-record_spelled : (sender body : List ℕ) → is_too_long (recorded sender body) ≡ false → HasSpelling (record_of sender)
-record_spelled sender body e =
-    let whole = length-append (with_padding body) (written (record_of sender)) in
-    let small = short (length (written (record_of sender))) (length (recorded sender body)) (length (with_padding body)) e whole in
-    record {
-      code = omega arith;
-      vendor = omega arith;
-      no_vendor = λ _. refl;
-      long = below (length_of (record_of sender)) (length (written (record_of sender))) (padding_of (length_of (record_of sender))) (length_spelling (record_of sender)) small;
-    }
-
 read_first : (octets : List ℕ) (avps : List RawAvp) (r : Result (List RawAvp) AvpFault) → avps_by octets r ≡ Ok avps → r ≡ Ok avps
 read_first octets avps (Ok others) e = let same : others ≡ avps = cc in ap (λ (xs : List RawAvp). Ok xs) same
 read_first octets avps (Err fault) e = absurd cc
@@ -86,13 +62,12 @@ read_first octets avps (Err fault) e = absurd cc
 pub record IsForwardedTo (relay : RelayState) (sender : List ℕ) (request : Message) (to : ConnId) : Type 0 where
   pub avps : List RawAvp
   pub split : split_of request.body ≡ Ok avps
-  pub spelled : HasSpelling (record_of sender)
   pub hop : next_hop relay.node avps request.header.application ≡ Ok to
 
 pub is_forwarded : (relay : RelayState) (sender : List ℕ) (request : Message) (to : ConnId) → decision relay sender request ≡ Ok to → IsForwardedTo relay sender request to
 is_forwarded relay sender request to e =
     let by = forwarded-by relay sender request (avps_by request.body (split_of request.body)) to e in
-    record { avps = by.2.0; split = read_first request.body by.2.0 (split_of request.body) by.2.1; spelled = record_spelled sender request.body by.1; hop = by.2.3 }
+    record { avps = by.2.0; split = read_first request.body by.2.0 (split_of request.body) by.2.1; hop = by.2.3 }
 
 -- ---- a relay
 

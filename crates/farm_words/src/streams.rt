@@ -1,6 +1,6 @@
 //! A text from a reader, and to a writer.
 
-ghost use Rattle.std.specs.Prelude.{◌≡◌, IsOkUnless};
+ghost use Rattle.std.specs.Prelude.{◌≡◌, ◌≤◌, IfOk, IsOkUnless, length};
 ghost use Rattle.farm_words.specs.declared.streams.WordsFault.TheVariants.{OutOfMemory};
 
 use std::alloc::{AllocError, Global};
@@ -32,7 +32,9 @@ impl From<AllocError> for WordsFault {
 }
 
 /// All that the reader gives, where that is within the limit.
-pub fn read_text<R: Read>(alloc: Global, reader: &mut R) -> Result<Vec<u8>, WordsFault> {
+pub fn read_text<R: Read>(alloc: Global, reader: &mut R) -> Result<Vec<u8>, WordsFault>
+    ensures { IfOk result (λ text. length text.items ≤ 16777216) }
+{
     let mut text = Vec::new(alloc);
     let mut limited = reader.by_ref().take(TEXT_LIMIT as u64 + 1);
     match limited.read_to_end(&mut text) {
