@@ -54,6 +54,3 @@ pub use request::{
 };
 pub use view::refusals::avps_of;
 pub use view::{ViewError, request_of};
-
-#[cfg(test)]
-mod tests;

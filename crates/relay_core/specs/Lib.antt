@@ -9,3 +9,4 @@ pub mod Connecting
 pub mod RelayRun
 pub mod Acts
 pub mod Promise
+pub mod FirstForwarding

@@ -1,7 +1,7 @@
 //! Laws of what relays pass on: what a server reads in a request, and what it is answered, does not depend
 //! on the relays on its way (RFC 6733, section 6.1.9).
 
-ghost use Rattle.std.specs.Prelude.{◌≡◌, ℕ, List, false, Ok};
+ghost use Rattle.std.specs.Prelude.{◌≡◌, ◌+◌, ℕ, List, length, false, Ok};
 ghost use Rattle.dia_base.specs.declared.number.ConnId.{ConnId};
 ghost use Rattle.dia_avp.specs.declared.avp.RawAvp.{RawAvp};
 ghost use Rattle.dia_avp.specs.AvpList.{HasSpelling};
@@ -9,6 +9,7 @@ ghost use Rattle.dia_avp.specs.AvpReading.{split_of};
 ghost use Rattle.dia_message.specs.declared.message.Message.{Message};
 ghost use Rattle.dia_message.specs.Traffic.{Traffic};
 ghost use Rattle.cc_view.specs.Answer.{answer_to, refusal_of};
+ghost use Rattle.cc_view.specs.FirstDebit.{debit_message};
 ghost use Rattle.cc_view.specs.Forwarding.{with_hop};
 ghost use Rattle.cc_view.specs.Refusal.{refusal_with};
 ghost use Rattle.cc_view.specs.RequestView.{view_of};
@@ -17,6 +18,7 @@ ghost use Rattle.cc_view.specs.declared.refusal.Refusal.{Refusal};
 ghost use Rattle.cc_view.specs.declared.reply.CcReply.{CcReply};
 ghost use Rattle.cc_view.specs.declared.request.CcRequest.{CcRequest};
 ghost use Rattle.relay_routes.specs.Routing.{record_of, loops, IsLoop};
+ghost use Rattle.relay_core.specs.FirstForwarding.{client_name, forwarded_debit};
 ghost use Rattle.relay_core.specs.Forwarding.{with_record, Descends};
 ghost use Rattle.relay_core.specs.RelayState.{RelayState};
 ghost use Rattle.relay_core.specs.RelayStep.{OnRequest, refusal_to};
@@ -70,3 +72,10 @@ pub fn what_comes_back_loops()
     names_with_more();
     what_loops();
 }
+
+/// The worked example: the first debit, as a relay forwards it that has it from `c1.example`, has the
+/// Route-Record of that client behind its AVPs, and 268 octets.
+pub fn first_forwarding()
+    ensures forwarded { with_record client_name debit_message ≡ forwarded_debit }
+    ensures length { 20 + length forwarded_debit.body ≡ 268 }
+{}

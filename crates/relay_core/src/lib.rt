@@ -44,12 +44,9 @@ mod run;
 pub use error::RelayError;
 pub use failover::{FailoverChoice, PlannedFailover};
 pub use laws::{
-    descending_goes_on, loops_are_not_forwarded, loops_are_refused, what_comes_back_loops,
-    what_descends_reads_alike,
+    descending_goes_on, first_forwarding, loops_are_not_forwarded, loops_are_refused,
+    what_comes_back_loops, what_descends_reads_alike,
 };
 pub use node::{RelayNode, RelaySite};
 pub use relay::Relay;
 pub use run::RelayEvent;
-
-#[cfg(test)]
-mod tests;

@@ -39,6 +39,3 @@ pub use laws::{
 };
 pub use pending::{NotAdded, Pending, PendingRefusal};
 pub use row::{Held, Hop, Origin, Row};
-
-#[cfg(test)]
-mod tests;

@@ -212,39 +212,3 @@ fn renumbered(request: Message, hop: Hop) -> Message
     request.header.hop = hop;
     request
 }
-
-#[cfg(test)]
-mod tests {
-    use super::*;
-    use crate::tests::request;
-    use std::test::Fail;
-
-    #[test]
-    fn one_identifier_on_two_connections(rt: HostRuntime) -> Result<(), Fail> {
-        let origin = Origin {
-            conn: ConnId(1),
-            hop: 7,
-        };
-        let mut pending = Pending::new(rt.alloc(), 4)?;
-        pending.next = u32::MAX;
-        let last = pending.add(ConnId(2), origin, request(rt.alloc(), 100)?)?;
-        assert_eq!(rt; last, u32::MAX);
-        pending.next = u32::MAX;
-        assert_eq!(rt;
-            pending.add(ConnId(3), origin, request(rt.alloc(), 101)?)?,
-            u32::MAX
-        );
-        pending.next = u32::MAX;
-        assert_eq!(rt;
-            pending.add(ConnId(2), origin, request(rt.alloc(), 102)?)?,
-            0
-        );
-        let held = pending.settle(ConnId(3), last).ok_or("nothing")?;
-        assert_eq!(rt; held.request.header.end, 101);
-        assert!(rt; pending.settle(ConnId(3), last).is_none());
-        assert_eq!(rt; pending.move_to(ConnId(2), last, ConnId(3)), Some(last));
-        assert_eq!(rt; pending.move_to(ConnId(3), last, ConnId(2)), Some(last));
-        assert_eq!(rt; pending.move_to(ConnId(2), last, ConnId(2)), Some(1));
-        Ok(())
-    }
-}
