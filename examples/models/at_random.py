@@ -4,16 +4,18 @@ A relay sends the requests of a lost connection again in the order of Hop-by-Hop
 may choose them as it likes. So that no output depends on that choice, a connection is cut, or a node at its end
 restarted, only while each relay there has at most one request on it for which somebody still waits.
 """
-from dataclasses import replace
+from dataclasses import dataclass, field, replace
 
-from credit_control import (CC_REQUEST_NUMBER, CC_REQUEST_TYPE, EVENT, INITIAL, MULTIPLE_SERVICES, RATING_GROUP,
-                            REQUESTED_UNITS, SERVICE_IDENTIFIER, TERMINATION, UPDATE, USED_UNITS)
+from credit_control import (CC_REQUEST_NUMBER, CC_REQUEST_TYPE, CC_TIME, EVENT, INITIAL, MULTIPLE_SERVICES,
+                            RATING_GROUP, REQUESTED_UNITS, SERVICE_IDENTIFIER, TERMINATION, UPDATE, USED_UNITS)
 from diameter import (DESTINATION_REALM, ORIGIN_HOST, PROXIABLE, REQUEST, RETRANSMITTED, ROUTE_RECORD, Avp, group,
                       number, text)
 from messages import (DEBIT, PROXY, again, appended, changed, of_session, of_subscriber, request, service, to_host,
                       to_realm, units, without)
 from nodes import Relay
-from row_site import C1, C2, CLIENT, F1, F2, FRONT, R1, R2, RELAY, ROW_SITE
+from row_site import C1, C2, F1, F2, R1, R2, ROW_SITE
+from site_data import CLIENT, FRONT, RELAY, Site
+from site_stories import F3, R3, pieces, rated, site_named
 from world import WORDS, World, spelled_step
 
 GOING_ON = [UPDATE] * 5 + [TERMINATION] * 2 + [EVENT] * 3 + [INITIAL]
@@ -21,15 +23,16 @@ NOT_YET = [INITIAL] * 4 + [UPDATE, TERMINATION] + [EVENT] * 5
 SUBSCRIBERS = [1, 1, 2, 3, 4, 4, 5, 6]
 ASKED = [None, 0, 1, 999, 1000, 1001, 2500, 4500, 5500, 10_001]
 USED = [0, 1, 1000, 1001, 3000]
-HOSTS = [F1, F2, F2, R2, R2, R1, C2, "F1.Example", "f3.example"]
-REALMS = ["OCS.example", "loop.example", "loop.example", "other.example", "ocs.example.org"]
 # How often a step of each word is chosen among those that apply.
 WEIGHTS = {"up": 5, "send": 6, "deliver": 14, "pick": 6, "charge": 6, "emit": 6, "refuse": 1, "lose": 1, "cut": 1,
            "restart": 1}
+# The same, where the book is swept among other steps.
+WITH_SWEEPS = {**WEIGHTS, "sweep": 1}
 # The words that bring what is under way to its end.
 ENDING = ("deliver", "pick", "charge", "emit")
 UNDER_WAY = 8
 PLACES = [0, 0, 1, 1, 2, 3, 15, 1024, 2**64 - 1]
+LATEST = 2**64 - 1
 
 
 class Dice:
@@ -52,20 +55,48 @@ class Dice:
         return self.below(bound) == 0
 
 
+@dataclass(frozen=True)
+class Scene:
+    """A site, and what its clients ask for: Destination-Hosts, Destination-Realms, and services beside those of octets.
+
+    `weights` is how often a step of a word is chosen among those that apply; `pace` is how many milliseconds lie between
+    two charges at most.
+    """
+
+    site: Site
+    hosts: list
+    realms: list
+    extras: list = field(default_factory=list)
+    weights: dict = field(default_factory=lambda: WEIGHTS)
+    pace: int = 2000
+
+
+ROW = Scene(ROW_SITE, hosts=[F1, F2, F2, R2, R2, R1, C2, "F1.Example", "f3.example"],
+            realms=["OCS.example", "loop.example", "loop.example", "other.example", "ocs.example.org"])
+SWEEPS = replace(ROW, weights=WITH_SWEEPS, pace=180_000)
+RING = Scene(site_named("ring"), hosts=[F1, F2, F3, F3, R2, R3, C1, "F2.EXAMPLE", "f9.example"],
+             realms=["round.example", "Round.example", "round.example", "loop.example", "loop.EXAMPLE",
+                     "other.example"],
+             extras=[rated(20, CC_TIME, asked=None), rated(20, CC_TIME, asked=61, used=59),
+                     rated(20, CC_TIME, asked=600, used=61), pieces(7, 1), pieces(7, None), pieces(7, 11)],
+             weights=WEIGHTS | {"deliver": 20, "cut": 2, "lose": 2})
+
+
 class Requests:
     """Chooses what clients send: of sessions and events, now and then with a fault, now and then again."""
 
-    def __init__(self, dice):
-        self.dice, self.sent, self.numbers, self.opened = dice, {C1: [], C2: []}, {}, set()
+    def __init__(self, dice, scene):
+        clients = [name for name, kind in scene.site.nodes.items() if kind == CLIENT]
+        self.dice, self.scene, self.sent, self.numbers, self.opened = dice, scene, {it: [] for it in clients}, {}, set()
 
     def next(self, client):
         if self.sent[client] and self.dice.one_in(5):
             return again(self.dice.one_of(self.sent[client][-6:]), self.hop())
         message = self.fresh(client)
         if self.dice.one_in(4):
-            message = to_host(message, self.dice.one_of(HOSTS))
+            message = to_host(message, self.dice.one_of(self.scene.hosts))
         if self.dice.one_in(7):
-            message = to_realm(message, self.dice.one_of(REALMS))
+            message = to_realm(message, self.dice.one_of(self.scene.realms))
         if self.dice.one_in(9):
             message = self.dice.one_of(ODD)(message)
         if self.dice.one_in(6):
@@ -98,6 +129,8 @@ class Requests:
         if self.dice.one_in(6):
             services.append(group(MULTIPLE_SERVICES, [*self.units(kind), number(SERVICE_IDENTIFIER, 7),
                                                       number(RATING_GROUP, self.dice.one_of([10, 20]))]))
+        if self.scene.extras and self.dice.one_in(3):
+            services.append(self.dice.one_of(self.scene.extras))
         return services
 
     def units(self, kind):
@@ -127,9 +160,9 @@ ODD = [lambda message: replace(message, command=271),
 class Player:
     """Chooses steps, takes them in a farm of the model, and keeps them as lines."""
 
-    def __init__(self, dice):
-        self.dice, self.world, self.requests = dice, World(ROW_SITE), Requests(dice)
-        self.lines, self.moment = [], 1000
+    def __init__(self, dice, scene):
+        self.dice, self.scene, self.site, self.world = dice, scene, scene.site, World(scene.site)
+        self.requests, self.lines, self.moment = Requests(dice, scene), [], 1000
 
     def play(self, step):
         if self.safe(step):
@@ -154,7 +187,7 @@ class Player:
         return max(counts, default=0)
 
     def names(self, kind):
-        return [name for name, known in ROW_SITE.nodes.items() if known == kind]
+        return [name for name, known in self.site.nodes.items() if known == kind]
 
     def flights(self):
         """Each direction of a connection, with what is in flight there."""
@@ -163,7 +196,7 @@ class Player:
 
     def workers(self, state):
         """The workers for which this question of a front has the answer yes."""
-        return [(name, worker) for name in self.names(FRONT) for worker in range(ROW_SITE.workers)
+        return [(name, worker) for name in self.names(FRONT) for worker in range(self.site.workers)
                 if getattr(self.world.nodes[name], state)(worker)]
 
     def applying(self):
@@ -172,27 +205,36 @@ class Player:
         in_flight = [(a, b, place) for a, b, flight in flights for place in range(len(flight))]
         uncharged = self.workers("can_answer")
         waiting = sum(len(self.world.nodes[name].queue) for name in self.names(FRONT))
-        clients = [(a, b) for a, b, _ in flights if ROW_SITE.nodes[a] == CLIENT]
-        return {"up": [pair for pair in ROW_SITE.links if not self.world.connection(*pair)],
+        clients = [(a, b) for a, b, _ in flights if self.site.nodes[a] == CLIENT]
+        return {"up": [pair for pair in self.site.links if not self.world.connection(*pair)],
                 "send": clients if len(in_flight) + waiting + len(uncharged) < UNDER_WAY else [],
                 "deliver": in_flight, "lose": in_flight, "cut": [(a, b) for a, b, _ in flights],
                 "restart": [(name,) for name in self.names(RELAY) + self.names(FRONT)],
                 "pick": self.workers("can_pick"), "charge": uncharged, "refuse": uncharged,
-                "emit": self.workers("can_emit")}
+                "emit": self.workers("can_emit"), "sweep": [()]}
 
     def completed(self, word, arguments):
         """A step, with the message or the moment that it lacks."""
         if word == "send":
             arguments = (*arguments, self.requests.next(arguments[0]))
         if word == "charge":
-            self.moment += self.dice.below(2000)
+            self.moment += self.dice.below(self.scene.pace)
             arguments = (*arguments, self.moment)
+        if word == "sweep":
+            arguments = (self.sweep_moment(),)
         return word, *arguments
 
-    def step_that_applies(self, words=tuple(WEIGHTS)):
+    def sweep_moment(self):
+        """Now, or about the deadline of a session that is open, or some time about now."""
+        deadlines = [session.deadline for session in self.world.book.sessions.values()]
+        about = [self.dice.one_of(deadlines) - self.dice.below(2)] if deadlines else []
+        return min(self.dice.one_of([self.moment, self.moment + self.dice.below(self.scene.pace), *about, *about]), LATEST)
+
+    def step_that_applies(self, words=None):
         """A step that applies, or None where there is none of these words."""
+        words = words or tuple(self.scene.weights)
         found = {word: self.applying()[word] for word in words}
-        choices = [word for word in words if found[word] for _ in range(WEIGHTS[word])]
+        choices = [word for word in words if found[word] for _ in range(self.scene.weights[word])]
         if not choices:
             return None
         word = self.dice.one_of(choices)
@@ -203,8 +245,8 @@ class Player:
 
     def any_step(self):
         """A step that rarely applies; one that would end connections is left out mostly."""
-        word = self.dice.one_of(list(WORDS))
-        choices = {"node": list(ROW_SITE.nodes), "number": PLACES, "message": [DEBIT]}
+        word = self.dice.one_of([word for word in WORDS if word in self.scene.weights])
+        choices = {"node": list(self.site.nodes), "number": PLACES, "message": [DEBIT]}
         step = word, *(self.dice.one_of(choices[kind]) for kind in WORDS[word].split())
         return self.any_step() if self.ends_connections(step) and not self.dice.one_in(8) else step
 
@@ -212,7 +254,7 @@ class Player:
         word, *arguments = step
         if word == "cut":
             return self.world.connection(*arguments) is not None
-        return word == "restart" and ROW_SITE.nodes[arguments[0]] != CLIENT
+        return word == "restart" and self.site.nodes[arguments[0]] != CLIENT
 
     def finish(self):
         """Brings home what is under way."""
@@ -223,14 +265,20 @@ class Player:
 COMMENTS = {
     "relays": "# Requests of two clients, by relays and directly, with losses, cuts, restarts and what is sent again,\n"
               "# chosen at random by models/at_random.py.\n",
-    "skips": "# Steps chosen at random by models/at_random.py, most of which do not apply.\n"}
-STORED = {"relays-at-random": ("relays", 160), "skips-at-random": ("skips", 64)}
+    "skips": "# Steps chosen at random by models/at_random.py, most of which do not apply.\n",
+    "sweeps": "# Sessions of two clients, by relays and directly, with minutes between their requests, losses, cuts,\n"
+              "# restarts, and sweeps that end some and not others, chosen at random by models/at_random.py.\n",
+    "ring": "# Requests of three clients by a ring of relays, with losses, cuts, restarts and what is sent again,\n"
+            "# chosen at random by models/at_random.py.\n"}
+STORED = {"relays-at-random": ("relays", 160), "skips-at-random": ("skips", 64), "sweeps-at-random": ("sweeps", 55)}
+# Those that are stored beside a site file.
+STORED_BY_SITE = {"ring": {"at-random-1": ("ring", 46), "at-random-2": ("ring", 36), "at-random-3": ("ring", 37)}}
 
 
-def relays(seed):
+def relays(seed, scene=ROW):
     """Some 450 steps of which most apply, in a farm that is connected at first."""
-    player = Player(Dice(seed))
-    for pair in ROW_SITE.links:
+    player = Player(Dice(seed), scene)
+    for pair in player.site.links:
         player.play(("up", *pair))
     while len(player.lines) < 420:
         player.play(player.any_step() if player.dice.one_in(25) else player.step_that_applies())
@@ -238,9 +286,14 @@ def relays(seed):
     return player
 
 
+def sweeps(seed):
+    """The same with sweeps, and up to three minutes between two charges, where a session lasts for twenty."""
+    return relays(seed, SWEEPS)
+
+
 def skips(seed):
     """400 steps of which most do not apply; those that do seldom break what others have begun."""
-    player = Player(Dice(seed))
+    player = Player(Dice(seed), ROW)
     words = [word for word in WEIGHTS if word not in ("lose", "cut", "restart")]
     while len(player.lines) < 400:
         step = player.dice.one_in(3) and player.step_that_applies(words)
@@ -248,7 +301,15 @@ def skips(seed):
     return player
 
 
-KINDS = {"relays": relays, "skips": skips}
+def ring(seed):
+    return relays(seed, RING)
+
+
+KINDS = {"relays": relays, "skips": skips, "sweeps": sweeps, "ring": ring}
+
+
+def site_of_kind(kind):
+    return RING.site if kind == "ring" else ROW.site
 
 
 def schedule(kind, seed):

@@ -10,6 +10,9 @@ What the RFC leaves open is this farm's choice:
 - A service of the command itself, without Multiple-Services-Credit-Control, gives the command its result; a session
   opens with 2001 alone.
 - The first request with a Session-Id and a CC-Request-Number settles what is answered to all later ones.
+- A session is due twice its validity after the moment of its last entry that is no EVENT, whatever its outcome and
+  however moments run. A sweep ends the sessions that are due at its moment, with what they hold. It is an entry where
+  it ends one, and does nothing where there is no room for that entry.
 """
 from dataclasses import dataclass
 
@@ -27,17 +30,24 @@ class Full(Exception):
 
 @dataclass
 class Session:
-    """`held` has what is reserved for each name of a service."""
+    """`held` has what is reserved for each name of a service; `deadline` is a moment, in milliseconds."""
 
     account: tuple
     held: dict
+    deadline: int = 0
 
 
 class Book:
-    """`kept` has a reply for each Session-Id and CC-Request-Number; these are the entries of the history."""
+    """`kept` has a reply for each Session-Id and CC-Request-Number; these and the sweeps that ended sessions are the
+    entries of the history."""
 
     def __init__(self, site):
         self.site, self.balances, self.sessions, self.kept = site, dict(site.accounts), {}, {}
+        self.sweeps = 0
+
+    @property
+    def entries(self):
+        return len(self.kept) + self.sweeps
 
     def reserved(self, account):
         return sum(sum(it.held.values()) for it in self.sessions.values() if it.account == account)
@@ -45,15 +55,25 @@ class Book:
     def free(self, account):
         return self.balances[account] - self.reserved(account)
 
-    def take(self, request):
-        """The reply to a request: the kept one, or that of a new entry. Raises Full."""
+    def take(self, request, moment):
+        """The reply to a request: the kept one, or that of a new entry of this moment. Raises Full."""
         key = request.session, request.number
         if key not in self.kept:
-            if len(self.kept) >= self.site.limit:
+            if self.entries >= self.site.limit:
                 raise Full
             turns = {INITIAL: self.initial, UPDATE: self.update, TERMINATION: self.termination, EVENT: self.event}
             self.kept[key] = turns[request.kind](request)
+            if request.session in self.sessions and request.kind != EVENT:
+                self.sessions[request.session].deadline = moment + 2 * 1000 * self.site.validity
         return self.kept[key]
+
+    def sweep(self, moment):
+        """Ends the sessions that are due at this moment."""
+        due = [name for name, session in self.sessions.items() if session.deadline <= moment]
+        if due and self.entries < self.site.limit:
+            self.sweeps += 1
+            for name in due:
+                del self.sessions[name]
 
     def account_of(self, request):
         return next((subscriber for subscriber in request.subscribers if subscriber in self.balances), None)
@@ -129,7 +149,7 @@ class Book:
         return Reply(SUCCESS, tuple(shown))
 
     def report(self):
-        yield f"entries {len(self.kept)} open {len(self.sessions)}\n"
+        yield f"entries {self.entries} open {len(self.sessions)}\n"
         for (kind, subscriber), balance in self.balances.items():
             reserved = self.reserved((kind, subscriber))
             yield f"account {kind} {subscriber} balance {balance} reserved {reserved}\n"

@@ -8,7 +8,7 @@ from dataclasses import dataclass
 from diameter import (APPLICATION_UNSUPPORTED, COMMAND_UNSUPPORTED, DESTINATION_REALM, FAILED_LIMIT, INVALID_AVP_LENGTH,
                       MANDATORY, ORIGIN_HOST, ORIGIN_REALM, RESULT_CODE, SESSION_ID, Avp, NoList, carried,
                       carries_too_much, first, group, number, octets_of_kind, origin, split)
-from row_site import CREDIT_CONTROL_APPLICATION
+from site_data import CREDIT_CONTROL_APPLICATION
 
 CREDIT_CONTROL = 272
 AUTH_APPLICATION_ID, SERVICE_CONTEXT_ID, CC_REQUEST_NUMBER, CC_REQUEST_TYPE = 258, 461, 415, 416

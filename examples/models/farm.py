@@ -1,24 +1,31 @@
 #!/usr/bin/env python3
 """A model of the whole farm, clients, relays and fronts, written from the rules: it knows nothing of the program.
 
-    farm.py replay < SCHEDULE        prints what the program has to print for a schedule over the row site
-    farm.py write FOLDER             writes the model's own schedules into a folder, each with its output
-    farm.py random KIND SEED         prints a schedule chosen at random; KIND is relays or skips
+    farm.py replay [--site FILE]     prints what the program has to print for a schedule, over the row site or another
+    farm.py report [--site FILE]     the same without what clients receive
+    farm.py write FOLDER             writes the model's own schedules into a folder, each with its output; those over
+                                     sites of their own below sites/
+    farm.py random KIND SEED         prints a schedule chosen at random; KIND is relays, skips, sweeps or
+                                     ring
     farm.py check FOLDER             plays worked examples, compares each .schedule of the folder with its .out, and
                                      compares random runs of farms whose relays choose identifiers in different ways
 
-Its parts: diameter.py has messages, credit_control.py requests and answers, book.py the accounts, row_site.py the site,
-nodes.py clients, fronts and relays, world.py the farm, its steps and its output, messages.py and scenarios.py the
+Its parts: diameter.py has messages, credit_control.py requests and answers, book.py the accounts, site_data.py what a
+site is, row_site.py the row site, site_file.py how a site file is read, nodes.py clients, fronts and relays, world.py
+the farm, its steps and its output, program.py the command line, messages.py, scenarios.py and site_stories.py the
 schedules written by hand, at_random.py those that are chosen, rows.py the worked examples.
 """
 import sys
 from pathlib import Path
 
-from at_random import KINDS, STORED, Dice, schedule
+import program
+from at_random import KINDS, STORED, STORED_BY_SITE, Dice, schedule, site_of_kind
+from program import run
 from row_site import ROW_SITE
 from rows import ROWS, failures
 from scenarios import SCENARIOS
-from world import BadSchedule, lowest_free, played
+from site_stories import STORIES, site_named
+from world import lowest_free
 
 RANDOM_RUNS = 40
 HOPS = 2**32
@@ -62,33 +69,26 @@ def scattered():
 CHOICES = [lowest, highest, rising, kept, scattered]
 
 
-def run(octets, choice=lowest):
-    """What is printed for a schedule, what is told on standard error, and the exit status."""
-    try:
-        return "".join(played(octets, ROW_SITE, choice()).output()), "", 0
-    except BadSchedule as fault:
-        return "", f"{fault}\n", 3
-
-
-def replay():
-    output, told, status = run(sys.stdin.buffer.read())
-    sys.stdout.write(output)
-    sys.stderr.write(told)
-    return status
-
-
 def stored_schedules():
-    """The model's own schedules by name."""
+    """The model's own schedules by name, each with its site."""
     for name, script in SCENARIOS.items():
-        yield name, script().text()
+        yield name, ROW_SITE, script().text()
     for name, (kind, seed) in STORED.items():
-        yield name, schedule(kind, seed)
+        yield name, ROW_SITE, schedule(kind, seed)
+    for site, stories in STORIES.items():
+        for name, script in stories.items():
+            yield f"sites/{site}/{name}", site_named(site), script().text()
+    for site, chosen in STORED_BY_SITE.items():
+        for name, (kind, seed) in chosen.items():
+            yield f"sites/{site}/{name}", site_named(site), schedule(kind, seed)
 
 
 def write(folder):
-    for name, text in stored_schedules():
-        (folder / f"{name}.schedule").write_text(text)
-        (folder / f"{name}.out").write_text(run(text.encode())[0])
+    for name, site, text in stored_schedules():
+        path = folder / f"{name}.schedule"
+        path.parent.mkdir(parents=True, exist_ok=True)
+        path.write_text(text)
+        path.with_suffix(".out").write_text(run(text.encode(), site)[0])
     return 0
 
 
@@ -99,11 +99,19 @@ def wanted(path):
     return output, told, int(status or 0)
 
 
+def schedules_in(folder):
+    """The stored schedules, each with its site: one that stands in a folder of sites/ has the site of that name."""
+    for path in sorted(folder.glob("*.schedule")):
+        yield path, ROW_SITE
+    for path in sorted(folder.glob("sites/*/*.schedule")):
+        yield path, site_named(path.parent.name)
+
+
 def differences(folder):
     """Stored schedules that the model does not play as stored, or whose output the choice of identifiers changes."""
-    for path in sorted(folder.glob("*.schedule")):
+    for path, site in schedules_in(folder):
         for choice in CHOICES:
-            if run(path.read_bytes(), choice) != wanted(path):
+            if run(path.read_bytes(), site, choice()) != wanted(path):
                 yield f"{path.name}: another output, identifiers {choice.__name__}"
 
 
@@ -111,8 +119,8 @@ def dependent_runs():
     """Random runs whose output depends on how relays choose identifiers."""
     for kind in KINDS:
         for seed in range(RANDOM_RUNS):
-            octets = schedule(kind, seed).encode()
-            if len({run(octets, choice) for choice in CHOICES}) != 1:
+            octets, site = schedule(kind, seed).encode(), site_of_kind(kind)
+            if len({run(octets, site, choice()) for choice in CHOICES}) != 1:
                 yield f"random {kind} {seed}: the output depends on the choice of identifiers"
 
 
@@ -120,7 +128,7 @@ def check(folder):
     faults = [*failures(), *differences(folder), *dependent_runs()]
     for fault in faults:
         print(fault)
-    stored = len(list(folder.glob("*.schedule")))
+    stored = len(list(schedules_in(folder)))
     print(f"{len(ROWS)} worked examples, {stored} stored schedules, {RANDOM_RUNS} random runs of each of {len(KINDS)} "
           f"kinds with {len(CHOICES)} choices of identifiers: {len(faults)} faults")
     return 1 if faults else 0
@@ -128,8 +136,8 @@ def check(folder):
 
 def main(arguments):
     match arguments:
-        case ["replay"]:
-            return replay()
+        case ["replay" | "report", *_]:
+            return program.main(arguments)
         case ["write", folder]:
             return write(Path(folder))
         case ["random", kind, seed] if kind in KINDS and seed.isdecimal():

@@ -7,7 +7,7 @@ from credit_control import (AUTH_APPLICATION_ID, CC_REQUEST_NUMBER, CC_REQUEST_T
                             SUBSCRIPTION_ID_TYPE, TERMINATION, UPDATE)
 from diameter import (DESTINATION_HOST, DESTINATION_REALM, ORIGIN_HOST, ORIGIN_REALM, PROXIABLE, PROXY_HOST, PROXY_INFO,
                       PROXY_STATE, REQUEST, RETRANSMITTED, SESSION_ID, Message, group, number, spelled, split, text)
-from row_site import CREDIT_CONTROL_APPLICATION
+from site_data import CREDIT_CONTROL_APPLICATION
 
 
 def subscription(digits):

@@ -10,7 +10,7 @@ from credit_control import Refused, credit_control_answer, request_of
 from diameter import (APPLICATION_UNSUPPORTED, COMMAND_UNSUPPORTED, DESTINATION_HOST, DESTINATION_REALM,
                       INVALID_AVP_LENGTH, LOOP_DETECTED, MESSAGE_LIMIT, PROXIABLE, REALM_NOT_SERVED, RETRANSMITTED,
                       ROUTE_RECORD, TOO_BUSY, UNABLE_TO_DELIVER, NoList, first, refusal, split, text)
-from row_site import CLIENT
+from site_data import CLIENT
 
 PENDING_LIMIT = 4096
 
@@ -86,11 +86,11 @@ class Front:
     def pick(self, worker):
         self.workers[worker] = Job(*self.queue.pop(0))
 
-    def charge(self, worker):
+    def charge(self, worker, moment):
         message = self.workers[worker].request
         try:
             request = request_of(message, self.site.vendors)
-            answer = credit_control_answer(self.name, self.site, message, request, self.book.take(request))
+            answer = credit_control_answer(self.name, self.site, message, request, self.book.take(request, moment))
         except Refused as fault:
             answer = self.refusal(message, fault.code, fault.failed)
         except Full:

@@ -12,7 +12,8 @@ from messages import (DEBIT, OPENING, again, appended, changed, event, of_sessio
                       termination, to_host, to_realm, units, update, without)
 from row_site import C1, C2, F1, F2, R1, R2, ROW_SITE
 from scenarios import (Script, client_gone, failover, failover_while_picked, host_gone, loop, lost_answer,
-                       nowhere_to_go, relayed_debit, restarted_relay)
+                       nowhere_to_go, relayed_debit, restarted_relay, session_abandoned, session_kept_up,
+                       session_not_due, session_of_the_latest_moment, session_swept_from_under)
 
 DEBIT_OCTETS = (
     "010000f8c0000110000000040000000700000064" "000001074000000e63313b313b310000"
@@ -288,9 +289,45 @@ def lost_and_restarted():
     yield (world.received, world.flight(R1, F2), world.nodes[R1].pending), ([], [], {})
 
 
+def charged(*pairs, site=ROW_SITE, sweeps=()):
+    """The farm after messages that c1 sends to f1, each charged at its moment, and sweeps after that."""
+    script = Script("").up((C1, F1))
+    for message, moment in pairs:
+        script.send(C1, F1, message=message).answer(F1, moment).carry(F1, C1)
+    for moment in sweeps:
+        script.step("sweep", moment)
+    return script.played(site)
+
+
+def swept_sessions():
+    yield output(session_not_due().played())[1:], printed([], "steps 8 skipped 0 entries 1", opened=1, r1=25)
+    yield output(session_abandoned().played())[1:], printed([], "steps 10 skipped 0 entries 2")
+    yield output(session_kept_up().played())[2:], printed([], "steps 15 skipped 0 entries 3")
+    latest = session_of_the_latest_moment().played()
+    yield output(latest)[1:], printed([], "steps 8 skipped 0 entries 1", opened=1, r1=25)
+    world = session_swept_from_under().played()
+    yield [result(answer) for answer in answers(world)], [2001, 2001, 5002, 2001]
+    yield output(world)[4:], printed([], "steps 37 skipped 0 entries 5", opened=1, b1=975, r1=25)
+    later = update(1, units(REQUESTED_UNITS))
+    kept = charged((OPENING, 1000), (later, 500_000), sweeps=[1_699_999])
+    yield (kept.book.entries, len(kept.book.sessions)), (2, 1)
+    for moment, entries, sessions in [(1_200_499, 2, 1), (1_200_500, 3, 0)]:
+        world = charged((OPENING, 1000), (later, 500), sweeps=[moment])
+        yield (world.book.entries, len(world.book.sessions)), (entries, sessions)
+    debit = changed(DEBIT, number(CC_REQUEST_NUMBER, 7))
+    for moment, entries, sessions in [(1_200_999, 2, 1), (1_201_000, 3, 0)]:
+        world = charged((OPENING, 1000), (debit, 900_000), sweeps=[moment])
+        yield (world.book.entries, len(world.book.sessions)), (entries, sessions)
+    repeat = charged((OPENING, 1000), (again(OPENING, 8), 900_000), sweeps=[1_201_000])
+    yield (repeat.book.entries, len(repeat.book.sessions)), (2, 0)
+    full = charged((OPENING, 1000), site=replace(ROW_SITE, limit=1), sweeps=[1_201_000])
+    yield (full.book.entries, len(full.book.sessions), full.skipped, account(full, 1)), (1, 1, 0, (1000, 25))
+
+
 ROWS = [octets_are_told, relayed_request, first_debit, repeated_debit, opened_session, short_accounts, part_of_a_grant,
         below_zero, overtaken, looping, another_front, one_front_alone, gone_client, unknown_avps, faulty_avps,
-        nothing_or_too_early, events, two_services, limits, relay_lines, lost_and_restarted]
+        nothing_or_too_early, events, two_services, limits, relay_lines, lost_and_restarted,
+        swept_sessions]
 
 
 def failures():

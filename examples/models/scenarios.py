@@ -2,9 +2,10 @@
 import textwrap
 from dataclasses import replace
 
-from credit_control import CC_REQUEST_NUMBER, RATING_GROUP
+from credit_control import CC_REQUEST_NUMBER, RATING_GROUP, REQUESTED_UNITS, USED_UNITS
 from diameter import DESTINATION_REALM, MESSAGE_LIMIT, PROXIABLE, ROUTE_RECORD, Avp, number, text
-from messages import DEBIT, PROXY, again, appended, of_session, to_host, to_realm, without
+from messages import (DEBIT, OPENING, PROXY, again, appended, changed, of_session, to_host, to_realm, units, update,
+                      without)
 from row_site import C1, C2, F1, F2, R1, R2, ROW_SITE
 from world import World, spelled_step
 
@@ -224,9 +225,71 @@ def front_refusals():
     return script.send(C1, R1, F1, message=again(proxied, 8)).answer(F1, 2000).carry(F1, R1, C1)
 
 
+def session_not_due():
+    script = Script("""A session is opened at moment 1000, and 25 are reserved. It lasts for twice its validity, 1,200
+        seconds from its last request: a sweep one millisecond before that ends nothing, and is no entry.""")
+    return script.up((C1, F1)).send(C1, F1, message=OPENING).answer(F1, 1000).carry(F1, C1).step("sweep", 1_200_999)
+
+
+def session_abandoned():
+    script = Script("""A session is opened at moment 1000, and its client is not heard of again. The sweep at 1201000
+        ends it, with what it has reserved, and is an entry. The sweep after that ends nothing and is none.""")
+    script.up((C1, F1)).send(C1, F1, message=OPENING).answer(F1, 1000).carry(F1, C1)
+    return script.step("sweep", 1_200_999).step("sweep", 1_201_000).step("sweep", 1_201_000)
+
+
+def session_kept_up():
+    script = Script("""An UPDATE that is charged at 500000 moves the end of a session to 1700000: a sweep at 1699999
+        ends nothing, one at 1700000 ends it.""")
+    script.up((C1, F1)).send(C1, F1, message=OPENING).answer(F1, 1000).carry(F1, C1)
+    script.send(C1, F1, message=update(1, units(REQUESTED_UNITS))).answer(F1, 500_000).carry(F1, C1)
+    return script.step("sweep", 1_699_999).step("sweep", 1_700_000)
+
+
+def session_with_an_early_update():
+    script = Script("""Moments need not rise: a session is opened at 1000, and its UPDATE is charged at 500. What counts
+        is its last request, so that it ends at 1200500.""")
+    script.up((C1, F1)).send(C1, F1, message=OPENING).answer(F1, 1000).carry(F1, C1)
+    script.send(C1, F1, message=update(1, units(REQUESTED_UNITS))).answer(F1, 500).carry(F1, C1)
+    return script.step("sweep", 1_200_499).step("sweep", 1_200_500)
+
+
+def session_and_event():
+    script = Script("""An EVENT under the Session-Id of a session, at 900000, debits 20 and does not keep the session up:
+        it ends at 1201000, as if there had been none.""")
+    script.up((C1, F1)).send(C1, F1, message=OPENING).answer(F1, 1000).carry(F1, C1)
+    script.send(C1, F1, message=changed(DEBIT, number(CC_REQUEST_NUMBER, 7))).answer(F1, 900_000).carry(F1, C1)
+    return script.step("sweep", 1_200_999).step("sweep", 1_201_000)
+
+
+def session_of_the_latest_moment():
+    script = Script("""A session is opened at the greatest moment there is. Its end lies behind every moment, so that no
+        sweep ends it; yet the sweep applies.""")
+    script.up((C1, F1)).send(C1, F1, message=OPENING).answer(F1, 2**64 - 1).carry(F1, C1)
+    return script.step("sweep", 2**64 - 1)
+
+
+def session_swept_from_under():
+    script = Script("""Two sessions of one account are opened by r1, at 1000 and at 2000, and 50 are reserved. An UPDATE
+        of the first waits at a worker of f1 when a sweep ends that session, and not the other: it is charged after
+        that, is answered UNKNOWN_SESSION_ID, and pays nothing for what it used. The UPDATE of the second goes to f2,
+        since f1 has restarted: it pays 25 and is granted 5000 octets anew.""")
+    second = replace(of_session(OPENING, "c1;1;2"), hop=8)
+    script.up((C1, R1), (R1, F1), (R1, F2)).send(C1, R1, F1, message=OPENING).answer(F1, 1000).carry(F1, R1, C1)
+    script.send(C1, R1, F1, message=second).answer(F1, 2000).carry(F1, R1, C1)
+    later = update(1, units(REQUESTED_UNITS), units(USED_UNITS, 5000))
+    script.send(C1, R1, F1, message=later).step("pick", F1, 0).step("sweep", 1_201_999).step("charge", F1, 0, 3000)
+    script.step("emit", F1, 0).carry(F1, R1, C1).step("restart", F1)
+    return script.send(C1, R1, F2, message=of_session(later, "c1;1;2")).answer(F2, 4000).carry(F2, R1, C1)
+
+
 SCENARIOS = {"relayed-debit": relayed_debit, "lost-answer": lost_answer, "restarted-relay": restarted_relay,
              "loop": loop, "loop-cut": loop_cut, "failover": failover, "failover-while-picked": failover_while_picked,
              "failover-of-two": failover_of_two, "three-ways": three_ways, "by-two-relays": by_two_relays,
              "host-gone": host_gone, "client-gone": client_gone, "old-connection": old_connection,
              "nowhere-to-go": nowhere_to_go, "relay-refusals": relay_refusals, "no-room": no_room,
-             "front-refusals": front_refusals}
+             "front-refusals": front_refusals, "session-not-due": session_not_due,
+             "session-abandoned": session_abandoned, "session-kept-up": session_kept_up,
+             "session-with-an-early-update": session_with_an_early_update, "session-and-event": session_and_event,
+             "session-of-the-latest-moment": session_of_the_latest_moment,
+             "session-swept-from-under": session_swept_from_under}

@@ -9,13 +9,13 @@ from dataclasses import dataclass, field
 from book import Book
 from diameter import Message
 from nodes import Client, Front, Relay
-from row_site import CLIENT, FRONT, RELAY
+from site_data import CLIENT, FRONT, RELAY
 
 SCHEDULE_LIMIT, STEPS_LIMIT = 16_777_216, 1_000_000
 # The words of a schedule, each with what follows it.
 WORDS = {"up": "node node", "send": "node node message", "deliver": "node node number", "lose": "node node number",
          "cut": "node node", "restart": "node", "pick": "node number", "charge": "node number number",
-         "refuse": "node number", "emit": "node number"}
+         "refuse": "node number", "emit": "node number", "sweep": "number"}
 
 
 def lowest_free(used, old):
@@ -125,12 +125,11 @@ class World:
         front.pick(worker)
         return True
 
-    def charge(self, name, worker, _moment):
-        """The moment would matter to a sweep alone, and there is none in these schedules."""
+    def charge(self, name, worker, moment):
         front = self.front(name)
         if not front or not front.can_answer(worker):
             return False
-        front.charge(worker)
+        front.charge(worker, moment)
         return True
 
     def refuse(self, name, worker):
@@ -147,11 +146,16 @@ class World:
         self.post(name, front.emit(worker))
         return True
 
+    def sweep(self, moment):
+        """Ends the sessions that are due; it applies though none is."""
+        self.book.sweep(moment)
+        return True
+
     def output(self):
         """What is printed after the last step."""
         for client, conn, message in self.received:
             yield f"recv {client} {conn} {message.octets().hex()}\n"
-        yield f"end steps {self.steps} skipped {self.skipped} entries {len(self.book.kept)}\n"
+        yield f"end steps {self.steps} skipped {self.skipped} entries {self.book.entries}\n"
         yield from self.book.report()
 
 

@@ -50,7 +50,7 @@ going_on request weight id = cond (ends request id) 0 (weight id)
 
 -- ---- one more posting
 
-any-push : {X : Type 0} (test : X → Bool) (xs : List X) (x : X) → list_any test (xs ++ x ∷ []) ≡ (list_any test xs || test x)
+pub any-push : {X : Type 0} (test : X → Bool) (xs : List X) (x : X) → list_any test (xs ++ x ∷ []) ≡ (list_any test xs || test x)
 any-push test [] x = or_false (test x) where
   or_false : (b : Bool) → (b || false) ≡ b
   or_false true = refl

@@ -39,7 +39,7 @@ use Rattle.cc_book.proofs.Postings.{postings_of-push}
 
 -- ---- the replies of a history
 
-abbrev replies_in : List Posting → List (Option CcReply)
+abbrev pub replies_in : List Posting → List (Option CcReply)
 replies_in postings = map (λ (p : Posting). p.reply) postings
 
 -- what later entries do changes no reply

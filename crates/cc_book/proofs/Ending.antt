@@ -25,7 +25,7 @@ use Rattle.cc_book.specs.Session.{Opened, is_initial, is_initial_kind, is_of, is
 -- ---- a session lasts as long as the grants that were made in it
 
 -- where the first is open the other is, and ends when it does
-abbrev Covers : Option Opened → Option Opened → Type 0
+abbrev pub Covers : Option Opened → Option Opened → Type 0
 Covers left now = MatchOption left (Unit {0}) (λ one. MatchOption now ⊥ (λ other. one.deadline ≡ other.deadline))
 
 covers_sweep : (one other : Opened) (moment : ℕ) → one.deadline ≡ other.deadline → Covers (cond (leb one.deadline moment) None (Some one)) (cond (leb other.deadline moment) None (Some other))
@@ -63,7 +63,7 @@ covers_next validity session None now posting covers = tt
 covers_next validity session (Some one) None posting covers = absurd covers
 covers_next validity session (Some one) (Some other) posting covers = covers_entry validity session posting.account one other posting.settles (replies_success posting.reply) posting.entry covers
 
-covers_all : (validity : ℕ) (session : List ℕ) (left now : Option Opened) (after : List Posting) → Covers left now
+pub covers_all : (validity : ℕ) (session : List ℕ) (left now : Option Opened) (after : List Posting) → Covers left now
     → Covers (fold (left_after validity session) left after) (fold (next_session validity session) now after)
 covers_all validity session left now [] covers = covers
 covers_all validity session left now (posting ∷ after) covers =
@@ -77,7 +77,7 @@ covers_closed (Some one) (Some other) covers closed = closed
 -- ---- who reserves has an open session
 
 -- a posting of a session reserves nothing, or leaves the session open from its own moment on
-abbrev KeepsOpen : ℕ → List ℕ → Option Opened → Posting → Type 0
+abbrev pub KeepsOpen : ℕ → List ℕ → Option Opened → Posting → Type 0
 KeepsOpen validity session now posting = (posting.grants ≡ []) ⊎ Covers (Some (opened_at validity None (moment_of posting.entry))) (next_session validity session now posting)
 
 keeps_by : (validity moment : ℕ) (account : Option ℕ) (now : Option Opened) (known own : Bool) (holds : List Hold) (kind : RequestKind) (code : ResultCode) → settles_by kind (is_some now) known ≡ true → own ≡ true
@@ -97,7 +97,7 @@ keeps_by validity moment account (Some opened) known false holds Update code set
 keeps_by validity moment account now known own holds Termination code settles is = inl refl
 keeps_by validity moment account now known own holds Event code settles is = inl refl
 
-own_session : (session : List ℕ) → same_session session session ≡ true
+pub own_session : (session : List ℕ) → same_session session session ≡ true
 own_session session = (bytes_eq-Decides session session).1 refl
 
 keeps_own : (terms : Terms) (before : List Posting) (moment : Moment) (request : CcRequest)
@@ -115,7 +115,7 @@ keeps_own terms before moment request = by (settles_after terms before request) 
   by false settles = inl refl
 
 -- each posting of a session does
-abbrev Keeps : ℕ → List ℕ → Option Opened → Posting → Type 0
+abbrev pub Keeps : ℕ → List ℕ → Option Opened → Posting → Type 0
 Keeps validity session now posting = is_of session posting.entry ≡ true → KeepsOpen validity session now posting
 
 keeps : (terms : Terms) (before : List Posting) (session : List ℕ) (entry : Entry) → Keeps terms.validity session (session_of terms.validity session before) (posting_of terms before entry)
@@ -125,7 +125,7 @@ keeps terms before session (Take moment request) own =
 keeps terms before session (Sweep moment) own = absurd cc
 
 -- postings of which each does, from a state of the session on
-AllKeep : ℕ → List ℕ → Option Opened → List Posting → Type 0
+unfoldable pub AllKeep : ℕ → List ℕ → Option Opened → List Posting → Type 0
 AllKeep validity session now [] = Unit {0}
 AllKeep validity session now (posting ∷ after) = Keeps validity session now posting × AllKeep validity session (next_session validity session now posting) after
 
@@ -140,7 +140,7 @@ keep_fold terms session before [] all = all
 keep_fold terms session before (entry ∷ history) all =
     keep_fold terms session (post terms before entry) history (keep_push terms.validity session None before (posting_of terms before entry) all (keeps terms before session entry))
 
-all_keep : (terms : Terms) (session : List ℕ) (history : List Entry) → AllKeep terms.validity session None (postings_of terms history)
+pub all_keep : (terms : Terms) (session : List ℕ) (history : List Entry) → AllKeep terms.validity session None (postings_of terms history)
 unfolding postings_of AllKeep
 all_keep terms session history = keep_fold terms session [] history tt
 

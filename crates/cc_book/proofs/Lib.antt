@@ -1,9 +1,11 @@
+mod Due
 mod Ending
 mod Granting
 mod Greatest
 mod Holding
 mod Paying
 mod Refusing
+mod SweepLaws
 pub mod Alive
 pub mod Amounts
 pub mod Books
@@ -18,3 +20,4 @@ pub mod Replies
 pub mod Sessions
 pub mod Stands
 pub mod Sums
+pub mod Sweeps

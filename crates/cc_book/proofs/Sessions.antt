@@ -132,7 +132,7 @@ session_there [] place s d at = absurd cc
 session_there (x ∷ xs) zero s d at = (same_value x s at, omega arith)
 session_there (x ∷ xs) (suc place) s d at = let more = session_there xs place s d at in (more.0, omega (arith, more.1))
 
-others_after : (id : List ℕ) (x : OpenSession) (xs : List OpenSession) → x.id ≡ id → OwnIds (x ∷ xs) → Others id xs
+pub others_after : (id : List ℕ) (x : OpenSession) (xs : List OpenSession) → x.id ≡ id → OwnIds (x ∷ xs) → Others id xs
 others_after id x xs own pairs =
     recursion_from_All (λ (s : OpenSession). is_session id s ≡ false) xs
     (λ k d lt. same_session-other (get_or xs k d).id id (λ same. pairs 0 (suc k) d (omega arith) (omega arith) (own ∙ sym same)))

@@ -77,7 +77,7 @@ reserved_in-weight account (s ∷ sessions) =
 
 -- ---- counts and debits
 
-open_count-weight : (validity : ℕ) (before : List Posting) → open_count validity before ≡ open_weight (λ id. 1) validity before
+pub open_count-weight : (validity : ℕ) (before : List Posting) → open_count validity before ≡ open_weight (λ id. 1) validity before
 open_count-weight validity [] = refl
 open_count-weight validity (p ∷ after) = ap (λ (n : ℕ). cond (opens p && outlasts validity p.entry after) 1 0 + n) (open_count-weight validity after)
 

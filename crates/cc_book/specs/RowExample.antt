@@ -16,6 +16,7 @@ use Rattle.cc_book.specs.declared.account.Account.{Account}
 use Rattle.cc_book.specs.declared.entry.Entry.{Entry}
 use Rattle.cc_book.specs.declared.entry.Entry.TheVariants.{Take}
 use Rattle.cc_book.specs.declared.terms.Terms.{Terms}
+use Rattle.cc_book.specs.Taking.{Ledger}
 
 -- ---- the site
 
@@ -127,6 +128,14 @@ updated_by subscriber used = opened_by subscriber ++ taken 2000 (update subscrib
 
 abbrev pub ended_by : List ℕ → ℕ → List Entry
 ended_by subscriber used = opened_by subscriber ++ taken 2000 (termination subscriber used) ∷ []
+
+-- a book of a limit, with these entries
+abbrev pub row_book : ℕ → List Entry → Ledger
+row_book limit history = record { terms = row_terms; limit = limit; history = history }
+
+-- that session after one more request at a moment
+abbrev pub opened_then : ℕ → CcRequest → List Entry
+opened_then moment request = opened_by (codes "491700000001") ++ taken moment request ∷ []
 
 -- another INITIAL under the same Session-Id
 abbrev pub initial_again : List ℕ → CcRequest

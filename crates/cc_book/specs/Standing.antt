@@ -1,6 +1,6 @@
 -- What a history has left: the balances of the accounts, and the sessions that are open with what they hold. It is
 -- all that the book looks at to answer a request.
-use Rattle.std.specs.Prelude.{◌≡◌, ◌≢◌, ℕ, ◌+◌, ◌*◌, ◌^◌, ◌<◌, ◌≤◌, List, [], ◌∷◌, ◌++◌, length, remove, slice_get, slice_index_or, slice_set, All, AllPairs, Bool, ◌&&◌, not, ◌==◌, if◌then◌else◌, Option, Some, None, unwrap_or, find, ℤ, pos, negsuc, ◌-ℤ◌, ◌≤ℤ◌}
+use Rattle.std.specs.Prelude.{◌≡◌, ◌≢◌, ℕ, ◌+◌, ◌*◌, ◌^◌, ◌<◌, ◌≤◌, List, [], ◌∷◌, ◌++◌, length, remove, slice_get, slice_index_or, slice_set, All, AllPairs, Bool, ◌&&◌, not, ◌==◌, nat_le, if◌then◌else◌, Option, Some, None, unwrap_or, find, ℤ, pos, negsuc, ◌-ℤ◌, ◌≤ℤ◌}
 use Rattle.std.specs.List.{filter, list_any, position}
 use Rattle.std.specs.Option.{option_map}
 use Rattle.dia_base.specs.declared.number.Moment.{Moment}
@@ -19,7 +19,7 @@ use Rattle.cc_book.specs.AccountMachine.{charged_account, debit_after, grants_af
 use Rattle.cc_book.specs.Duplicate.{same_session}
 use Rattle.cc_book.specs.Posting.{Posting, debits_to}
 use Rattle.cc_book.specs.Reservation.{has_name, is_alive}
-use Rattle.cc_book.specs.Session.{Opened, opened_at, opens, outlasts, session_in, session_of}
+use Rattle.cc_book.specs.Session.{Opened, deadline_at, opened_at, opens, outlasts, session_in, session_of}
 
 -- ---- open sessions
 
@@ -98,6 +98,14 @@ after_change sessions Stays = sessions
 after_change sessions (Opens session) = sessions ++ session ∷ []
 after_change sessions (GoesOn place session) = slice_set sessions place session
 after_change sessions (Ends place) = remove sessions place
+
+-- whether a session has ended by a moment
+abbrev pub is_due : ℕ → Moment → OpenSession → Bool
+is_due validity moment session = nat_le (deadline_at validity session.last.0) moment.0
+
+-- the sessions that go on after a look at the clock
+abbrev pub without_due : ℕ → Moment → List OpenSession → List OpenSession
+without_due validity moment sessions = filter (λ session. not (is_due validity moment session)) sessions
 
 -- the place of a change is that of one of so many sessions
 abbrev pub IsPlacedIn : Change → ℕ → Type 0

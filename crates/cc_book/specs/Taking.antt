@@ -1,5 +1,5 @@
 -- What the book answers to a request, and what it keeps.
-use Rattle.std.specs.Prelude.{◌≡◌, ℕ, ◌≤◌, ◌^◌, List, [], ◌∷◌, ◌++◌, length, map, Bool, true, false, nat_le, if◌then◌else◌, Option, Some, None, unwrap_or, Result, Ok, Err, ℤ}
+use Rattle.std.specs.Prelude.{◌≡◌, ℕ, zero, suc, ◌≤◌, ◌^◌, List, [], ◌∷◌, ◌++◌, length, map, Bool, true, false, nat_le, if◌then◌else◌, Option, Some, None, unwrap_or, Result, Ok, Err, ℤ}
 use Rattle.dia_base.specs.declared.number.Moment.{Moment}
 use Rattle.cc_view.specs.declared.reply.CcReply.{CcReply}
 use Rattle.cc_view.specs.declared.request.CcRequest.{CcRequest}
@@ -7,12 +7,12 @@ use Rattle.cc_book.specs.declared.book.Answered.{Answered}
 use Rattle.cc_book.specs.declared.book.BookRefusal.{BookRefusal}
 use Rattle.cc_book.specs.declared.book.BookRefusal.TheVariants.{Full, OutOfMemory}
 use Rattle.cc_book.specs.declared.entry.Entry.{Entry}
-use Rattle.cc_book.specs.declared.entry.Entry.TheVariants.{Take}
+use Rattle.cc_book.specs.declared.entry.Entry.TheVariants.{Take, Sweep}
 use Rattle.cc_book.specs.declared.session.OpenSession.{OpenSession}
 use Rattle.cc_book.specs.declared.terms.Terms.{Terms}
 use Rattle.cc_book.specs.AccountMachine.{reply_to, kept_reply, postings_of}
 use Rattle.cc_book.specs.Duplicate.{key_of}
-use Rattle.cc_book.specs.History.{IsLegal, place_of}
+use Rattle.cc_book.specs.History.{IsLegal, ended_sessions, place_of}
 use Rattle.cc_book.specs.Standing.{Stands}
 
 -- a book, as contracts see it
@@ -47,6 +47,36 @@ is_fresh (Err refusal) = false
 
 abbrev pub with_take : Ledger → Moment → CcRequest → Ledger
 with_take ledger moment request = record ledger { history = ledger.history ++ Take moment request ∷ [] }
+
+-- ---- a look at the clock
+
+abbrev pub with_sweep : Ledger → Moment → Ledger
+with_sweep ledger moment = record ledger { history = ledger.history ++ Sweep moment ∷ [] }
+
+-- what a sweep is answered that would end so many sessions: it wants an entry, and so is Full, only where it ends some
+abbrev pub answer_to_sweep : Ledger → ℕ → Result ℕ BookRefusal
+answer_to_sweep ledger zero = Ok 0
+answer_to_sweep ledger (suc more) = if nat_le ledger.limit (length ledger.history) then Err (Full ledger.limit) else Ok (suc more)
+
+-- how many sessions a sweep at a moment ends
+abbrev pub sweep_answer : Ledger → Moment → Result ℕ BookRefusal
+sweep_answer ledger moment = answer_to_sweep ledger (ended_sessions ledger.terms ledger.history moment)
+
+-- a sweep answered so, unless memory ran out
+abbrev pub SweepsWith : Result ℕ BookRefusal → Result ℕ BookRefusal → Type 0
+SweepsWith expected (Ok ended) = expected ≡ Ok ended
+SweepsWith expected (Err OutOfMemory) = Unit {0}
+SweepsWith expected (Err (Full limit)) = expected ≡ Err (Full limit)
+
+-- the book after a sweep that was answered so: one entry more where sessions ended
+abbrev pub after_sweep_with : Ledger → Moment → Result ℕ BookRefusal → Ledger
+after_sweep_with ledger moment (Ok zero) = ledger
+after_sweep_with ledger moment (Ok (suc more)) = with_sweep ledger moment
+after_sweep_with ledger moment (Err refusal) = ledger
+
+-- the book after a sweep for which there is memory
+abbrev pub after_sweep : Ledger → Moment → Ledger
+after_sweep ledger moment = after_sweep_with ledger moment (sweep_answer ledger moment)
 
 -- What is true of each book: it keeps its limits, and beside its entries what they replied and what they have left.
 pub record IsBook (terms : Terms) (limit : ℕ) (history : List Entry) (replies : List (Option CcReply)) (balances : List ℤ) (sessions : List OpenSession) : Type 0 where

@@ -1,4 +1,4 @@
-//! The account book: a history of requests, from which every balance and reply is made.
+//! The account book: a history of requests and sweeps, from which every balance and reply is made.
 
 ghost use Rattle.std.specs.Prelude.{◌≡◌, ◌≤◌, ◌<◌, ◌^◌, [], length, nat_abs, IfNone, IfOk, IfSome, IsSome, OnOk, if◌then◌else◌, nat_lt, Some, None, false, pos, slice_index_or, vec_capacity, vec_len};
 ghost use Rattle.cc_book.specs.declared.book.BookRefusal.TheVariants.{OutOfMemory};
@@ -28,7 +28,7 @@ pub struct Answered {
     pub fresh: bool,
 }
 
-/// Why the book does not take a request. It is unchanged then.
+/// Why the book does not take a request, or does not sweep. It is unchanged then.
 #[derive(Clone, Copy, Debug, PartialEq, Eq, Error)]
 pub enum BookRefusal {
     #[error("the history has {limit} entries, which is its limit")]
@@ -78,7 +78,7 @@ impl Model for Book {
 impl Book {
     ghost use Rattle.cc_book.specs.Balance.{balance_of, reserved_of, open_sessions_of};
     ghost use Rattle.cc_book.specs.History.{IsLegal};
-    ghost use Rattle.cc_book.specs.Taking.{Ledger, is_fresh, with_take};
+    ghost use Rattle.cc_book.specs.Taking.{Ledger, SweepsWith, is_fresh, sweep_answer, after_sweep_with, with_take};
 
     /// A book with no entry. It takes up to `limit` entries, which the caller keeps to [`HISTORY_LIMIT`] so that no
     /// sum of amounts leaves 128 bits; `validity` is the Validity-Time of grants in seconds.
@@ -175,6 +175,28 @@ impl Book {
         })
     }
 
+    /// Ends each session whose deadline is at most the moment: a session lasts for twice its validity from its last
+    /// request on that is no EVENT (RFC 8506, section 5.7), and what it had reserved is free again. It answers how many
+    /// ended, and appends an entry only where some did. Full where some would and the history is at its limit. After a
+    /// refusal the book is unchanged. Moments need not rise from call to call.
+    pub fn sweep(&mut self, moment: Moment) -> Result<u64, BookRefusal>
+        ensures answer { SweepsWith (sweep_answer self.old moment) result }
+        ensures after { self.new ≡ after_sweep_with self.old moment result }
+    {
+        let ended = self.standing.count_due(self.terms.validity, moment);
+        if ended == 0 {
+            return Ok(0);
+        }
+        let Some(_place) = free_place(&self.history, self.limit) else {
+            return Err(BookRefusal::Full { limit: self.limit });
+        };
+        make_room_for_entry(&mut self.history, &mut self.replies)?;
+        self.history.push_reserved(Entry::Sweep { moment });
+        self.replies.push_reserved(None);
+        self.standing.sweep(self.terms.validity, moment);
+        Ok(ended as u64)
+    }
+
     /// The accounts, as they were handed to `new`.
     pub fn accounts(&self) -> &[Account]
         ensures { result.now ≡ self.now.terms.accounts }
@@ -253,6 +275,19 @@ fn free_place(history: &[Entry], limit: u64) -> Option<u64>
     Some(place)
 }
 
+/// Makes room for one more entry and its reply. Whatever comes of it, they stay as they were.
+fn make_room_for_entry(
+    history: &mut Vec<Entry>,
+    replies: &mut Vec<Option<CcReply>>,
+) -> Result<(), AllocError>
+    ensures history { history.new.items ≡ history.old.items }
+    ensures replies { replies.new.items ≡ replies.old.items }
+    ensures room { OnOk result ((vec_len history.new < vec_capacity history.new) × (vec_len replies.new < vec_capacity replies.new)) }
+{
+    history.reserve(1)?;
+    replies.reserve(1)
+}
+
 /// Makes room for one more of each. Whatever comes of it, they stay as they were.
 fn make_room(
     history: &mut Vec<Entry>,
@@ -264,7 +299,6 @@ fn make_room(
     ensures sessions { sessions.new.items ≡ sessions.old.items }
     ensures room { OnOk result ((vec_len history.new < vec_capacity history.new) × (vec_len replies.new < vec_capacity replies.new) × (vec_len sessions.new < vec_capacity sessions.new)) }
 {
-    history.reserve(1)?;
-    replies.reserve(1)?;
+    make_room_for_entry(history, replies)?;
     sessions.reserve(1)
 }

@@ -1,7 +1,7 @@
 //! Laws of the account book, in the words of a reader who knows none of its code.
 #![tactic(auto, unfolding(crate::specs::AccountMachine::postings_of, crate::specs::AccountMachine::reply_to, crate::specs::Balance::balance_of, crate::specs::Balance::open_sessions_of, crate::specs::Balance::reserved_of, crate::specs::Balance::spent_by,))]
 
-ghost use Rattle.std.specs.Prelude.{◌≡◌, ◌≢◌, ℕ, ◌<◌, ◌≤◌, All, List, find, [], ◌∷◌, ◌++◌, ◌↔◌, length, None, Some, true, false, codes, if◌then◌else◌, pos, negsuc, ◌-ℤ◌, ◌≤ℤ◌, Ok, unwrap_or};
+ghost use Rattle.std.specs.Prelude.{◌≡◌, ◌≢◌, ℕ, ◌+◌, ◌<◌, ◌≤◌, All, List, find, [], ◌∷◌, ◌++◌, ◌↔◌, length, None, Some, true, false, codes, if◌then◌else◌, pos, negsuc, ◌-ℤ◌, ◌≤ℤ◌, Ok, Err, unwrap_or};
 ghost use Rattle.std.specs.Int.{int_max};
 ghost use Rattle.dia_base.specs.declared.number.Moment.{Moment};
 ghost use Rattle.cc_view.specs.Answer.Fitting.{Fits};
@@ -15,6 +15,7 @@ ghost use Rattle.cc_view.specs.declared.request.ServiceName.{ServiceName};
 ghost use Rattle.cc_rating.specs.Rating.{cost_of};
 ghost use Rattle.cc_rating.specs.Tariffs.{fault_of, rates};
 ghost use Rattle.cc_rating.specs.declared.tariff.Tariff.{Tariff};
+ghost use Rattle.cc_book.specs.declared.book.BookRefusal.TheVariants.{Full};
 ghost use Rattle.cc_book.specs.declared.entry.Entry.{Entry};
 ghost use Rattle.cc_book.specs.declared.entry.Entry.TheVariants.{Take, Sweep};
 ghost use Rattle.cc_book.specs.declared.terms.Terms.{Terms};
@@ -25,12 +26,12 @@ ghost use Rattle.cc_book.specs.History.{IsLegal, IsNew, ended_sessions, place_of
 ghost use Rattle.cc_book.specs.Laws.{HasLimits, IsRefused, RepliesToEntry, cost_of_reply, debits_of, grants_alive, total_below};
 ghost use Rattle.cc_book.specs.Posting.{is_account};
 ghost use Rattle.cc_book.specs.Reservation.{held_by, reserved_by};
-ghost use Rattle.cc_book.specs.RowExample.{any_units, bare_initial, bare_reply, bare_terms, ended_by, event_between, event_on, granted_units, gratis_terms, half_bare_initial, initial, initial_again, no_units, octets, opened_by, request_of, row_service, row_terms, success, taken, termination, two_services_initial, two_services_update, unrated_initial, unrated_reply, update, updated_by};
+ghost use Rattle.cc_book.specs.RowExample.{any_units, bare_initial, bare_reply, bare_terms, ended_by, event_between, event_on, granted_units, gratis_terms, half_bare_initial, initial, initial_again, no_units, octets, opened_by, opened_then, request_of, row_book, row_service, row_terms, success, taken, termination, two_services_initial, two_services_update, unrated_initial, unrated_reply, update, updated_by};
 ghost use Rattle.cc_book.specs.ServiceRating.{used_total};
-ghost use Rattle.cc_book.specs.Session.{is_open, open_count, session_of};
+ghost use Rattle.cc_book.specs.Session.{Opened, is_open, open_count, session_of};
 ghost use Rattle.cc_book.specs.SessionExample.{early_update, failed_opening, first_termination, first_update, group_opening, narrow_update, opening, other_opening, other_termination, reopening, second_opening, service_name, session, small_terms, strange_update, swept, unrelated_event, wide_opening};
 ghost use Rattle.cc_book.specs.Standing.{held_in};
-ghost use Rattle.cc_book.specs.Taking.{Ledger, answer_of, is_fresh, with_take};
+ghost use Rattle.cc_book.specs.Taking.{Ledger, after_sweep, answer_of, is_fresh, sweep_answer, with_take};
 
 /// Books with one history answer alike, whatever came before they had it: the history is all that counts.
 pub fn books_with_one_history_answer_alike()
@@ -245,6 +246,20 @@ pub fn what_sweeps_release()
     ensures after_update { reserved_of row_terms (updated_by (codes "491700000001") 3000 ++ Sweep (record { 0 = 1201000 }) ∷ []) 0 ≡ 25 }
 {}
 
+/// The worked example: how many sessions a sweep ends. An UPDATE moves the deadline, also back, and an EVENT does not. A
+/// deadline may lie beyond the last moment there is. Full is answered only where a session is due.
+pub fn what_sweeps_end()
+    ensures too_early { sweep_answer (row_book 10 (opened_by (codes "491700000001"))) (record { 0 = 1200999 }) ≡ Ok 0 }
+    ensures due { sweep_answer (row_book 10 (opened_by (codes "491700000001"))) (record { 0 = 1201000 }) ≡ Ok 1 }
+    ensures moved { sweep_answer (row_book 10 (opened_then 500000 (update (codes "491700000001") 0))) (record { 0 = 1699999 }) ≡ Ok 0 }
+    ensures moved_due { sweep_answer (row_book 10 (opened_then 500000 (update (codes "491700000001") 0))) (record { 0 = 1700000 }) ≡ Ok 1 }
+    ensures moved_back { sweep_answer (row_book 10 (opened_then 500 (update (codes "491700000001") 0))) (record { 0 = 1200500 }) ≡ Ok 1 }
+    ensures beside_event { sweep_answer (row_book 10 (opened_then 900000 (event_between (codes "491700000001") DirectDebiting))) (record { 0 = 1201000 }) ≡ Ok 1 }
+    ensures beyond { sweep_answer (row_book 10 (taken 18446744073709551615 (initial (codes "491700000001") any_units) ∷ [])) (record { 0 = 18446744073709551615 }) ≡ Ok 0 }
+    ensures full { sweep_answer (row_book 1 (opened_by (codes "491700000001"))) (record { 0 = 1201000 }) ≡ Err (Full 1) }
+    ensures not_full { sweep_answer (row_book 1 (opened_by (codes "491700000001"))) (record { 0 = 1200999 }) ≡ Ok 0 }
+{}
+
 /// The worked example: the services of a request are granted in order, each of what those before it leave free, and
 /// each has a Result-Code of its own (RFC 8506, section 5.1.2). One without a tariff has no units and is not charged.
 pub fn what_services_share()
@@ -329,6 +344,34 @@ pub fn grants_are_of_what_is_free()
 pub fn ended_sessions_hold_nothing()
     ensures { (terms : Terms) (history : List Entry) (session : List ℕ) (name : ServiceName) →
         is_open terms.validity session (postings_of terms history) ≡ false → held_by terms.validity session name (postings_of terms history) ≡ 0 }
+{}
+
+/// A sweep ends exactly the sessions whose deadline is at most its moment, and what they held is free again. All others
+/// stay as they are, with what they hold (RFC 8506, section 5.7). Moments need not rise.
+pub fn sweeps_end_what_is_due()
+    ensures ended { (terms : Terms) (history : List Entry) (moment : Moment) (session : List ℕ) (opened : Opened) →
+        session_of terms.validity session (postings_of terms history) ≡ Some opened → opened.deadline ≤ moment.0 →
+        session_of terms.validity session (postings_of terms (history ++ Sweep moment ∷ [])) ≡ None }
+    ensures released { (terms : Terms) (history : List Entry) (moment : Moment) (session : List ℕ) (name : ServiceName) (opened : Opened) →
+        session_of terms.validity session (postings_of terms history) ≡ Some opened → opened.deadline ≤ moment.0 →
+        held_by terms.validity session name (postings_of terms (history ++ Sweep moment ∷ [])) ≡ 0 }
+    ensures lasts { (terms : Terms) (history : List Entry) (moment : Moment) (session : List ℕ) (opened : Opened) →
+        session_of terms.validity session (postings_of terms history) ≡ Some opened → moment.0 < opened.deadline →
+        session_of terms.validity session (postings_of terms (history ++ Sweep moment ∷ [])) ≡ Some opened }
+    ensures held { (terms : Terms) (history : List Entry) (moment : Moment) (session : List ℕ) (name : ServiceName) (opened : Opened) →
+        session_of terms.validity session (postings_of terms history) ≡ Some opened → moment.0 < opened.deadline →
+        held_by terms.validity session name (postings_of terms (history ++ Sweep moment ∷ [])) ≡ held_by terms.validity session name (postings_of terms history) }
+    ensures closed { (terms : Terms) (history : List Entry) (moment : Moment) (session : List ℕ) →
+        session_of terms.validity session (postings_of terms history) ≡ None →
+        session_of terms.validity session (postings_of terms (history ++ Sweep moment ∷ [])) ≡ None }
+{}
+
+/// What a sweep is answered is by how many the open sessions are fewer. A second sweep at its moment ends none.
+pub fn sweeps_end_a_session_once()
+    ensures counted { (terms : Terms) (history : List Entry) (moment : Moment) →
+        open_sessions_of terms (history ++ Sweep moment ∷ []) + ended_sessions terms history moment ≡ open_sessions_of terms history }
+    ensures again { (ledger : Ledger) (moment : Moment) (ended : ℕ) →
+        sweep_answer ledger moment ≡ Ok ended → sweep_answer (after_sweep ledger moment) moment ≡ Ok 0 }
 {}
 
 /// What a session holds for a service is of one grant: each later grant takes the place of the one before. So it costs

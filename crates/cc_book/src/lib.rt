@@ -2,10 +2,11 @@
 //!
 //! - [`Book`]: a history of entries, from which every balance and every reply is made. [`Book::take`] charges a
 //!   request and keeps it; a repeat gets the kept reply. [`Book::quote`] says what `take` would answer.
+//!   [`Book::sweep`] ends the sessions that sent no request for twice their validity.
 //! - [`Account`], [`Money`], [`Entry`], [`Answered`], [`BookRefusal`]: what goes in and comes out.
 //!
 //! INITIAL, UPDATE and TERMINATION are answered with what a session is granted and holds of its account, EVENTs
-//! with debits, refunds, balance checks and price enquiries. No session ends by itself yet.
+//! with debits, refunds, balance checks and price enquiries. A session ends with its TERMINATION, or by a sweep.
 //!
 //! The reply to a request stands in `specs/AccountMachine`, what entries do to accounts in `specs/Posting` and
 //! `specs/Balance`, sessions and reservations in `specs/Session` and `specs/Reservation`, what services ask and used
@@ -21,6 +22,7 @@
 //!     Err(BookRefusal::Full { limit }) => refuse(limit), // the book is unchanged
 //!     Err(BookRefusal::OutOfMemory) => give_up(),        // and here
 //! }
+//! let ended = book.sweep(Moment(1_201_000))?;            // Full only where there is something to end
 //! let balance = book.balance(0);                         // of the first account
 //! ```
 #![tactic(auto)]
@@ -49,10 +51,8 @@ pub use laws::{
     new_keys_have_no_reply, openings_less_debits_are_balances, other_requests_are_refused,
     refunds_are_debits_below_zero, repeats_change_nothing, replies_fit, services_are_held_once,
     sessions_and_services_stand_apart, sessions_last_twice_their_validity,
-    sessions_pay_for_what_is_used, the_empty_history_is_legal, what_bare_services_decide,
-    what_events_do, what_events_leave_alone, what_openings_grant, what_services_share,
-    what_sweeps_release, what_terminations_end, what_updates_settle,
+    sessions_pay_for_what_is_used, sweeps_end_a_session_once, sweeps_end_what_is_due,
+    the_empty_history_is_legal, what_bare_services_decide, what_events_do, what_events_leave_alone,
+    what_openings_grant, what_services_share, what_sweeps_end, what_sweeps_release,
+    what_terminations_end, what_updates_settle,
 };
-
-#[cfg(test)]
-mod tests;

@@ -2,7 +2,7 @@
 
 ghost use Rattle.std.specs.Prelude.{◌≡◌, ◌≤◌, ◌^◌, IfOk};
 ghost use Rattle.cc_book.specs.Reservation.{has_name};
-ghost use Rattle.cc_book.specs.Standing.{held_in, holds_beside, is_named, prolonged};
+ghost use Rattle.cc_book.specs.Standing.{held_in, holds_beside, is_due, is_named, prolonged};
 
 use cc_view::{Service, ServiceName};
 use dia_avp::Octets;
@@ -40,6 +40,14 @@ impl OpenSession {
             last: moment,
             holds,
         })
+    }
+
+    /// Whether the session has ended by a moment: it does so twice the validity, which is in seconds, after its last
+    /// request (RFC 8506, section 5.7).
+    pub fn is_due(&self, validity: u32, moment: Moment) -> bool
+        ensures { result ≡ is_due validity moment self.now }
+    {
+        self.last.0 as u128 + 2000 * validity as u128 <= moment.0 as u128
     }
 
     /// The holds for other services than these.

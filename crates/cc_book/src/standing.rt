@@ -1,13 +1,14 @@
 //! What a history has left: balances, and the sessions that are open.
 
-ghost use Rattle.std.specs.Prelude.{◌≡◌, ◌<◌, ◌≤◌, ◌^◌, [], length, map, pos, negsuc, ◌+ℤ◌, ◌-ℤ◌, ◌≤ℤ◌, IfOk, IfSome, MatchOption, None, slice_index_or, vec_capacity, vec_len, All};
+ghost use Rattle.std.specs.Prelude.{◌≡◌, ◌<◌, ◌≤◌, ◌^◌, [], length, map, pos, negsuc, ◌+ℤ◌, ◌-ℤ◌, ◌≤ℤ◌, IfOk, IfSome, MatchOption, None, slice_index_or, vec_capacity, vec_len, All, count_by};
 ghost use Rattle.std.specs.Option.{ForSome};
-ghost use Rattle.cc_book.specs.Standing.{IsOpenAt, after_change, after_debit, free_in, held_by_all, is_session, place_in, reserved_in, IsPlacedIn};
+ghost use Rattle.cc_book.specs.Standing.{IsOpenAt, after_change, after_debit, free_in, held_by_all, is_due, is_session, place_in, reserved_in, without_due, IsPlacedIn};
 
 use crate::account::Account;
 use crate::outcome::Change;
 use crate::session::{OpenSession, held_in};
 use dia_avp::Octets;
+use dia_base::Moment;
 use std::alloc::{AllocError, Global};
 
 /// What a history has left: all that is looked at to answer a request.
@@ -108,6 +109,25 @@ impl Standing {
         ensures least { negsuc (2 ^ 126) ≤ℤ result }
     {
         self.free(account) + ended as i128 - debit
+    }
+
+    /// How many of the open sessions have ended by a moment.
+    pub fn count_due(&self, validity: u32, moment: Moment) -> usize
+        ensures { result ≡ count_by (is_due validity moment) self.now.sessions.items }
+    {
+        self.sessions
+            .iter()
+            .filter(|session| session.is_due(validity, moment))
+            .count()
+    }
+
+    /// Ends the sessions that have ended by a moment, with all that they hold.
+    pub fn sweep(&mut self, validity: u32, moment: Moment)
+        ensures sessions { self.new.sessions.items ≡ without_due validity moment self.old.sessions.items }
+        ensures balances { self.new.balances ≡ self.old.balances }
+    {
+        self.sessions
+            .retain(|session| !session.is_due(validity, moment));
     }
 
     /// Debits an account.

@@ -10,6 +10,7 @@ use Rattle.farm_script.specs.declared.fault.ScriptFault.TheVariants.{Line, TooLo
 use Rattle.farm_model.specs.declared.site.Site.{Site}
 use Rattle.farm_model.specs.declared.step.Step.{Step}
 use Rattle.farm_script.specs.Schedule.{steps_of, NoneBefore, all_of, readings_from}
+use Rattle.farm_cli.specs.declared.command.Action.{Action}
 use Rattle.farm_cli.specs.Replay.{Replays, IsRefused}
 
 abbrev Answer : Type 0
@@ -54,9 +55,9 @@ stream_refused site None text given fault read same e = tt
 stream_refused site (Some octets) text given fault read same e = refused_for site given octets fault (ap (steps_of site) (same ∙ read) ∙ steps_of-cut site octets) e
 
 -- what is printed for what is read
-pub stream_replays : (site : Site) (stream : Option (List ℕ)) (text given out : List ℕ) (P : List ℕ → Type 0) → IsRead stream text → given ≡ text → Replays site given out → P out → IfSome stream (λ octets. (printed : List ℕ) × Replays site octets printed × P printed)
-stream_replays site None text given out P read same replays p = tt
-stream_replays site (Some octets) text given out P read same replays p = (
+pub stream_replays : (action : Action) (site : Site) (stream : Option (List ℕ)) (text given out : List ℕ) (P : List ℕ → Type 0) → IsRead stream text → given ≡ text → Replays action site given out → P out → IfSome stream (λ octets. (printed : List ℕ) × Replays action site octets printed × P printed)
+stream_replays action site None text given out P read same replays p = tt
+stream_replays action site (Some octets) text given out P read same replays p = (
   out,
   record {
     steps = replays.steps;

@@ -1,3 +1,4 @@
+mod CommandLines
 mod Cutting
 mod Printing
 mod Streams

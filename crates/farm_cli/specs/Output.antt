@@ -12,6 +12,8 @@ use Rattle.farm_model.specs.declared.site.Node.{Node}
 use Rattle.farm_model.specs.declared.state.Trace.{Trace}
 use Rattle.farm_report.specs.Report.{line_feed, report_of}
 use Rattle.farm_model.specs.Nodes.{is_client}
+use Rattle.farm_cli.specs.declared.command.Action.{Action}
+use Rattle.farm_cli.specs.declared.command.Action.TheVariants.{Replay, Report}
 
 -- the name of a node of the site
 abbrev pub name_in : Option Node → List ℕ
@@ -42,7 +44,12 @@ end_line steps skipped entries = concat (
     codes "end steps " ∷ decimal steps ∷ codes " skipped " ∷ decimal skipped
     ∷ codes " entries " ∷ decimal entries ∷ line_feed ∷ [])
 
+-- what comes before the report: of a run of so many steps
+abbrev pub lines_of : Site → ℕ → Trace → List ℕ
+lines_of site steps trace =
+    flat_map (recv_line site trace.ends) trace.received ++ end_line steps trace.skipped (length trace.book.history)
+
 -- what is printed of a run of so many steps
-abbrev pub output_of : Site → ℕ → Trace → List ℕ
-output_of site steps trace =
-    flat_map (recv_line site trace.ends) trace.received ++ end_line steps trace.skipped (length trace.book.history) ++ report_of trace.book
+abbrev pub output_of : Action → Site → ℕ → Trace → List ℕ
+output_of Replay site steps trace = lines_of site steps trace ++ report_of trace.book
+output_of Report site steps trace = report_of trace.book

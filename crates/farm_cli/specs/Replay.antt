@@ -12,14 +12,15 @@ use Rattle.farm_model.specs.declared.state.Trace.{Trace}
 use Rattle.farm_script.specs.Schedule.{steps_of, NoneBefore}
 use Rattle.farm_model.specs.Promise.{IsPromised}
 use Rattle.farm_cli.specs.Output.{output_of}
+use Rattle.farm_cli.specs.declared.command.Action.{Action}
 
--- the octets are a schedule, and this is the output of a run of its steps, which keeps what is promised
-pub record Replays (site : Site) (octets printed : List ℕ) : Type 0 where
+-- the octets are a schedule, and this is what the action prints of a run of its steps, which keeps what is promised
+pub record Replays (action : Action) (site : Site) (octets printed : List ℕ) : Type 0 where
   pub steps : List Step
   pub spelled : steps_of site octets ≡ Ok steps
   pub trace : Trace
   pub promised : IsPromised site steps trace
-  pub output : printed ≡ output_of site (length steps) trace
+  pub output : printed ≡ output_of action site (length steps) trace
 
 -- the octets are no schedule, by this fault; or memory ran out at a line before which none has a fault
 abbrev pub IsRefused : Site → List ℕ → ScriptFault → Type 0

@@ -1,51 +1,38 @@
-//! The farm as a program: it replays a schedule from standard input over the row site.
+//! The farm as a program: it replays a schedule from standard input over a site.
+//!
+//! - `command`: what the words of the command line ask for.
+//! - `program`: words, site file, schedule, run and output, in this order.
+//! - `sites`: a replay over the row site, and over the site of a file.
+//! - `replay`: a schedule from a reader, run over a site, and what that prints to a writer.
+//! - `output`: what is printed of a run.
+//! - `fault`, `ending`: why the program did not do it, and how it ends.
 #![tactic(auto)]
 
-ghost use Rattle.std.specs.Prelude.{◌≡◌, ◌≢◌, ℕ, List, OnOk, IfErr, IfSome, Err};
-ghost use Rattle.std.specs.Io.KnownBytes.{Keeps, Appends};
-ghost use Rattle.farm_script.specs.declared.fault.ScriptFault.{ScriptFault};
-ghost use Rattle.farm_cli.specs.Replay.{Replays, IsRefused, ReadsSchedule, WasRead};
-ghost use Rattle.farm_model.specs.RowSite.{the_row_site};
-ghost use Rattle.farm_cli.specs.Writing.{BeginsWriting};
-
+mod command;
 mod ending;
+mod fault;
 mod output;
+mod program;
 mod replay;
+mod sites;
 
-use dia_avp::PlainWire;
-use ending::Ending;
-use farm_world::row_site;
-use replay::{ReplayFault, replay_io};
-use std::alloc::Global;
-use std::io;
-use std::io::{Read, Write};
+use ending::{Ending, Stream};
+use fault::Fault;
+use program::farm;
+use replay::ReplayFault;
 use std::process::ExitCode;
 
-/// The replay of a schedule over the row site.
-fn replay_row_site<R: Read, W: Write>(
-    alloc: Global,
-    reader: &mut R,
-    writer: &mut W,
-) -> Result<(), ReplayFault>
-    ensures ok { OnOk result (IfSome (R.remaining reader.old) (λ octets.
-        (printed : List ℕ) × Replays the_row_site octets printed × Appends (W.contents writer.old) (W.contents writer.new) printed)) }
-    ensures read { WasRead result → ReadsSchedule (R.remaining reader.old) (R.remaining reader.new) }
-    ensures script { (fault : ScriptFault) → result ≡ Err (ReplayFault.Script fault) →
-        IfSome (R.remaining reader.old) (λ octets. IsRefused the_row_site octets fault) }
-    ensures nothing { IfErr result (λ fault. fault ≢ ReplayFault.Write → Keeps (W.contents writer.old) (W.contents writer.new)) }
-    ensures write { result ≡ Err ReplayFault.Write → IfSome (R.remaining reader.old) (λ octets.
-        (printed : List ℕ) × Replays the_row_site octets printed × BeginsWriting (W.contents writer.old) (W.contents writer.new) printed) }
-{
-    let Ok(site) = row_site(alloc) else {
-        return Err(ReplayFault::OutOfMemory);
-    };
-    replay_io::<PlainWire, _, _>(alloc, &site, reader, writer)
-}
-
 fn main(rt: HostRuntime) -> ExitCode {
-    let replay = replay_row_site(rt.alloc(), &mut rt.reader(), &mut io::writer(&rt));
-    let ending = Ending::of(replay);
-    if let Some(fault) = ending.fault {
+    let mut ending = Ending::of(farm(&rt));
+    if ending.stream == Stream::Output
+        && let Some(text) = &ending.told
+        && rt.println(text).is_err()
+    {
+        ending = Ending::of(Err(Fault::Replay(ReplayFault::Write)));
+    }
+    if ending.stream == Stream::Error
+        && let Some(fault) = &ending.told
+    {
         let _ = rt.eprintln(fault);
     }
     ExitCode::from(ending.status)

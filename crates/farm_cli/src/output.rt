@@ -3,8 +3,9 @@
 ghost use Rattle.std.specs.Prelude.{◌≡◌, ◌∷◌, [], ◌++◌, codes, IfOk, OnOk, length, string_bytes};
 ghost use Rattle.std.specs.List.{concat};
 ghost use Rattle.std.specs.Fmt.{decimal};
-ghost use Rattle.farm_cli.specs.Output.{client_name, name_at, recv_line, end_line, output_of};
+ghost use Rattle.farm_cli.specs.Output.{client_name, name_at, recv_line, end_line, lines_of, output_of};
 
+use crate::command::Action;
 use dia_base::{ConnId, NodeNo};
 use dia_message::{Message, spell_message};
 use farm_report::report;
@@ -67,15 +68,10 @@ fn end_line(alloc: Global, steps: usize, skipped: u64, entries: usize) -> Result
     format!(in alloc; "end steps {steps} skipped {skipped} entries {entries}\n")
 }
 
-/// What is printed of a run of so many steps: a line for each message that a client received, in
-/// order, then the end line, then the report.
-pub fn output(
-    alloc: Global,
-    site: &Site,
-    steps: usize,
-    trace: &Trace,
-) -> Result<Vec<u8>, AllocError>
-    ensures { IfOk result (λ out. out.items ≡ output_of site.now steps trace.now) }
+/// What comes before the report: a line for each message that a client received, in order, and the
+/// end line.
+fn run_lines(alloc: Global, site: &Site, steps: usize, trace: &Trace) -> Result<Vec<u8>, AllocError>
+    ensures { IfOk result (λ out. out.items ≡ lines_of site.now steps trace.now) }
 {
     let mut out = Vec::new(alloc);
     for (conn, message) in trace.received.as_slice() {
@@ -83,6 +79,23 @@ pub fn output(
     }
     let end = end_line(alloc, steps, trace.skipped, trace.book.history().len())?;
     out.extend_from_slice(end.as_bytes())?;
+    Ok(out)
+}
+
+/// What the action prints of a run of so many steps.
+pub fn output(
+    alloc: Global,
+    action: Action,
+    site: &Site,
+    steps: usize,
+    trace: &Trace,
+) -> Result<Vec<u8>, AllocError>
+    ensures { IfOk result (λ out. out.items ≡ output_of action site.now steps trace.now) }
+{
+    let mut out = match action {
+        Action::Replay => run_lines(alloc, site, steps, trace)?,
+        Action::Report => Vec::new(alloc),
+    };
     let report = report(alloc, &trace.book)?;
     out.extend_from_slice(report.as_bytes())?;
     Ok(out)

@@ -7,6 +7,7 @@ ghost use Rattle.farm_model.specs.CheckedSite.{IsChecked};
 ghost use Rattle.farm_cli.specs.Replay.{Replays, IsRefused, IsReading, IsOfText, ReadsSchedule, WasRead};
 ghost use Rattle.farm_cli.specs.Writing.{BeginsWriting};
 
+use crate::command::Action;
 use crate::output::output;
 use dia_avp::Wire;
 use dia_base::SCHEDULE_LIMIT;
@@ -47,8 +48,8 @@ fn read_some<R: Read>(reader: &mut R, piece: &mut [u8]) -> io::Result<usize>
     reader.read(piece)
 }
 
-/// Reads until the end, a fault, or one octet above the size limit of a schedule.
-fn read_text<R: Read>(alloc: Global, reader: &mut R) -> Result<Vec<u8>, ReplayFault>
+/// Reads until the end, a fault, or one octet above the size limit, which schedules and site files share.
+pub fn read_text<R: Read>(alloc: Global, reader: &mut R) -> Result<Vec<u8>, ReplayFault>
     ensures text { IfOk result (λ text. IfSome (R.remaining reader.old) (λ octets. text.items ≡ take 16777217 octets)) }
     ensures read { OnOk result (ReadsSchedule (R.remaining reader.old) (R.remaining reader.new)) }
     ensures fault { IfErr result IsReading }
@@ -104,12 +105,17 @@ fn write_text<W: Write>(writer: &mut W, text: &[u8]) -> Result<(), ReplayFault>
     writer.flush().map_err(|_| ReplayFault::Write)
 }
 
-/// What the text of a schedule prints, run over the site from an empty history.
-pub fn replay_text<V: Wire>(alloc: Global, site: &Site, text: &[u8]) -> Result<Vec<u8>, ReplayFault>
+/// What the action prints of a schedule's text, run over the site from an empty history.
+pub fn replay_text<V: Wire>(
+    alloc: Global,
+    action: Action,
+    site: &Site,
+    text: &[u8],
+) -> Result<Vec<u8>, ReplayFault>
     requires { IsChecked site.now }
 
-    // The output of a run of the text's steps; or the first fault of a text that is no schedule.
-    ensures ok { IfOk result (λ printed. Replays site.now text.now printed.items) }
+    // The action's output of a run of the text's steps; or the first fault of a text that is no schedule.
+    ensures ok { IfOk result (λ printed. Replays action site.now text.now printed.items) }
     ensures script { (fault : ScriptFault) → result ≡ Err (ReplayFault.Script fault) → IsRefused site.now text.now fault }
     ensures fault { IfErr result IsOfText }
 {
@@ -120,26 +126,27 @@ pub fn replay_text<V: Wire>(alloc: Global, site: &Site, text: &[u8]) -> Result<V
     let Ok(trace) = run::<V>(alloc, site, &steps) else {
         return Err(ReplayFault::OutOfMemory);
     };
-    match output(alloc, site, steps.len(), &trace) {
+    match output(alloc, action, site, steps.len(), &trace) {
         Ok(printed) => Ok(printed),
         Err(_) => Err(ReplayFault::OutOfMemory),
     }
 }
 
-/// Reads a schedule, runs its steps over the site from an empty history, and writes what the run
-/// prints. Nothing is written before the run is done.
+/// Reads a schedule, runs its steps over the site from an empty history, and writes what the
+/// action prints of it. Nothing is written before the run is done.
 pub fn replay_io<V: Wire, R: Read, W: Write>(
     alloc: Global,
+    action: Action,
     site: &Site,
     reader: &mut R,
     writer: &mut W,
 ) -> Result<(), ReplayFault>
     requires { IsChecked site.now }
 
-    // Where reader and writer tell their octets, what is written is the output of a run of the
-    // schedule's steps.
+    // Where reader and writer tell their octets, what is written is the action's output of a run
+    // of the schedule's steps.
     ensures ok { OnOk result (IfSome (R.remaining reader.old) (λ octets.
-        (printed : List ℕ) × Replays site.now octets printed × Appends (W.contents writer.old) (W.contents writer.new) printed)) }
+        (printed : List ℕ) × Replays action site.now octets printed × Appends (W.contents writer.old) (W.contents writer.new) printed)) }
 
     // Nothing is read behind the end, nor behind one octet above the size limit.
     ensures read { WasRead result → ReadsSchedule (R.remaining reader.old) (R.remaining reader.new) }
@@ -151,9 +158,9 @@ pub fn replay_io<V: Wire, R: Read, W: Write>(
 
     // After a fault of the writer a beginning of that output was written.
     ensures write { result ≡ Err ReplayFault.Write → IfSome (R.remaining reader.old) (λ octets.
-        (printed : List ℕ) × Replays site.now octets printed × BeginsWriting (W.contents writer.old) (W.contents writer.new) printed) }
+        (printed : List ℕ) × Replays action site.now octets printed × BeginsWriting (W.contents writer.old) (W.contents writer.new) printed) }
 {
     let text = read_text(alloc, reader)?;
-    let printed = replay_text::<V>(alloc, site, &text)?;
+    let printed = replay_text::<V>(alloc, action, site, &text)?;
     write_text(writer, &printed)
 }

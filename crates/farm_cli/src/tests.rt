@@ -1,9 +1,10 @@
 //! The program over streams and texts: what no clause says.
 
-use crate::ending::Ending;
+use crate::command::Action;
 use crate::replay::{ReplayFault, replay_io, replay_text};
 use dia_avp::PlainWire;
 use farm_script::{LineFault, ScriptFault};
+use farm_site::site_of;
 use farm_world::row_site;
 use std::alloc::{AllocError, Global};
 use std::io;
@@ -27,7 +28,7 @@ fn a_full_book_is_too_busy(rt: HostRuntime) -> Result<(), Fail> {
         )?;
         schedule.push_str(&step)?;
     }
-    let out = replay_text::<PlainWire>(rt.alloc(), &site, schedule.as_bytes())?;
+    let out = replay_text::<PlainWire>(rt.alloc(), Action::Replay, &site, schedule.as_bytes())?;
     let printed = str::from_utf8(&out)?;
     let mut lines = printed.lines();
     let answers = [
@@ -115,7 +116,7 @@ fn fault_of(
     writer: &mut Refusing,
 ) -> Result<Option<ReplayFault>, AllocError> {
     let site = row_site(alloc)?;
-    Ok(replay_io::<PlainWire, _, _>(alloc, &site, reader, writer).err())
+    Ok(replay_io::<PlainWire, _, _>(alloc, Action::Replay, &site, reader, writer).err())
 }
 
 /// A writer that is interrupted some times before each write that takes something, and counts its calls.
@@ -153,10 +154,12 @@ fn an_interrupted_write_is_tried_again(rt: HostRuntime) -> Result<(), Fail> {
         };
         let fault = replay_io::<PlainWire, _, _>(
             rt.alloc(),
+            Action::Replay,
             &site,
             &mut "".as_bytes(),
             &mut writer,
-        ).err();
+        )
+        .err();
         assert_eq!(rt;
             (writer.calls, fault.is_none(), writer.taken > 0),
             (calls, is_done, is_done)
@@ -170,7 +173,13 @@ fn a_broken_pipe_is_asked_once(rt: HostRuntime) -> Result<(), Fail> {
     let mut writer = refusing_from(0, ErrorKind::BrokenPipe);
     let mut reader = "".as_bytes();
     let site = row_site(rt.alloc())?;
-    let fault = replay_io::<PlainWire, _, _>(rt.alloc(), &site, &mut reader, &mut writer).err();
+    let fault = replay_io::<PlainWire, _, _>(
+        rt.alloc(),
+        Action::Replay,
+        &site,
+        &mut reader,
+        &mut writer,
+    ).err();
     assert!(rt; matches!(&fault, Some(ReplayFault::Write)));
     assert_eq!(rt; writer.calls, 1);
     Ok(())
@@ -234,7 +243,7 @@ fn writer_of(alloc: Global, room: usize, fails: bool) -> Short {
 /// The fault of the empty schedule with this writer.
 fn fault_with(alloc: Global, writer: &mut Short) -> Result<Option<ReplayFault>, AllocError> {
     let site = row_site(alloc)?;
-    Ok(replay_io::<PlainWire, _, _>(alloc, &site, &mut "".as_bytes(), writer).err())
+    Ok(replay_io::<PlainWire, _, _>(alloc, Action::Replay, &site, &mut "".as_bytes(), writer).err())
 }
 
 #[test]
@@ -254,5 +263,47 @@ fn what_is_written_is_flushed(rt: HostRuntime) -> Result<(), Fail> {
     assert!(rt; matches!(&fault, Some(ReplayFault::Write)));
     let fault = fault_with(rt.alloc(), &mut writer_of(rt.alloc(), 1_000, false))?;
     assert!(rt; fault.is_none());
+    Ok(())
+}
+
+/// The row site as a site file.
+const ROW_SITE: &str = "realm = 'ocs.example'
+validity = 600
+currency = 978
+exponent = -2
+node = [
+  { name = 'r1.example', kind = 'relay' }, { name = 'r2.example', kind = 'relay' },
+  { name = 'f1.example', kind = 'front' }, { name = 'f2.example', kind = 'front' },
+  { name = 'c1.example', kind = 'client' }, { name = 'c2.example', kind = 'client' },
+]
+link = [
+  { from = 'c1.example', to = 'r1.example' }, { from = 'c2.example', to = 'r1.example' },
+  { from = 'c1.example', to = 'f1.example' }, { from = 'r1.example', to = 'r2.example' },
+  { from = 'r1.example', to = 'f1.example' }, { from = 'r1.example', to = 'f2.example' },
+  { from = 'r2.example', to = 'f1.example' }, { from = 'r2.example', to = 'f2.example' },
+]
+route = [
+  { at = 'r1.example', realm = 'ocs.example', app = 4, peers = ['f1.example', 'f2.example', 'r2.example'] },
+  { at = 'r2.example', realm = 'ocs.example', app = 4, peers = ['f1.example', 'f2.example'] },
+  { at = 'r1.example', realm = 'loop.example', app = 4, peers = ['r2.example'] },
+  { at = 'r2.example', realm = 'loop.example', app = 4, peers = ['r1.example'] },
+]
+tariff = [{ group = 10, kind = 'octets', block = 1000, price = 5, quantum = 5000, greatest = 10000 }]
+account = [
+  { type = 0, id = '491700000001', opening = 1000 }, { type = 0, id = '491700000002', opening = 12 },
+  { type = 0, id = '491700000003', opening = 4 }, { type = 0, id = '491700000004', opening = 27 },
+  { type = 0, id = '491700000005', opening = 25 },
+]
+";
+
+#[test]
+fn the_row_site_is_read(rt: HostRuntime) -> Result<(), Fail> {
+    let read = site_of(rt.alloc(), ROW_SITE)?;
+    let built = row_site(rt.alloc())?;
+    let (read, built) = (
+        format!(in rt.alloc(); "{read:?}")?,
+        format!(in rt.alloc(); "{built:?}")?,
+    );
+    assert_eq!(rt; read.as_str(), built.as_str());
     Ok(())
 }

@@ -13,8 +13,8 @@ use Rattle.cc_view.specs.declared.request.CcRequest.{CcRequest}
 use Rattle.cc_book.specs.declared.entry.Entry.{Entry}
 use Rattle.cc_book.specs.declared.entry.Entry.TheVariants.{Take, Sweep}
 use Rattle.cc_book.specs.AccountMachine.{kept_reply}
-use Rattle.cc_book.specs.History.{IsLegal}
-use Rattle.cc_book.specs.Taking.{Ledger, with_take}
+use Rattle.cc_book.specs.History.{IsLegal, ended_sessions}
+use Rattle.cc_book.specs.Taking.{Ledger, with_take, with_sweep}
 use Rattle.front_core.specs.Counts.{is_with}
 use Rattle.farm_law.specs.Answers.{Answers}
 use Rattle.farm_law.specs.Counts.{Class, with_hop, with_both, item_in}
@@ -116,6 +116,13 @@ module _ (p : Parties) {has_ended : ConnId → Bool} {items : List Item} {rows :
       taken : ComesFrom sent item.message → IsTaken p sent (Take moment request)
       taken (as_sent conn was_sent) = (conn, item.message, was_sent, e, view)
       taken (on_its_way d) = (d.conn, d.first, d.was_sent, d.request, sym (l.same_view p.vendors d.first item.message d.avps d.splits d.descends) ∙ view)
+
+  pub keep_sweeps : (l : Premises) (moment : Moment) → 0 < ended_sessions book.terms book.history moment → length book.history < book.limit → Keeps p has_ended items rows (with_sweep book moment) refused sent received
+  keep_sweeps l moment ends room = keep_grows (with_sweep book moment) refused
+      (record { answered = λ site message answer a. l.answers_stay site book (Sweep moment ∷ []) message answer a; refused_still = λ at k. k })
+      (all-end (IsTaken p sent) book.history (Sweep moment) v.taken tt)
+      (l.legal_sweeps book.terms book.history moment v.legal ends)
+      (omega (arith, room, length-append book.history (Sweep moment ∷ [])))
 
   with_items : {next : List Item} → ((class : Class) → count_by (item_in p class) next ≤ count_by (item_in p class) items) →
       ((item : Item) → Has item next → IsSound p has_ended rows book refused sent item) →

@@ -1,5 +1,5 @@
 -- What the proofs of moves take from the crates below: laws of the book, of fronts and of what relays pass on. The law of moves hands them over.
-use Rattle.std.proofs.Common.{◌≡◌, ℕ, List, [], ◌∷◌, ◌++◌, None, Ok}
+use Rattle.std.proofs.Common.{◌≡◌, ℕ, ◌<◌, List, [], ◌∷◌, ◌++◌, None, Ok}
 use Rattle.dia_base.specs.declared.number.Moment.{Moment}
 use Rattle.dia_avp.specs.declared.avp.RawAvp.{RawAvp}
 use Rattle.dia_avp.specs.AvpReading.{split_of}
@@ -11,10 +11,10 @@ use Rattle.cc_view.specs.declared.refusal.Refusal.{Refusal}
 use Rattle.cc_view.specs.declared.reply.CcReply.{CcReply}
 use Rattle.cc_view.specs.declared.request.CcRequest.{CcRequest}
 use Rattle.cc_book.specs.declared.entry.Entry.{Entry}
-use Rattle.cc_book.specs.declared.entry.Entry.TheVariants.{Take}
+use Rattle.cc_book.specs.declared.entry.Entry.TheVariants.{Take, Sweep}
 use Rattle.cc_book.specs.declared.terms.Terms.{Terms}
 use Rattle.cc_book.specs.AccountMachine.{kept_reply}
-use Rattle.cc_book.specs.History.{IsLegal}
+use Rattle.cc_book.specs.History.{IsLegal, ended_sessions}
 use Rattle.cc_book.specs.Taking.{Ledger}
 use Rattle.front_core.specs.declared.site.FrontSite.{FrontSite}
 use Rattle.front_core.specs.Answered.{IsAnswered}
@@ -22,6 +22,7 @@ use Rattle.relay_core.specs.Forwarding.{Descends}
 
 pub record Premises : Type 0 where
   pub legal_grows : (terms : Terms) (history : List Entry) (moment : Moment) (request : CcRequest) → IsLegal terms history → kept_reply terms history request ≡ None → IsLegal terms (history ++ Take moment request ∷ [])
+  pub legal_sweeps : (terms : Terms) (history : List Entry) (moment : Moment) → IsLegal terms history → 0 < ended_sessions terms history moment → IsLegal terms (history ++ Sweep moment ∷ [])
   pub answers_stay : (site : FrontSite) (ledger : Ledger) (more : List Entry) (message answer : Message) → IsAnswered site ledger message answer → IsAnswered site (record ledger { history = ledger.history ++ more }) message answer
   pub descends_on : (request passed last : Message) → Descends request passed → Descends passed last → Descends request last
   pub same_view : (vendors : List ℕ) (request passed : Message) (avps : List RawAvp) → split_of request.body ≡ Ok avps → Descends request passed → view_of vendors passed ≡ view_of vendors request

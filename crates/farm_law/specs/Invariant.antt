@@ -73,10 +73,10 @@ pub data ComesFrom (sent : Traffic) (message : Message) : Type 0 where
   as_sent : (conn : ConnId) → Has (conn, message) sent → ComesFrom sent message
   on_its_way : HasDescended sent message → ComesFrom sent message
 
--- an entry takes what is read in a request that a client sent
+-- An entry takes what is read in a request that a client sent. A sweep takes nothing of any message.
 abbrev pub IsTaken : Parties → Traffic → Entry → Type 0
 IsTaken p sent (Take moment request) = (conn : ConnId) × (message : Message) × Has (conn, message) sent × (message.header.request ≡ true) × (view_of p.vendors message ≡ Ok request)
-IsTaken p sent (Sweep moment) = ⊥
+IsTaken p sent (Sweep moment) = Unit {0}
 
 -- ---- the whole
 

@@ -12,7 +12,8 @@ use Rattle.cc_view.specs.declared.request.CcRequest.{CcRequest}
 use Rattle.cc_view.specs.Answer.{refusal_of}
 use Rattle.cc_view.specs.RequestView.{view_of}
 use Rattle.cc_book.specs.AccountMachine.{kept_reply}
-use Rattle.cc_book.specs.Taking.{with_take}
+use Rattle.cc_book.specs.History.{ended_sessions}
+use Rattle.cc_book.specs.Taking.{with_take, with_sweep}
 use Rattle.front_core.specs.Answered.{IsAnswered}
 use Rattle.relay_routes.specs.Routing.{record_of}
 use Rattle.relay_hops.specs.PendingTable.{under, again}
@@ -69,6 +70,9 @@ pub data Move (p : Parties) : Farm → Farm → Type 0 where
   takes : {f : Farm} {item : Item} (moment : Moment) (request : CcRequest) → Has item f.items → item.message.header.request ≡ true → view_of p.vendors item.message ≡ Ok request →
       kept_reply f.book.terms f.book.history request ≡ None → length f.book.history < f.book.limit →
       Move p f (record f { book = with_take f.book moment request })
+  -- the book ends sessions that are due (RFC 8506, section 5.7)
+  sweeps : {f : Farm} (moment : Moment) → 0 < ended_sessions f.book.terms f.book.history moment → length f.book.history < f.book.limit →
+      Move p f (record f { book = with_sweep f.book moment })
   -- a node refuses a request
   refuses : {f : Farm} {item : Item} {rest items : List Item} (refusal : Refusal) → Without item f.items rest → item.message.header.request ≡ true →
       Without (reply_to item (refusal_of (p.name_of item.to) p.realm item.message refusal)) items rest →

@@ -8,7 +8,7 @@
 //!
 //! - [`moves_keep_a_farm`]: whatever moves are made, no request is answered more often than a client sent it, each
 //!   answer is that of a front with the book's reply or the refusal of a node, and the book's entries are requests of
-//!   clients.
+//!   clients and sweeps that end sessions.
 //!
 //! The definitions are in `specs/`: `Parties` (what stays the same), `Farm` (what changes), `Moves`, `Counts`,
 //! `Answers` and `Invariant`.

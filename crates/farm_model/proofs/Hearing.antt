@@ -1,5 +1,5 @@
--- What clients have sent and received stands on connections of one client, and the book is the site's.
-use Rattle.std.proofs.Common.{◌≡◌, ℕ, Bool, true, false, cond, List, Option, Some, None, refl, sym, subst, ap, ◌∙◌}
+-- What clients have sent and received stands on connections of one client, and the book is the site's, with sweeps of steps of the run.
+use Rattle.std.proofs.Common.{◌≡◌, ℕ, zero, suc, Bool, true, false, cond, List, [], ◌∷◌, ◌++◌, Option, Some, None, Result, Ok, Err, inl, inr, refl, sym, subst, ap, ◌∙◌}
 use Rattle.std.specs.Prelude.{slice_get, unwrap_or}
 use Rattle.std.specs.List.{find}
 use Rattle.dia_base.specs.declared.number.ConnId.{ConnId}
@@ -8,7 +8,11 @@ use Rattle.dia_base.specs.declared.number.NodeNo.{NodeNo}
 use Rattle.dia_base.proofs.Finding.{found_passes}
 use Rattle.dia_message.specs.declared.message.Message.{Message}
 use Rattle.dia_message.specs.Traffic.{Traffic}
-use Rattle.cc_book.specs.Taking.{Ledger, answer_of, is_fresh, with_take}
+use Rattle.cc_view.specs.declared.request.CcRequest.{CcRequest}
+use Rattle.cc_book.specs.declared.book.BookRefusal.{BookRefusal}
+use Rattle.cc_book.specs.declared.entry.Entry.{Entry}
+use Rattle.cc_book.specs.declared.entry.Entry.TheVariants.{Take, Sweep}
+use Rattle.cc_book.specs.Taking.{Ledger, answer_of, is_fresh, with_take, sweep_answer, after_sweep_with}
 use Rattle.front_core.specs.declared.preparing.Prepared.{Prepared}
 use Rattle.front_core.specs.declared.preparing.Prepared.TheVariants.{Refused, Ask}
 use Rattle.front_core.specs.declared.worker.Worker.{Worker}
@@ -23,36 +27,47 @@ use Rattle.farm_law.specs.Lists.{Has}
 use Rattle.farm_law.proofs.Lists.{all-end}
 use Rattle.farm_model.specs.declared.site.Site.{Site}
 use Rattle.farm_model.specs.declared.state.Direction.{Direction}
+use Rattle.farm_model.specs.declared.step.Step.{Step}
+use Rattle.farm_model.specs.declared.step.Step.TheVariants.{Sweep as SweepStep}
 use Rattle.farm_model.specs.Arrival.{AtRelay}
 use Rattle.farm_model.specs.CheckedSite.{IsChecked}
-use Rattle.farm_model.specs.FarmStep.{Outcome, Flight, after_lost_message, after_up, with_new_connection, can_connect, after_send, after_send_in, with_pick, after_pick_at, after_refusal_at, with_emit, after_emit_at, with_charge, after_charge_at}
+use Rattle.farm_model.specs.FarmStep.{Outcome, Flight, after_lost_message, after_up, with_new_connection, can_connect, after_send, after_send_in, with_pick, after_pick_at, after_refusal_at, with_emit, after_emit_at, with_charge, after_charge_at, after_sweep_at}
 use Rattle.farm_model.specs.Loss.{Loss, LearnsLoss, LossAt, LearnLosses, all_know, learns}
 use Rattle.farm_model.specs.Nodes.{is_client}
 use Rattle.farm_model.specs.Promise.{HasOneClient}
 use Rattle.farm_model.specs.Run.{empty_book, TellsSame}
 use Rattle.farm_model.specs.World.{Ends, WorldState, is_between, front_at, relay_at}
+use Rattle.farm_model.proofs.Among.{Has-cons, Has-parts}
 use Rattle.farm_model.proofs.Finding.{Has-found}
 use Rattle.farm_model.proofs.Joined.{one_client}
 use Rattle.farm_model.proofs.Linked.{beside_client}
 use Rattle.farm_model.proofs.Wired.{IsWired}
 use Rattle.farm_model.proofs.WorldLemmas.{direction_nodes}
 
-pub record Heard (site : Site) (all : Ends) (sent received : Traffic) (book : Ledger) : Type 0 where
+pub record Heard (site : Site) (all : Ends) (steps : List Step) (sent received : Traffic) (book : Ledger) : Type 0 where
   pub senders : (item : ConnId × Message) → Has item sent → HasOneClient site all item.0
   pub receivers : (item : ConnId × Message) → Has item received → HasOneClient site all item.0
   pub terms : book.terms ≡ (empty_book site).terms
   pub limit : book.limit ≡ site.limit
+  pub sweeps : (moment : Moment) → Has (Sweep moment) book.history → Has (SweepStep moment) steps
 
-abbrev pub HeardIn : Site → Ends → WorldState → Type 0
-HeardIn site all w = Heard site all w.sent w.received w.book
+abbrev pub HeardIn : Site → Ends → List Step → WorldState → Type 0
+HeardIn site all steps w = Heard site all steps w.sent w.received w.book
+
+-- the run goes on
+pub heard_on : {site : Site} {all : Ends} {steps more : List Step} (w : WorldState) → ((step : Step) → Has step steps → Has step more) → HeardIn site all steps w → HeardIn site all more w
+heard_on w on h = record { senders = h.senders; receivers = h.receivers; terms = h.terms; limit = h.limit; sweeps = λ moment among. on (SweepStep moment) (h.sweeps moment among) }
+
+same_moment : (one other : Moment) → Sweep one ≡ Sweep other → one ≡ other
+same_moment one other e = cc
 
 -- ---- what is told stays
 
-pub tells_heard : {site : Site} {all : Ends} (old new : WorldState) → TellsSame old new → HeardIn site all old → HeardIn site all new
-tells_heard {site} {all} old new same h =
-    let one = subst (λ (s : Traffic). Heard site all s old.received old.book) (sym same.0) h in
-    let two = subst (λ (s : Traffic). Heard site all new.sent s old.book) (sym same.1) one in
-    subst (λ (b : Ledger). Heard site all new.sent new.received b) (sym same.2) two
+pub tells_heard : {site : Site} {all : Ends} {steps : List Step} (old new : WorldState) → TellsSame old new → HeardIn site all steps old → HeardIn site all steps new
+tells_heard {site} {all} {steps} old new same h =
+    let one = subst (λ (s : Traffic). Heard site all steps s old.received old.book) (sym same.0) h in
+    let two = subst (λ (s : Traffic). Heard site all steps new.sent s old.book) (sym same.1) one in
+    subst (λ (b : Ledger). Heard site all steps new.sent new.received b) (sym same.2) two
 
 pub at_relay_tells : (w : WorldState) (node : NodeNo) (event : RelayEvent) (relay : Option RelayState) (next : WorldState) → AtRelay w node event relay next → TellsSame w next
 at_relay_tells w node event None next same = (ap (λ (v : WorldState). v.sent) same, ap (λ (v : WorldState). v.received) same, ap (λ (v : WorldState). v.book) same, ap (λ (v : WorldState). v.ends) same)
@@ -72,22 +87,22 @@ losses_tell (learns {loss = loss} {w = w} {next = mid} one more) =
 
 -- ---- each step
 
-module _ (site : Site) (all : Ends) (checked : IsChecked site) (old new : WorldState) (applied : Bool) (wired : IsWired site all old) (heard : HeardIn site all old) where
-  same_state : (next : WorldState) → next ≡ old → HeardIn site all next
-  same_state next e = subst (HeardIn site all) (sym e) heard
+module _ (site : Site) (all : Ends) (steps : List Step) (checked : IsChecked site) (old new : WorldState) (applied : Bool) (wired : IsWired site all old) (heard : HeardIn site all steps old) where
+  same_state : (next : WorldState) → next ≡ old → HeardIn site all steps next
+  same_state next e = subst (HeardIn site all steps) (sym e) heard
 
-  outcome_heard : (found : Option WorldState) → ((next : WorldState) → found ≡ Some next → HeardIn site all next) → Outcome found applied old new → HeardIn site all new
+  outcome_heard : (found : Option WorldState) → ((next : WorldState) → found ≡ Some next → HeardIn site all steps next) → Outcome found applied old new → HeardIn site all steps new
   outcome_heard None f out = same_state new out.1
-  outcome_heard (Some next) f out = subst (HeardIn site all) (sym out.1) (f next refl)
+  outcome_heard (Some next) f out = subst (HeardIn site all steps) (sym out.1) (f next refl)
 
-  pub up_heard : (a b : NodeNo) → Outcome (after_up site old a b) applied old new → HeardIn site all new
+  pub up_heard : (a b : NodeNo) → Outcome (after_up site old a b) applied old new → HeardIn site all steps new
   up_heard a b out = outcome_heard (after_up site old a b) (λ next e. go next (can_connect site old a b) e) out
     where
-      go : (next : WorldState) (b' : Bool) → cond b' (Some (with_new_connection old a b)) None ≡ Some next → HeardIn site all next
-      go next true e = let same : with_new_connection old a b ≡ next = cc in subst (HeardIn site all) same (record { senders = heard.senders; receivers = heard.receivers; terms = heard.terms; limit = heard.limit })
+      go : (next : WorldState) (b' : Bool) → cond b' (Some (with_new_connection old a b)) None ≡ Some next → HeardIn site all steps next
+      go next true e = let same : with_new_connection old a b ≡ next = cc in subst (HeardIn site all steps) same (record { senders = heard.senders; receivers = heard.receivers; terms = heard.terms; limit = heard.limit; sweeps = heard.sweeps })
       go next false e = absurd cc
 
-  pub send_heard : (client to : NodeNo) (message : Message) → Outcome (after_send site old client to message) applied old new → HeardIn site all new
+  pub send_heard : (client to : NodeNo) (message : Message) → Outcome (after_send site old client to message) applied old new → HeardIn site all steps new
   send_heard client to message out = outcome_heard (after_send site old client to message) (λ next e. go next (is_client site client) refl e) out
     where
       sent_on : (direction : Direction) → is_client site client ≡ true → find (is_between client to) old.directions ≡ Some direction → HasOneClient site all direction.conn
@@ -97,62 +112,93 @@ module _ (site : Site) (all : Ends) (checked : IsChecked site) (old new : WorldS
           let from_client : is_client site direction.from ≡ true = subst (λ (n : NodeNo). is_client site n ≡ true) (sym nodes.0) is in
           one_client k.joins from_client (beside_client site checked direction.from direction.to k.linked from_client)
 
-      found : (next : WorldState) → is_client site client ≡ true → (direction : Option Direction) → find (is_between client to) old.directions ≡ direction → after_send_in old client to message direction ≡ Some next → HeardIn site all next
+      found : (next : WorldState) → is_client site client ≡ true → (direction : Option Direction) → find (is_between client to) old.directions ≡ direction → after_send_in old client to message direction ≡ Some next → HeardIn site all steps next
       found next is None q e = absurd cc
       found next is (Some direction) q e =
           let same = ap (λ (o : Option WorldState). unwrap_or o next) e in
-          subst (HeardIn site all) same (record {
+          subst (HeardIn site all steps) same (record {
             senders = all-end (λ (i : ConnId × Message). HasOneClient site all i.0) old.sent (direction.conn, message) heard.senders (sent_on direction is q);
             receivers = heard.receivers;
             terms = heard.terms;
             limit = heard.limit;
+            sweeps = heard.sweeps;
           })
 
-      go : (next : WorldState) (b : Bool) → is_client site client ≡ b → cond b (after_send_in old client to message (find (is_between client to) old.directions)) None ≡ Some next → HeardIn site all next
+      go : (next : WorldState) (b : Bool) → is_client site client ≡ b → cond b (after_send_in old client to message (find (is_between client to) old.directions)) None ≡ Some next → HeardIn site all steps next
       go next true is e = found next is (find (is_between client to) old.directions) refl e
       go next false is e = absurd cc
 
-  pub lose_heard : (flight : Option Flight) → Outcome (after_lost_message old flight) applied old new → HeardIn site all new
+  pub lose_heard : (flight : Option Flight) → Outcome (after_lost_message old flight) applied old new → HeardIn site all steps new
   lose_heard None out = same_state new out.1
-  lose_heard (Some flight) out = subst (HeardIn site all) (sym out.1) (record { senders = heard.senders; receivers = heard.receivers; terms = heard.terms; limit = heard.limit })
+  lose_heard (Some flight) out = subst (HeardIn site all steps) (sym out.1) (record { senders = heard.senders; receivers = heard.receivers; terms = heard.terms; limit = heard.limit; sweeps = heard.sweeps })
 
-  pick_heard : (node : NodeNo) (front : Option FrontState) → Outcome (with_pick old node front) applied old new → HeardIn site all new
+  pick_heard : (node : NodeNo) (front : Option FrontState) → Outcome (with_pick old node front) applied old new → HeardIn site all steps new
   pick_heard node None out = same_state new out.1
-  pick_heard node (Some front) out = subst (HeardIn site all) (sym out.1) (record { senders = heard.senders; receivers = heard.receivers; terms = heard.terms; limit = heard.limit })
+  pick_heard node (Some front) out = subst (HeardIn site all steps) (sym out.1) (record { senders = heard.senders; receivers = heard.receivers; terms = heard.terms; limit = heard.limit; sweeps = heard.sweeps })
 
-  pub pick_at_heard : (node : NodeNo) (worker : ℕ) (front : Option FrontState) → Outcome (after_pick_at old node worker front) applied old new → HeardIn site all new
+  pub pick_at_heard : (node : NodeNo) (worker : ℕ) (front : Option FrontState) → Outcome (after_pick_at old node worker front) applied old new → HeardIn site all steps new
   pick_at_heard node worker None out = same_state new out.1
   pick_at_heard node worker (Some front) out = pick_heard node (after_pick front worker) out
 
-  pub refusal_at_heard : (node : NodeNo) (worker : ℕ) (front : Option FrontState) → Outcome (after_refusal_at old node worker front) applied old new → HeardIn site all new
+  pub refusal_at_heard : (node : NodeNo) (worker : ℕ) (front : Option FrontState) → Outcome (after_refusal_at old node worker front) applied old new → HeardIn site all steps new
   refusal_at_heard node worker None out = same_state new out.1
   refusal_at_heard node worker (Some front) out = pick_heard node (after_refusal front worker) out
 
-  emit_heard : (node : NodeNo) (turn : Option (FrontState × Traffic)) → Outcome (with_emit old node turn) applied old new → HeardIn site all new
+  emit_heard : (node : NodeNo) (turn : Option (FrontState × Traffic)) → Outcome (with_emit old node turn) applied old new → HeardIn site all steps new
   emit_heard node None out = same_state new out.1
-  emit_heard node (Some turn) out = subst (HeardIn site all) (sym out.1) (record { senders = heard.senders; receivers = heard.receivers; terms = heard.terms; limit = heard.limit })
+  emit_heard node (Some turn) out = subst (HeardIn site all steps) (sym out.1) (record { senders = heard.senders; receivers = heard.receivers; terms = heard.terms; limit = heard.limit; sweeps = heard.sweeps })
 
-  pub emit_at_heard : (node : NodeNo) (worker : ℕ) (front : Option FrontState) → Outcome (after_emit_at old node worker front) applied old new → HeardIn site all new
+  pub emit_at_heard : (node : NodeNo) (worker : ℕ) (front : Option FrontState) → Outcome (after_emit_at old node worker front) applied old new → HeardIn site all steps new
   emit_at_heard node worker None out = same_state new out.1
   emit_at_heard node worker (Some front) out = emit_heard node (after_emit front worker) out
 
-  -- the book keeps its terms and its limit
-  same_book : (book : Ledger) (moment : Moment) (prepared : Prepared) → ((book_after book moment prepared).terms ≡ book.terms) × ((book_after book moment prepared).limit ≡ book.limit)
-  same_book book moment (Refused refusal) = (refl, refl)
+  -- the book keeps its terms and its limit, and gets no sweep
+  abbrev SameButTakes : Ledger → Ledger → Type 0
+  SameButTakes book next = (next.terms ≡ book.terms) × (next.limit ≡ book.limit) × ((at : Moment) → Has (Sweep at) next.history → Has (Sweep at) book.history)
+
+  no_sweep : (history : List Entry) (moment at : Moment) (request : CcRequest) → Has (Sweep at) (history ++ Take moment request ∷ []) → Has (Sweep at) history
+  no_sweep history moment at request among = elim (Has-parts history among) [
+    | inl old ↦ old
+    | inr new ↦ absurd (elim (Has-cons new) [ inl is ↦ (let clash : Sweep at ≡ Take moment request = is in cc) | inr none ↦ elim none [ ] ])
+  ]
+
+  same_book : (book : Ledger) (moment : Moment) (prepared : Prepared) → SameButTakes book (book_after book moment prepared)
+  same_book book moment (Refused refusal) = (refl, refl, λ at among. among)
   same_book book moment (Ask request) = go (is_fresh (answer_of book request))
     where
-      go : (b : Bool) → ((cond b (with_take book moment request) book).terms ≡ book.terms) × ((cond b (with_take book moment request) book).limit ≡ book.limit)
-      go true = (refl, refl)
-      go false = (refl, refl)
+      go : (b : Bool) → SameButTakes book (cond b (with_take book moment request) book)
+      go true = (refl, refl, λ at among. no_sweep book.history moment at request among)
+      go false = (refl, refl, λ at among. among)
 
-  charge_heard : (node : NodeNo) (front : FrontState) (moment : Moment) (worker : ℕ) (held : Option Worker) → Outcome (with_charge old node (after_charge_by front old.book moment worker held)) applied old new → HeardIn site all new
+  charge_heard : (node : NodeNo) (front : FrontState) (moment : Moment) (worker : ℕ) (held : Option Worker) → Outcome (with_charge old node (after_charge_by front old.book moment worker held)) applied old new → HeardIn site all steps new
   charge_heard node front moment worker None out = same_state new out.1
   charge_heard node front moment worker (Some Idle) out = same_state new out.1
   charge_heard node front moment worker (Some (Done conn answer)) out = same_state new out.1
   charge_heard node front moment worker (Some (Picked conn message)) out =
       let same = same_book old.book moment (preparation_at front.site message) in
-      subst (HeardIn site all) (sym out.1) (record { senders = heard.senders; receivers = heard.receivers; terms = same.0 ∙ heard.terms; limit = same.1 ∙ heard.limit })
+      subst (HeardIn site all steps) (sym out.1) (record { senders = heard.senders; receivers = heard.receivers; terms = same.0 ∙ heard.terms; limit = same.1 ∙ heard.limit; sweeps = λ at among. heard.sweeps at (same.2 at among) })
 
-  pub charge_at_heard : (node : NodeNo) (worker : ℕ) (moment : Moment) (front : Option FrontState) → Outcome (after_charge_at old node worker moment front) applied old new → HeardIn site all new
+  pub charge_at_heard : (node : NodeNo) (worker : ℕ) (moment : Moment) (front : Option FrontState) → Outcome (after_charge_at old node worker moment front) applied old new → HeardIn site all steps new
   charge_at_heard node worker moment None out = same_state new out.1
   charge_at_heard node worker moment (Some front) out = charge_heard node front moment worker (slice_get front.workers worker) out
+
+  -- a sweep is one of the run
+  swept_heard : (moment : Moment) → Has (SweepStep moment) steps → (answer : Result ℕ BookRefusal) → Heard site all steps old.sent old.received (after_sweep_with old.book moment answer)
+  swept_heard moment is_step (Ok zero) = heard
+  swept_heard moment is_step (Err refusal) = heard
+  swept_heard moment is_step (Ok (suc more)) = record {
+    senders = heard.senders;
+    receivers = heard.receivers;
+    terms = heard.terms;
+    limit = heard.limit;
+    sweeps = λ at among. elim (Has-parts old.book.history among) [
+      | inl before ↦ heard.sweeps at before
+      | inr new ↦ elim (Has-cons new) [
+        | inl is ↦ subst (λ (m : Moment). Has (SweepStep m) steps) (sym (same_moment at moment is)) is_step
+        | inr none ↦ elim none [ ]
+      ]
+    ];
+  }
+
+  pub sweep_heard : (moment : Moment) → Has (SweepStep moment) steps → Outcome (Some (after_sweep_at old moment)) applied old new → HeardIn site all steps new
+  sweep_heard moment is_step out = subst (HeardIn site all steps) (sym out.1) (swept_heard moment is_step (sweep_answer old.book moment))

@@ -9,11 +9,12 @@ use Rattle.dia_message.specs.Traffic.{Traffic}
 use Rattle.front_core.specs.FrontState.{FrontState, is_among}
 use Rattle.front_core.specs.FrontStep.{after_pick, after_refusal, after_emit, after_charge}
 use Rattle.relay_core.specs.declared.run.RelayEvent.TheVariants.{Received}
+use Rattle.farm_law.specs.Lists.{Has}
 use Rattle.farm_law.proofs.Lists.{all-end}
 use Rattle.farm_model.specs.declared.site.Site.{Site}
 use Rattle.farm_model.specs.declared.state.Direction.{Direction}
 use Rattle.farm_model.specs.declared.step.Step.{Step}
-use Rattle.farm_model.specs.declared.step.Step.TheVariants.{Up, Send, Deliver, Lose, Cut, Restart, Pick, Charge, Refuse, Emit}
+use Rattle.farm_model.specs.declared.step.Step.TheVariants.{Up, Send, Deliver, Lose, Cut, Restart, Pick, Charge, Refuse, Emit, Sweep}
 use Rattle.farm_model.specs.Arrival.{ArrivesAtServer, after_arrival_at_front}
 use Rattle.farm_model.specs.CheckedSite.{IsChecked}
 use Rattle.farm_model.specs.FarmStep.{FarmStep, Outcome, Flight, flight_at, Delivers, after_lost_message, after_up, with_new_connection, can_connect, after_send, after_send_in, with_pick, after_pick_at, after_refusal_at, with_emit, after_emit_at, with_charge, after_charge_at, Cuts, can_restart}
@@ -22,7 +23,7 @@ use Rattle.farm_model.specs.Nodes.{is_client}
 use Rattle.farm_model.specs.Promise.{HasOneClient}
 use Rattle.farm_model.specs.Run.{TellsSame}
 use Rattle.farm_model.specs.World.{Ends, WorldState, is_between, conn_between, front_at, relay_at}
-use Rattle.farm_model.proofs.Hearing.{HeardIn, tells_heard, at_relay_tells, losses_tell, up_heard, send_heard, lose_heard, pick_at_heard, refusal_at_heard, emit_at_heard, charge_at_heard}
+use Rattle.farm_model.proofs.Hearing.{HeardIn, tells_heard, at_relay_tells, losses_tell, up_heard, send_heard, lose_heard, pick_at_heard, refusal_at_heard, emit_at_heard, charge_at_heard, sweep_heard}
 use Rattle.farm_model.proofs.Joined.{Joins-turned, one_client}
 use Rattle.farm_model.proofs.Linked.{client_beside}
 use Rattle.farm_model.proofs.Taken.{taken}
@@ -30,7 +31,7 @@ use Rattle.farm_model.proofs.Wired.{IsWired}
 
 -- ---- a message comes
 
-module _ (site : Site) (all : Ends) (checked : IsChecked site) where
+module _ (site : Site) (all : Ends) (steps : List Step) (checked : IsChecked site) where
   by_front : (w : WorldState) (node : NodeNo) (conn : ConnId) (message : Message) (front : FrontState) (b : Bool) → TellsSame w (cond b (after_arrival_at_front w node conn message front) w)
   by_front w node conn message front true = (refl, refl, refl, refl)
   by_front w node conn message front false = (refl, refl, refl, refl)
@@ -39,48 +40,50 @@ module _ (site : Site) (all : Ends) (checked : IsChecked site) where
   at_server_tells w node conn message (Some front) next same = subst (TellsSame w) (sym same) (by_front w node conn message front (is_among front.connections conn))
   at_server_tells w node conn message None next turn = at_relay_tells w node (Received conn message) (relay_at node w.relays) next turn
 
-  arrives_heard : (w : WorldState) (from node : NodeNo) (conn : ConnId) (message : Message) (next : WorldState) (b : Bool) → is_client site node ≡ b → (is_client site node ≡ true → HasOneClient site all conn) → HeardIn site all w
-      → MatchBool b (next ≡ record w { received = w.received ++ (conn, message) ∷ [] }) (ArrivesAtServer w node conn message (front_at node w.fronts) next) → HeardIn site all next
+  arrives_heard : (w : WorldState) (from node : NodeNo) (conn : ConnId) (message : Message) (next : WorldState) (b : Bool) → is_client site node ≡ b → (is_client site node ≡ true → HasOneClient site all conn) → HeardIn site all steps w
+      → MatchBool b (next ≡ record w { received = w.received ++ (conn, message) ∷ [] }) (ArrivesAtServer w node conn message (front_at node w.fronts) next) → HeardIn site all steps next
   arrives_heard w from node conn message next false e on heard turn = tells_heard w next (at_server_tells w node conn message (front_at node w.fronts) next turn) heard
-  arrives_heard w from node conn message next true e on heard same = subst (HeardIn site all) (sym same) (record {
+  arrives_heard w from node conn message next true e on heard same = subst (HeardIn site all steps) (sym same) (record {
     senders = heard.senders;
     receivers = all-end (λ (i : ConnId × Message). HasOneClient site all i.0) w.received (conn, message) heard.receivers (on e);
     terms = heard.terms;
     limit = heard.limit;
+    sweeps = heard.sweeps;
   })
 
-  deliver_heard : (old new : WorldState) (applied : Bool) (from to : NodeNo) (place : ℕ) → IsWired site all old → HeardIn site all old → (flight : Option Flight) → flight_at old.directions from to place ≡ flight → Delivers site old to flight applied new → HeardIn site all new
-  deliver_heard old new applied from to place wired heard None e d = subst (HeardIn site all) (sym d.1) heard
+  deliver_heard : (old new : WorldState) (applied : Bool) (from to : NodeNo) (place : ℕ) → IsWired site all old → HeardIn site all steps old → (flight : Option Flight) → flight_at old.directions from to place ≡ flight → Delivers site old to flight applied new → HeardIn site all steps new
+  deliver_heard old new applied from to place wired heard None e d = subst (HeardIn site all steps) (sym d.1) heard
   deliver_heard old new applied from to place wired heard (Some flight) e d =
       let t = taken site all old from to place wired flight e in
       arrives_heard (record old { directions = flight.directions }) from to flight.conn flight.message new (is_client site to) refl
       (λ is. one_client (Joins-turned t.joins) is (client_beside site checked from to t.linked is))
-      (record { senders = heard.senders; receivers = heard.receivers; terms = heard.terms; limit = heard.limit }) d.1
+      (record { senders = heard.senders; receivers = heard.receivers; terms = heard.terms; limit = heard.limit; sweeps = heard.sweeps }) d.1
 
   -- ---- connections end
 
-  cut_heard : (old new : WorldState) (a b : NodeNo) (conn : Option ConnId) (applied : Bool) (losses : List LossAt) → HeardIn site all old → Cuts old a b conn applied losses new → HeardIn site all new
-  cut_heard old new a b None applied losses heard c = subst (HeardIn site all) (sym c.2) heard
-  cut_heard old new a b (Some conn) applied losses heard c = tells_heard (after_cut old conn) new (losses_tell c.1) (record { senders = heard.senders; receivers = heard.receivers; terms = heard.terms; limit = heard.limit })
+  cut_heard : (old new : WorldState) (a b : NodeNo) (conn : Option ConnId) (applied : Bool) (losses : List LossAt) → HeardIn site all steps old → Cuts old a b conn applied losses new → HeardIn site all steps new
+  cut_heard old new a b None applied losses heard c = subst (HeardIn site all steps) (sym c.2) heard
+  cut_heard old new a b (Some conn) applied losses heard c = tells_heard (after_cut old conn) new (losses_tell c.1) (record { senders = heard.senders; receivers = heard.receivers; terms = heard.terms; limit = heard.limit; sweeps = heard.sweeps })
 
-  restart_heard : (old new : WorldState) (node : NodeNo) (applied : Bool) (losses : List LossAt) (b : Bool) → HeardIn site all old
-      → MatchBool b ((applied ≡ true) × LearnLosses (losses_of_restart node old.directions) (after_restart old node) losses new) ((applied ≡ false) × (losses ≡ []) × (new ≡ old)) → HeardIn site all new
-  restart_heard old new node applied losses true heard c = tells_heard (after_restart old node) new (losses_tell c.1) (record { senders = heard.senders; receivers = heard.receivers; terms = heard.terms; limit = heard.limit })
-  restart_heard old new node applied losses false heard c = subst (HeardIn site all) (sym c.2) heard
+  restart_heard : (old new : WorldState) (node : NodeNo) (applied : Bool) (losses : List LossAt) (b : Bool) → HeardIn site all steps old
+      → MatchBool b ((applied ≡ true) × LearnLosses (losses_of_restart node old.directions) (after_restart old node) losses new) ((applied ≡ false) × (losses ≡ []) × (new ≡ old)) → HeardIn site all steps new
+  restart_heard old new node applied losses true heard c = tells_heard (after_restart old node) new (losses_tell c.1) (record { senders = heard.senders; receivers = heard.receivers; terms = heard.terms; limit = heard.limit; sweeps = heard.sweeps })
+  restart_heard old new node applied losses false heard c = subst (HeardIn site all steps) (sym c.2) heard
 
   -- ---- any step
 
-  pub step_heard : (old new : WorldState) (step : Step) (applied : Bool) (losses : List LossAt) → FarmStep site old step applied losses new → IsWired site all old → HeardIn site all old → HeardIn site all new
-  step_heard old new (Up a b) applied losses s wired heard = up_heard site all checked old new applied wired heard a b s.0
-  step_heard old new (Send client to message) applied losses s wired heard = send_heard site all checked old new applied wired heard client to message s.0
-  step_heard old new (Deliver from to place) applied losses s wired heard = deliver_heard old new applied from to place wired heard (flight_at old.directions from to place) refl s.0
-  step_heard old new (Lose from to place) applied losses s wired heard = lose_heard site all checked old new applied wired heard (flight_at old.directions from to place) s.0
-  step_heard old new (Cut a b) applied losses s wired heard = cut_heard old new a b (conn_between old.directions a b) applied losses heard s
-  step_heard old new (Restart node) applied losses s wired heard = restart_heard old new node applied losses (can_restart site node) heard s
-  step_heard old new (Pick front worker) applied losses s wired heard = pick_at_heard site all checked old new applied wired heard front worker (front_at front old.fronts) s.0
-  step_heard old new (Charge front worker moment) applied losses s wired heard = charge_at_heard site all checked old new applied wired heard front worker moment (front_at front old.fronts) s.0
-  step_heard old new (Refuse front worker) applied losses s wired heard = refusal_at_heard site all checked old new applied wired heard front worker (front_at front old.fronts) s.0
-  step_heard old new (Emit front worker) applied losses s wired heard = emit_at_heard site all checked old new applied wired heard front worker (front_at front old.fronts) s.0
+  pub step_heard : (old new : WorldState) (step : Step) (applied : Bool) (losses : List LossAt) → FarmStep site old step applied losses new → Has step steps → IsWired site all old → HeardIn site all steps old → HeardIn site all steps new
+  step_heard old new (Up a b) applied losses s is_step wired heard = up_heard site all steps checked old new applied wired heard a b s.0
+  step_heard old new (Send client to message) applied losses s is_step wired heard = send_heard site all steps checked old new applied wired heard client to message s.0
+  step_heard old new (Deliver from to place) applied losses s is_step wired heard = deliver_heard old new applied from to place wired heard (flight_at old.directions from to place) refl s.0
+  step_heard old new (Lose from to place) applied losses s is_step wired heard = lose_heard site all steps checked old new applied wired heard (flight_at old.directions from to place) s.0
+  step_heard old new (Cut a b) applied losses s is_step wired heard = cut_heard old new a b (conn_between old.directions a b) applied losses heard s
+  step_heard old new (Restart node) applied losses s is_step wired heard = restart_heard old new node applied losses (can_restart site node) heard s
+  step_heard old new (Pick front worker) applied losses s is_step wired heard = pick_at_heard site all steps checked old new applied wired heard front worker (front_at front old.fronts) s.0
+  step_heard old new (Charge front worker moment) applied losses s is_step wired heard = charge_at_heard site all steps checked old new applied wired heard front worker moment (front_at front old.fronts) s.0
+  step_heard old new (Refuse front worker) applied losses s is_step wired heard = refusal_at_heard site all steps checked old new applied wired heard front worker (front_at front old.fronts) s.0
+  step_heard old new (Emit front worker) applied losses s is_step wired heard = emit_at_heard site all steps checked old new applied wired heard front worker (front_at front old.fronts) s.0
+  step_heard old new (Sweep moment) applied losses s is_step wired heard = sweep_heard site all steps checked old new applied wired heard moment is_step s.0
 
 -- ---- connections that were made stay
 
@@ -171,7 +174,7 @@ module _ (site : Site) (old new : WorldState) (applied : Bool) where
 
       go : (b : Bool) → MatchBool b (new ≡ record w { received = w.received ++ (flight.conn, flight.message) ∷ [] }) (ArrivesAtServer w to flight.conn flight.message (front_at to w.fronts) new) → MoreEnds old.ends new.ends
       go true same = same_ends old.ends new.ends (ap (λ (v : WorldState). v.ends) same)
-      go false turn = same_ends old.ends new.ends (at_server_tells site new.ends checked w to flight.conn flight.message (front_at to w.fronts) new turn).3
+      go false turn = same_ends old.ends new.ends (at_server_tells site new.ends [] checked w to flight.conn flight.message (front_at to w.fronts) new turn).3
 
   cut_ends : (a b : NodeNo) (conn : Option ConnId) (losses : List LossAt) → Cuts old a b conn applied losses new → MoreEnds old.ends new.ends
   cut_ends a b None losses c = same_ends old.ends new.ends (ap (λ (w : WorldState). w.ends) c.2)
@@ -192,3 +195,4 @@ step_ends site checked old new (Pick front worker) applied losses s = pick_at_en
 step_ends site checked old new (Charge front worker moment) applied losses s = charge_at_ends site old new applied front worker moment (front_at front old.fronts) s.0
 step_ends site checked old new (Refuse front worker) applied losses s = refusal_at_ends site old new applied front worker (front_at front old.fronts) s.0
 step_ends site checked old new (Emit front worker) applied losses s = emit_at_ends site old new applied front worker (front_at front old.fronts) s.0
+step_ends site checked old new (Sweep moment) applied losses s = same_ends old.ends new.ends (ap (λ (w : WorldState). w.ends) s.0.1)

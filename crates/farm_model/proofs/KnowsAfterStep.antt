@@ -16,10 +16,10 @@ use Rattle.relay_core.specs.RelayState.{RelayState}
 use Rattle.farm_model.specs.declared.site.Site.{Site}
 use Rattle.farm_model.specs.declared.state.Direction.{Direction}
 use Rattle.farm_model.specs.declared.step.Step.{Step}
-use Rattle.farm_model.specs.declared.step.Step.TheVariants.{Up, Send, Deliver, Lose, Cut, Restart, Pick, Charge, Refuse, Emit}
+use Rattle.farm_model.specs.declared.step.Step.TheVariants.{Up, Send, Deliver, Lose, Cut, Restart, Pick, Charge, Refuse, Emit, Sweep}
 use Rattle.farm_model.specs.Arrival.{AtRelay, after_relay_turn, after_arrival_at_front, after_arrival_at_client, ArrivesAtServer, Arrives}
 use Rattle.farm_model.specs.CheckedSite.{IsChecked}
-use Rattle.farm_model.specs.FarmStep.{Flight, FarmStep, Outcome, Delivers, Cuts, flight_at, after_lost_message, after_send_in, after_send, can_connect, with_new_connection, after_up, with_pick, after_pick_at, after_refusal_at, with_emit, after_emit_at, with_charge, after_charge_at, can_restart}
+use Rattle.farm_model.specs.FarmStep.{Flight, FarmStep, Outcome, Delivers, Cuts, flight_at, after_lost_message, after_send_in, after_send, can_connect, with_new_connection, after_up, with_pick, after_pick_at, after_refusal_at, with_emit, after_emit_at, with_charge, after_charge_at, after_sweep_at, can_restart}
 use Rattle.farm_model.specs.Loss.{LossAt, LearnLosses, after_restart, losses_of_restart}
 use Rattle.farm_model.specs.Nodes.{is_client}
 use Rattle.farm_model.specs.World.{Ends, WorldState, is_between, conn_between, with_message, front_at, relay_at}
@@ -155,3 +155,4 @@ step_knows checked old new (Charge node worker moment) applied losses wired made
     outcome_knows old known (after_charge_at old node worker moment (front_at node old.fronts)) applied new (charge_knows old known node worker moment (front_at node old.fronts)) made.0
 step_knows checked old new (Refuse node worker) applied losses wired made known = outcome_knows old known (after_refusal_at old node worker (front_at node old.fronts)) applied new (refuse_knows old known node worker (front_at node old.fronts)) made.0
 step_knows checked old new (Emit node worker) applied losses wired made known = outcome_knows old known (after_emit_at old node worker (front_at node old.fronts)) applied new (emit_knows old known node worker (front_at node old.fronts)) made.0
+step_knows checked old new (Sweep moment) applied losses wired made known = outcome_knows old known (Some (after_sweep_at old moment)) applied new (same_directions_know old (after_sweep_at old moment) refl refl known) made.0

@@ -56,6 +56,7 @@ pub mod Sending
 pub mod Sides
 pub mod Starting
 pub mod StepGoes
+pub mod Sweeping
 pub mod Taken
 pub mod Turning
 pub mod Wired

@@ -28,7 +28,7 @@ use Rattle.farm_law.specs.Lists.{Has, here, there}
 use Rattle.farm_model.specs.declared.site.Node.{Node}
 use Rattle.farm_model.specs.declared.site.Site.{Site}
 use Rattle.farm_model.specs.Nodes.{is_node, is_client, is_front, kind_in, means_front, means_relay}
-use Rattle.farm_model.specs.Promise.{Journal, IsEndOf, IsNamed, IsFrontNamed, AnswersOn, itself, over_relay, HasOneClient, IsRefusedThere, IsRightAnswer, IsFromClient, HasOneContent, IsMachineReply, RefusesLoop, RefusesWhatComesBack, KeepsPromise}
+use Rattle.farm_model.specs.Promise.{Journal, IsEndOf, IsNamed, IsFrontNamed, AnswersOn, itself, over_relay, HasOneClient, IsRefusedThere, IsRightAnswer, IsOfRun, HasOneContent, IsMachineReply, RefusesLoop, RefusesWhatComesBack, KeepsPromise}
 use Rattle.farm_model.specs.Run.{Past, front_site, trace_of}
 use Rattle.farm_model.specs.World.{Ends, WorldState}
 use Rattle.farm_model.proofs.Among.{Has-right, Contains-has, all_of}
@@ -99,19 +99,19 @@ module _ (site : Site) (past : Past) (w : WorldState) (h : RunHolds site w.ends 
 
   -- ---- the book
 
-  from_client : (entry : Entry) → Has entry w.book.history → IsFromClient site w.sent entry
-  from_client entry among = go entry (h.kept.taken entry among)
+  of_run : (entry : Entry) → Has entry w.book.history → IsOfRun site past w.sent entry
+  of_run entry among = go entry among (h.kept.taken entry among)
     where
-      go : (e : Entry) → IsTaken (parties site w.ends) w.sent e → IsFromClient site w.sent e
-      go (Take moment request) t = (t.0, t.1, (Contains-has t.2, t.3), t.4)
-      go (Sweep moment) t = absurd t
+      go : (e : Entry) → Has e w.book.history → IsTaken (parties site w.ends) w.sent e → IsOfRun site past w.sent e
+      go (Take moment request) there_is t = (t.0, t.1, (Contains-has t.2, t.3), t.4)
+      go (Sweep moment) there_is t = Contains-has (h.heard.sweeps moment there_is)
 
   -- where requests of one key are one request, its entry is the one that is replied to
   by_machine : RepliesAreOfEntries → (name : List ℕ) (message answer : Message) (answered : IsAnswered (front_site site name) w.book message answer) → HasOneContent site w.sent answered.request → IsMachineReply w.book answered.request answered.reply
   by_machine of_entries name message answer answered same_content =
       let t = of_entries w.book.terms w.book.history answered.request answered.reply answered.kept in
       let there_is : Has (Take t.moment t.taken) w.book.history = subst (λ (es : List Entry). Has (Take t.moment t.taken) es) (sym t.among) (Has-right t.before here) in
-      let from = from_client (Take t.moment t.taken) there_is in
+      let from = of_run (Take t.moment t.taken) there_is in
       let is : t.taken ≡ answered.request = same_content from.0 from.1 t.taken from.2 from.3 t.same in
       record {
         before = t.before;
@@ -206,7 +206,7 @@ module _ (site : Site) (past : Past) (w : WorldState) (h : RunHolds site w.ends 
     legal = h.kept.legal;
     limit = h.heard.limit;
     within = subst (λ (most : ℕ). length w.book.history ≤ most) h.heard.limit h.kept.within;
-    taken = all_of (IsFromClient site w.sent) w.book.history from_client;
+    taken = all_of (IsOfRun site past w.sent) w.book.history of_run;
     terms = h.heard.terms;
     loops = all_of (RefusesLoop site) past h.loops;
     come_back = all_of (RefusesWhatComesBack site) past h.come_back;

@@ -9,7 +9,7 @@ use Rattle.farm_model.specs.declared.site.Site.{Site}
 use Rattle.farm_model.specs.Cause.{HasCause}
 use Rattle.farm_model.specs.Nodes.{is_front, is_relay}
 use Rattle.farm_model.specs.Promise.{RefusesLoop, RefusesWhatComesBack}
-use Rattle.farm_model.specs.Run.{Past, Transition}
+use Rattle.farm_model.specs.Run.{Past, Transition, steps_in}
 use Rattle.farm_model.specs.World.{Ends, WorldState}
 use Rattle.farm_model.proofs.AsFarm.{parties, farm_of}
 use Rattle.farm_model.proofs.FrontRequests.{QueuesHoldRequests}
@@ -35,6 +35,6 @@ pub record RunHolds (site : Site) (all : Ends) (past : Past) (w : WorldState) : 
   pub wired : IsWired site all w
   pub requests : QueuesHoldRequests w.fronts
   pub knows : KnowsPeers site w
-  pub heard : HeardIn site all w
+  pub heard : HeardIn site all (steps_in past) w
   pub loops : (t : Transition) → Has t past → RefusesLoop site t
   pub come_back : (t : Transition) → Has t past → RefusesWhatComesBack site t

@@ -9,20 +9,20 @@ use Rattle.relay_core.specs.declared.run.RelayEvent.TheVariants.{Received}
 use Rattle.relay_core.specs.RelayState.{RelayState}
 use Rattle.farm_law.specs.Farm.{Refused}
 use Rattle.farm_law.specs.Moves.{loses, next, done}
-use Rattle.farm_law.specs.Lists.{here}
+use Rattle.farm_law.specs.Lists.{Has, here}
 use Rattle.farm_law.proofs.Lists.{Has-append, all-end}
 use Rattle.farm_model.specs.declared.site.Site.{Site}
 use Rattle.farm_model.specs.declared.state.Trace.{Trace}
 use Rattle.farm_model.specs.declared.step.Step.{Step}
-use Rattle.farm_model.specs.declared.step.Step.TheVariants.{Up, Send, Deliver, Lose, Cut, Restart, Pick, Charge, Refuse, Emit}
+use Rattle.farm_model.specs.declared.step.Step.TheVariants.{Up, Send, Deliver, Lose, Cut, Restart, Pick, Charge, Refuse, Emit, Sweep}
 use Rattle.farm_model.specs.Arrival.{AtRelay}
 use Rattle.farm_model.specs.Cause.{at_relay}
 use Rattle.farm_model.specs.CheckedSite.{IsChecked}
 use Rattle.farm_model.specs.FarmStep.{FarmStep, Flight, flight_at, can_restart}
 use Rattle.farm_model.specs.Promise.{IsNamed, RefusesLoop, RefusesWhatComesBack, KeepsPromise}
-use Rattle.farm_model.specs.Run.{Past, Transition, Run, start, empty_book, skipped_in, IsTrace}
+use Rattle.farm_model.specs.Run.{Past, Transition, Run, start, empty_book, steps_in, skipped_in, IsTrace}
 use Rattle.farm_model.specs.World.{Ends, WorldState, conn_between, relay_at}
-use Rattle.farm_model.proofs.Among.{Has-right}
+use Rattle.farm_model.proofs.Among.{Has-map, Has-right}
 use Rattle.farm_model.proofs.AnswerStands.{answer_goes}
 use Rattle.farm_model.proofs.AsFarm.{parties, name_in, farm_of, items_of}
 use Rattle.farm_model.proofs.ClientSteps.{send_goes, lose_goes}
@@ -33,6 +33,7 @@ use Rattle.farm_model.proofs.FrontCharge.{charge_goes}
 use Rattle.farm_model.proofs.FrontEmit.{emit_goes}
 use Rattle.farm_model.proofs.FrontRequests.{fronts_from_hold, QueuesHoldRequests}
 use Rattle.farm_model.proofs.FrontSteps.{pick_goes, refuse_goes}
+use Rattle.farm_model.proofs.Hearing.{heard_on}
 use Rattle.farm_model.proofs.HearingSteps.{MoreEnds, step_ends, step_heard}
 use Rattle.farm_model.proofs.KnowsAfterStep.{step_knows}
 use Rattle.farm_model.proofs.KnowsAtStart.{knows_at_start}
@@ -45,8 +46,10 @@ use Rattle.farm_model.proofs.Premises.{Premises}
 use Rattle.farm_model.proofs.PromiseLemmas.{promise_of}
 use Rattle.farm_model.proofs.Receiving.{relay_receives}
 use Rattle.farm_model.proofs.RunHolds.{RunHolds}
+use Rattle.farm_model.proofs.RunLemmas.{steps_in-push}
 use Rattle.farm_model.proofs.Starting.{start_wired, start_heard, start_moves}
 use Rattle.farm_model.proofs.StepGoes.{Goes, Reason}
+use Rattle.farm_model.proofs.Sweeping.{sweep_goes}
 use Rattle.farm_model.proofs.Wired.{IsWired}
 
 -- ---- a step
@@ -88,6 +91,7 @@ module _ (premises : Premises) (site : Site) (all : Ends) (checked : IsChecked s
   step_shows t refused (Charge front worker moment) is s legal wired requests more = shown site all t wired s.1 refused (charge_goes premises site all t refused front worker moment is s.0 legal wired requests)
   step_shows t refused (Refuse front worker) is s legal wired requests more = shown site all t wired s.1 refused (refuse_goes site all t refused front worker is s.0 wired requests)
   step_shows t refused (Emit front worker) is s legal wired requests more = shown site all t wired s.1 refused (emit_goes site all t refused front worker is s.0 wired requests)
+  step_shows t refused (Sweep moment) is s legal wired requests more = shown site all t wired s.1 refused (sweep_goes site all t refused moment s.0 wired requests)
 
   -- ---- what comes back is a loop
 
@@ -99,6 +103,9 @@ module _ (premises : Premises) (site : Site) (all : Ends) (checked : IsChecked s
       loop from node place conn message directions name step flight flag relay named (premises.comes_back name back.sent message back.avps (named_spells node name named) back.splits back.descends)
 
   -- ---- a run goes on by a step
+
+  step_passed : (past : Past) (t : Transition) (step : Step) → Has step (steps_in past) → Has step (steps_in (past ++ t ∷ []))
+  step_passed past t step among = subst (Has step) (sym (steps_in-push past t)) (Has-append (t.step ∷ []) among)
 
   one_more : (past : Past) (t : Transition) → FarmStep site t.before t.step t.applied t.losses t.after → RunHolds site all past t.before → MoreEnds t.after.ends all → RunHolds site all (past ++ t ∷ []) t.after
   one_more past t s h more =
@@ -118,7 +125,7 @@ module _ (premises : Premises) (site : Site) (all : Ends) (checked : IsChecked s
         wired = g.wired;
         requests = g.requests;
         knows = step_knows checked t.before t.after t.step t.applied t.losses h.wired s h.knows;
-        heard = step_heard site all checked t.before t.after t.step t.applied t.losses s h.wired h.heard;
+        heard = step_heard site all (steps_in (past ++ t ∷ [])) checked t.before t.after t.step t.applied t.losses s (Has-map (λ (passed : Transition). passed.step) (Has-right past here)) h.wired (heard_on t.before (step_passed past t) h.heard);
         loops = all-end (RefusesLoop site) past t h.loops loop;
         come_back = all-end (RefusesWhatComesBack site) past t h.come_back (comes_back t loop);
       }

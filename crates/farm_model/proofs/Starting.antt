@@ -158,8 +158,8 @@ start_wired site all = record {
   alone = λ n. one_each site n 0 site.nodes;
 }
 
-pub start_heard : (site : Site) (all : Ends) → HeardIn site all (start site)
-start_heard site all = record { senders = λ item h. elim h [ ]; receivers = λ item h. elim h [ ]; terms = refl; limit = refl }
+pub start_heard : (site : Site) (all : Ends) → HeardIn site all [] (start site)
+start_heard site all = record { senders = λ item h. elim h [ ]; receivers = λ item h. elim h [ ]; terms = refl; limit = refl; sweeps = λ moment h. elim h [ ] }
 
 pub start_moves : (site : Site) (all : Ends) → Moves (parties site all) (new_farm (empty_book site)) (farm_of all [] (start site))
 start_moves site all =

@@ -6,7 +6,7 @@ use Rattle.dia_base.specs.declared.number.NodeNo.{NodeNo}
 use Rattle.dia_base.specs.declared.number.Moment.{Moment}
 use Rattle.dia_message.specs.declared.message.Message.{Message}
 use Rattle.dia_message.specs.Traffic.{Traffic}
-use Rattle.cc_book.specs.Taking.{Ledger}
+use Rattle.cc_book.specs.Taking.{Ledger, after_sweep}
 use Rattle.front_core.specs.FrontState.{FrontState}
 use Rattle.front_core.specs.FrontStep.{with_connection, after_pick, after_charge, after_refusal, after_emit}
 use Rattle.relay_core.specs.declared.error.RelayError.{RelayError}
@@ -17,7 +17,7 @@ use Rattle.farm_model.specs.declared.state.Direction.{Direction}
 use Rattle.farm_model.specs.declared.state.FrontAt.{FrontAt}
 use Rattle.farm_model.specs.declared.state.RelayAt.{RelayAt}
 use Rattle.farm_model.specs.declared.step.Step.{Step}
-use Rattle.farm_model.specs.declared.step.Step.TheVariants.{Up, Send, Deliver, Lose, Cut, Restart, Pick, Charge, Refuse, Emit}
+use Rattle.farm_model.specs.declared.step.Step.TheVariants.{Up, Send, Deliver, Lose, Cut, Restart, Pick, Charge, Refuse, Emit, Sweep}
 use Rattle.farm_model.specs.Arrival.{Arrives}
 use Rattle.farm_model.specs.Lists.{replace_first}
 use Rattle.farm_model.specs.Loss.{LossAt, LearnLosses, after_cut, losses_of_cut, after_restart, losses_of_restart}
@@ -153,6 +153,11 @@ abbrev pub after_charge_at : WorldState → NodeNo → ℕ → Moment → Option
 after_charge_at w node worker moment None = None
 after_charge_at w node worker moment (Some front) = with_charge w node (after_charge front w.book moment worker)
 
+-- ---- sweep: the book ends the sessions that are due (RFC 8506, section 5.7)
+
+abbrev pub after_sweep_at : WorldState → Moment → WorldState
+after_sweep_at w moment = record w { book = after_sweep w.book moment }
+
 -- ---- cut and restart: connections end, and one node after the other learns it
 
 abbrev pub Cuts : WorldState → NodeNo → NodeNo → Option ConnId → Bool → List LossAt → WorldState → Type 0
@@ -185,3 +190,4 @@ FarmStep site old (Pick front worker) applied losses new = Outcome (after_pick_a
 FarmStep site old (Charge front worker moment) applied losses new = Outcome (after_charge_at old front worker moment (front_at front old.fronts)) applied old new × (losses ≡ [])
 FarmStep site old (Refuse front worker) applied losses new = Outcome (after_refusal_at old front worker (front_at front old.fronts)) applied old new × (losses ≡ [])
 FarmStep site old (Emit front worker) applied losses new = Outcome (after_emit_at old front worker (front_at front old.fronts)) applied old new × (losses ≡ [])
+FarmStep site old (Sweep moment) applied losses new = Outcome (Some (after_sweep_at old moment)) applied old new × (losses ≡ [])

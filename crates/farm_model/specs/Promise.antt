@@ -147,10 +147,14 @@ pub record IsRightAnswer (site : Site) (journal : Journal) (conn : ConnId) (answ
   pub answered : answer.header.error ≡ false → AnswersRequest site journal conn answer
   pub refused : answer.header.error ≡ true → RefusesRequest site journal conn answer
 
--- an entry of the history takes what is read in a request that a client sent; there are no sweeps yet
-abbrev pub IsFromClient : Site → Traffic → Entry → Type 0
-IsFromClient site sent (Take moment request) = (conn : ConnId) × (message : Message) × WasRequested sent conn message × (view_of site.vendors message ≡ Ok request)
-IsFromClient site sent (Sweep moment) = ⊥
+-- the run has a step that sweeps at this moment
+abbrev pub WasSwept : Past → Moment → Type 0
+WasSwept past moment = Contains (steps_in past) (Rattle.farm_model.specs.declared.step.Step.TheVariants.Sweep moment)
+
+-- an entry of the history takes what is read in a request that a client sent, or is a sweep of a step of the run
+abbrev pub IsOfRun : Site → Past → Traffic → Entry → Type 0
+IsOfRun site past sent (Take moment request) = (conn : ConnId) × (message : Message) × WasRequested sent conn message × (view_of site.vendors message ≡ Ok request)
+IsOfRun site past sent (Sweep moment) = WasSwept past moment
 
 -- ---- loops
 
@@ -190,7 +194,7 @@ pub record KeepsPromise (site : Site) (past : Past) (trace : Trace) : Type 0 whe
   pub legal : IsLegal trace.book.terms trace.book.history
   pub limit : trace.book.limit ≡ site.limit
   pub within : length trace.book.history ≤ site.limit
-  pub taken : All (IsFromClient site trace.sent) trace.book.history
+  pub taken : All (IsOfRun site past trace.sent) trace.book.history
   pub terms : trace.book.terms ≡ (empty_book site).terms
   pub loops : All (RefusesLoop site) past
   pub come_back : All (RefusesWhatComesBack site) past

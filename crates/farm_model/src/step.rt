@@ -60,4 +60,8 @@ pub enum Step {
         front: NodeNo,
         worker: u64,
     },
+    /// The book ends the sessions that are due at this moment (RFC 8506, section 5.7). It always applies.
+    Sweep {
+        moment: Moment,
+    },
 }

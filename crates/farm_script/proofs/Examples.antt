@@ -9,7 +9,7 @@ use Rattle.farm_script.specs.declared.fault.LineFault.TheVariants.{UnknownWord, 
 use Rattle.farm_script.specs.declared.fault.ScriptFault.{ScriptFault}
 use Rattle.farm_script.specs.declared.fault.ScriptFault.TheVariants.{Line}
 use Rattle.farm_model.specs.declared.step.Step.{Step}
-use Rattle.farm_model.specs.declared.step.Step.TheVariants.{Up, Deliver, Lose, Cut, Restart, Pick, Charge, Refuse, Emit}
+use Rattle.farm_model.specs.declared.step.Step.TheVariants.{Up, Deliver, Lose, Cut, Restart, Pick, Charge, Refuse, Emit, Sweep}
 
 -- a carriage return before a line feed is no part of the line, one at the end of the text is
 returns : lines (codes "a" ++ 13 ∷ 10 ∷ codes "b" ++ 13 ∷ []) ≡ codes "a" ∷ (codes "b" ++ 13 ∷ []) ∷ []
@@ -154,6 +154,30 @@ refuse-unknown = refl
 refuse-bad_number : spelled_by (codes "refuse f1.example 0x1") ≡ one_fault BadNumber
 refuse-bad_number = refl
 
+-- ---- sweep
+
+sweep : spelled_by (codes "sweep 1699999") ≡ one_step (Sweep (record { 0 = 1699999 }))
+sweep = refl
+
+sweep-latest : spelled_by (codes "sweep 18446744073709551615") ≡ one_step (Sweep (record { 0 = 18446744073709551615 }))
+sweep-latest = refl
+
+sweep-too_few : spelled_by (codes "sweep") ≡ one_fault WrongCount
+sweep-too_few = refl
+
+-- it is of the book, and names no front
+sweep-too_many : spelled_by (codes "sweep f1.example 0") ≡ one_fault WrongCount
+sweep-too_many = refl
+
+sweep-bad_number : spelled_by (codes "sweep f1.example") ≡ one_fault BadNumber
+sweep-bad_number = refl
+
+sweep-large_number : spelled_by (codes "sweep 18446744073709551616") ≡ one_fault BadNumber
+sweep-large_number = refl
+
+sweep-upper_case : spelled_by (codes "SWEEP 0") ≡ one_fault UnknownWord
+sweep-upper_case = refl
+
 -- ---- relays, and words that are none
 
 -- a relay stands where any node may, also where the step does not apply to it
@@ -181,9 +205,6 @@ relay-bad_number = refl
 
 relay-unknown : spelled_by (codes "pick r3.example x") ≡ one_fault UnknownName
 relay-unknown = refl
-
-sweep : spelled_by (codes "sweep f1.example 0") ≡ one_fault UnknownWord
-sweep = refl
 
 -- names are read without case, the first word is not
 first_word-upper_case : spelled_by (codes "CUT r1.example f1.example") ≡ one_fault UnknownWord

@@ -10,7 +10,7 @@ use Rattle.farm_script.specs.declared.fault.ScriptFault.{ScriptFault}
 use Rattle.farm_script.specs.declared.fault.ScriptFault.TheVariants.{Line, TooLong}
 use Rattle.farm_model.specs.declared.site.Site.{Site}
 use Rattle.farm_model.specs.declared.step.Step.{Step}
-use Rattle.farm_model.specs.declared.step.Step.TheVariants.{Up, Send, Deliver, Lose, Cut, Restart, Pick, Charge, Refuse, Emit}
+use Rattle.farm_model.specs.declared.step.Step.TheVariants.{Up, Send, Deliver, Lose, Cut, Restart, Pick, Charge, Refuse, Emit, Sweep}
 use Rattle.farm_script.specs.Words.{words_of, says_nothing, node_of, number_of, message_of}
 
 -- ---- the step that words spell
@@ -94,6 +94,12 @@ emit_of site (front ∷ worker ∷ []) = do
   Ok (Emit node number)
 emit_of site words = Err WrongCount
 
+abbrev pub sweep_of : List (List ℕ) → Result Step LineFault
+sweep_of (moment ∷ []) = do
+  time ← number_of moment
+  Ok (Sweep (record { 0 = time }))
+sweep_of words = Err WrongCount
+
 -- by the first word; the others stand for what the step is about
 abbrev pub step_of : Site → List (List ℕ) → Result Step LineFault
 step_of site [] = Err UnknownWord
@@ -108,6 +114,7 @@ step_of site (verb ∷ words) =
     else if bytes_eq verb (codes "charge") then charge_of site words
     else if bytes_eq verb (codes "refuse") then refuse_of site words
     else if bytes_eq verb (codes "emit") then emit_of site words
+    else if bytes_eq verb (codes "sweep") then sweep_of words
     else Err UnknownWord
 
 -- ---- the steps that a text spells

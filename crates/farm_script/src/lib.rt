@@ -11,6 +11,7 @@
 //! charge F W MOMENT      worker W of front F charges its job at this moment
 //! refuse F W             worker W of front F refuses its job without the book
 //! emit F W               worker W of front F sends its answer
+//! sweep MOMENT           the book ends the sessions that are due at this moment
 //! ```
 //!
 //! Places and workers count from 0. The words are in small letters. Nodes have their whole names,

@@ -2,7 +2,7 @@
 
 ghost use Rattle.std.specs.Prelude.{◌≡◌, map};
 ghost use Rattle.farm_script.specs.Words.{Answers};
-ghost use Rattle.farm_script.specs.Schedule.{step_of, up_of, send_of, deliver_of, lose_of, cut_of, restart_of, pick_of, charge_of, refuse_of, emit_of};
+ghost use Rattle.farm_script.specs.Schedule.{step_of, up_of, send_of, deliver_of, lose_of, cut_of, restart_of, pick_of, charge_of, refuse_of, emit_of, sweep_of};
 
 use crate::fault::LineFault;
 use crate::word::{message_of, node_of, number_of};
@@ -29,6 +29,8 @@ const CHARGE: &[u8] = b"charge";
 const REFUSE: &[u8] = b"refuse";
 
 const EMIT: &[u8] = b"emit";
+
+const SWEEP: &[u8] = b"sweep";
 
 /// The step that the words of a line spell, or the line's first fault.
 pub fn step_of(alloc: Global, words: &[&[u8]], site: &Site) -> Result<Step, LineFault>
@@ -58,6 +60,8 @@ pub fn step_of(alloc: Global, words: &[&[u8]], site: &Site) -> Result<Step, Line
         refuse_of(words, site)
     } else if verb == EMIT {
         emit_of(words, site)
+    } else if verb == SWEEP {
+        sweep_of(words)
     } else {
         Err(LineFault::UnknownWord)
     }
@@ -193,5 +197,17 @@ fn emit_of(words: &[&[u8]], site: &Site) -> Result<Step, LineFault>
     Ok(Step::Emit {
         front: node_of(site, front)?,
         worker: number_of(worker)?,
+    })
+}
+
+#[tactic(auto, using(crate::proofs::WordLists::one_word))]
+fn sweep_of(words: &[&[u8]]) -> Result<Step, LineFault>
+    ensures { result ≡ sweep_of (map (λ word. word.now) words.now) }
+{
+    let [word] = words else {
+        return Err(LineFault::WrongCount);
+    };
+    Ok(Step::Sweep {
+        moment: Moment(number_of(word)?),
     })
 }

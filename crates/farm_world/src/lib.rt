@@ -4,14 +4,14 @@
 //! - [`run`]: the steps of a schedule over a site, one after the other, from an empty history. Its
 //!   contract carries what is promised of every run: who is answered what, how often, and what the
 //!   book stands on, over any graph of relays.
+//! - [`World`]: the farm between two steps, for who looks at a run step by step.
 //! - [`row_site`]: the site that a schedule runs over where no site file is given.
 //! - [`Site`], [`Step`], [`Trace`] and the definitions of a step and a run are `farm_model`'s.
 //!
-//! Inside, `World` holds the farm between two steps; `directions` keeps what is in flight, `nodes`
-//! asks the site, `fronts` and `relays` pass an event on to the one that it comes to, and `opening`
-//! makes the farm before its first step. A function for each word of a schedule stands in `turns`,
-//! in `loss` where connections end, and in `workers` where a worker of a front acts; `runs` goes over
-//! the steps.
+//! Inside, `directions` keeps what is in flight, `nodes` asks the site, `fronts` and `relays` pass an
+//! event on to the one that it comes to, and `opening` makes the farm before its first step. A function
+//! for each word of a schedule stands in `turns`, in `loss` where connections end, and in `workers` where
+//! a worker of a front acts; `runs` goes over the steps.
 //!
 //! ```text
 //! use dia_avp::PlainWire;
@@ -44,3 +44,4 @@ pub use farm_model::{Direction, FrontAt, Link, Node, RelayAt, Route, Site, Step,
 pub use nodes::is_client;
 pub use row::row_site;
 pub use runs::{RunError, run};
+pub use world::World;

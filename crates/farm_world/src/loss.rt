@@ -80,7 +80,12 @@ impl World {
     }
 
     /// The connection between two nodes ends. First the one learns it, then the other.
-    pub fn cut<W: Wire>(&mut self, alloc: Global, a: NodeNo, b: NodeNo) -> Result<bool, AllocError>
+    pub(crate) fn cut<W: Wire>(
+        &mut self,
+        alloc: Global,
+        a: NodeNo,
+        b: NodeNo,
+    ) -> Result<bool, AllocError>
         ensures ok { IfOk result (λ applied. (known : List LossAt) × Cuts self.old a b (conn_between self.old.directions a b) applied known self.new) }
         ensures err { OnErr result (TellsSame self.old self.new) }
     {
@@ -93,7 +98,7 @@ impl World {
     }
 
     /// A relay or a front begins anew: the other ends of its connections learn that these have ended.
-    pub fn restart<W: Wire>(
+    pub(crate) fn restart<W: Wire>(
         &mut self,
         alloc: Global,
         site: &Site,

@@ -1,8 +1,8 @@
 //! One step of the farm.
 
-ghost use Rattle.std.specs.Prelude.{◌≡◌, List, IfOk, OnOk, OnErr};
+ghost use Rattle.std.specs.Prelude.{◌≡◌, List, Some, IfOk, OnOk, OnErr};
 ghost use Rattle.farm_model.specs.Arrival.{Arrives};
-ghost use Rattle.farm_model.specs.FarmStep.{Outcome, can_connect, after_up, after_send, flight_at, Delivers, after_lost_message, FarmStep};
+ghost use Rattle.farm_model.specs.FarmStep.{Outcome, can_connect, after_up, after_send, flight_at, Delivers, after_lost_message, FarmStep, after_sweep_at};
 ghost use Rattle.farm_model.specs.Loss.{LossAt};
 ghost use Rattle.farm_model.specs.Run.{TellsSame};
 
@@ -11,8 +11,9 @@ use crate::fronts::{connect, place_of_front};
 use crate::nodes::{is_client, is_linked};
 use crate::relays;
 use crate::world::World;
+use cc_book::BookRefusal;
 use dia_avp::Wire;
-use dia_base::{ConnId, NodeNo};
+use dia_base::{ConnId, Moment, NodeNo};
 use dia_message::Message;
 use farm_model::{Site, Step};
 use front_core::FrontError;
@@ -26,7 +27,7 @@ impl World {
     }
 
     /// A new connection, which both nodes learn.
-    pub fn up(
+    pub(crate) fn up(
         &mut self,
         alloc: Global,
         site: &Site,
@@ -51,7 +52,7 @@ impl World {
     }
 
     /// A client sends a message.
-    pub fn send(
+    pub(crate) fn send(
         &mut self,
         site: &Site,
         client: NodeNo,
@@ -105,7 +106,7 @@ impl World {
     }
 
     /// A message in flight arrives.
-    pub fn deliver<W: Wire>(
+    pub(crate) fn deliver<W: Wire>(
         &mut self,
         alloc: Global,
         site: &Site,
@@ -124,13 +125,26 @@ impl World {
     }
 
     /// A message in flight is lost.
-    pub fn lose(&mut self, from: NodeNo, to: NodeNo, place: u64) -> bool
+    pub(crate) fn lose(&mut self, from: NodeNo, to: NodeNo, place: u64) -> bool
         ensures { Outcome (after_lost_message self.old (flight_at self.old.directions from to place)) result self.old self.new }
     {
         take_off(&mut self.directions, from, to, place).is_some()
     }
 
-    /// One step. The answer is whether it applied.
+    /// The book ends the sessions that are due. Where it has no room for an entry, nothing changes.
+    pub(crate) fn sweep(&mut self, moment: Moment) -> Result<bool, AllocError>
+        ensures ok { IfOk result (λ applied. Outcome (Some (after_sweep_at self.old moment)) applied self.old self.new) }
+        ensures err { OnErr result (TellsSame self.old self.new) }
+    {
+        match self.book.sweep(moment) {
+            Ok(_) | Err(BookRefusal::Full { .. }) => Ok(true),
+            Err(BookRefusal::OutOfMemory) => Err(AllocError),
+        }
+    }
+
+    /// One step. The answer is whether it applied; where not, nothing has changed. After an error, which is
+    /// want of memory, what clients sent and received, the book and the ends of connections are as they
+    /// were, and nothing is known of the rest.
     pub fn step<W: Wire>(
         &mut self,
         alloc: Global,
@@ -159,6 +173,7 @@ impl World {
             } => self.charge::<W>(alloc, *front, *worker, *moment),
             Step::Refuse { front, worker } => self.refuse::<W>(alloc, *front, *worker),
             Step::Emit { front, worker } => self.emit(alloc, *front, *worker),
+            Step::Sweep { moment } => self.sweep(*moment),
         }
     }
 }

@@ -14,7 +14,7 @@ use std::alloc::{AllocError, Global};
 
 impl World {
     /// An idle worker of a front takes a request.
-    pub fn pick(&mut self, front: NodeNo, worker: u64) -> bool
+    pub(crate) fn pick(&mut self, front: NodeNo, worker: u64) -> bool
         ensures { Outcome (after_pick_at self.old front worker (front_at front self.old.fronts)) result self.old self.new }
     {
         match place_of_front(&self.fronts, front) {
@@ -24,7 +24,12 @@ impl World {
     }
 
     /// A worker of a front sends its answer.
-    pub fn emit(&mut self, alloc: Global, front: NodeNo, worker: u64) -> Result<bool, AllocError>
+    pub(crate) fn emit(
+        &mut self,
+        alloc: Global,
+        front: NodeNo,
+        worker: u64,
+    ) -> Result<bool, AllocError>
         ensures ok { IfOk result (λ applied. Outcome (after_emit_at self.old front worker (front_at front self.old.fronts)) applied self.old self.new) }
         ensures err { OnErr result (TellsSame self.old self.new) }
     {
@@ -42,7 +47,7 @@ impl World {
     }
 
     /// A worker of a front charges its request in the book.
-    pub fn charge<W: Wire>(
+    pub(crate) fn charge<W: Wire>(
         &mut self,
         alloc: Global,
         front: NodeNo,
@@ -63,7 +68,7 @@ impl World {
     }
 
     /// A worker of a front refuses its request by order.
-    pub fn refuse<W: Wire>(
+    pub(crate) fn refuse<W: Wire>(
         &mut self,
         alloc: Global,
         front: NodeNo,

@@ -1,25 +1,27 @@
 //! What the farm consists of between two steps.
 
+ghost use Rattle.std.specs.Prelude.{◌≡◌};
+
 use cc_book::Book;
 use dia_base::{ConnId, NodeNo};
 use dia_message::Message;
 use farm_model::{Direction, FrontAt, RelayAt};
 use std::marker::Model;
 
-/// The farm.
+/// The farm. [`World::open`] makes it, [`World::step`] takes it from one step to the next.
 #[derive(Debug, Drop)]
 pub struct World {
     /// Two for each connection.
-    pub directions: Vec<Direction>,
-    pub fronts: Vec<FrontAt>,
-    pub relays: Vec<RelayAt>,
-    pub book: Book,
+    pub(crate) directions: Vec<Direction>,
+    pub(crate) fronts: Vec<FrontAt>,
+    pub(crate) relays: Vec<RelayAt>,
+    pub(crate) book: Book,
     /// What clients have sent, each message with its connection.
-    pub sent: Vec<(ConnId, Message)>,
+    pub(crate) sent: Vec<(ConnId, Message)>,
     /// What clients have received.
-    pub received: Vec<(ConnId, Message)>,
+    pub(crate) received: Vec<(ConnId, Message)>,
     /// The two nodes of each connection that was made. Connections are numbered from 1.
-    pub ends: Vec<(NodeNo, NodeNo)>,
+    pub(crate) ends: Vec<(NodeNo, NodeNo)>,
 }
 
 impl Model for World {
@@ -36,4 +38,21 @@ impl Model for World {
       received = w.received.items;
       ends = w.ends.items;
     } };
+}
+
+impl World {
+    /// Both directions of each connection that stands, the connection that was made first first, with
+    /// the messages in flight in each.
+    pub fn directions(&self) -> &[Direction]
+        ensures { result.now ≡ self.now.directions }
+    {
+        &self.directions
+    }
+
+    /// The account book, which all fronts share.
+    pub fn book(&self) -> &Book
+        ensures { result.now ≡ self.now.book }
+    {
+        &self.book
+    }
 }

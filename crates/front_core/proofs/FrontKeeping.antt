@@ -1,6 +1,6 @@
 -- Each event of a front keeps what stands of it.
-use Rattle.std.proofs.Common.{inl, inr, ◌≡◌, ℕ, Bool, true, false, cond, ltb, List, [], ◌∷◌, ◌++◌, length, Option, Some, None, refl, sym, subst, ap, ◌∙◌, append_assoc}
-use Rattle.std.specs.Prelude.{◌⊎◌, All, slice_get, unwrap_or}
+use Rattle.std.proofs.Common.{inl, inr, ◌≡◌, ℕ, zero, suc, Bool, true, false, cond, ltb, List, [], ◌∷◌, ◌++◌, length, Option, Some, None, Result, Ok, Err, refl, sym, subst, ap, ◌∙◌, append_assoc}
+use Rattle.std.specs.Prelude.{◌⊎◌, All, Contains, slice_get, unwrap_or}
 use Rattle.std.proofs.lemmas.List.Elements.{All-nil, All-cons, All-push, All-head, All-tail, All-set, All-replicate, All-weaker}
 use Rattle.std.proofs.lemmas.Option.{slice_get_within, get_or_from_slice_get, same_Some}
 use Rattle.dia_base.specs.declared.number.ConnId.{ConnId}
@@ -12,10 +12,12 @@ use Rattle.cc_view.specs.declared.refusal.Refusal.{Refusal}
 use Rattle.cc_view.specs.Answer.{refusal_of}
 use Rattle.cc_view.specs.Refusal.{refusal_with}
 use Rattle.cc_book.specs.declared.entry.Entry.{Entry}
-use Rattle.cc_book.specs.declared.entry.Entry.TheVariants.{Take}
+use Rattle.cc_book.specs.declared.entry.Entry.TheVariants.{Take, Sweep}
 use Rattle.cc_book.specs.History.{IsLegal}
-use Rattle.cc_book.specs.Taking.{Ledger}
-use Rattle.cc_book.proofs.Keys.{new-without_reply, IsLegal-push}
+use Rattle.cc_book.specs.declared.book.BookRefusal.{BookRefusal}
+use Rattle.cc_book.specs.Taking.{Ledger, after_sweep, sweep_answer, after_sweep_with}
+use Rattle.cc_book.proofs.Keys.{IsLegal-push, IsLegal-sweep, new-without_reply}
+use Rattle.cc_book.proofs.Sweeps.{sweep-ends}
 use Rattle.front_core.specs.declared.event.FrontEvent.{FrontEvent}
 use Rattle.front_core.specs.declared.event.FrontEvent.TheVariants.{Up, Pick, Charge, Refuse, Emit, Lost, Restart}
 use Rattle.front_core.specs.declared.site.FrontSite.{FrontSite}
@@ -156,6 +158,28 @@ book_grows site book past ledger next moment conn message answer (takes request 
   keeps = answered-stays site ledger (Take moment request ∷ []);
 }
 
+-- ---- a sweep, and the book
+
+-- a book that did not change
+book_same : (site : FrontSite) (book : Ledger) (past : List FrontEvent) (ledger : Ledger) → GrowsByRequests site past book ledger → IsLegal ledger.terms ledger.history → BookGrows site book past ledger ledger
+book_same site book past ledger g legal = record { grown = g; legal = legal; keeps = λ m a x. x }
+
+book_swept : (site : FrontSite) (book : Ledger) (past : List FrontEvent) (ledger : Ledger) (moment : Moment) (answer : Result ℕ BookRefusal) → sweep_answer ledger moment ≡ answer → Contains past (FrontEvent.Sweep moment)
+    → GrowsByRequests site past book ledger → IsLegal ledger.terms ledger.history → BookGrows site book past ledger (after_sweep_with ledger moment answer)
+book_swept site book past ledger moment (Ok zero) e told g legal = book_same site book past ledger g legal
+book_swept site book past ledger moment (Err refusal) e told g legal = book_same site book past ledger g legal
+book_swept site book past ledger moment (Ok (suc n)) e told g legal = record {
+  grown = record {
+    more = g.more ++ Sweep moment ∷ [];
+    grown =
+        ap (λ (l : Ledger). let grown : Ledger = record l { history = l.history ++ Sweep moment ∷ [] } in grown) g.grown
+        ∙ ap (λ (h : List Entry). let grown : Ledger = record book { history = h } in grown) (append_assoc book.history g.more (Sweep moment ∷ []));
+    taken = All-push (IsOfRequest site past) g.more (Sweep moment) g.taken told;
+  };
+  legal = IsLegal-sweep ledger.terms ledger.history moment legal (sweep-ends ledger moment n e);
+  keeps = answered-stays site ledger (Sweep moment ∷ []);
+}
+
 -- ---- events at which the book, or the list of events, counts
 
 module _ (site : FrontSite) (book : Ledger) (past : List FrontEvent) (ledger : Ledger) (grown : GrowsByRequests site past book ledger) (legal : IsLegal ledger.terms ledger.history) where
@@ -253,6 +277,21 @@ module _ (site : FrontSite) (book : Ledger) (past : List FrontEvent) (ledger : L
       }) in
       quiet_turn front (with_worker front worker (Done conn (too_busy front.site message))) (with_worker_stands site book past ledger front worker (Done conn (too_busy front.site message)) right s)
 
+  -- ---- a sweep
+
+  sweep_turn : (front : FrontState) (moment : Moment) → Contains past (FrontEvent.Sweep moment) → Stood front → After front (silent_turn front (after_sweep ledger moment))
+  sweep_turn front moment told s =
+      let next = after_sweep ledger moment in
+      let b = book_swept site book past ledger moment (sweep_answer ledger moment) refl told grown legal in
+      record {
+        front = FrontStands-grows site book past past ledger next (fuller site book past ledger next b.keeps) front s;
+        sent = All-nil (IsRightAnswer site book past next);
+        up = All-nil _;
+        grown = b.grown;
+        legal = b.legal;
+        keeps = b.keeps;
+      }
+
   -- ---- any event
 
   emit_turn : (front : FrontState) (worker : ℕ) → Stood front → After front (sending_turn (unwrap_or (after_emit front worker) (front, [])) ledger)
@@ -260,12 +299,13 @@ module _ (site : FrontSite) (book : Ledger) (past : List FrontEvent) (ledger : L
       let left = emit_stands site book past ledger front worker (after_emit front worker) refl s in
       same_book site book past ledger front (sending_turn (unwrap_or (after_emit front worker) (front, [])) ledger) refl left.0 left.1 left.2 grown legal
 
-  pub event_turn : (front : FrontState) (event : FrontEvent) → ((conn : ConnId) (message : Message) → event ≡ FrontEvent.Message conn message → message.header.request ≡ true → IsAsked past conn message) → Shows event front → Stood front → After front (after_event front ledger event)
-  event_turn front (Up conn) asked shows s = quiet_turn front (with_connection front conn) (with_connection_stands site book past ledger front conn s)
-  event_turn front (FrontEvent.Message conn message) asked shows s = message_turn front conn message (is_among front.connections conn) refl (asked conn message refl) shows s
-  event_turn front (Pick worker) asked shows s = quiet_turn front (unwrap_or (after_pick front worker) front) (pick_stands site book past ledger front worker (after_pick front worker) refl s)
-  event_turn front (Charge worker moment) asked shows s = charge_turn front moment worker (slice_get front.workers worker) refl shows s
-  event_turn front (Refuse worker) asked shows s = refusal_turn front worker (slice_get front.workers worker) refl shows s
-  event_turn front (Emit worker) asked shows s = emit_turn front worker s
-  event_turn front (Lost conn) asked shows s = quiet_turn front (without_connection front conn) (record { of_site = s.of_site; waiting = s.waiting; working = s.working })
-  event_turn front Restart asked shows s = quiet_turn front (after_restart front) (restart_stands site book past ledger front s)
+  pub event_turn : (front : FrontState) (event : FrontEvent) → ((conn : ConnId) (message : Message) → event ≡ FrontEvent.Message conn message → message.header.request ≡ true → IsAsked past conn message) → Contains past event → Shows event front → Stood front → After front (after_event front ledger event)
+  event_turn front (Up conn) asked told shows s = quiet_turn front (with_connection front conn) (with_connection_stands site book past ledger front conn s)
+  event_turn front (FrontEvent.Message conn message) asked told shows s = message_turn front conn message (is_among front.connections conn) refl (asked conn message refl) shows s
+  event_turn front (Pick worker) asked told shows s = quiet_turn front (unwrap_or (after_pick front worker) front) (pick_stands site book past ledger front worker (after_pick front worker) refl s)
+  event_turn front (Charge worker moment) asked told shows s = charge_turn front moment worker (slice_get front.workers worker) refl shows s
+  event_turn front (Refuse worker) asked told shows s = refusal_turn front worker (slice_get front.workers worker) refl shows s
+  event_turn front (Emit worker) asked told shows s = emit_turn front worker s
+  event_turn front (FrontEvent.Sweep moment) asked told shows s = sweep_turn front moment told s
+  event_turn front (Lost conn) asked told shows s = quiet_turn front (without_connection front conn) (record { of_site = s.of_site; waiting = s.waiting; working = s.working })
+  event_turn front Restart asked told shows s = quiet_turn front (after_restart front) (restart_stands site book past ledger front s)

@@ -5,7 +5,7 @@ use Rattle.std.specs.List.{sum_by}
 use Rattle.std.proofs.lemmas.Grind.{flat_map-append}
 use Rattle.std.proofs.Math.Seq.{take-append_seam}
 use Rattle.std.proofs.lemmas.List.{append-nil, take-append-le, take_all}
-use Rattle.std.proofs.lemmas.List.Elements.{All-nil, All-replicate, All-weaker, filter_map-append}
+use Rattle.std.proofs.lemmas.List.Elements.{Contains-push, All-nil, All-replicate, All-weaker, filter_map-append}
 use Rattle.std.proofs.lemmas.List.Sums.{sum_by-append}
 use Rattle.std.proofs.lemmas.Option.{slice_get_within, same_Some}
 use Rattle.dia_base.specs.declared.number.ConnId.{ConnId}
@@ -72,6 +72,7 @@ module _ (conn : ConnId) (hop end : ℕ) where
   event_le front ledger (Charge worker moment) = omega (arith, charge_le front ledger moment worker (after_charge front ledger moment worker) refl)
   event_le front ledger (Refuse worker) = omega (arith, refusal_le front worker (after_refusal front worker) refl)
   event_le front ledger (Emit worker) = omega (arith, emit_le front worker (after_emit front worker) refl)
+  event_le front ledger (FrontEvent.Sweep moment) = omega arith
   event_le front ledger (Lost c) = omega arith
   event_le front ledger Restart = omega (arith, restart-is conn hop end front)
 
@@ -178,7 +179,7 @@ event_stands site book past event s =
     let turn : Turn = after_event run.front run.ledger event in
     let g = longer site book past (event ∷ []) run.ledger in
     let t : TurnStands site book later run.front run.ledger turn =
-    event_turn site book later run.ledger (GrowsByRequests-grows site book past later run.ledger run.ledger g run.ledger s.grown) s.legal run.front event (event_asked past event)
+    event_turn site book later run.ledger (GrowsByRequests-grows site book past later run.ledger run.ledger g run.ledger s.grown) s.legal run.front event (event_asked past event) (Contains-push past event)
     (λ conn message refusal shown. cause_now site book past conn message event refusal shown) (FrontStands-grows site book past later run.ledger run.ledger g run.front s.front) in
     let len : length (run.sent ++ turn.sent ∷ []) ≡ length later = omega (arith, length-append run.sent (turn.sent ∷ []), length-append past (event ∷ []), s.length_of) in
     record {

@@ -72,6 +72,7 @@ Keeps site ledger next = (message answer : Message) → IsAnswered site ledger m
 pub record Grows (site : FrontSite) (book : Ledger) (past later : List FrontEvent) (ledger next : Ledger) : Type 0 where
   pub asked : (conn : ConnId) (message : Message) → IsAsked past conn message → IsAsked later conn message
   pub cause : (conn : ConnId) (message : Message) (refusal : Refusal) → HasCause site book past conn message refusal → HasCause site book later conn message refusal
+  pub told : (event : FrontEvent) → Contains past event → Contains later event
   pub keeps : Keeps site ledger next
 
 -- one more event
@@ -93,11 +94,11 @@ cause_longer site book past more conn message refusal h =
     }
 
 pub longer : (site : FrontSite) (book : Ledger) (past more : List FrontEvent) (ledger : Ledger) → Grows site book past (past ++ more) ledger ledger
-longer site book past more ledger = record { asked = asked_longer past more; cause = cause_longer site book past more; keeps = λ message answer a. a }
+longer site book past more ledger = record { asked = asked_longer past more; cause = cause_longer site book past more; told = Contains-append_left past more; keeps = λ message answer a. a }
 
 -- more in the book
 pub fuller : (site : FrontSite) (book : Ledger) (past : List FrontEvent) (ledger next : Ledger) → Keeps site ledger next → Grows site book past past ledger next
-fuller site book past ledger next keeps = record { asked = λ conn message a. a; cause = λ conn message refusal h. h; keeps = keeps }
+fuller site book past ledger next keeps = record { asked = λ conn message a. a; cause = λ conn message refusal h. h; told = λ event c. c; keeps = keeps }
 
 module _ (site : FrontSite) (book : Ledger) (past later : List FrontEvent) (ledger next : Ledger) (g : Grows site book past later ledger next) where
   pub IsRightAnswer-grows : (item : ConnId × Message) → IsRightAnswer site book past ledger item → IsRightAnswer site book later next item
@@ -127,7 +128,7 @@ module _ (site : FrontSite) (book : Ledger) (past later : List FrontEvent) (ledg
 
   entry_grows : (entry : Entry) → IsOfRequest site past entry → IsOfRequest site later entry
   entry_grows (Take moment request) s = (s.0, s.1, g.asked s.0 s.1 s.2, s.3)
-  entry_grows (Sweep moment) s = absurd s
+  entry_grows (Sweep moment) s = g.told (FrontEvent.Sweep moment) s
 
   pub GrowsByRequests-grows : (end : Ledger) → GrowsByRequests site past book end → GrowsByRequests site later book end
   GrowsByRequests-grows end b = record { more = b.more; grown = b.grown; taken = All-weaker (IsOfRequest site past) (IsOfRequest site later) entry_grows b.more b.taken }

@@ -82,12 +82,12 @@ pub record RefusesRequest (site : FrontSite) (book : Ledger) (events : List Fron
 abbrev pub IsRightAnswer : FrontSite → Ledger → List FrontEvent → Ledger → ConnId × Message → Type 0
 IsRightAnswer site book events end item = AnswersRequest site events end item.0 item.1 ⊎ RefusesRequest site book events item.0 item.1
 
--- an entry takes what is read in a request that came
+-- an entry takes what is read in a request that came, or is the sweep of an event
 abbrev pub IsOfRequest : FrontSite → List FrontEvent → Entry → Type 0
 IsOfRequest site events (Take moment request) = (conn : ConnId) × (message : Message) × IsAsked events conn message × (view_of site.vendors message ≡ Ok request)
-IsOfRequest site events (Sweep moment) = ⊥
+IsOfRequest site events (Sweep moment) = Contains events (FrontEvent.Sweep moment)
 
--- the book grows by requests that came, and by nothing else
+-- the book grows by requests that came and by sweeps of the list, and by nothing else
 pub record GrowsByRequests (site : FrontSite) (events : List FrontEvent) (book end : Ledger) : Type 0 where
   pub more : List Entry
   pub grown : end ≡ record book { history = book.history ++ more }
@@ -105,7 +105,7 @@ abbrev pub EachSent : (ℕ → ConnId × Message → Type 0) → List Traffic �
 EachSent P sent = (place : ℕ) (items : Traffic) → slice_get sent place ≡ Some items → All (P place) items
 
 -- What is promised of a run, from no connection and the book that is handed in: all that is sent is a right
--- answer, no more often than it was asked for, and the book grows by what was asked.
+-- answer, no more often than it was asked for, and the book grows by what was asked, and by sweeps.
 pub record KeepsPromise (site : FrontSite) (book : Ledger) (events : List FrontEvent) (sent : List Traffic) (end : Ledger) : Type 0 where
   pub answers : EachSent (IsSentRightly site book events end) sent
   pub not_more : (conn : ConnId) (hop end : ℕ) → answers_with (all_sent sent) conn hop end ≤ requests_with (traffic_of events) conn hop end

@@ -1,6 +1,7 @@
 //! A front over a list of events.
 
 ghost use Rattle.std.specs.Prelude.{◌≡◌, [], map, IfOk, IsOkUnless, OnOk, if◌then◌else◌};
+ghost use Rattle.cc_book.specs.Taking.{after_sweep};
 ghost use Rattle.front_core.specs.FrontRun.{after_event, run_of};
 ghost use Rattle.front_core.specs.FrontState.{new_front, is_among};
 ghost use Rattle.front_core.specs.FrontStep.{after_arrival, sent_at_arrival};
@@ -10,9 +11,9 @@ use crate::error::FrontError;
 use crate::event::FrontEvent;
 use crate::front::Front;
 use crate::site::FrontSite;
-use cc_book::Book;
+use cc_book::{Book, BookRefusal};
 use dia_avp::Wire;
-use dia_base::ConnId;
+use dia_base::{ConnId, Moment};
 use dia_message::{Message, Out};
 use std::alloc::{AllocError, Global};
 
@@ -47,6 +48,17 @@ fn on_message<W: Wire>(
     }
 }
 
+/// A sweep of the book. One that meets the limit of the history changes nothing.
+fn sweep(book: &mut Book, moment: Moment) -> Result<(), FrontError>
+    ensures book { OnOk result (book.new ≡ after_sweep book.old moment) }
+    ensures memory { IsOkUnless result FrontError.OutOfMemory }
+{
+    match book.sweep(moment) {
+        Ok(_) | Err(BookRefusal::Full { .. }) => Ok(()),
+        Err(BookRefusal::OutOfMemory) => Err(FrontError::OutOfMemory),
+    }
+}
+
 /// What is sent at an event. A step that does not apply sends nothing.
 fn on_event<W: Wire>(
     alloc: Global,
@@ -78,6 +90,7 @@ fn on_event<W: Wire>(
                 return Ok(out);
             }
         }
+        FrontEvent::Sweep { moment } => sweep(book, *moment)?,
         FrontEvent::Lost { conn } => front.conn_lost(*conn),
         FrontEvent::Restart => front.restart(),
     }

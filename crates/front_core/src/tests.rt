@@ -33,6 +33,7 @@ enum Act {
     Refuse,
     Emit,
     EmitBySecond,
+    Sweep,
     Lost,
     Restart,
 }
@@ -55,6 +56,9 @@ fn event_of(alloc: Global, act: Act) -> Result<FrontEvent, Fail> {
         Act::Refuse => FrontEvent::Refuse { worker: 0 },
         Act::Emit => FrontEvent::Emit { worker: 0 },
         Act::EmitBySecond => FrontEvent::Emit { worker: 1 },
+        Act::Sweep => FrontEvent::Sweep {
+            moment: Moment(u64::MAX),
+        },
         Act::Lost => FrontEvent::Lost { conn },
         Act::Restart => FrontEvent::Restart,
     })
@@ -125,9 +129,9 @@ fn line(alloc: Global, place: usize, out: &Out) -> Result<String, Fail> {
 
 #[test]
 fn a_front_answers_what_it_charged_or_refused(rt: HostRuntime) -> Result<(), Fail> {
-    use Act::{Charge, Debit, Emit, Lost, Pick, Refuse, Up, UpAnew};
+    use Act::{Charge, Debit, Emit, Lost, Pick, Refuse, Sweep, Up, UpAnew};
     let rows: [(&[Act], usize, &str, usize); 5] = [
-        (&[Up, Debit, Pick, Charge, Emit], 4, UNKNOWN, 1),
+        (&[Up, Debit, Pick, Charge, Sweep, Emit], 5, UNKNOWN, 1),
         (&[Up, Debit, Debit], 2, BUSY, 0),
         (&[Up, Debit, Pick, Refuse, Charge, Emit], 5, BUSY, 0),
         (

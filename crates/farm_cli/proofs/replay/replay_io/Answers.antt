@@ -10,7 +10,7 @@ returns-clause-ok g c =
     let before = g.W.Write.contents c.args.writer.now in
     let after = g.W.Write.contents c.write_text.new.writer in
     on_ok_weaker c.write_text.result
-    (λ done. stream_replays c.args.site.now (g.R.Read.remaining c.args.reader.now) c.in_ok-text.text.items c.deref.result.now c.in_ok-printed.printed.items (λ printed. Appends before after printed) c.in_ok-text.ensures.text c.deref.ensures.value c.in_ok-printed.ensures.ok
+    (λ done. stream_replays c.args.action c.args.site.now (g.R.Read.remaining c.args.reader.now) c.in_ok-text.text.items c.deref.result.now c.in_ok-printed.printed.items (λ printed. Appends before after printed) c.in_ok-text.ensures.text c.deref.ensures.value c.in_ok-printed.ensures.ok
     (subst (λ (xs : List ℕ). Appends before after xs) c.deref-2.ensures.value done))
     c.write_text.ensures.ok
 
@@ -19,7 +19,7 @@ returns-clause-write g c = λ failed.
     let before = g.W.Write.contents c.args.writer.now in
     let after = g.W.Write.contents c.write_text.new.writer in
     let begins = rw failed at c.write_text.ensures.err in
-    stream_replays c.args.site.now (g.R.Read.remaining c.args.reader.now) c.in_ok-text.text.items c.deref.result.now c.in_ok-printed.printed.items (λ printed. BeginsWriting before after printed) c.in_ok-text.ensures.text c.deref.ensures.value c.in_ok-printed.ensures.ok
+    stream_replays c.args.action c.args.site.now (g.R.Read.remaining c.args.reader.now) c.in_ok-text.text.items c.deref.result.now c.in_ok-printed.printed.items (λ printed. BeginsWriting before after printed) c.in_ok-text.ensures.text c.deref.ensures.value c.in_ok-printed.ensures.ok
     (subst (λ (xs : List ℕ). BeginsWriting before after xs) c.deref-2.ensures.value begins)
 
 pub returns-in_err-printed-clause-script : goal.returns-in_err-printed-clause-script

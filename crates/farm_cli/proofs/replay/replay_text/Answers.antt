@@ -15,5 +15,5 @@ returns-in-Ok-output-clause-ok g c =
       spelled = c.in-Ok.ensures;
       trace = trace;
       promised = subst (λ (ss : List Step). IsPromised site ss trace) c.deref.ensures.value c.in-Ok-run.ensures.ok;
-      output = c.in-Ok-output.ensures ∙ ap (λ (n : ℕ). output_of site n trace) len;
+      output = c.in-Ok-output.ensures ∙ ap (λ (n : ℕ). output_of c.args.action site n trace) len;
     }

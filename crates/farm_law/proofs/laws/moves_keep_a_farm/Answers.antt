@@ -7,6 +7,7 @@ returns-clause-start c = new_farm_kept c.the_empty_history_is_legal.ensures
 pub returns-clause-moves : goal.returns-clause-moves
 returns-clause-moves c = moves_keep (record {
   legal_grows = c.legal_histories_grow.ensures.by_request;
+  legal_sweeps = c.legal_histories_grow.ensures.by_sweep;
   answers_stay = c.answers_stay.ensures;
   descends_on = c.descending_goes_on.ensures;
   same_view = c.what_descends_reads_alike.ensures.view;

@@ -1,0 +1,59 @@
+//! What the program does, from the words of its command line to its output.
+
+use crate::command::{CliFault, Command, command_of};
+use crate::fault::Fault;
+use crate::replay::{ReplayFault, read_text};
+use crate::sites::{replay_row_site, replay_site_file};
+use dia_base::SCHEDULE_LIMIT;
+use farm_site::{SITE_LIMIT, SiteFault};
+use std::fs::File;
+use std::io::ErrorKind;
+use std::{env, io};
+
+// A text of either is read up to one octet above its limit.
+const _: () = prove!(SITE_LIMIT == SCHEDULE_LIMIT);
+
+/// The words behind the program's name.
+fn words_of(rt: &HostRuntime) -> Result<Vec<String>, CliFault> {
+    match env::args(rt) {
+        Ok(words) => match words.skip(1).collect(rt.alloc()) {
+            Ok(words) => Ok(words),
+            Err(_) => Err(CliFault::OutOfMemory),
+        },
+        Err(error) if error.kind() == ErrorKind::OutOfMemory => Err(CliFault::OutOfMemory),
+        Err(_) => Err(CliFault::NotUtf8),
+    }
+}
+
+/// The octets of a site file, up to one above its size limit.
+fn site_file(rt: &HostRuntime, path: &str) -> Result<Vec<u8>, Fault> {
+    let Ok(mut file) = File::open(rt, path) else {
+        return Err(Fault::SiteFile);
+    };
+    match read_text(rt.alloc(), &mut file) {
+        Ok(octets) => Ok(octets),
+        Err(ReplayFault::OutOfMemory) => Err(Fault::Site(SiteFault::OutOfMemory)),
+        Err(_) => Err(Fault::SiteFile),
+    }
+}
+
+/// Carries out a command between standard input and standard output. Nothing is written before the
+/// run is done.
+fn carry_out(rt: &HostRuntime, command: &Command) -> Result<(), Fault> {
+    let (alloc, action) = (rt.alloc(), command.action);
+    let (reader, writer) = (&mut rt.reader(), &mut io::writer(rt));
+    match &command.site {
+        Some(path) => {
+            let octets = site_file(rt, path.as_str())?;
+            replay_site_file(alloc, action, &octets, reader, writer)
+        }
+        None => replay_row_site(alloc, action, reader, writer).map_err(Fault::Replay),
+    }
+}
+
+/// Does what the words of the command line ask for.
+pub fn farm(rt: &HostRuntime) -> Result<(), Fault> {
+    let words = words_of(rt).map_err(Fault::Words)?;
+    let command = command_of(rt.alloc(), &words).map_err(Fault::Words)?;
+    carry_out(rt, &command)
+}

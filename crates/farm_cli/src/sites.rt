@@ -1,0 +1,73 @@
+//! A replay over the row site, and over the site of a file.
+
+ghost use Rattle.std.specs.Prelude.{◌≡◌, ◌≢◌, ℕ, List, OnOk, IfErr, IfSome, Err};
+ghost use Rattle.std.specs.Io.KnownBytes.{Keeps, Appends};
+ghost use Rattle.farm_script.specs.declared.fault.ScriptFault.{ScriptFault};
+ghost use Rattle.farm_site.specs.declared.fault.SiteFault.{SiteFault};
+ghost use Rattle.farm_cli.specs.Replay.{Replays, IsRefused, ReadsSchedule, WasRead};
+ghost use Rattle.farm_cli.specs.Sites.{OfCheckedSite, WasReadBehind};
+ghost use Rattle.farm_model.specs.declared.site.Site.{Site};
+ghost use Rattle.farm_model.specs.RowSite.{the_row_site};
+ghost use Rattle.farm_cli.specs.Writing.{BeginsWriting};
+
+use crate::command::Action;
+use crate::fault::Fault;
+use crate::replay::{ReplayFault, replay_io};
+use dia_avp::PlainWire;
+use farm_site::site_of_octets;
+use farm_world::row_site;
+use std::alloc::Global;
+use std::io::{Read, Write};
+
+/// The replay of a schedule over the row site.
+pub fn replay_row_site<R: Read, W: Write>(
+    alloc: Global,
+    action: Action,
+    reader: &mut R,
+    writer: &mut W,
+) -> Result<(), ReplayFault>
+    ensures ok { OnOk result (IfSome (R.remaining reader.old) (λ octets.
+        (printed : List ℕ) × Replays action the_row_site octets printed × Appends (W.contents writer.old) (W.contents writer.new) printed)) }
+    ensures read { WasRead result → ReadsSchedule (R.remaining reader.old) (R.remaining reader.new) }
+    ensures script { (fault : ScriptFault) → result ≡ Err (ReplayFault.Script fault) →
+        IfSome (R.remaining reader.old) (λ octets. IsRefused the_row_site octets fault) }
+    ensures nothing { IfErr result (λ fault. fault ≢ ReplayFault.Write → Keeps (W.contents writer.old) (W.contents writer.new)) }
+    ensures write { result ≡ Err ReplayFault.Write → IfSome (R.remaining reader.old) (λ octets.
+        (printed : List ℕ) × Replays action the_row_site octets printed × BeginsWriting (W.contents writer.old) (W.contents writer.new) printed) }
+{
+    let Ok(site) = row_site(alloc) else {
+        return Err(ReplayFault::OutOfMemory);
+    };
+    replay_io::<PlainWire, _, _>(alloc, action, &site, reader, writer)
+}
+
+/// The replay of a schedule over the site that the octets of a site file spell.
+pub fn replay_site_file<R: Read, W: Write>(
+    alloc: Global,
+    action: Action,
+    file: &[u8],
+    reader: &mut R,
+    writer: &mut W,
+) -> Result<(), Fault>
+    // The site is a checked one: no site file reaches a run that keeps less than is promised.
+    ensures ok { OnOk result (OfCheckedSite (λ site. IfSome (R.remaining reader.old) (λ octets.
+        (printed : List ℕ) × Replays action site octets printed × Appends (W.contents writer.old) (W.contents writer.new) printed))) }
+    ensures script { (fault : ScriptFault) → result ≡ Err (Fault.Replay (ReplayFault.Script fault)) →
+        OfCheckedSite (λ site. IfSome (R.remaining reader.old) (λ octets. IsRefused site octets fault)) }
+    ensures write { result ≡ Err (Fault.Replay ReplayFault.Write) → OfCheckedSite (λ site. IfSome (R.remaining reader.old) (λ octets.
+        (printed : List ℕ) × Replays action site octets printed × BeginsWriting (W.contents writer.old) (W.contents writer.new) printed)) }
+    ensures read { WasReadBehind result → ReadsSchedule (R.remaining reader.old) (R.remaining reader.new) }
+
+    // Of a site that is refused no schedule is read, and nothing is written.
+    ensures site { (fault : SiteFault) → result ≡ Err (Fault.Site fault) → Keeps (R.remaining reader.old) (R.remaining reader.new) }
+    ensures nothing { IfErr result (λ fault. fault ≢ Fault.Replay ReplayFault.Write → Keeps (W.contents writer.old) (W.contents writer.new)) }
+{
+    let spelled = match site_of_octets(alloc, file) {
+        Ok(site) => site,
+        Err(fault) => return Err(Fault::Site(fault)),
+    };
+    match replay_io::<PlainWire, _, _>(alloc, action, &spelled, reader, writer) {
+        Ok(()) => Ok(()),
+        Err(fault) => Err(Fault::Replay(fault)),
+    }
+}

@@ -1,0 +1,11 @@
+use Rattle.std.proofs.Common.{◌≡◌, [], vec_len}
+use Rattle.farm_model.specs.CheckedSite.{is_sound_link, same_pair}
+use Rattle.farm_site.specs.Graph.{site_over}
+use Rattle.farm_site.specs.Growing.{AreSound}
+use Rattle.farm_site.proofs.link.links_of.Given as goal
+
+abbrev pub invariant-loop-entry : goal.invariant-loop-entry
+invariant-loop-entry l = record {
+  counted : vec_len l.links ≡ l.entry-index;
+  sound : AreSound (is_sound_link (site_over l.nodes [])) same_pair l.links.items;
+}

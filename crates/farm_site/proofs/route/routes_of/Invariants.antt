@@ -1,0 +1,11 @@
+use Rattle.std.proofs.Common.{◌≡◌, vec_len}
+use Rattle.farm_model.specs.CheckedSite.{is_sound_route, same_route}
+use Rattle.farm_site.specs.Graph.{drawn}
+use Rattle.farm_site.specs.Growing.{AreSound}
+use Rattle.farm_site.proofs.route.routes_of.Given as goal
+
+abbrev pub invariant-loop-entry : goal.invariant-loop-entry
+invariant-loop-entry l = record {
+  counted : vec_len l.routes ≡ l.entry-index;
+  sound : AreSound (is_sound_route (drawn l.graph)) same_route l.routes.items;
+}

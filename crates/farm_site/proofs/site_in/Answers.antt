@@ -1,0 +1,82 @@
+use Rattle.std.proofs.Common.{◌≡◌, ◌≤◌, List, [], length, None, ℤ, sym, subst, ap, ◌∙◌, arith}
+use Rattle.std.specs.Prelude.{nat_le}
+use Rattle.std.specs.Int.{w32}
+use Rattle.std.proofs.lemmas.Int.{to_z-of_z}
+use Rattle.farm_site.proofs.Following.{fits_small}
+use Rattle.std.proofs.lemmas.Bool.{le-leb}
+use Rattle.cc_book.specs.declared.account.Account.{Account}
+use Rattle.cc_rating.specs.declared.tariff.Tariff.{Tariff}
+use Rattle.cc_rating.specs.Tariffs.{fault_of}
+use Rattle.farm_model.specs.CheckedSite.{is_sound_account, is_sound_link, is_sound_name, is_sound_route, same_account, same_name, same_pair, same_route, size_of}
+use Rattle.farm_model.specs.declared.site.Link.{Link}
+use Rattle.farm_model.specs.declared.site.Node.{Node}
+use Rattle.farm_model.specs.declared.site.Route.{Route}
+use Rattle.farm_model.specs.declared.site.Site.{Site}
+use Rattle.farm_site.specs.Graph.{site_over}
+use Rattle.farm_site.specs.Growing.{AreSound}
+use Rattle.farm_site.proofs.Checking.{links_of_site, routes_of_site}
+use Rattle.farm_site.proofs.Pushing.{and_right}
+use Rattle.farm_site.proofs.site_in.Goals as goal
+
+pub returns-clause-checked : goal.returns-clause-checked
+returns-clause-checked c =
+    let site : Site = record {
+      realm = c.in_ok-realm.realm;
+      validity = c.in_ok-validity.validity;
+      limit = c.in_ok-limit.limit;
+      workers = c.in_ok-workers.workers;
+      queue = c.in_ok-queue.queue;
+      vendors = c.from_vec.result;
+      currency = c.in_ok-currency.currency;
+      exponent = c.in_ok-exponent.exponent;
+      watchdog = c.in_ok-watchdog.watchdog;
+      nodes = c.from_vec-2.result;
+      links = c.from_vec-3.result;
+      routes = c.from_vec-4.result;
+      tariffs = c.from_vec-5.result;
+      accounts = c.from_vec-6.result;
+    } in
+    let nodes : AreSound is_sound_name same_name site.nodes = subst (λ (xs : List Node). AreSound is_sound_name same_name xs) (sym c.from_vec-2.ensures) c.in_ok-nodes.ensures.sound in
+    let links : AreSound (is_sound_link (site_over site.nodes [])) same_pair site.links =
+    links_of_site site c.in_ok-nodes.nodes.items c.deref.result.now c.in_ok-links.links.items c.from_vec-2.ensures c.from_vec-3.ensures c.deref.ensures.value c.in_ok-links.ensures.sound in
+    let routes : AreSound (is_sound_route (site_over site.nodes site.links)) same_route site.routes =
+    routes_of_site site c.in_ok-nodes.nodes.items c.deref-2.result.now c.in_ok-links.links.items c.deref-3.result.now c.in_ok-routes.routes.items c.from_vec-2.ensures c.from_vec-3.ensures c.from_vec-4.ensures c.deref-2.ensures.value c.deref-3.ensures.value c.in_ok-routes.ensures.sound in
+    let tariffs : fault_of site.tariffs ≡ None = ap (λ (xs : List Tariff). fault_of xs) c.from_vec-5.ensures ∙ c.in_ok-tariffs.ensures.sound in
+    let accounts : AreSound is_sound_account same_account site.accounts = subst (λ (xs : List Account). AreSound is_sound_account same_account xs) (sym c.from_vec-6.ensures) c.in_ok-accounts.ensures.sound in
+    let node_count : length site.nodes ≤ 64 = subst (λ (xs : List Node). length xs ≤ 64) (sym c.from_vec-2.ensures) (omega (arith, c.in_ok-nodes.ensures.count, c.in_ok-nodes.nodes.ok.0)) in
+    let link_count : length site.links ≤ 256 = subst (λ (xs : List Link). length xs ≤ 256) (sym c.from_vec-3.ensures) (omega (arith, c.in_ok-links.ensures.count, c.in_ok-links.links.ok.0)) in
+    let route_count : length site.routes ≤ 256 = subst (λ (xs : List Route). length xs ≤ 256) (sym c.from_vec-4.ensures) (omega (arith, c.in_ok-routes.ensures.count, c.in_ok-routes.routes.ok.0)) in
+    let tariff_count : length site.tariffs ≤ 1024 = subst (λ (xs : List Tariff). length xs ≤ 1024) (sym c.from_vec-5.ensures) (omega (arith, c.in_ok-tariffs.ensures.count, c.in_ok-tariffs.tariffs.ok.0)) in
+    let account_count : length site.accounts ≤ 65536 = subst (λ (xs : List Account). length xs ≤ 65536) (sym c.from_vec-6.ensures) (omega (arith, c.in_ok-accounts.ensures.count, c.in_ok-accounts.accounts.ok.0)) in
+    record {
+      validity = c.in_ok-validity.ensures;
+      limit = c.in_ok-limit.ensures.range;
+      workers = c.in_ok-workers.ensures.range;
+      queue = c.in_ok-queue.ensures.range;
+      currency = and_right (nat_le 0 c.in_ok-currency.currency) (nat_le c.in_ok-currency.currency 999) c.in_ok-currency.ensures;
+      exponent = ap (λ (z : ℤ). nat_le (size_of z) 9) (to_z-of_z w32 c.in_ok-exponent.exponent (fits_small c.in_ok-exponent.exponent c.in_ok-exponent.ensures)) ∙ c.in_ok-exponent.ensures;
+      watchdog = c.in_ok-watchdog.ensures.range;
+      nodes = le-leb (length site.nodes) 64 node_count;
+      sound_names = nodes.sound;
+      names = nodes.distinct;
+      links = le-leb (length site.links) 256 link_count;
+      sound_links = links.sound;
+      pairs = links.distinct;
+      routes = le-leb (length site.routes) 256 route_count;
+      sound_routes = routes.sound;
+      destinations = routes.distinct;
+      tariff_count = le-leb (length site.tariffs) 1024 tariff_count;
+      tariffs = tariffs;
+      account_count = le-leb (length site.accounts) 65536 account_count;
+      sound_accounts = accounts.sound;
+      identifiers = accounts.distinct;
+    }
+
+pub returns-clause-defaults : goal.returns-clause-defaults
+returns-clause-defaults c = record {
+  limit = c.in_ok-limit.ensures.default;
+  workers = c.in_ok-workers.ensures.default;
+  queue = c.in_ok-queue.ensures.default;
+  vendors = λ out. c.from_vec.ensures ∙ c.in_ok-vendors.ensures out;
+  watchdog = c.in_ok-watchdog.ensures.default;
+}

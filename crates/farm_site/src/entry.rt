@@ -1,0 +1,236 @@
+//! The keys of one table, read one by one.
+
+ghost use Rattle.std.specs.Prelude.{◌≡◌, ◌≤◌, [], ◌∷◌, IfOk, None, true, length, vec_len, nat_le};
+ghost use Rattle.dia_base.specs.Identity.{fault_of};
+ghost use Rattle.farm_model.specs.CheckedSite.{is_within, size_of};
+ghost use Rattle.farm_site.specs.Defaults.{LeavesOut};
+ghost use Rattle.toml.specs.View.{table_view};
+
+use crate::fault::SiteFault;
+use crate::key::Key;
+use dia_base::{Identity, IdentityFault};
+use std::alloc::Global;
+use toml::{Table, Value};
+
+/// A table of the file: the whole of it, or an entry of an array of tables.
+#[derive(Clone, Copy)]
+pub struct Entry<'a> {
+    table: &'a Table,
+}
+
+impl<'a> Entry<'a> {
+    /// A table of the file.
+    pub fn new(table: &'a Table) -> Self
+        ensures { result.table ≡ table.entry }
+    {
+        Entry { table }
+    }
+
+    /// What stands at a key, if the key is there.
+    fn find(self, key: Key) -> Option<&'a Value>
+        ensures { LeavesOut (table_view self.entry.table.now) key → result ≡ None }
+    {
+        self.table.get(key.as_str())
+    }
+
+    /// What stands at a key that must be there.
+    fn value(self, key: Key) -> Result<&'a Value, SiteFault> {
+        self.find(key).ok_or(SiteFault::Missing { key })
+    }
+
+    /// The text at a key that must be there.
+    pub fn text(self, key: Key) -> Result<&'a str, SiteFault> {
+        text_of(key, self.value(key)?)
+    }
+
+    /// The text at a key that may be absent.
+    pub fn optional_text(self, key: Key) -> Result<Option<&'a str>, SiteFault> {
+        match self.find(key) {
+            None => Ok(None),
+            Some(value) => Ok(Some(text_of(key, value)?)),
+        }
+    }
+
+    /// The identity at a key that must be there.
+    pub fn identity(self, alloc: Global, key: Key) -> Result<Identity, SiteFault>
+        ensures { IfOk result (λ identity. fault_of identity ≡ None) }
+    {
+        match Identity::read(alloc, self.text(key)?.as_bytes()) {
+            Ok(identity) => Ok(identity),
+            Err(IdentityFault::OutOfMemory) => Err(SiteFault::OutOfMemory),
+            Err(_) => Err(SiteFault::BadIdentity { key }),
+        }
+    }
+
+    /// The integer at a key that must be there, which is of at most this size, below or above 0.
+    #[tactic(auto, using(crate::proofs::Following::sized))]
+    pub fn integer(self, key: Key, size: u64) -> Result<i64, SiteFault>
+        ensures { IfOk result (λ n. nat_le (size_of n) size ≡ true) }
+    {
+        let number = integer_of(key, self.value(key)?)?;
+        if number.unsigned_abs() <= size {
+            Ok(number)
+        } else {
+            Err(SiteFault::OutOfRange { key })
+        }
+    }
+
+    /// The number at a key that must be there.
+    pub fn unsigned64(self, key: Key, least: u64, most: u64) -> Result<u64, SiteFault>
+        ensures { IfOk result (λ n. is_within least most n ≡ true) }
+    {
+        unsigned_of(key, self.value(key)?, least, most)
+    }
+
+    /// The number at a key, or this one where the key is absent.
+    pub fn unsigned64_or(
+        self,
+        key: Key,
+        least: u64,
+        most: u64,
+        absent: u64,
+    ) -> Result<u64, SiteFault>
+        requires { is_within least most absent ≡ true }
+        ensures range { IfOk result (λ n. is_within least most n ≡ true) }
+        ensures default { LeavesOut (table_view self.entry.table.now) key → IfOk result (λ n. n ≡ absent) }
+    {
+        match self.find(key) {
+            None => Ok(absent),
+            Some(value) => unsigned_of(key, value, least, most),
+        }
+    }
+
+    /// The number at a key that must be there.
+    pub fn unsigned32(self, key: Key, least: u32, most: u32) -> Result<u32, SiteFault>
+        ensures { IfOk result (λ n. is_within least most n ≡ true) }
+    {
+        unsigned32_of(key, self.value(key)?, least, most)
+    }
+
+    /// The number at a key, or this one where the key is absent.
+    pub fn unsigned32_or(
+        self,
+        key: Key,
+        least: u32,
+        most: u32,
+        absent: u32,
+    ) -> Result<u32, SiteFault>
+        requires { is_within least most absent ≡ true }
+        ensures range { IfOk result (λ n. is_within least most n ≡ true) }
+        ensures default { LeavesOut (table_view self.entry.table.now) key → IfOk result (λ n. n ≡ absent) }
+    {
+        match self.find(key) {
+            None => Ok(absent),
+            Some(value) => unsigned32_of(key, value, least, most),
+        }
+    }
+
+    /// The number at a key that may be absent.
+    pub fn optional_unsigned32(self, key: Key) -> Result<Option<u32>, SiteFault> {
+        match self.find(key) {
+            None => Ok(None),
+            Some(value) => Ok(Some(unsigned32_of(key, value, 0, u32::MAX)?)),
+        }
+    }
+
+    /// The numbers of the array at a key, or this one alone where the key is absent.
+    pub fn numbers_or(self, alloc: Global, key: Key, absent: u32) -> Result<Vec<u32>, SiteFault>
+        ensures { LeavesOut (table_view self.entry.table.now) key → IfOk result (λ numbers. numbers.items ≡ absent ∷ []) }
+    {
+        let Some(value) = self.find(key) else {
+            return Ok(vec![in alloc; absent]?);
+        };
+        let integers = integers_of(alloc, key, array_of(key, value)?)?;
+        let mut numbers = Vec::new(alloc);
+        for integer in &integers {
+            let number = u32::try_from(*integer).map_err(|_| SiteFault::OutOfRange { key })?;
+            numbers.push(number)?;
+        }
+        Ok(numbers)
+    }
+
+    /// The texts of the array at a key that must be there. How many they are is judged before any is looked at.
+    pub fn texts(self, alloc: Global, key: Key, most: usize) -> Result<Vec<&'a str>, SiteFault>
+        ensures { IfOk result (λ texts. vec_len texts ≤ most) }
+    {
+        let values = array_within(key, self.value(key)?, most)?;
+        let mut texts = Vec::new(alloc);
+        for value in values {
+            texts.push(text_of(key, value)?)?;
+        }
+        Ok(texts)
+    }
+
+    /// The entries of the array of tables at a key, which has none where the key is absent. How many they are is
+    /// judged before any is looked at, and that they are tables before what is in them.
+    pub fn entries(self, alloc: Global, key: Key, most: usize) -> Result<Vec<Entry<'a>>, SiteFault>
+        ensures { IfOk result (λ entries. vec_len entries ≤ most) }
+    {
+        let mut entries = Vec::new(alloc);
+        let Some(value) = self.find(key) else {
+            return Ok(entries);
+        };
+        for value in array_within(key, value, most)? {
+            match value {
+                Value::Table(table) => entries.push(Entry { table })?,
+                _ => return Err(SiteFault::WrongType { key }),
+            }
+        }
+        Ok(entries)
+    }
+}
+
+fn text_of(key: Key, value: &Value) -> Result<&str, SiteFault> {
+    match value {
+        Value::String(text) => Ok(text.as_str()),
+        _ => Err(SiteFault::WrongType { key }),
+    }
+}
+
+fn integer_of(key: Key, value: &Value) -> Result<i64, SiteFault> {
+    match value {
+        Value::Integer(number) => Ok(*number),
+        _ => Err(SiteFault::WrongType { key }),
+    }
+}
+
+fn unsigned_of(key: Key, value: &Value, least: u64, most: u64) -> Result<u64, SiteFault>
+    ensures { IfOk result (λ n. is_within least most n ≡ true) }
+{
+    match u64::try_from(integer_of(key, value)?) {
+        Ok(number) if least <= number && number <= most => Ok(number),
+        _ => Err(SiteFault::OutOfRange { key }),
+    }
+}
+
+fn unsigned32_of(key: Key, value: &Value, least: u32, most: u32) -> Result<u32, SiteFault>
+    ensures { IfOk result (λ n. is_within least most n ≡ true) }
+{
+    let number = unsigned_of(key, value, u64::from(least), u64::from(most))?;
+    Ok(number as u32)
+}
+
+fn array_of(key: Key, value: &Value) -> Result<&[Value], SiteFault> {
+    match value {
+        Value::Array(values) => Ok(values.as_slice()),
+        _ => Err(SiteFault::WrongType { key }),
+    }
+}
+
+fn array_within(key: Key, value: &Value, most: usize) -> Result<&[Value], SiteFault>
+    ensures { IfOk result (λ values. length values.now ≤ most) }
+{
+    let values = array_of(key, value)?;
+    if values.len() > most {
+        return Err(SiteFault::TooMany { key });
+    }
+    Ok(values)
+}
+
+fn integers_of(alloc: Global, key: Key, values: &[Value]) -> Result<Vec<i64>, SiteFault> {
+    let mut integers = Vec::new(alloc);
+    for value in values {
+        integers.push(integer_of(key, value)?)?;
+    }
+    Ok(integers)
+}

@@ -1,0 +1,67 @@
+//! The nodes and links of a site, as far as they are read.
+
+ghost use Rattle.std.specs.Prelude.{◌≡◌, IfSome, true};
+ghost use Rattle.farm_model.specs.Nodes.{joins, is_linked, is_client, is_front, is_relay, kind_at};
+ghost use Rattle.farm_model.specs.CheckedSite.{is_known};
+ghost use Rattle.farm_site.specs.Graph.{drawn};
+
+use dia_base::{NodeKind, NodeNo};
+use farm_model::{Link, Node};
+
+/// The nodes and links that have been read.
+#[derive(Clone, Copy)]
+pub struct Graph<'a> {
+    pub nodes: &'a [Node],
+    pub links: &'a [Link],
+}
+
+impl Graph<'_> {
+    /// The node of a name, compared without ASCII case.
+    pub fn find(self, name: &str) -> Option<NodeNo>
+        ensures { IfSome result (λ node. is_known (drawn self.entry) node ≡ true) }
+    {
+        let place = self.nodes.iter().position(|node| node
+            .name
+            .as_slice()
+            .eq_ignore_ascii_case(name.as_bytes()))?;
+        u32::try_from(place).ok().map(NodeNo)
+    }
+
+    fn kind_at(self, node: NodeNo) -> Option<NodeKind>
+        ensures { result ≡ kind_at (drawn self.entry) node }
+    {
+        let node = self.nodes.get(node.0 as usize)?;
+        Some(node.kind)
+    }
+
+    pub fn is_client(self, node: NodeNo) -> bool
+        ensures { result ≡ is_client (drawn self.entry) node }
+    {
+        matches!(self.kind_at(node), Some(NodeKind::Client))
+    }
+
+    pub fn is_front(self, node: NodeNo) -> bool
+        ensures { result ≡ is_front (drawn self.entry) node }
+    {
+        matches!(self.kind_at(node), Some(NodeKind::Front))
+    }
+
+    pub fn is_relay(self, node: NodeNo) -> bool
+        ensures { result ≡ is_relay (drawn self.entry) node }
+    {
+        matches!(self.kind_at(node), Some(NodeKind::Relay))
+    }
+
+    /// Whether two nodes are linked, in either direction.
+    pub fn is_linked(self, a: NodeNo, b: NodeNo) -> bool
+        ensures { result ≡ is_linked (drawn self.entry) a b }
+    {
+        self.links.iter().any(|link| joins(link, a, b))
+    }
+}
+
+fn joins(link: &Link, a: NodeNo, b: NodeNo) -> bool
+    ensures { result ≡ joins a b link.now }
+{
+    (link.from == a && link.to == b) || (link.from == b && link.to == a)
+}

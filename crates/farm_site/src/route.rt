@@ -1,0 +1,109 @@
+//! The routes of a site file.
+
+ghost use Rattle.std.specs.Prelude.{◌≡◌, ◌≤◌, IfOk, vec_len, true, ◌&&◌, ◌==◌};
+ghost use Rattle.std.specs.List.{list_all, list_any};
+ghost use Rattle.dia_base.specs.Folding.{same_folded};
+ghost use Rattle.farm_model.specs.CheckedSite.{is_candidate, is_sound_route, same_route};
+ghost use Rattle.farm_model.specs.Nodes.{is_node, is_relay};
+ghost use Rattle.farm_site.specs.Graph.{drawn};
+ghost use Rattle.farm_site.specs.Growing.{AreSound, MayFollow};
+
+use crate::entry::Entry;
+use crate::fault::SiteFault;
+use crate::graph::Graph;
+use crate::key::Key;
+use dia_base::{Identity, Listing, NodeNo};
+use farm_model::Route;
+use std::alloc::Global;
+
+/// The most routes of a site.
+const ROUTE_LIMIT: usize = 256;
+
+/// The most peers of a route.
+const PEER_LIMIT: usize = 16;
+
+/// The routes of the file, in its order, over these nodes and links.
+pub fn routes_of(alloc: Global, file: Entry, graph: Graph) -> Result<Vec<Route>, SiteFault>
+    ensures count { IfOk result (λ routes. vec_len routes ≤ 256) }
+    ensures sound { IfOk result (λ routes. AreSound (is_sound_route (drawn graph.entry)) same_route routes.items) }
+{
+    let entries = file.entries(alloc, Key::Route, ROUTE_LIMIT)?;
+    let mut routes = Vec::new(alloc);
+    for entry in &entries {
+        let route = route_of(alloc, *entry, graph, &routes)?;
+        routes.push(route)?;
+    }
+    Ok(routes)
+}
+
+/// The route of an entry, where these stand before it.
+#[tactic(auto, using(crate::proofs::Following::route_may_follow))]
+fn route_of(alloc: Global, entry: Entry, graph: Graph, before: &[Route]) -> Result<Route, SiteFault>
+    ensures { IfOk result (MayFollow (is_sound_route (drawn graph.entry)) same_route before.now) }
+{
+    let at = relay_of(entry, graph)?;
+    let realm = entry.identity(alloc, Key::Realm)?;
+    let app = entry.unsigned32(Key::App, 0, u32::MAX)?;
+    if is_routed(before, at, &realm, app) {
+        return Err(SiteFault::Twice { key: Key::Route });
+    }
+    Ok(Route {
+        at,
+        realm,
+        app,
+        peers: Listing::from_vec(peers_of(alloc, entry, graph, at)?),
+    })
+}
+
+/// The relay that has the route.
+fn relay_of(entry: Entry, graph: Graph) -> Result<NodeNo, SiteFault>
+    ensures { IfOk result (λ relay. is_relay (drawn graph.entry) relay ≡ true) }
+{
+    match graph.find(entry.text(Key::At)?) {
+        Some(relay) if graph.is_relay(relay) => Ok(relay),
+        _ => Err(SiteFault::UnknownName { key: Key::At }),
+    }
+}
+
+/// Whether one of the routes is that of a relay for a realm, without ASCII case, and an application.
+fn is_routed(routes: &[Route], relay: NodeNo, realm: &Identity, app: u32) -> bool
+    ensures { result ≡ list_any (λ route. is_node route.at relay && same_folded route.realm realm.now && (route.app == app)) routes.now }
+{
+    routes.iter().any(|route| route.at == relay && route.realm == *realm && route.app == app)
+}
+
+/// The peers of a route at a relay, in order.
+#[tactic(auto, using(crate::proofs::Pushing::all_push))]
+fn peers_of(
+    alloc: Global,
+    entry: Entry,
+    graph: Graph,
+    relay: NodeNo,
+) -> Result<Vec<NodeNo>, SiteFault>
+    ensures count { IfOk result (λ peers. vec_len peers ≤ 16) }
+    ensures candidates { IfOk result (λ peers. list_all (is_candidate (drawn graph.entry) relay) peers.items ≡ true) }
+{
+    let names = entry.texts(alloc, Key::Peers, PEER_LIMIT)?;
+    let mut peers = Vec::new(alloc);
+    for name in &names {
+        let peer = peer_of(name, graph, relay)?;
+        peers.push(peer)?;
+    }
+    Ok(peers)
+}
+
+/// The relay or front of a name, which is linked with a relay.
+fn peer_of(name: &str, graph: Graph, relay: NodeNo) -> Result<NodeNo, SiteFault>
+    ensures { IfOk result (λ peer. is_candidate (drawn graph.entry) relay peer ≡ true) }
+{
+    match graph.find(name) {
+        Some(peer) if is_candidate(graph, relay, peer) => Ok(peer),
+        _ => Err(SiteFault::UnknownName { key: Key::Peers }),
+    }
+}
+
+fn is_candidate(graph: Graph, relay: NodeNo, peer: NodeNo) -> bool
+    ensures { result ≡ is_candidate (drawn graph.entry) relay peer }
+{
+    graph.is_linked(relay, peer) && (graph.is_relay(peer) || graph.is_front(peer))
+}

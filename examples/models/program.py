@@ -1,0 +1,68 @@
+#!/usr/bin/env python3
+"""The model behind the command line of the program: the same words, streams and exit statuses, written from the rules.
+
+    program.py [replay | report] [--site FILE] < SCHEDULE
+
+Faults are looked for in this order: the command line, the site file, the schedule. `examples/check models/program.py`
+has the model pass the examples.
+"""
+import argparse
+import sys
+from pathlib import Path
+
+from row_site import ROW_SITE
+from site_file import SiteFault, site_of
+from world import BadSchedule, lowest_free, played
+
+DONE, STREAM_FAULT, REFUSED = 0, 1, 3
+
+
+def run(octets, site=ROW_SITE, choose=lowest_free, report=False):
+    """What is printed for a schedule, what is told on standard error, and the exit status."""
+    try:
+        world = played(octets, site, choose)
+    except BadSchedule as fault:
+        return "", f"{fault}\n", REFUSED
+    return "".join(world.book.report() if report else world.output()), "", DONE
+
+
+class Once(argparse.Action):
+    """An option that may be given once."""
+
+    def __call__(self, parser, arguments, value, option=None):
+        if getattr(arguments, self.dest) is not None:
+            parser.error(f"{option} is given twice")
+        setattr(arguments, self.dest, value)
+
+
+def parsed(words):
+    """The command line; where it is refused, the program ends with status 2."""
+    parser = argparse.ArgumentParser(prog="farm", allow_abbrev=False)
+    parser.add_argument("--version", action="version", version="farm, the model")
+    commands = parser.add_subparsers(dest="command")
+    for name in ("replay", "report"):
+        commands.add_parser(name, allow_abbrev=False).add_argument("--site", metavar="FILE", action=Once)
+    return parser.parse_args(words)
+
+
+def performed(words):
+    arguments = parsed(words)
+    named = getattr(arguments, "site", None)
+    try:
+        site = ROW_SITE if named is None else site_of(Path(named).read_bytes())
+        return run(sys.stdin.buffer.read(), site, report=arguments.command == "report")
+    except SiteFault as fault:
+        return "", f"{fault}\n", REFUSED
+    except OSError as fault:
+        return "", f"{fault}\n", STREAM_FAULT
+
+
+def main(words):
+    output, told, status = performed(words)
+    sys.stdout.write(output)
+    sys.stderr.write(told)
+    return status
+
+
+if __name__ == "__main__":
+    sys.exit(main(sys.argv[1:]))
