@@ -1,0 +1,110 @@
+//! What stands beside the line of a node in words.
+
+use crate::accounts::{Charge, Purse};
+use crate::svg::Class;
+use crate::timeline::{Deed, Event, Row};
+use dia_base::NodeNo;
+use farm_world::Site;
+use std::alloc::{AllocError, Global};
+
+/// Words at a node's line, in a row.
+#[derive(Drop)]
+pub struct Note {
+    pub node: NodeNo,
+    pub row: usize,
+    pub class: Class,
+    pub words: String,
+}
+
+/// The notes of the rows, in their order.
+pub fn notes_of(alloc: Global, site: &Site, rows: &[Row]) -> Result<Vec<Note>, AllocError> {
+    let mut notes = Vec::new(alloc);
+    for (place, row) in rows.iter().enumerate() {
+        if let Event::At { node, deed } = &row.event {
+            notes.push(Note {
+                node: *node,
+                row: place,
+                class: class_of(deed),
+                words: words_of(alloc, site, deed)?,
+            })?;
+        }
+    }
+    Ok(notes)
+}
+
+fn class_of(deed: &Deed) -> Class {
+    match deed {
+        Deed::Restarted => Class::Restart,
+        Deed::Picked | Deed::Dropped => Class::Note,
+        Deed::Charged { .. } => Class::Money,
+        Deed::Refused { .. } => Class::Refusal,
+    }
+}
+
+fn words_of(alloc: Global, site: &Site, deed: &Deed) -> Result<String, AllocError> {
+    let words = match deed {
+        Deed::Charged { charge, .. } => return charge_words(alloc, site, charge),
+        Deed::Restarted => "restarts",
+        Deed::Picked => "takes a request",
+        Deed::Refused { .. } => "refuses it, by order",
+        Deed::Dropped => "answer lost: connection gone",
+    };
+    String::from_str(alloc, words)
+}
+
+fn charge_words(alloc: Global, site: &Site, charge: &Charge) -> Result<String, AllocError> {
+    let words = match charge {
+        Charge::Moved {
+            account,
+            before,
+            after,
+        } => return move_words(alloc, site, *account, *before, *after),
+        Charge::Kept => "no account changes",
+        Charge::Unchanged => "nothing charged",
+        Charge::Repeated => "a repeat: nothing charged",
+        Charge::Refused => "refused: nothing charged",
+    };
+    String::from_str(alloc, words)
+}
+
+/// The account's name, and what has changed of its balance and of what is held.
+fn move_words(
+    alloc: Global,
+    site: &Site,
+    account: usize,
+    before: Purse,
+    after: Purse,
+) -> Result<String, AllocError> {
+    let mut words = account_name(alloc, site, account)?;
+    words.push(':')?;
+    if before.balance != after.balance {
+        let old = before.balance;
+        let new = after.balance;
+        write!(words, " {old} -> {new}")?;
+    }
+    if before.held != after.held {
+        let old = before.held;
+        let new = after.held;
+        let comma = if before.balance == after.balance {
+            ""
+        } else {
+            ","
+        };
+        write!(words, "{comma} held {old} -> {new}")?;
+    }
+    Ok(words)
+}
+
+/// The text of the Subscription-Id of the account at this place, with each octet as the character of its
+/// number.
+pub fn account_name(alloc: Global, site: &Site, account: usize) -> Result<String, AllocError> {
+    match site.accounts.as_slice().get(account) {
+        Some(account) => account
+            .id
+            .as_slice()
+            .iter()
+            .map(|octet| char::from(*octet))
+            .collect(alloc),
+        None => Ok(String::new(alloc)),
+    }
+}

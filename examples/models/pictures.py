@@ -1,0 +1,261 @@
+#!/usr/bin/env python3
+"""Compares stored pictures of runs with the model of the farm, and looks whether their words stand apart.
+
+    pictures.py FOLDER       plays each .schedule of the folder, and of those below its sites/, that has a .svg, and
+                             reads that picture: which steps, nodes, messages, marks, connections and accounts it shows
+
+What a picture has to show is worked out here from the model's runs; the picture is read as a person reads it, by where
+lines begin and end. Identifiers that relays choose are not compared.
+"""
+import re
+import sys
+import xml.etree.ElementTree as Xml
+from pathlib import Path
+
+from diameter import ERROR, RESULT_CODE, RETRANSMITTED, NoList, first, split
+from row_site import CLIENT, FRONT, RELAY, ROW_SITE
+from site_stories import site_named
+from world import World, steps_of
+
+TOLD, AIR = 64, 8
+CHARACTER, ABOVE, BELOW = 6.63, 8.4, 2.6
+# RFC 6733, section 7.1, and RFC 8506, section 9, without the word that they all begin with.
+RESULTS = {2001: "SUCCESS", 3001: "COMMAND_UNSUPPORTED", 3002: "UNABLE_TO_DELIVER", 3003: "REALM_NOT_SERVED",
+           3004: "TOO_BUSY", 3005: "LOOP_DETECTED", 3007: "APPLICATION_UNSUPPORTED", 4012: "CREDIT_LIMIT_REACHED",
+           5001: "AVP_UNSUPPORTED", 5002: "UNKNOWN_SESSION_ID", 5004: "INVALID_AVP_VALUE", 5005: "MISSING_AVP",
+           5009: "AVP_OCCURS_TOO_MANY_TIMES", 5010: "NO_COMMON_APPLICATION", 5012: "UNABLE_TO_COMPLY",
+           5014: "INVALID_AVP_LENGTH", 5030: "USER_UNKNOWN", 5031: "RATING_FAILED"}
+
+
+def masked(site, words, ends):
+    """A label without its identifier, where that may be a relay's choice: where no known end is a client."""
+    if any(site.nodes.get(end) == CLIENT for end in ends):
+        return words
+    return re.sub(" 0x[0-9a-f]+", " 0x?", words)
+
+
+def way(site, words, sender, receiver, *rest):
+    """The way of a message: its label, who sent it, at whom it arrived if at all, and its rows and end."""
+    return masked(site, words, (sender, receiver) if receiver else ()), sender, receiver, *rest
+
+
+def label(message):
+    """A message in words."""
+    name = {True: "CCR", False: "CCA"}[message.is_request] if message.command == 272 else \
+        f"{message.command} {'request' if message.is_request else 'answer'}"
+    again = " T" if message.flags & RETRANSMITTED else ""
+    return f"{name} 0x{message.hop:x}{again}{result(message)}"
+
+
+def result(message):
+    try:
+        found = None if message.is_request else first(split(message.body), RESULT_CODE)
+    except NoList:
+        found = None
+    return " " + RESULTS[int.from_bytes(found.value)] if found else ""
+
+
+class Run:
+    """What a picture has to show of a schedule."""
+
+    def __init__(self, octets, site):
+        self.world, self.site = World(site), site
+        self.steps, self.flights, self.notes, self.made, self.ended, self.charges = [], {}, [], set(), set(), {}
+        steps = steps_of(octets, site)
+        for row, step in enumerate(steps[:TOLD]):
+            self.tell(row, step)
+        for step in steps[TOLD:]:
+            self.world.play(*step)
+        self.left_out = len(steps[TOLD:])
+
+    def on_the_way(self):
+        """What is in flight, by the message itself."""
+        return {id(message): (message, sender, connection.other(sender))
+                for connection in self.world.connections.values()
+                for sender, messages in connection.flights.items() for message in messages}
+
+    def purses(self):
+        book = self.world.book
+        return {account: (balance, book.reserved(account)) for account, balance in book.balances.items()}
+
+    def tell(self, row, step):
+        word, *arguments = step
+        pairs, purses, entries = set(self.world.connections), self.purses(), self.world.book.entries
+        job = self.job(word, arguments)
+        applies = self.world.play(*step)
+        self.steps.append((str(row + 1), word if applies else f"{word} (skipped)"))
+        self.made |= {(row, pair) for pair in set(self.world.connections) - pairs}
+        self.ended |= {(row, pair) for pair in pairs - set(self.world.connections)}
+        sent = self.follow(row, word)
+        if applies:
+            self.note(row, word, arguments[0], job, sent, purses, entries)
+
+    def job(self, word, arguments):
+        front = self.world.front(arguments[0]) if word in ("charge", "emit") else None
+        return front and front.job(arguments[1])
+
+    def follow(self, row, word):
+        """Messages that are new, and those that are gone."""
+        now = self.on_the_way()
+        new = [key for key in now if key not in self.flights]
+        for key in new:
+            message, sender, receiver = now[key]
+            self.flights[key] = [message, sender, receiver, row, "air", None]
+        for key, flight in self.flights.items():
+            if flight[4] == "air" and key not in now:
+                flight[4:] = ["arrow" if word == "deliver" else "cross", row]
+        return new
+
+    def note(self, row, word, node, job, sent, purses, entries):
+        words = {"pick": "takes a request", "refuse": "refuses it, by order", "restart": "restarts"}
+        if word in words:
+            self.notes.append([row, node, words[word]])
+        if word == "emit" and not sent:
+            self.notes.append([row, node, "answer lost: connection gone"])
+        if word == "charge":
+            self.notes.append([row, node, self.charged(purses, entries)])
+            self.charges[id(job)] = self.notes[-1], job
+        if word == "emit" and sent and id(job) in self.charges:
+            note = self.charges[id(job)][0]
+            if note[2] == "nothing charged":
+                note[2] = f"{'refused' if job.answer.flags & ERROR else 'a repeat'}: nothing charged"
+
+    def charged(self, purses, entries):
+        for account, (balance, held) in self.purses().items():
+            old_balance, old_held = purses[account]
+            changes = [f" {old_balance} -> {balance}"] if balance != old_balance else []
+            changes += [f" held {old_held} -> {held}"] if held != old_held else []
+            if changes:
+                return f"{account[1]}:{','.join(changes)}"
+        return "nothing charged" if entries == self.world.book.entries else "no account changes"
+
+    def shown(self):
+        drawn = [flight for flight in self.flights.values() if flight[4] != "air"]
+        air = [flight for flight in self.flights.values() if flight[4] == "air"]
+        ways = [way(self.site, label(message), sender, receiver if end == "arrow" else None, row, end, last)
+                for message, sender, receiver, row, end, last in drawn + air[:AIR]]
+        part = {node for flight in self.flights.values() for node in flight[1:3]}
+        part |= {node for _, pair in self.made for node in pair} | {note[1] for note in self.notes}
+        return {"nodes": [node for kind in (CLIENT, RELAY, FRONT) for node in self.site.nodes
+                          if self.site.nodes[node] == kind and node in part],
+                "steps": self.steps, "ways": sorted(ways, key=str), "notes": sorted(map(tuple, self.notes)),
+                "made": self.made, "ended": self.ended, "ending": self.ending(len(air))}
+
+    def ending(self, air):
+        lines = [f"Not drawn: messages still on their way: {air - AIR}"] if air > AIR else []
+        if self.left_out:
+            lines.append(f"Left out: {self.left_out} further steps; the book is that after all of them")
+        book = self.world.book
+        lines.append(f"Book at the end: entries {book.entries}, open sessions {len(book.sessions)}")
+        others = 0
+        for account, (balance, held) in self.purses().items():
+            opening = self.site.accounts[account]
+            moved = f" -> {balance}" if balance != opening else ""
+            kept = f", held {held}" if held else ""
+            others += not (moved or kept)
+            lines += [f"{account[1]}: {opening}{moved}{kept}"] if moved or kept else []
+        return lines + [f"unchanged accounts: {others}"]
+
+
+class Picture:
+    """What a picture shows."""
+
+    def __init__(self, text, site):
+        self.site = site
+        root = Xml.fromstring(text)
+        self.width, self.height = map(int, root.get("viewBox").split()[2:])
+        tag = lambda name: root.iter("{http://www.w3.org/2000/svg}" + name)
+        self.texts = [(it.get("class"), it.get("text-anchor", "start"), int(it.get("x")), int(it.get("y")),
+                       it.text or "") for it in tag("text")]
+        self.paths = [(it.get("class").split(), it.get("d")) for it in tag("path")]
+        self.circles = [(it.get("class"), int(it.get("cx")), int(it.get("cy"))) for it in tag("circle")]
+        self.columns = {x: words for kind, anchor, x, _, words in self.texts if (kind, anchor) == ("name", "middle")}
+        numbers = [(y - 3, words) for _, anchor, _, y, words in self.texts if anchor == "end"]
+        self.rows = {y: at for at, (y, _) in enumerate(numbers)}
+
+    def row(self, y):
+        """The last row above this height, or at it."""
+        return max((at for top, at in self.rows.items() if top <= y), default=None)
+
+    def points(self, path):
+        return [tuple(map(int, point.split())) for point in path.removeprefix("M").split("L")]
+
+    def pairs(self, kind):
+        """The connections in bars or lines of this class."""
+        ends = [(self.points(path)) for kinds, path in self.paths if kinds == [kind]]
+        return {(self.rows[a[1]], frozenset((self.columns[a[0]], self.columns[b[0]]))) for a, b in ends}
+
+    def ways(self):
+        """The ways of messages: each path is followed by its tip, and labels come in the order of the ways."""
+        kinds = ("request", "answer", "refusal")
+        labels = [text for text in self.texts if text[0] in kinds and text[1] == "middle"]
+        paths = [(classes, path) for classes, path in self.paths if classes[0] in (*kinds, "lost")]
+        at = 0
+        for kind, _, _, _, words in labels:
+            (classes, path), tip = paths[at], paths[at + 1] if at + 1 < len(paths) else None
+            start, bend, end = self.points(path)
+            air = "air" in classes
+            at += 1 if air else 2
+            head = "air" if air else "cross" if tip[0] == ["lost"] else "arrow"
+            assert classes[0] == kind and bend[1] == end[1] and (air or tip[1].startswith(f"M{end[0]} {end[1]}m"))
+            yield way(self.site, words, self.columns[start[0]], self.columns[end[0]] if head == "arrow" else None,
+                      self.rows[start[1]], head, None if air else self.row(end[1]))
+        assert at == len(paths)
+
+    def notes(self):
+        marks = [circle for circle in self.circles if circle[0] != "connection"]
+        texts = [text for text in self.texts if text[1] == "start" and text[2] - 12 in self.columns]
+        for (kind, x, y), text in zip(marks, texts, strict=True):
+            assert text[0] == kind and (text[2] - 12, text[3]) in ((x, y + 3), (x, y - 5))
+            yield self.rows[y], self.columns[x], text[4]
+
+    def shown(self):
+        steps = [words for _, anchor, x, _, words in self.texts if (anchor, x) == ("start", 44)]
+        ending = [words for _, anchor, x, _, words in self.texts if (anchor, x) == ("start", 14) and words]
+        return {"nodes": list(self.columns.values()), "steps": [(str(at + 1), it) for at, it in enumerate(steps)],
+                "ways": sorted(self.ways(), key=str), "notes": sorted(self.notes()),
+                "made": self.pairs("connection"), "ended": self.pairs("cut"), "ending": ending[:-5]}
+
+    def faults(self):
+        """Words that leave the page or stand on other words."""
+        boxes = []
+        for _, anchor, x, y, words in self.texts:
+            width = len(words) * CHARACTER
+            left = x - {"start": 0, "middle": width / 2, "end": width}[anchor]
+            boxes += [(left, y - ABOVE, left + width, y + BELOW, words)] if words else []
+        yield from (f"{it[4]!r} leaves the page" for it in boxes
+                    if it[0] < 0 or it[2] > self.width or it[3] > self.height)
+        yield from (f"{a[4]!r} stands on {b[4]!r}" for at, a in enumerate(boxes) for b in boxes[at + 1:]
+                    if a[0] < b[2] and b[0] < a[2] and a[1] < b[3] - 0.01 and b[1] < a[3] - 0.01)
+
+
+def differences(schedule, site):
+    """What a picture shows that the model's run has not, and the other way round."""
+    picture = Picture(schedule.with_suffix(".svg").read_text(), site)
+    wanted, shown = Run(schedule.read_bytes(), site).shown(), picture.shown()
+    yield from (f"{key}: {shown[key]}\n  and not {wanted[key]}" for key in wanted if wanted[key] != shown[key])
+    yield from picture.faults()
+
+
+def schedules_in(folder):
+    """The schedules, each with its site: one that stands in a folder of sites/ has the site of that name."""
+    for path in sorted(folder.glob("*.schedule")):
+        yield path, ROW_SITE
+    for path in sorted(folder.glob("sites/*/*.schedule")):
+        yield path, site_named(path.parent.name)
+
+
+def main(arguments):
+    if len(arguments) != 1:
+        print(__doc__, file=sys.stderr)
+        return 2
+    drawn = [(path, site) for path, site in schedules_in(Path(arguments[0])) if path.with_suffix(".svg").exists()]
+    faults = [f"{path.name}: {fault}" for path, site in drawn for fault in differences(path, site)]
+    for fault in faults:
+        print(fault)
+    print(f"{len(drawn)} pictures: {len(faults)} faults")
+    return 1 if faults else 0
+
+
+if __name__ == "__main__":
+    sys.exit(main(sys.argv[1:]))
