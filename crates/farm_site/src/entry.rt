@@ -104,7 +104,8 @@ impl<'a> Entry<'a> {
     pub fn unsigned32(self, key: Key, least: u32, most: u32) -> Result<u32, SiteFault>
         ensures { IfOk result (λ n. is_within least most n ≡ true) }
     {
-        unsigned32_of(key, self.value(key)?, least, most)
+        let number = self.unsigned64(key, u64::from(least), u64::from(most))?;
+        Ok(number as u32)
     }
 
     /// The number at a key, or this one where the key is absent.
@@ -119,17 +120,16 @@ impl<'a> Entry<'a> {
         ensures range { IfOk result (λ n. is_within least most n ≡ true) }
         ensures default { LeavesOut (table_view self.entry.table.now) key → IfOk result (λ n. n ≡ absent) }
     {
-        match self.find(key) {
-            None => Ok(absent),
-            Some(value) => unsigned32_of(key, value, least, most),
-        }
+        let (least, most) = (u64::from(least), u64::from(most));
+        let number = self.unsigned64_or(key, least, most, u64::from(absent))?;
+        Ok(number as u32)
     }
 
     /// The number at a key that may be absent.
     pub fn optional_unsigned32(self, key: Key) -> Result<Option<u32>, SiteFault> {
         match self.find(key) {
             None => Ok(None),
-            Some(value) => Ok(Some(unsigned32_of(key, value, 0, u32::MAX)?)),
+            Some(_) => Ok(Some(self.unsigned32(key, 0, u32::MAX)?)),
         }
     }
 
@@ -201,13 +201,6 @@ fn unsigned_of(key: Key, value: &Value, least: u64, most: u64) -> Result<u64, Si
         Ok(number) if least <= number && number <= most => Ok(number),
         _ => Err(SiteFault::OutOfRange { key }),
     }
-}
-
-fn unsigned32_of(key: Key, value: &Value, least: u32, most: u32) -> Result<u32, SiteFault>
-    ensures { IfOk result (λ n. is_within least most n ≡ true) }
-{
-    let number = unsigned_of(key, value, u64::from(least), u64::from(most))?;
-    Ok(number as u32)
 }
 
 fn array_of(key: Key, value: &Value) -> Result<&[Value], SiteFault> {

@@ -60,7 +60,8 @@ impl Graph<'_> {
     }
 }
 
-fn joins(link: &Link, a: NodeNo, b: NodeNo) -> bool
+/// Whether a link joins two nodes, in either direction.
+pub fn joins(link: &Link, a: NodeNo, b: NodeNo) -> bool
     ensures { result ≡ joins a b link.now }
 {
     (link.from == a && link.to == b) || (link.from == b && link.to == a)

@@ -9,7 +9,7 @@ ghost use Rattle.farm_site.specs.Growing.{AreSound, MayFollow};
 
 use crate::entry::Entry;
 use crate::fault::SiteFault;
-use crate::graph::Graph;
+use crate::graph::{Graph, joins};
 use crate::key::Key;
 use dia_base::NodeNo;
 use farm_model::{Link, Node};
@@ -74,8 +74,7 @@ fn may_be(link: Link, graph: Graph) -> bool
 fn is_there(links: &[Link], link: Link) -> bool
     ensures { result ≡ list_any (λ other. same_pair other link) links.now }
 {
-    links.iter().any(|other| {
-        (link.from == other.from && link.to == other.to)
-            || (link.from == other.to && link.to == other.from)
-    })
+    links
+        .iter()
+        .any(|other| joins(&link, other.from, other.to))
 }

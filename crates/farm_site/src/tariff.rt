@@ -7,23 +7,11 @@ ghost use Rattle.cc_rating.specs.Tariffs.{fault_of, fault_after, rates, from_one
 use crate::entry::Entry;
 use crate::fault::SiteFault;
 use crate::key::Key;
-use cc_rating::{Tariff, UnitKind};
+use cc_rating::{BLOCK_LIMIT, PRICE_LIMIT, SECONDS_LIMIT, Tariff, UNITS_LIMIT, UnitKind};
 use std::alloc::Global;
 
 /// The most tariffs of a site.
 const TARIFF_LIMIT: usize = 1_024;
-
-/// The most units of a block.
-const BLOCK_LIMIT: u64 = 4_294_967_296;
-
-/// The highest price of a block.
-const PRICE_LIMIT: u64 = 1_048_576;
-
-/// The most units of a quantum and of a grant.
-const UNITS_LIMIT: u64 = 9_223_372_036_854_775_807;
-
-/// The most seconds of a quantum and of a grant, since CC-Time has 32 bits.
-const SECONDS_LIMIT: u64 = 4_294_967_295;
 
 /// The tariffs of the file, in its order.
 #[tactic(auto, using(crate::proofs::Pushing::faultless_push))]
