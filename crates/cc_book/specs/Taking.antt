@@ -58,7 +58,7 @@ abbrev pub answer_to_sweep : Ledger → ℕ → Result ℕ BookRefusal
 answer_to_sweep ledger zero = Ok 0
 answer_to_sweep ledger (suc more) = if nat_le ledger.limit (length ledger.history) then Err (Full ledger.limit) else Ok (suc more)
 
--- how many sessions a sweep at a moment ends
+-- what a sweep at a moment is answered: how many sessions it ends
 abbrev pub sweep_answer : Ledger → Moment → Result ℕ BookRefusal
 sweep_answer ledger moment = answer_to_sweep ledger (ended_sessions ledger.terms ledger.history moment)
 
