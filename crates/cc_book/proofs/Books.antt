@@ -1,6 +1,6 @@
 -- What a book keeps beside its history.
-use Rattle.std.proofs.Common.{◌≡◌, ℕ, suc, ◌+◌, ◌<◌, ◌≤◌, ◌^◌, List, [], ◌∷◌, ◌++◌, length, map, take, drop, get_or, Option, Some, None, Ok, Bool, true, false, cond, refl, sym, ap, subst, ◌∙◌, arith, length-append}
-use Rattle.std.specs.Prelude.{ℤ, IfSome, IsSome, MatchOption, nat_abs, negsuc, pos, ◌≤ℤ◌, find, unwrap_or, slice_get, slice_index_or}
+use Rattle.std.proofs.Common.{◌≡◌, ℕ, suc, ◌+◌, ◌<◌, ◌≤◌, ◌^◌, List, [], ◌∷◌, ◌++◌, length, map, take, drop, get_or, Option, Some, None, Ok, Err, Bool, true, false, cond, refl, sym, ap, subst, ◌∙◌, arith, length-append}
+use Rattle.std.specs.Prelude.{ℤ, IfSome, IsErrAnd, IsOk, IsSome, MatchOption, Result, is_ok, nat_abs, negsuc, pos, ◌≤ℤ◌, find, unwrap_or, slice_get, slice_index_or}
 use Rattle.std.specs.List.{fold}
 use Rattle.std.proofs.Math.ListN.{get_or-append}
 use Rattle.std.proofs.Math.Seq.{drop-cons, get_or-append_seam}
@@ -30,7 +30,9 @@ use Rattle.cc_book.specs.Session.{opens}
 use Rattle.cc_book.proofs.Sums.{all_placed, charged_account-within}
 use Rattle.cc_book.proofs.Stands.{open_count-stands, reserved-stands, small-stands}
 use Rattle.cc_book.specs.declared.book.Answered.{Answered}
-use Rattle.cc_book.specs.Taking.{IsBook, Ledger, answer_of}
+use Rattle.cc_book.specs.declared.book.BookRefusal.{BookRefusal}
+use Rattle.cc_book.specs.declared.book.BookRefusal.TheVariants.{OutOfMemory}
+use Rattle.cc_book.specs.Taking.{AnswersWith, IsBook, Ledger, answer_of}
 use Rattle.cc_book.proofs.Sessions.{open_at_place}
 use Rattle.cc_book.proofs.Replies.{answer_of-fresh, answer_of-kept}
 use Rattle.cc_book.proofs.Outcomes.{take-stands}
@@ -148,6 +150,19 @@ small-book {terms} {limit} {history} book =
 
 abbrev ledger_of : Terms → ℕ → List Entry → Ledger
 ledger_of terms limit history = record { terms = terms; limit = limit; history = history }
+
+-- a request that is kept, or that is new and finds room, is not refused
+pub kept-answered : (terms : Terms) (limit : ℕ) (history : List Entry) (request taken : CcRequest) (place : ℕ) → IsKeptAt history (key_of request) place taken → IsOk (answer_of (ledger_of terms limit history) request)
+kept-answered terms limit history request taken place at =
+    ap (λ (r : Result Answered BookRefusal). is_ok r) (answer_of-kept (ledger_of terms limit history) request taken place (reply_to terms (take place history) taken) at refl)
+
+pub new-answered : (terms : Terms) (limit : ℕ) (history : List Entry) (request : CcRequest) → IsNew history (key_of request) → length history < limit → IsOk (answer_of (ledger_of terms limit history) request)
+new-answered terms limit history request new room =
+    ap (λ (r : Result Answered BookRefusal). is_ok r) (answer_of-fresh (ledger_of terms limit history) request (length history) (reply_to terms history request) new refl room refl)
+
+pub no_memory : (expected result : Result Answered BookRefusal) → IsOk expected → IsErrAnd result (λ e. e ≡ OutOfMemory) → AnswersWith expected result
+no_memory expected (Ok answered) fine h = absurd h
+no_memory expected (Err e) fine h = let P : BookRefusal → Type 0 = λ f. AnswersWith expected (Err f) in subst P (sym h) fine
 
 some_if : {X : Type 0} (P : X → Type 0) (found : Option X) (x : X) → found ≡ Some x → IfSome found P → P x
 some_if {X = X} P found x is so = subst (λ (o : Option X). IfSome o P) is so

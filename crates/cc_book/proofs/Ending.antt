@@ -1,5 +1,5 @@
 -- Sessions that have ended hold nothing.
-use Rattle.std.proofs.Common.{◌≡◌, ℕ, Bool, true, false, cond, not, ◌&&◌, leb, List, [], ◌∷◌, ◌++◌, Option, Some, None, inl, inr, refl, subst, ap, ◌∙◌, arith}
+use Rattle.std.proofs.Common.{◌≡◌, ℕ, ◌<◌, Bool, true, false, cond, not, ◌&&◌, leb, List, [], ◌∷◌, ◌++◌, Option, Some, None, inl, inr, refl, subst, sym, ap, ◌∙◌, arith}
 use Rattle.std.proofs.lemmas.Bool.{and_right}
 use Rattle.std.specs.Prelude.{◌⊎◌, is_some, sum_by, MatchOption}
 use Rattle.std.specs.List.{fold, list_any}
@@ -18,9 +18,10 @@ use Rattle.cc_book.specs.declared.session.Hold.{Hold}
 use Rattle.cc_book.specs.declared.terms.Terms.{Terms}
 use Rattle.cc_book.specs.AccountMachine.{account_of, charged_account, free_to_grant, grants_by, grants_with, holds_from, post, posting_of, postings_of, reply_after, settles_after, settles_by}
 use Rattle.cc_book.specs.Duplicate.{same_session}
-use Rattle.cc_book.specs.Posting.{Posting}
-use Rattle.cc_book.specs.Reservation.{held_by, is_alive, replaces, same_name}
-use Rattle.cc_book.specs.Session.{Opened, is_initial, is_initial_kind, is_of, is_open, is_success, left_after, moment_of, next_session, opened_at, outlasts, replies_success, session_after, session_by, session_of}
+use Rattle.cc_book.specs.Balance.{open_sessions_of, reserved_of}
+use Rattle.cc_book.specs.Posting.{Posting, is_account}
+use Rattle.cc_book.specs.Reservation.{held_after, held_by, is_alive, replaces, reserved_by, same_name}
+use Rattle.cc_book.specs.Session.{Opened, is_initial, is_initial_kind, is_of, is_open, is_success, left_after, moment_of, next_session, open_count, opened_at, opens, outlasts, replies_success, session_after, session_by, session_of}
 
 -- ---- a session lasts as long as the grants that were made in it
 
@@ -183,3 +184,118 @@ held_by-none validity session name now (posting ∷ after) all closed =
 pub ended-nothing : (terms : Terms) (history : List Entry) (session : List ℕ) (name : ServiceName) → is_open terms.validity session (postings_of terms history) ≡ false
     → held_by terms.validity session name (postings_of terms history) ≡ 0
 ended-nothing terms history session name closed = held_by-none terms.validity session name None (postings_of terms history) (all_keep terms session history) closed
+
+-- ---- where no session is open nothing is reserved
+
+held_after-none : (validity : ℕ) (entry : Entry) (grants : List Hold) (after : List Posting) → ((hold : Hold) → is_alive validity entry hold.service after ≡ false) → held_after validity entry grants after ≡ 0
+held_after-none validity entry grants after none =
+    no_sum (λ (hold : Hold). cond (is_alive validity entry hold.service after) hold.cost 0) grants (λ hold. ap (λ (b : Bool). cond b hold.cost 0) (none hold))
+
+module _ (validity : ℕ) (now : List ℕ → Option Opened) (posting : Posting) (after : List Posting) (keep : (id : List ℕ) → Keeps validity id (now id) posting)
+    (closed : (id : List ℕ) → is_some (fold (next_session validity id) (next_session validity id (now id) posting) after) ≡ false) where
+  closed-nothing : held_after validity posting.entry posting.grants after ≡ 0
+  closed-nothing = by posting.entry refl where
+    by : (entry : Entry) → posting.entry ≡ entry → held_after validity posting.entry posting.grants after ≡ 0
+    by (Sweep moment) is = ap (λ (e : Entry). held_after validity e posting.grants after) is ∙ held_after-none validity (Sweep moment) posting.grants after (λ hold. refl)
+    by (Take moment request) is =
+        let id = request.session in
+        let own : is_of id posting.entry ≡ true = ap (λ (e : Entry). is_of id e) is ∙ own_session id in
+        elim (keep id own) as (λ _. held_after validity posting.entry posting.grants after ≡ 0) [
+          | inl none ↦ ap (λ (holds : List Hold). held_after validity posting.entry holds after) none
+          | inr covers ↦ held_after-none validity posting.entry posting.grants after (λ hold. dead validity id (next_session validity id (now id) posting) posting.entry hold.service after own covers (closed id))
+        ]
+
+reserved_by-none : (validity account : ℕ) (now : List ℕ → Option Opened) (postings : List Posting) → ((id : List ℕ) → AllKeep validity id (now id) postings)
+    → ((id : List ℕ) → is_some (fold (next_session validity id) (now id) postings) ≡ false) → reserved_by validity account postings ≡ 0
+unfolding AllKeep
+reserved_by-none validity account now [] all closed = refl
+reserved_by-none validity account now (posting ∷ after) all closed =
+    let first = here (is_account account posting.account) in
+    let more = reserved_by-none validity account (λ id. next_session validity id (now id) posting) after (λ id. (all id).1) closed in
+    omega arith
+  where
+    here : (b : Bool) → cond b (held_after validity posting.entry posting.grants after) 0 ≡ 0
+    here true = closed-nothing validity now posting after (λ id. (all id).0) closed
+    here false = refl
+
+-- ---- a session that is open was opened by a posting after which it lasts
+
+-- a session after postings, as far as it was open before them, and it does not matter whose account it charges
+covers_left : (validity : ℕ) (session : List ℕ) (left now : Option Opened) (after : List Posting) → Covers left now
+    → Covers (fold (left_after validity session) left after) (fold (left_after validity session) now after)
+covers_left validity session left now [] covers = covers
+covers_left validity session left now (posting ∷ after) covers =
+    covers_left validity session (left_after validity session left posting) (left_after validity session now posting) after (step left now covers)
+  where
+    step : (left now : Option Opened) → Covers left now → Covers (left_after validity session left posting) (left_after validity session now posting)
+    step None now covers = tt
+    step (Some one) None covers = absurd covers
+    step (Some one) (Some other) covers = covers_entry validity session None one other false false posting.entry covers
+
+covers_open : (left now : Option Opened) → Covers left now → is_some left ≡ true → is_some now ≡ true
+covers_open left None covers lives = sym (covers_closed left None covers refl) ∙ lives
+covers_open left (Some other) covers lives = refl
+
+closed_stays : (validity : ℕ) (session : List ℕ) (after : List Posting) → is_some (fold (left_after validity session) None after) ≡ false
+closed_stays validity session [] = refl
+closed_stays validity session (posting ∷ after) = closed_stays validity session after
+
+-- what a posting opens is counted, where it lasts
+opener-counts : (validity : ℕ) (session : List ℕ) (account : Option ℕ) (entry : Entry) (after : List Posting) → is_of session entry ≡ true
+    → is_some (fold (left_after validity session) (Some (opened_at validity account (moment_of entry))) after) ≡ true → outlasts validity entry after ≡ true
+opener-counts validity session account (Sweep moment) after own lasts = absurd cc
+opener-counts validity session account (Take moment request) after own lasts =
+    let same = (bytes_eq-Decides request.session session).0 own in
+    let first : Option Opened = Some (opened_at validity None moment.0) in
+    ap (λ (id : List ℕ). is_some (fold (left_after validity id) first after)) same
+    ∙ covers_open (fold (left_after validity session) (Some (opened_at validity account moment.0)) after) (fold (left_after validity session) first after)
+    (covers_left validity session (Some (opened_at validity account moment.0)) first after refl) lasts
+
+open-counted : (validity : ℕ) (session : List ℕ) (now : Option Opened) (postings : List Posting) → is_some (fold (next_session validity session) now postings) ≡ true
+    → (is_some (fold (left_after validity session) now postings) ≡ true) ⊎ (0 < open_count validity postings)
+open-counted validity session now [] lives = inl lives
+open-counted validity session now (posting ∷ after) lives =
+    by (opens posting) (is_of session posting.entry) refl refl (λ next on. open-counted validity session next after on) lives
+  where
+    more : 0 < open_count validity after → 0 < open_count validity (posting ∷ after)
+    more some = omega arith
+
+    opened : opens posting ≡ true → outlasts validity posting.entry after ≡ true → 0 < open_count validity (posting ∷ after)
+    opened is lasts =
+        let one : cond {A = ℕ} (opens posting && outlasts validity posting.entry after) 1 0 ≡ 1 =
+        ap (λ (b : Bool). cond {A = ℕ} (b && outlasts validity posting.entry after) 1 0) is ∙ ap (λ (b : Bool). cond {A = ℕ} b 1 0) lasts in
+        omega arith
+
+    unopened : (is_some (fold (left_after validity session) (left_after validity session now posting) after) ≡ true) ⊎ (0 < open_count validity after)
+        → (is_some (fold (left_after validity session) (left_after validity session now posting) after) ≡ true) ⊎ (0 < open_count validity (posting ∷ after))
+    unopened (inl lasts) = inl lasts
+    unopened (inr some) = inr (more some)
+
+    opening : opens posting ≡ true → is_of session posting.entry ≡ true
+        → (is_some (fold (left_after validity session) (Some (opened_at validity posting.account (moment_of posting.entry))) after) ≡ true) ⊎ (0 < open_count validity after)
+        → (is_some (fold (left_after validity session) (left_after validity session now posting) after) ≡ true) ⊎ (0 < open_count validity (posting ∷ after))
+    opening is own (inl lasts) = inr (opened is (opener-counts validity session posting.account posting.entry after own lasts))
+    opening is own (inr some) = inr (more some)
+
+    by : (b own : Bool) → opens posting ≡ b → is_of session posting.entry ≡ own
+        → ((next : Option Opened) → is_some (fold (next_session validity session) next after) ≡ true → (is_some (fold (left_after validity session) next after) ≡ true) ⊎ (0 < open_count validity after))
+        → is_some (fold (next_session validity session) (cond (b && own) (Some (opened_at validity posting.account (moment_of posting.entry))) (left_after validity session now posting)) after) ≡ true
+        → (is_some (fold (left_after validity session) (left_after validity session now posting) after) ≡ true) ⊎ (0 < open_count validity (posting ∷ after))
+    by true true is own behind lives = opening is own (behind (Some (opened_at validity posting.account (moment_of posting.entry))) lives)
+    by true false is own behind lives = unopened (behind (left_after validity session now posting) lives)
+    by false own is same behind lives = unopened (behind (left_after validity session now posting) lives)
+
+-- where none is counted, none is open
+none-open : (validity : ℕ) (session : List ℕ) (postings : List Posting) → open_count validity postings ≡ 0 → is_some (fold (next_session validity session) None postings) ≡ false
+none-open validity session postings none = by (is_some (fold (next_session validity session) None postings)) refl where
+  by : (b : Bool) → is_some (fold (next_session validity session) None postings) ≡ b → is_some (fold (next_session validity session) None postings) ≡ false
+  by false is = is
+  by true is = elim (open-counted validity session None postings is) as (λ _. is_some (fold (next_session validity session) None postings) ≡ false) [
+    | inl lasts ↦ absurd (let no : false ≡ true = sym (closed_stays validity session postings) ∙ lasts in cc)
+    | inr some ↦ absurd (omega arith)
+  ]
+
+pub ended-all : (terms : Terms) (history : List Entry) (account : ℕ) → open_sessions_of terms history ≡ 0 → reserved_of terms history account ≡ 0
+unfolding open_sessions_of reserved_of
+ended-all terms history account none =
+    reserved_by-none terms.validity account (λ id. None) (postings_of terms history) (λ id. all_keep terms id history) (λ id. none-open terms.validity id (postings_of terms history) none)

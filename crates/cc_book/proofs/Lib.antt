@@ -1,3 +1,4 @@
+mod Beside
 mod Due
 mod Ending
 mod Granting

@@ -181,7 +181,8 @@ abbrev pub settles_after : Terms → List Posting → CcRequest → Bool
 settles_after terms before request =
     settles_by request.kind (is_open terms.validity request.session before) (is_some (account_of terms.accounts request.subscriptions))
 
--- what a request debits of the account that it charges: where it settles services, what their used units cost
+-- what a request debits of the account that it charges: where it settles services, what their used units cost; of an
+-- EVENT what its action debits
 abbrev pub debit_by : Terms → List Posting → CcRequest → RequestKind → ℤ
 debit_by terms before request Event =
     action_debit (unwrap_or (total_of terms.tariffs request.services) 0) (event_after terms before request).code request.action
@@ -231,7 +232,7 @@ abbrev pub made_grant : Option Grant → Option Grant
 made_grant None = None
 made_grant (Some grant) = if is_refused grant then None else Some grant
 
--- the reply for a service with a tariff, by its grant
+-- the reply for a service, by its grant: DIAMETER_RATING_FAILED without a tariff
 abbrev pub settled_reply : Terms → Service → Option Grant → ServiceReply
 settled_reply terms service grant = record {
   name = name_of service;

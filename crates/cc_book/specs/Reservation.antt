@@ -1,4 +1,4 @@
--- Reservations: what the grants of sessions hold of an account (RFC 8506, section 5.2.2).
+-- Reservations: what the grants of sessions hold of an account (RFC 8506, section 5.2).
 use Rattle.std.specs.Prelude.{ℕ, ◌+◌, List, [], ◌∷◌, Bool, false, ◌&&◌, ◌==◌, not, if◌then◌else◌}
 use Rattle.std.specs.List.{list_any, sum_by}
 use Rattle.std.specs.Option.{option_eq}

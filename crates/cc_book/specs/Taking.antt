@@ -1,5 +1,5 @@
 -- What the book answers to a request, and what it keeps.
-use Rattle.std.specs.Prelude.{◌≡◌, ℕ, zero, suc, ◌≤◌, ◌^◌, List, [], ◌∷◌, ◌++◌, length, map, Bool, true, false, nat_le, if◌then◌else◌, Option, Some, None, unwrap_or, Result, Ok, Err, ℤ}
+use Rattle.std.specs.Prelude.{◌≡◌, ℕ, zero, suc, ◌<◌, ◌≤◌, ◌^◌, List, [], ◌∷◌, ◌++◌, length, map, Bool, true, false, nat_le, if◌then◌else◌, Option, Some, None, unwrap_or, Result, Ok, Err, IsOk, IsOkAnd, ℤ}
 use Rattle.dia_base.specs.declared.number.Moment.{Moment}
 use Rattle.cc_view.specs.declared.reply.CcReply.{CcReply}
 use Rattle.cc_view.specs.declared.request.CcRequest.{CcRequest}
@@ -35,10 +35,10 @@ abbrev pub answer_of : Ledger → CcRequest → Result Answered BookRefusal
 answer_of ledger request =
     answer_by ledger request (unwrap_or (place_of ledger.history (key_of request)) 0) (kept_reply ledger.terms ledger.history request)
 
--- a call answered so, unless memory ran out
+-- a call answered so, unless memory ran out for what is not refused
 abbrev pub AnswersWith : Result Answered BookRefusal → Result Answered BookRefusal → Type 0
 AnswersWith expected (Ok answered) = expected ≡ Ok answered
-AnswersWith expected (Err OutOfMemory) = Unit {0}
+AnswersWith expected (Err OutOfMemory) = IsOk expected
 AnswersWith expected (Err (Full limit)) = expected ≡ Err (Full limit)
 
 abbrev pub is_fresh : Result Answered BookRefusal → Bool
@@ -62,10 +62,10 @@ answer_to_sweep ledger (suc more) = if nat_le ledger.limit (length ledger.histor
 abbrev pub sweep_answer : Ledger → Moment → Result ℕ BookRefusal
 sweep_answer ledger moment = answer_to_sweep ledger (ended_sessions ledger.terms ledger.history moment)
 
--- a sweep answered so, unless memory ran out
+-- a sweep answered so, unless memory ran out for its entry: one that ends nothing, or is refused, takes none
 abbrev pub SweepsWith : Result ℕ BookRefusal → Result ℕ BookRefusal → Type 0
 SweepsWith expected (Ok ended) = expected ≡ Ok ended
-SweepsWith expected (Err OutOfMemory) = Unit {0}
+SweepsWith expected (Err OutOfMemory) = IsOkAnd expected (λ ended. 0 < ended)
 SweepsWith expected (Err (Full limit)) = expected ≡ Err (Full limit)
 
 -- the book after a sweep that was answered so: one entry more where sessions ended

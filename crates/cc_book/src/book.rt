@@ -110,7 +110,7 @@ impl Book {
         })
     }
 
-    /// What `take` would answer to a request now. It changes nothing.
+    /// What `take` would answer to a request now. It changes nothing. Memory is wanted only for what is not refused.
     pub fn quote(
         &self,
         alloc: Global,
@@ -138,7 +138,7 @@ impl Book {
 
     /// Takes a request (RFC 8506, section 6). One whose key is kept gets the kept reply and its place, and nothing
     /// changes, whatever else it holds. Another one is charged and appended, unless the history is at its limit: Full.
-    /// After a refusal the book is unchanged.
+    /// Memory is wanted only for what is not refused. After a refusal the book is unchanged.
     pub fn take(
         &mut self,
         alloc: Global,
@@ -177,8 +177,8 @@ impl Book {
 
     /// Ends each session whose deadline is at most the moment: a session lasts for twice its validity from its last
     /// request on that is no EVENT (RFC 8506, section 5.7), and what it had reserved is free again. It answers how many
-    /// ended, and appends an entry only where some did. Full where some would and the history is at its limit. After a
-    /// refusal the book is unchanged. Moments need not rise from call to call.
+    /// ended, and appends an entry only where some did. Full where some would and the history is at its limit. Memory is
+    /// wanted only for that entry. After a refusal the book is unchanged. Moments need not rise from call to call.
     pub fn sweep(&mut self, moment: Moment) -> Result<u64, BookRefusal>
         ensures answer { SweepsWith (sweep_answer self.old moment) result }
         ensures after { self.new ≡ after_sweep_with self.old moment result }

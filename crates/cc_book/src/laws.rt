@@ -340,10 +340,25 @@ pub fn grants_are_of_what_is_free()
         pos 0 ≤ℤ free_after terms (postings_of terms (history ++ Take moment request ∷ [])) account }
 {}
 
-/// A session that is not open holds nothing for any service: what was reserved for it is free again.
+/// A session that is not open holds nothing for any service: what was reserved for it is free again. Where no session
+/// is open, nothing is reserved of any account.
 pub fn ended_sessions_hold_nothing()
-    ensures { (terms : Terms) (history : List Entry) (session : List ℕ) (name : ServiceName) →
+    ensures service { (terms : Terms) (history : List Entry) (session : List ℕ) (name : ServiceName) →
         is_open terms.validity session (postings_of terms history) ≡ false → held_by terms.validity session name (postings_of terms history) ≡ 0 }
+    ensures account { (terms : Terms) (history : List Entry) (account : ℕ) → open_sessions_of terms history ≡ 0 → reserved_of terms history account ≡ 0 }
+{}
+
+/// A request leaves each session but its own as it is: open or not, with its account, its deadline and what it holds.
+/// An EVENT leaves its own so too (RFC 8506, section 6).
+pub fn requests_leave_other_sessions_alone()
+    ensures session { (terms : Terms) (history : List Entry) (moment : Moment) (request : CcRequest) (session : List ℕ) → request.session ≢ session →
+        session_of terms.validity session (postings_of terms (history ++ Take moment request ∷ [])) ≡ session_of terms.validity session (postings_of terms history) }
+    ensures held { (terms : Terms) (history : List Entry) (moment : Moment) (request : CcRequest) (session : List ℕ) (name : ServiceName) → request.session ≢ session →
+        held_by terms.validity session name (postings_of terms (history ++ Take moment request ∷ [])) ≡ held_by terms.validity session name (postings_of terms history) }
+    ensures by_event { (terms : Terms) (history : List Entry) (moment : Moment) (request : CcRequest) (session : List ℕ) → request.kind ≡ Event →
+        session_of terms.validity session (postings_of terms (history ++ Take moment request ∷ [])) ≡ session_of terms.validity session (postings_of terms history) }
+    ensures held_by_event { (terms : Terms) (history : List Entry) (moment : Moment) (request : CcRequest) (session : List ℕ) (name : ServiceName) → request.kind ≡ Event →
+        held_by terms.validity session name (postings_of terms (history ++ Take moment request ∷ [])) ≡ held_by terms.validity session name (postings_of terms history) }
 {}
 
 /// A sweep ends exactly the sessions whose deadline is at most its moment, and what they held is free again. All others

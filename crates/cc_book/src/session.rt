@@ -1,4 +1,4 @@
-//! Open sessions, and what they hold (RFC 8506, sections 5.1 and 5.2.2).
+//! Open sessions, and what they hold (RFC 8506, sections 5.1 and 5.2).
 
 ghost use Rattle.std.specs.Prelude.{◌≡◌, ◌≤◌, ◌^◌, IfOk};
 ghost use Rattle.cc_book.specs.Reservation.{has_name};

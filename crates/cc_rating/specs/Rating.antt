@@ -1,4 +1,4 @@
--- Rating: what units cost, and what is granted (RFC 8506, section 5.2.2). Amounts are whole minor units of money.
+-- Rating: what units cost, and what is granted (RFC 8506, section 5.2). Amounts are whole minor units of money.
 use Rattle.std.specs.Prelude.{ℕ, ◌+◌, ◌*◌, ◌/◌, ◌%◌, min, ◌||◌, ◌==◌, Bool, true, false, if◌then◌else◌, ℤ, pos, negsuc, int_le}
 use Rattle.cc_rating.specs.declared.tariff.Grant.{Grant}
 use Rattle.cc_rating.specs.declared.tariff.Tariff.{Tariff}
@@ -28,8 +28,8 @@ units_free tariff free = available free / tariff.price * tariff.block
 abbrev pub grant_with : Tariff → ℕ → Bool → Grant
 grant_with tariff units last = record { units = units; held = cost_of tariff units; last = last }
 
--- All that is wanted is granted where it is free, or costs nothing. Else the whole blocks that are free are
--- granted, as the last grant.
+-- All that is wanted is granted where it is free, or where a block costs nothing. Else the whole blocks that are
+-- free are granted, as the last grant: of an account in debt none, even where no units are asked.
 abbrev pub grant_of : Tariff → ℤ → ℕ → Grant
 grant_of tariff free asked =
     if tariff.price == 0 || int_le (pos (cost_of tariff (wanted_units tariff asked))) free then grant_with tariff (wanted_units tariff asked) false

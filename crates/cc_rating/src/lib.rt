@@ -1,4 +1,4 @@
-//! Rating: what units cost, and how many of them an amount of money pays for (RFC 8506, section 5.2.2).
+//! Rating: what units cost, and how many of them an amount of money pays for (RFC 8506, section 5.2).
 //!
 //! - [`Tariff`]: what units of one kind cost. It rates the services of a Rating-Group or of a
 //!   Service-Identifier. [`Tariff::cost`] is the price of units, [`Tariff::grant`] the units that may be

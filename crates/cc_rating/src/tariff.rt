@@ -51,7 +51,8 @@ pub struct Grant {
     pub units: u64,
     /// Their cost in minor units of money.
     pub held: u128,
-    /// Whether they are fewer than what was asked, since no more is free (RFC 8506, section 8.34).
+    /// Whether what was asked, up to the tariff's greatest grant, costs more than is free, so that no more than
+    /// these can be granted (RFC 8506, section 8.34).
     pub last: bool,
 }
 
@@ -67,7 +68,7 @@ impl Tariff {
     }
 
     /// The units that may be granted where so much money is free and `asked` units are asked (RFC 8506,
-    /// section 5.2.2): what is asked, up to the tariff's greatest grant, where all of it is free or it costs
+    /// section 5.2): what is asked, up to the tariff's greatest grant, where all of it is free or a block costs
     /// nothing; else the whole blocks that are free, as the last grant. A last grant of no units grants nothing.
     pub fn grant(&self, free: i128, asked: u64) -> Grant
         requires { IsTrue (in_range self.now) }

@@ -1,12 +1,12 @@
 use Rattle.std.proofs.Common.{◌≡◌, ℕ, ◌<◌, ◌≤◌, List, length, Option, true, false, None, Ok, ap, subst, sym, ◌∙◌}
-use Rattle.std.specs.Prelude.{IfSome, IsSome, slice_index_or}
+use Rattle.std.specs.Prelude.{IfSome, IsOk, IsSome, slice_index_or}
 use Rattle.cc_view.specs.declared.reply.CcReply.{CcReply}
 use Rattle.cc_book.specs.declared.entry.Entry.{Entry}
 use Rattle.cc_book.specs.AccountMachine.{postings_of}
 use Rattle.cc_book.specs.Duplicate.{key_of}
 use Rattle.cc_book.specs.History.{IsKeptAt, IsNew}
 use Rattle.cc_book.specs.Taking.{Ledger, answer_of}
-use Rattle.cc_book.proofs.Books.{answer-fresh, answer-kept, kept-some, small-book}
+use Rattle.cc_book.proofs.Books.{answer-fresh, answer-kept, kept-answered, kept-some, new-answered, no_memory, small-book}
 use Rattle.cc_book.proofs.Replies.{answer_of-full}
 use Rattle.cc_book.proofs.book.Book.quote.Goals as goal
 
@@ -42,3 +42,16 @@ returns c =
     sym (ap (λ (l : Ledger). answer_of l c.args.request.now) c.self.view_is)
     ∙ answer-fresh c.self.invariant c.args.moment c.args.request.now c.in_ok-outcome.outcome new room does
     ∙ ap (λ (n : ℕ). Ok (record { reply = c.in_ok-outcome.outcome.reply; place = n; fresh = true })) (sym long)
+
+-- ---- memory is wanted for what is not refused
+
+pub returns-in_err-kept_answer : goal.returns-in_err-kept_answer
+returns-in_err-kept_answer c =
+    let at = subst (λ (h : List Entry). IsKeptAt h (key_of c.args.request.now) c.in-Some.place c.in-Some.field-0-1.now) c.deref.ensures.value c.in-Some.ensures in
+    no_memory _ c.from_residual.result (subst (λ (l : Ledger). IsOk (answer_of l c.args.request.now)) c.self.view_is (kept-answered c.self.inside.terms c.self.inside.limit c.self.inside.history.items c.args.request.now c.in-Some.field-0-1.now c.in-Some.place at)) c.from_residual.ensures.1
+
+pub returns-in_err-outcome : goal.returns-in_err-outcome
+returns-in_err-outcome c =
+    let new = subst (λ (h : List Entry). IsNew h (key_of c.args.request.now)) c.deref.ensures.value c.in_default.ensures in
+    let room = subst (λ (es : List Entry). length es < c.self.inside.limit) c.deref-2.ensures.value c.in-Some-free_place.ensures.some.1 in
+    no_memory _ c.from_residual-in_err-outcome.result (subst (λ (l : Ledger). IsOk (answer_of l c.args.request.now)) c.self.view_is (new-answered c.self.inside.terms c.self.inside.limit c.self.inside.history.items c.args.request.now new room)) c.from_residual-in_err-outcome.ensures.1

@@ -6,7 +6,7 @@ use Rattle.cc_book.specs.declared.entry.Entry.TheVariants.{Sweep}
 use Rattle.cc_book.specs.Standing.{is_due}
 use Rattle.cc_book.specs.Taking.{Ledger, sweep_answer}
 use Rattle.cc_book.proofs.Books.{same-book}
-use Rattle.cc_book.proofs.Sweeps.{IsBook-sweep, sweep-full, sweep-none, sweep-some}
+use Rattle.cc_book.proofs.Sweeps.{IsBook-sweep, no_memory, sweep-full, sweep-none, sweep-some}
 use Rattle.cc_book.proofs.book.Book.sweep.Goals as goal
 
 pub returns-then-ended-eq0-clause-answer : goal.returns-then-ended-eq0-clause-answer
@@ -39,3 +39,10 @@ returns-clause-answer c =
     sym (ap (λ (l : Ledger). sweep_answer l c.args.moment) c.self.view_is)
     ∙ sweep-some c.self.invariant c.args.moment room
     ∙ ap Ok (sym c.count_due-ended.ensures)
+
+-- memory is wanted for the entry of a sweep that ends sessions
+pub returns-in_err-make_room_for_entry-clause-answer : goal.returns-in_err-make_room_for_entry-clause-answer
+returns-in_err-make_room_for_entry-clause-answer c =
+    let room = subst (λ (es : List Entry). length es < c.self.inside.limit) c.deref.ensures.value c.in-Some.ensures.some.1 in
+    let some : 0 < count_by (is_due c.self.inside.terms.validity c.args.moment) c.self.inside.standing.sessions.items = omega (arith, c.count_due-ended.ensures, c.if-ended-eq0.false) in
+    no_memory _ c.from_residual.result _ some (sym (ap (λ (l : Ledger). sweep_answer l c.args.moment) c.self.view_is) ∙ sweep-some c.self.invariant c.args.moment room) c.from_residual.ensures.1

@@ -1,7 +1,7 @@
 use Rattle.std.proofs.Common.{rules, ◌≡◌, ℕ, ◌<◌, ◌≤◌, Bool, List, ◌++◌, ◌∷◌, [], length, Option, true, false, None, Some, Ok, ap, subst, sym, ◌∙◌, SFits, Vec, Global}
 use Rattle.std.specs.Int.{w128}
 use Rattle.std.proofs.lemmas.Int.{to_z-of_z}
-use Rattle.std.specs.Prelude.{ℤ, IfSome, IsSome, slice_index_or, if◌then◌else◌}
+use Rattle.std.specs.Prelude.{ℤ, IfSome, IsOk, IsSome, slice_index_or, if◌then◌else◌}
 use Rattle.cc_view.specs.declared.reply.CcReply.{CcReply}
 use Rattle.cc_view.specs.declared.request.CcRequest.{CcRequest}
 use Rattle.cc_book.specs.declared.entry.Entry.{Entry}
@@ -12,7 +12,7 @@ use Rattle.cc_book.specs.History.{IsKeptAt, IsNew}
 use Rattle.cc_book.specs.Taking.{Ledger, answer_of, with_take}
 use Rattle.cc_book.specs.declared.session.OpenSession.{OpenSession}
 use Rattle.cc_book.specs.Standing.{IsPlacedIn, after_change, after_debit}
-use Rattle.cc_book.proofs.Books.{IsBook-push, account-within, answer-fresh, answer-kept, change-within, kept-some, not-fresh, same-book, small-book}
+use Rattle.cc_book.proofs.Books.{IsBook-push, account-within, answer-fresh, answer-kept, change-within, kept-answered, kept-some, new-answered, no_memory, not-fresh, same-book, small-book}
 use Rattle.cc_book.proofs.Replies.{answer_of-full}
 use Rattle.cc_book.proofs.book.Book.take.Goals as goal
 
@@ -99,3 +99,34 @@ returns-clause-answer c =
     sym (ap (λ (l : Ledger). answer_of l c.args.request.now) c.self.view_is)
     ∙ answer-fresh c.self.invariant c.args.moment c.args.request.now c.in_ok-outcome.outcome new room does
     ∙ ap (λ (n : ℕ). Ok (record { reply = c.in_ok-outcome.outcome.reply; place = n; fresh = true })) (sym long)
+
+-- ---- memory is wanted for what is not refused
+
+pub returns-in_err-kept_answer-clause-answer : goal.returns-in_err-kept_answer-clause-answer
+returns-in_err-kept_answer-clause-answer c =
+    let at = subst (λ (h : List Entry). IsKeptAt h (key_of c.args.request.now) c.in-Some.place c.in-Some.field-0-1.now) c.deref.ensures.value c.in-Some.ensures in
+    no_memory _ c.from_residual.result (subst (λ (l : Ledger). IsOk (answer_of l c.args.request.now)) c.self.view_is (kept-answered c.self.inside.terms c.self.inside.limit c.self.inside.history.items c.args.request.now c.in-Some.field-0-1.now c.in-Some.place at)) c.from_residual.ensures.1
+
+pub returns-in_err-outcome-clause-answer : goal.returns-in_err-outcome-clause-answer
+returns-in_err-outcome-clause-answer c =
+    let new = subst (λ (h : List Entry). IsNew h (key_of c.args.request.now)) c.deref.ensures.value c.in_default.ensures in
+    let room = subst (λ (es : List Entry). length es < c.self.inside.limit) c.deref-2.ensures.value c.in-Some-free_place.ensures.some.1 in
+    no_memory _ c.from_residual-in_err-outcome.result (subst (λ (l : Ledger). IsOk (answer_of l c.args.request.now)) c.self.view_is (new-answered c.self.inside.terms c.self.inside.limit c.self.inside.history.items c.args.request.now new room)) c.from_residual-in_err-outcome.ensures.1
+
+pub returns-in_err-reply-clause-answer : goal.returns-in_err-reply-clause-answer
+returns-in_err-reply-clause-answer c =
+    let new = subst (λ (h : List Entry). IsNew h (key_of c.args.request.now)) c.deref.ensures.value c.in_default.ensures in
+    let room = subst (λ (es : List Entry). length es < c.self.inside.limit) c.deref-2.ensures.value c.in-Some-free_place.ensures.some.1 in
+    no_memory _ c.from_residual-in_err-reply.result (subst (λ (l : Ledger). IsOk (answer_of l c.args.request.now)) c.self.view_is (new-answered c.self.inside.terms c.self.inside.limit c.self.inside.history.items c.args.request.now new room)) c.from_residual-in_err-reply.ensures.1
+
+pub returns-in_err-request-clause-answer : goal.returns-in_err-request-clause-answer
+returns-in_err-request-clause-answer c =
+    let new = subst (λ (h : List Entry). IsNew h (key_of c.args.request.now)) c.deref.ensures.value c.in_default.ensures in
+    let room = subst (λ (es : List Entry). length es < c.self.inside.limit) c.deref-2.ensures.value c.in-Some-free_place.ensures.some.1 in
+    no_memory _ c.from_residual-in_err-request.result (subst (λ (l : Ledger). IsOk (answer_of l c.args.request.now)) c.self.view_is (new-answered c.self.inside.terms c.self.inside.limit c.self.inside.history.items c.args.request.now new room)) c.from_residual-in_err-request.ensures.1
+
+pub returns-in_err-make_room-clause-answer : goal.returns-in_err-make_room-clause-answer
+returns-in_err-make_room-clause-answer c =
+    let new = subst (λ (h : List Entry). IsNew h (key_of c.args.request.now)) c.deref.ensures.value c.in_default.ensures in
+    let room = subst (λ (es : List Entry). length es < c.self.inside.limit) c.deref-2.ensures.value c.in-Some-free_place.ensures.some.1 in
+    no_memory _ c.from_residual-in_err-make_room.result (subst (λ (l : Ledger). IsOk (answer_of l c.args.request.now)) c.self.view_is (new-answered c.self.inside.terms c.self.inside.limit c.self.inside.history.items c.args.request.now new room)) c.from_residual-in_err-make_room.ensures.1
