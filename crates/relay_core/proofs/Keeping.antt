@@ -155,7 +155,7 @@ lost_step name realm acts relay after conn items step n r k =
       right = (tt, k.right);
     } in
     let all : Kept name realm (acts_with items before) step.rows =
-    kept-failover name realm (after_end conn relay.node) conn before n r (none_on relay.node.peers.links conn) step.failover start (λ hop. ended conn (is_in_use conn hop acts)) in
+    kept-failover name realm (after_end conn relay.node) conn before n r (none_on relay.node.peers.links conn) step.failover start (λ hop. ended conn (is_in_use conn hop acts)) refl in
     subst (λ (s : RelayState). After name realm (acts_with items before) s) (sym step.after) (record { name_is = n; realm_is = r; kept = all })
 
 maybe_lost : (name realm : List ℕ) (acts : List Act) (relay after : RelayState) (conn : ConnId) (items : Traffic) (peer : Option NodeNo)

@@ -25,7 +25,7 @@ use Rattle.relay_routes.specs.Routing.{record_of}
 use Rattle.dia_base.specs.Limits.{message_limit}
 use Rattle.dia_avp.specs.AvpList.{HasSpelling, length_of, padding_of, with_padding, written}
 use Rattle.dia_avp.proofs.ReadBack.{length_spelling}
-use Rattle.relay_core.specs.Promise.{HasCome, RequestCause, AnswerCause, AreRightActs}
+use Rattle.relay_core.specs.Promise.{HasCome, HasEnded, RequestCause, AnswerCause, AreRightActs}
 use Rattle.relay_core.specs.RelayState.{RelayState}
 use Rattle.relay_core.specs.RelayStep.{OnRequest, OnAnswer, refused, forwarded, sent_back, dropped, ignored, row_of, held_for}
 use Rattle.relay_core.proofs.Holding.{Holding, Counted, is_from, comes_from, come_more, cause_of, count-with, last_is_sent, holding-event, holding-answer, holding-less, holding-more, counted-event, counted-request, counted-same, counted-answer}
@@ -113,7 +113,7 @@ kept-request name realm relay next conn sender request items acts n r flag step 
           holding = holding-answer conn answer (happened (Received conn request) ∷ acts) relay.pending.rows its (holding-event (Received conn request) acts relay.pending.rows k.holding);
           counted = counted-refused conn request answer acts relay.pending.rows flag its (refusal-hop relay.node.name relay.node.realm request refusal) k.counted;
           right = (
-            at_false answer.header.request (RequestCause (happened (Received conn request) ∷ acts) answer × (is_in_use conn answer.header.hop (happened (Received conn request) ∷ acts) ≡ false)) (AnswerCause name realm (happened (Received conn request) ∷ acts) conn answer) its
+            at_false answer.header.request (RequestCause (happened (Received conn request) ∷ acts) conn answer × (is_in_use conn answer.header.hop (happened (Received conn request) ∷ acts) ≡ false)) (AnswerCause name realm (happened (Received conn request) ∷ acts) conn answer) its
                 (AnswerCause.refused request refusal acts refl flag
                 (ap (λ (h : List ℕ). refusal_of h relay.node.realm request refusal) n ∙ ap (λ (h : List ℕ). refusal_of name h request refusal) r)),
             (tt, k.right),
@@ -131,7 +131,7 @@ kept-request name realm relay next conn sender request items acts n r flag step 
               holding;
           counted = counted-came conn to request message row acts relay.pending.rows rows flag flag refl w k.counted;
           right = (
-            at_true message.header.request (RequestCause before message × (is_in_use to hop before ≡ false)) (AnswerCause name realm before to message) flag (
+            at_true message.header.request (RequestCause before to message × (is_in_use to hop before ≡ false)) (AnswerCause name realm before to message) flag (
               RequestCause.forwarded conn request acts refl flag descends refl,
               free_is_unused (is_in_use to hop before) (held_at relay.pending.rows to hop) (holding.used to hop) free,
             ),
@@ -183,7 +183,7 @@ kept-answer name realm relay next conn answer items acts flag step k = kept step
           holding = holding-answer origin.conn (under origin.hop answer) before rows flag (answered relay.pending.rows conn answer held rows acts flag at_hop w k.holding);
           counted = counted-answer origin.conn (under origin.hop answer) (row_of conn held) rows relay.pending.rows before flag from w (counted-event (Received conn answer) acts relay.pending.rows k.counted);
           right = (
-            at_false answer.header.request (RequestCause before (under origin.hop answer) × (is_in_use origin.conn origin.hop before ≡ false)) (AnswerCause name realm before origin.conn (under origin.hop answer)) flag
+            at_false answer.header.request (RequestCause before origin.conn (under origin.hop answer) × (is_in_use origin.conn origin.hop before ≡ false)) (AnswerCause name realm before origin.conn (under origin.hop answer)) flag
                 (subst (λ (o : Origin). AnswerCause name realm before o.conn (under o.hop answer)) (sym same)
                 (AnswerCause.sent_back conn answer cause.request held.request acts refl cause.came (sym (ap (λ (h : ℕ). last_sent conn h acts) its) ∙ cause.last) cause.descends refl)),
             (tt, k.right),
@@ -230,16 +230,17 @@ unused-other false false hop rest e f = f
 
 pub kept-failover_one : (name realm : List ℕ) (node : RelayNode) (lost : ConnId) (held : Held) (rows left : List Row) (items : Traffic) (acts : List Act) → node.name ≡ name → node.realm ≡ realm
     → peer_in node.peers.links lost ≡ None → RequestFailover node lost held rows items left
-    → Kept name realm acts rows → IsUnused acts lost → Kept name realm (acts_with items acts) left × IsUnused (acts_with items acts) lost
-kept-failover_one name realm node lost held rows left items acts n r down step k unused = kept step
+    → Kept name realm acts rows → IsUnused acts lost → HasEnded acts lost → Kept name realm (acts_with items acts) left × IsUnused (acts_with items acts) lost × HasEnded (acts_with items acts) lost
+kept-failover_one name realm node lost held rows left items acts n r down step k unused now = kept step
   where
     less : (others : List Row) → IsWith (row_of lost held) others rows → Holding acts others
     less others w = holding-less (row_of lost held) others rows acts w (λ to hop e. elsewhere lost to hop held.request.header.hop acts unused e) k.holding
 
-    kept : {out : Traffic} {after : List Row} → RequestFailover node lost held rows out after → Kept name realm (acts_with out acts) after × IsUnused (acts_with out acts) lost
+    kept : {out : Traffic} {after : List Row} → RequestFailover node lost held rows out after → Kept name realm (acts_with out acts) after × IsUnused (acts_with out acts) lost × HasEnded (acts_with out acts) lost
     kept (forgotten after from w) = (
       record { holding = less after w; counted = counted-same acts rows after (count-gone (row_of lost held) after rows w) k.counted; right = k.right },
       unused,
+      now,
     )
     kept (sent_again origin to hop after from way free w) =
         let parts = moved-rest (row_of lost held) (resent to hop (row_of lost held)) rows after w in
@@ -254,14 +255,15 @@ kept-failover_one name realm node lost held rows left items acts n r down step k
                 (less parts.0 parts.1);
             counted = counted-request to message acts after cause.flag (counted-same acts rows after (same_count parts.0 after parts.1 parts.2) k.counted);
             right = (
-              at_true message.header.request (RequestCause acts message × (is_in_use to hop acts ≡ false)) (AnswerCause name realm acts to message) cause.flag (
-                RequestCause.sent_again cause.conn lost cause.request held.request cause.came cause.last refl descends refl,
+              at_true message.header.request (RequestCause acts to message × (is_in_use to hop acts ≡ false)) (AnswerCause name realm acts to message) cause.flag (
+                RequestCause.sent_again cause.conn lost cause.request held.request now (other_conn to lost apart) cause.came cause.last refl descends refl,
                 free_is_unused (is_in_use to hop acts) (held_at rows to hop) (k.holding.used to hop) free,
               ),
               k.right,
             );
           },
           λ other. unused-other message.header.request (to.0 == lost.0) (hop == other) (is_in_use lost other acts) (other_conn to lost apart) (unused other),
+          now,
         )
       where
         still_free : (key : Bool) (rest whole : Option Held) → rest ≡ cond key None whole → whole ≡ None → rest ≡ None
@@ -282,14 +284,15 @@ kept-failover_one name realm node lost held rows left items acts n r down step k
             holding = holding-answer origin.conn answer acts after its (less after w);
             counted = counted-answer origin.conn answer (row_of lost held) after rows acts its from w k.counted;
             right = (
-              at_false answer.header.request (RequestCause acts answer × (is_in_use origin.conn origin.hop acts ≡ false)) (AnswerCause name realm acts origin.conn answer) its
+              at_false answer.header.request (RequestCause acts origin.conn answer × (is_in_use origin.conn origin.hop acts ≡ false)) (AnswerCause name realm acts origin.conn answer) its
                   (subst (λ (o : Origin). AnswerCause name realm acts o.conn (under o.hop (refusal_of node.name node.realm held.request (refusal_with code)))) (sym same)
-                  (AnswerCause.given_up lost cause.request held.request code cause.came cause.last cause.descends
+                  (AnswerCause.given_up lost cause.request held.request code now cause.came cause.last cause.descends
                   (ap (λ (h : List ℕ). under cause.request.header.hop (refusal_of h node.realm held.request (refusal_with code))) n ∙ ap (λ (h : List ℕ). under cause.request.header.hop (refusal_of name h held.request (refusal_with code))) r))),
               k.right,
             );
           },
           λ other. unused-answer answer.header.request (is_under lost other origin.conn answer) (is_in_use lost other acts) its (unused other),
+          now,
         )
 
 acts_with-more : (items more : Traffic) (acts : List Act) → acts_with (items ++ more) acts ≡ acts_with more (acts_with items acts)
@@ -298,9 +301,9 @@ acts_with-more (item ∷ items) more acts = acts_with-more items more (sent item
 
 pub kept-failover : (name realm : List ℕ) (node : RelayNode) (lost : ConnId) {rows left : List Row} {items : Traffic} (acts : List Act) → node.name ≡ name → node.realm ≡ realm
     → peer_in node.peers.links lost ≡ None → Failover node lost rows items left
-    → Kept name realm acts rows → IsUnused acts lost → Kept name realm (acts_with items acts) left
-kept-failover name realm node lost acts n r down (none_left rows none) k unused = k
-kept-failover name realm node lost acts n r down (least_first hop held rows between left items more at_hop least step rest) k unused =
-    let one_done = kept-failover_one name realm node lost held rows between items acts n r down step k unused in
+    → Kept name realm acts rows → IsUnused acts lost → HasEnded acts lost → Kept name realm (acts_with items acts) left
+kept-failover name realm node lost acts n r down (none_left rows none) k unused now = k
+kept-failover name realm node lost acts n r down (least_first hop held rows between left items more at_hop least step rest) k unused now =
+    let one_done = kept-failover_one name realm node lost held rows between items acts n r down step k unused now in
     subst (λ (all : List Act). Kept name realm all left) (sym (acts_with-more items more acts))
-    (kept-failover name realm node lost (acts_with items acts) n r down rest one_done.0 one_done.1)
+    (kept-failover name realm node lost (acts_with items acts) n r down rest one_done.0 one_done.1 one_done.2)

@@ -45,6 +45,12 @@ is_in_use to hop [] = false
 is_in_use to hop (happened event ∷ acts) = not (ends to hop event) && is_in_use to hop acts
 is_in_use to hop (sent conn message ∷ acts) = (message.header.request && is_under to hop conn message) || is_in_use to hop acts
 
+-- the event that happened last
+abbrev pub last_event : List Act → Option RelayEvent
+last_event [] = None
+last_event (happened event ∷ acts) = Some event
+last_event (sent conn message ∷ acts) = last_event acts
+
 -- the last request that went out on the connection under the identifier
 abbrev pub last_sent : ConnId → ℕ → List Act → Option Message
 last_sent to hop [] = None

@@ -1,5 +1,5 @@
 -- What a relay promises over any list of events (RFC 6733, sections 5.5.4, 6.1 and 6.2).
-use Rattle.std.specs.Prelude.{◌≡◌, ℕ, ◌≤◌, true, false, List, [], ◌∷◌, Some, IsSome, MatchBool}
+use Rattle.std.specs.Prelude.{◌≡◌, ◌==◌, ℕ, ◌≤◌, true, false, List, [], ◌∷◌, Some, IsSome, MatchBool}
 use Rattle.dia_base.specs.declared.number.ConnId.{ConnId}
 use Rattle.dia_message.specs.declared.message.Message.{Message}
 use Rattle.cc_view.specs.Answer.{refusal_of}
@@ -9,8 +9,8 @@ use Rattle.cc_view.specs.declared.code.ResultCode.TheVariants.{LoopDetected}
 use Rattle.cc_view.specs.declared.refusal.Refusal.{Refusal}
 use Rattle.relay_routes.specs.Routing.{IsLoop}
 use Rattle.relay_hops.specs.PendingTable.{under, again}
-use Rattle.relay_core.specs.declared.run.RelayEvent.TheVariants.{Received}
-use Rattle.relay_core.specs.Acts.{Act, happened, sent, acts_of, IsAmong, is_in_use, last_sent, requests_in, answers_in}
+use Rattle.relay_core.specs.declared.run.RelayEvent.TheVariants.{Received, Lost}
+use Rattle.relay_core.specs.Acts.{Act, happened, sent, acts_of, IsAmong, is_in_use, last_event, last_sent, requests_in, answers_in}
 use Rattle.relay_core.specs.Forwarding.{Descends}
 use Rattle.relay_core.specs.RelayRun.{RelayStep}
 use Rattle.relay_core.specs.RelayState.{peer_on}
@@ -23,14 +23,19 @@ pub record HasCome (acts : List Act) (conn : ConnId) (request : Message) : Type 
   pub among : IsAmong (happened (Received conn request)) acts
   pub flag : request.header.request ≡ true
 
--- Why a relay sends a request, by the acts before.
-pub data RequestCause (acts : List Act) (message : Message) : Type 0 where
+-- the relay has just learned that the connection has ended
+abbrev pub HasEnded : List Act → ConnId → Type 0
+HasEnded acts lost = last_event acts ≡ Some (Lost lost)
+
+-- Why a relay sends a request on a connection, by the acts before.
+pub data RequestCause (acts : List Act) (to : ConnId) (message : Message) : Type 0 where
   -- a request has just come, it descends from that, and T stays
   forwarded : (conn : ConnId) (request : Message) (before : List Act) → acts ≡ happened (Received conn request) ∷ before → request.header.request ≡ true →
-      Descends request message → message.header.resent ≡ request.header.resent → RequestCause acts message
-  -- it was sent before on another connection, the last one there under its identifier, and T is set; it descends from a request that came
-  sent_again : (conn lost : ConnId) (request earlier : Message) → HasCome acts conn request → last_sent lost earlier.header.hop acts ≡ Some earlier → message ≡ again message.header.hop earlier →
-      Descends request message → message.header.resent ≡ true → RequestCause acts message
+      Descends request message → message.header.resent ≡ request.header.resent → RequestCause acts to message
+  -- another connection has just ended, on which it was sent before, the last one there under its identifier, and T is set; it descends from a request that came
+  sent_again : (conn lost : ConnId) (request earlier : Message) → HasEnded acts lost → (to.0 == lost.0) ≡ false → HasCome acts conn request →
+      last_sent lost earlier.header.hop acts ≡ Some earlier → message ≡ again message.header.hop earlier →
+      Descends request message → message.header.resent ≡ true → RequestCause acts to message
 
 -- ---- an answer that a relay sends
 
@@ -43,8 +48,8 @@ pub data AnswerCause (name realm : List ℕ) (acts : List Act) (to : ConnId) (an
   -- a request has just come there, and is refused
   refused : (request : Message) (refusal : Refusal) (before : List Act) → acts ≡ happened (Received to request) ∷ before → request.header.request ≡ true →
       answer ≡ refusal_of name realm request refusal → AnswerCause name realm acts to answer
-  -- what was sent for a request that came there goes nowhere any more
-  given_up : (lost : ConnId) (request earlier : Message) (code : ResultCode) → HasCome acts to request → last_sent lost earlier.header.hop acts ≡ Some earlier → Descends request earlier →
+  -- a connection has just ended, and what was sent on it for a request that came there goes nowhere any more
+  given_up : (lost : ConnId) (request earlier : Message) (code : ResultCode) → HasEnded acts lost → HasCome acts to request → last_sent lost earlier.header.hop acts ≡ Some earlier → Descends request earlier →
       answer ≡ under request.header.hop (refusal_of name realm earlier (refusal_with code)) → AnswerCause name realm acts to answer
 
 -- ---- the promise
@@ -53,7 +58,7 @@ pub data AnswerCause (name realm : List ℕ) (acts : List Act) (to : ConnId) (an
 abbrev pub IsRightAct : List ℕ → List ℕ → List Act → Act → Type 0
 IsRightAct name realm acts (happened event) = Unit {0}
 IsRightAct name realm acts (sent conn message) =
-    MatchBool message.header.request (RequestCause acts message × (is_in_use conn message.header.hop acts ≡ false)) (AnswerCause name realm acts conn message)
+    MatchBool message.header.request (RequestCause acts conn message × (is_in_use conn message.header.hop acts ≡ false)) (AnswerCause name realm acts conn message)
 
 -- each act is right by those before it
 abbrev pub AreRightActs : List ℕ → List ℕ → List Act → Type 0
