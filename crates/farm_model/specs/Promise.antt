@@ -119,8 +119,8 @@ pub record AnswersRequest (site : Site) (journal : Journal) (conn : ConnId) (ans
   pub answered : IsAnswered (front_site site name) journal.book message answer
   pub by_machine : HasOneContent site journal.sent answered.request → IsMachineReply journal.book answered.request answered.reply
 
--- What a node refused for a message on the connection: that message, or over a relay one that descends from it and
--- stood on another connection.
+-- What a node refused for a message on the connection: that message there, or, where a relay is at an end of the
+-- connection, one that descends from it, wherever that stood.
 pub data IsRefusedThere (site : Site) (ends : Ends) (conn : ConnId) (message : Message) (node : NodeNo) : ConnId → Message → Type 0 where
   itself : IsEndOf ends conn node → IsRefusedThere site ends conn message node conn message
   over_relay : (relay : NodeNo) (at : ConnId) (there : Message) → IsEndOf ends conn relay → is_relay site relay ≡ true → Descends message there → IsRefusedThere site ends conn message node at there

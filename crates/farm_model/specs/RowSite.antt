@@ -3,7 +3,6 @@ use Rattle.std.specs.Prelude.{ℕ, List, [], ◌∷◌, codes, Some, None, ℤ, 
 use Rattle.cc_book.specs.declared.account.Account.{Account}
 use Rattle.cc_rating.specs.declared.tariff.Tariff.{Tariff}
 use Rattle.cc_rating.specs.declared.tariff.UnitKind.TheVariants.{Octets}
-use Rattle.cc_rating.specs.declared.tariff.UnitKind.TheVariants.{Octets}
 use Rattle.dia_base.specs.declared.number.NodeNo.{NodeNo}
 use Rattle.farm_model.specs.declared.site.Link.{Link}
 use Rattle.farm_model.specs.declared.site.Node.{Node}
