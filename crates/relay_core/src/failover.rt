@@ -127,7 +127,8 @@ fn next_hop_again<W: Wire>(
     Ok(next_hop(node, Some(lost), &avps, request.header.application))
 }
 
-/// The plan is carried out, one request after the other. It takes no memory: there is room for what is sent.
+/// The plan is carried out, one request after the other; nothing is pending on the lost connection then. It takes no
+/// memory: there is room for what is sent.
 pub(crate) fn fail_over(
     pending: &mut Pending,
     lost: ConnId,

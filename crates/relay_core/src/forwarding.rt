@@ -15,7 +15,8 @@ use dia_message::{Message, Out};
 use relay_hops::{Origin, Pending, PendingRefusal};
 use std::alloc::Global;
 
-/// A request of this sender is refused, or goes out under an identifier of the relay.
+/// A request of this sender is refused, and nothing of it is kept; or it goes out under an identifier of
+/// the relay, and is pending until its answer comes. After an error nothing has changed.
 pub(crate) fn on_request<W: Wire>(
     alloc: Global,
     node: &RelayNode,
@@ -41,7 +42,8 @@ pub(crate) fn on_request<W: Wire>(
     }
 }
 
-/// The request goes out on a connection.
+/// The request goes out on a connection, with the Route-Record of its sender behind it, and is pending
+/// there: what was sent is kept, with where the request came from.
 fn forward(
     alloc: Global,
     node: &RelayNode,
