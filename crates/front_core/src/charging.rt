@@ -36,7 +36,8 @@ pub fn charge<W: Wire>(
 }
 
 /// The answer to a request: the book's reply, or 3004 where the book is full. The answer is spelled
-/// before the book takes the request, so that an error leaves the book as it was.
+/// before the book takes the request, so that an error leaves the book as it was. So does a request that
+/// the book has already, sent again by its client or by a relay: it gets the kept reply.
 fn take<W: Wire>(
     alloc: Global,
     site: &FrontSite,

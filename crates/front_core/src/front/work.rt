@@ -33,8 +33,9 @@ impl Front {
     }
 
     /// A worker charges the request that it holds, and holds its answer then. A message that its view
-    /// refuses is answered without the book; a request that the book has no room for is answered 3004.
-    /// The answer is false where the worker holds no request, and then nothing changes.
+    /// refuses is answered without the book; a request that the book has already gets the kept reply, and
+    /// one that it has no room for is answered 3004: the book is as it was then. The answer is false where
+    /// the worker holds no request, and then nothing changes.
     pub fn charge<W: Wire>(
         &mut self,
         alloc: Global,
