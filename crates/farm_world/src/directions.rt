@@ -96,7 +96,7 @@ fn post_one(
 }
 
 /// What a node sends joins the ends of the lists, one message after the other. A message on a
-/// connection that is gone is lost.
+/// connection that is gone is lost. After an error nothing is known of the lists.
 pub fn post(directions: &mut Vec<Direction>, node: NodeNo, out: Out) -> Result<(), AllocError>
     ensures { OnOk result (directions.new.items ≡ with_traffic_from node directions.old.items out.items) }
 {
@@ -115,7 +115,8 @@ fn take(direction: &mut Direction, place: usize) -> Message
     direction.messages.remove(place)
 }
 
-/// The message at this place of those in flight from one node to the other leaves its list.
+/// The message at this place of those in flight from one node to the other leaves its list. Where there
+/// is none, nothing changes.
 pub fn take_off(
     directions: &mut Vec<Direction>,
     from: NodeNo,

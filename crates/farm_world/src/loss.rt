@@ -54,8 +54,10 @@ fn losses_of_restart(
 }
 
 impl World {
-    /// A node learns that a connection of it has ended: a front forgets it, a relay sends again what it
-    /// sent on it, and a client does nothing.
+    /// A node learns that a connection of it has ended. A front forgets the connection, and keeps in its
+    /// queue and with its workers what came on it; a relay sends again what it had sent on it, or tells
+    /// the asker why not; a client does nothing. After an error nothing is known of the node, nor of what
+    /// is in flight.
     fn learn_loss<W: Wire>(&mut self, alloc: Global, loss: &Loss) -> Result<(), AllocError>
         ensures ok { OnOk result (LearnsLoss self.old loss.now (front_at loss.now.node self.old.fronts) self.new) }
         ensures same { TellsSame self.old self.new }

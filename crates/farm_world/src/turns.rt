@@ -75,7 +75,8 @@ impl World {
         Ok(true)
     }
 
-    /// What a node does with a message that comes to it.
+    /// A message comes to a node. A client has received it then; what a relay or a front sends for it is
+    /// in flight.
     fn arrive<W: Wire>(
         &mut self,
         alloc: Global,
