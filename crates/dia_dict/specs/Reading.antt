@@ -14,10 +14,10 @@ use Rattle.dia_dict.specs.Values.{TakesMemory, value_fault, value_of, kind_in, s
 
 -- ---- reading
 
--- the value, unless there is a fault
-abbrev pub unless : Option DictFault → Typed → Result Typed DictFault
-unless None value = Ok value
-unless (Some fault) value = Err fault
+-- what there is, unless there is a fault
+abbrev pub unless : {A : Type 0} → Option DictFault → A → Result A DictFault
+unless None it = Ok it
+unless (Some fault) it = Err fault
 
 -- what octets read as in an AVP of this code, which is of the kind
 abbrev pub reading_as : Kind → ℕ → List ℕ → Result Typed DictFault
@@ -74,6 +74,10 @@ spelling_fault_by (Some row) code value = spelling_fault_as row.kind code value
 -- why a value has no spelling in an AVP of this code without vendor, if it has none
 abbrev pub spelling_fault : ℕ → Typed → Option DictFault
 spelling_fault code value = spelling_fault_by (row_of code 0) code value
+
+-- what is written for a value in an AVP of this code without vendor: the octets of the AVP, or the fault
+abbrev pub spelling_of : ℕ → Typed → Result (List ℕ) DictFault
+spelling_of code value = unless (spelling_fault code value) (written (avp_of code value))
 
 -- what a call did that was to write an AVP for a value: `fault` says why the value has no spelling,
 -- and `reading` what the AVP reads as

@@ -39,11 +39,11 @@ mod text;
 mod value;
 
 pub use fault::DictFault;
-pub use laws::{codes_have_names, names_and_codes, value_is_read};
+pub use laws::{
+    codes_have_names, names_and_codes, value_is_read, what_each_kind_is_written_as,
+    what_has_no_row, what_is_not_written,
+};
 pub use row::{Kind, Row};
 pub use rows::{code_of_name, kind_of, name_of, reading_fault, row_of, spell_typed, typed};
 pub use text::Text;
 pub use value::Typed;
-
-#[cfg(test)]
-mod tests;

@@ -1,5 +1,7 @@
 use super::*;
-use dia_avp::{Octets, RawAvp};
+use dia_avp::{Octets, PlainWire, RawAvp, Wire};
+use dia_base::Code;
+use dia_dict::{Typed, spell_typed};
 use std::alloc::Global;
 use std::test::Fail;
 
@@ -161,6 +163,20 @@ fn looks_into_a_group(rt: HostRuntime) -> Result<(), Fail> {
     assert_eq!(rt; first_repeated(&avps, &[444, 999]), None);
     assert_eq!(rt; first_missing(&avps, &[450, 444]), Some(444));
     assert_eq!(rt; first_missing(&avps, &[450]), None);
+    Ok(())
+}
+
+/// The dictionary writes numbers, and they are read as the AVPs of a group.
+#[test]
+fn looks_at_what_the_dictionary_writes(rt: HostRuntime) -> Result<(), Fail> {
+    let mut octets = Vec::new(rt.alloc());
+    for code in [432, 415, 432] {
+        spell_typed(&mut octets, Code(code), &Typed::Unsigned32(10))?;
+    }
+    let avps = PlainWire::split(rt.alloc(), &Octets::from_vec(octets)?)?;
+    assert_eq!(rt; avps.len(), 3);
+    assert_eq!(rt; first_missing(&avps, &[415, 432, 420]), Some(420));
+    assert_eq!(rt; first_repeated(&avps, &[415, 432]), Some(2));
     Ok(())
 }
 

@@ -17,25 +17,27 @@ const FIRST_OF_1900: u32 = 0x8000_0000;
 
 const ERA: i64 = 0x1_0000_0000;
 
-/// Adds the value, or what is wrong with it and its octets.
+/// Adds the value, or the dictionary's fault and what stands there.
 pub fn push_value(alloc: Global, out: &mut String, avp: &RawAvp) -> Result<(), AllocError> {
     match typed(alloc, avp) {
-        Ok(value) => return push_typed(alloc, out, avp.code, &value),
-        Err(DictFault::NoRow { .. }) => {}
-        Err(DictFault::BadLength { .. }) => out.push_str("its value has a wrong length: ")?,
-        Err(DictFault::BadUtf8 { .. }) => out.push_str("its text is not UTF-8: ")?,
-        Err(DictFault::BadEnumerated { .. }) => return push_stranger(alloc, out, avp),
-        Err(DictFault::OutOfMemory) => return Err(AllocError),
+        Ok(value) => push_typed(alloc, out, avp.code, &value),
+        Err(DictFault::NoRow { .. }) => push_hex(alloc, out, avp.value.as_slice()),
+        Err(DictFault::OutOfMemory) => Err(AllocError),
+        Err(fault) => push_faulty(alloc, out, avp, fault),
     }
-    push_hex(alloc, out, avp.value.as_slice())
 }
 
-/// Adds a number that its enumeration has not.
-fn push_stranger(alloc: Global, out: &mut String, avp: &RawAvp) -> Result<(), AllocError> {
-    out.push_str("none of its enumeration: ")?;
-    match i32_of(avp) {
-        Some(number) => write!(out, "{number}"),
-        None => push_hex(alloc, out, avp.value.as_slice()),
+/// Adds the fault and the octets; of a number that its enumeration has not, the number.
+fn push_faulty(
+    alloc: Global,
+    out: &mut String,
+    avp: &RawAvp,
+    fault: DictFault,
+) -> Result<(), AllocError> {
+    write!(out, "{fault}: ")?;
+    match (fault, i32_of(avp)) {
+        (DictFault::BadEnumerated { .. }, Some(number)) => write!(out, "{number}"),
+        _ => push_hex(alloc, out, avp.value.as_slice()),
     }
 }
 
