@@ -7,3 +7,4 @@ pub mod FrontRun
 pub mod FrontState
 pub mod FrontStep
 pub mod Promise
+pub mod ShortRuns

@@ -1,6 +1,6 @@
 //! Laws of a front, in the words of a reader who knows none of its code.
 
-ghost use Rattle.std.specs.Prelude.{◌≡◌, ◌⊎◌, List, ◌++◌, All};
+ghost use Rattle.std.specs.Prelude.{◌≡◌, ◌⊎◌, List, [], ◌∷◌, ◌++◌, All};
 ghost use Rattle.dia_base.specs.declared.number.ConnId.{ConnId};
 ghost use Rattle.dia_base.specs.declared.number.Moment.{Moment};
 ghost use Rattle.dia_message.specs.declared.message.Message.{Message};
@@ -13,6 +13,9 @@ ghost use Rattle.front_core.specs.ChargeCases.{IsCharge};
 ghost use Rattle.front_core.specs.Charging.{answer_in, book_after};
 ghost use Rattle.front_core.specs.FrontState.{FrontState};
 ghost use Rattle.front_core.specs.FrontStep.{preparation_at, sent_at_arrival};
+ghost use Rattle.front_core.specs.ShortRuns.{busy_front, charge, debit, emit, lost, pick, refuse, restart, second_emits, second_picks, second_up, sent_after, silence, sweep, told, unknown_user, up};
+
+use cc_view::first_debit;
 
 /// A charge is a refusal, a repeat, a refusal for want of room, or a take, and there is no other case.
 pub fn charges_by_four_cases()
@@ -38,3 +41,31 @@ pub fn an_arrival_is_refused_with_cause()
     ensures { (front : FrontState) (conn : ConnId) (message : Message) →
         All (λ item. (item.0 ≡ conn) × IsRefusedAtArrival front message item.1) (sent_at_arrival front conn message) }
 {}
+
+/// Worked examples: what a front with one worker, at which one request may wait, sends at the last of these events, and
+/// how many entries the book has then.
+pub fn what_a_front_answers()
+    // A sweep between the charge and its answer changes neither.
+    ensures charged { told 1 1 (up ∷ debit ∷ pick ∷ charge ∷ sweep ∷ emit ∷ []) ≡ (sent_after 5 unknown_user, 1) }
+    ensures full { told 1 1 (up ∷ debit ∷ debit ∷ []) ≡ (sent_after 2 busy_front, 0) }
+    // What is refused by order is not charged.
+    ensures ordered { told 1 1 (up ∷ debit ∷ pick ∷ refuse ∷ charge ∷ emit ∷ []) ≡ (sent_after 5 busy_front, 0) }
+    // An order does not apply before a request is picked, nor when it is charged.
+    ensures too_early_or_late { told 1 1 (refuse ∷ up ∷ debit ∷ refuse ∷ pick ∷ charge ∷ refuse ∷ emit ∷ []) ≡ (sent_after 7 unknown_user, 1) }
+    // The answer goes on the connection of its request, which is up again, and not on a newer one.
+    ensures up_again { told 1 1 (up ∷ debit ∷ lost ∷ up ∷ second_up ∷ pick ∷ charge ∷ emit ∷ []) ≡ (sent_after 7 unknown_user, 1) }
+{
+    first_debit();
+}
+
+/// Worked examples: a front with two workers, at which three requests may wait, sends nothing of what is lost with a
+/// connection or at a restart. What was charged stays in the book.
+pub fn what_a_front_does_not_send()
+    ensures before_the_charge { told 2 3 (up ∷ debit ∷ pick ∷ lost ∷ charge ∷ emit ∷ []) ≡ (silence 6, 1) }
+    ensures after_the_charge { told 2 3 (up ∷ debit ∷ pick ∷ charge ∷ lost ∷ second_up ∷ emit ∷ []) ≡ (silence 7, 1) }
+    ensures at_a_restart { told 2 3 (up ∷ debit ∷ debit ∷ debit ∷ pick ∷ charge ∷ second_picks ∷ restart ∷ up ∷ emit ∷ second_emits ∷ pick ∷ charge ∷ emit ∷ []) ≡ (silence 14, 1) }
+    // A message on a connection that is not up is lost.
+    ensures on_no_connection { told 2 3 (debit ∷ up ∷ pick ∷ charge ∷ emit ∷ []) ≡ (silence 5, 0) }
+{
+    first_debit();
+}

@@ -4,11 +4,11 @@
 //! - `front`: a front, its connections and its queue; `front::work`: what its workers do.
 //! - `preparing`: what a message is before the book is asked; `charging`: the answer after it is.
 //! - `run`: a front over a list of `event`s.
-//! - `laws`: what holds of every charge and every answer.
+//! - `laws`: what holds of every charge and every answer, and worked examples.
 //!
 //! Definitions stand in `specs/`: `FrontState` and `FrontStep` (each call), `Charging` and `ChargeCases` (a charge),
-//! `Answered` and `Cause` (what an answer stands on), `FrontRun` (one event after another), `Counts` and `Promise`
-//! (what is promised of every run).
+//! `Answered` and `Cause` (what an answer stands on), `FrontRun` (one event after another), `ShortRuns` (worked examples),
+//! `Counts` and `Promise` (what is promised of every run).
 //!
 //! ```
 //! let mut front = Front::new(alloc, name, realm, vendors, 4, 1024)?;
@@ -32,8 +32,6 @@ mod laws;
 mod preparing;
 mod run;
 mod site;
-#[cfg(test)]
-mod tests;
 mod worker;
 
 pub use error::FrontError;
@@ -41,7 +39,7 @@ pub use event::FrontEvent;
 pub use front::Front;
 pub use laws::{
     a_charge_answers_or_refuses, an_arrival_is_refused_with_cause, answers_stay,
-    charges_by_four_cases,
+    charges_by_four_cases, what_a_front_answers, what_a_front_does_not_send,
 };
 pub use preparing::{Prepared, prepare};
 pub use site::FrontSite;
