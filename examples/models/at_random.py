@@ -160,6 +160,8 @@ ODD = [lambda message: replace(message, command=271),
 class Player:
     """Chooses steps, takes them in a farm of the model, and keeps them as lines."""
 
+    under_way = UNDER_WAY
+
     def __init__(self, dice, scene):
         self.dice, self.scene, self.site, self.world = dice, scene, scene.site, World(scene.site)
         self.requests, self.lines, self.moment = Requests(dice, scene), [], 1000
@@ -191,27 +193,45 @@ class Player:
 
     def flights(self):
         """Each direction of a connection, with what is in flight there."""
-        return [(sender, connection.other(sender), flight) for connection in self.world.connections.values()
-                for sender, flight in connection.flights.items()]
+        return [(a, b, connection.flights[a]) for connection in self.world.connections.values()
+                for a, b in (tuple(connection.flights), tuple(connection.flights)[::-1])]
 
     def workers(self, state):
         """The workers for which this question of a front has the answer yes."""
         return [(name, worker) for name in self.names(FRONT) for worker in range(self.site.workers)
                 if getattr(self.world.nodes[name], state)(worker)]
 
-    def applying(self):
-        """What applies for each word, as lists of arguments; nothing is sent while much is under way."""
-        flights = self.flights()
-        in_flight = [(a, b, place) for a, b, flight in flights for place in range(len(flight))]
-        uncharged = self.workers("can_answer")
+    def applying(self, word):
+        """The arguments with which a step of this word applies; nothing is sent while much is under way."""
+        match word:
+            case "up":
+                return [pair for pair in self.site.links if not self.world.connection(*pair)]
+            case "send":
+                clients = [(a, b) for a, b, _ in self.flights() if self.site.nodes[a] == CLIENT]
+                return clients if self.busy() < self.under_way else []
+            case "deliver" | "lose":
+                return self.in_flight()
+            case "cut":
+                return [(a, b) for a, b, _ in self.flights()]
+            case "restart":
+                return [(name,) for name in self.names(RELAY) + self.names(FRONT)]
+            case "pick":
+                return self.workers("can_pick")
+            case "charge" | "refuse":
+                return self.workers("can_answer")
+            case "emit":
+                return self.workers("can_emit")
+            case "sweep":
+                return [()]
+
+    def in_flight(self):
+        return [(a, b, place) for a, b, flight in self.flights() for place in range(len(flight))]
+
+    def busy(self):
+        """How many messages are in flight, in queues, or with workers that have no answer yet."""
+        in_flight = sum(len(flight) for _, _, flight in self.flights())
         waiting = sum(len(self.world.nodes[name].queue) for name in self.names(FRONT))
-        clients = [(a, b) for a, b, _ in flights if self.site.nodes[a] == CLIENT]
-        return {"up": [pair for pair in self.site.links if not self.world.connection(*pair)],
-                "send": clients if len(in_flight) + waiting + len(uncharged) < UNDER_WAY else [],
-                "deliver": in_flight, "lose": in_flight, "cut": [(a, b) for a, b, _ in flights],
-                "restart": [(name,) for name in self.names(RELAY) + self.names(FRONT)],
-                "pick": self.workers("can_pick"), "charge": uncharged, "refuse": uncharged,
-                "emit": self.workers("can_emit"), "sweep": [()]}
+        return in_flight + waiting + len(self.workers("can_answer"))
 
     def completed(self, word, arguments):
         """A step, with the message or the moment that it lacks."""
@@ -233,12 +253,16 @@ class Player:
     def step_that_applies(self, words=None):
         """A step that applies, or None where there is none of these words."""
         words = words or tuple(self.scene.weights)
-        found = {word: self.applying()[word] for word in words}
+        found = {word: self.applying(word) for word in words}
         choices = [word for word in words if found[word] for _ in range(self.scene.weights[word])]
         if not choices:
             return None
         word = self.dice.one_of(choices)
-        arguments = self.dice.one_of(found[word])
+        return self.one_of_these(word, found[word])
+
+    def one_of_these(self, word, found):
+        """One of the steps of a word that apply; A and B connect in either order."""
+        arguments = self.dice.one_of(found)
         if word == "up" and self.dice.one_in(6):
             arguments = arguments[::-1]
         return self.completed(word, arguments)

@@ -40,9 +40,8 @@ def highest():
     return lambda used, old: next(hop for hop in range(HOPS - 1, 0, -1) if hop not in used)
 
 
-def rising():
+def rising(last=HOPS - 3):
     """From the last one given, round the end."""
-    last = HOPS - 3
 
     def choose(used, old):
         nonlocal last
@@ -51,9 +50,9 @@ def rising():
     return choose
 
 
-def kept():
+def kept(last=HOPS - 3):
     """On a new connection the identifier that the request had, if it is free there."""
-    fresh = rising()
+    fresh = rising(last)
     return lambda used, old: old if old is not None and old not in used else fresh(used, old)
 
 
