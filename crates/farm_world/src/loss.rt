@@ -66,7 +66,7 @@ impl World {
             self.fronts[place].front.conn_lost(loss.conn);
             return Ok(());
         }
-        let out = relays::lose::<W>(alloc, &mut self.relays, loss.node, loss.conn)?;
+        let out = relays::conn_lost::<W>(alloc, &mut self.relays, loss.node, loss.conn)?;
         post(&mut self.directions, loss.node, out)
     }
 

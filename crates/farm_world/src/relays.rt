@@ -28,7 +28,7 @@ fn place_of_relay(relays: &[RelayAt], node: NodeNo) -> Option<usize>
 
 /// A peer of a relay comes up. Where the peer or its connection is up already, or the peer is not
 /// linked, nothing happens.
-fn link_one(relay: &mut Relay, peer: NodeNo, conn: ConnId) -> Result<(), AllocError>
+fn connect_one(relay: &mut Relay, peer: NodeNo, conn: ConnId) -> Result<(), AllocError>
     ensures { OnOk result (relay.new ≡ after_up_by relay.old peer conn (up_fault relay.old peer conn)) }
 {
     match relay.conn_up(peer, conn) {
@@ -39,7 +39,7 @@ fn link_one(relay: &mut Relay, peer: NodeNo, conn: ConnId) -> Result<(), AllocEr
 }
 
 /// A relay learns of a connection with a peer. Where the node is no relay, nothing happens.
-pub fn link(
+pub fn connect(
     relays: &mut Vec<RelayAt>,
     node: NodeNo,
     peer: NodeNo,
@@ -50,7 +50,7 @@ pub fn link(
     let Some(place) = place_of_relay(relays, node) else {
         return Ok(());
     };
-    link_one(&mut relays[place].relay, peer, conn)
+    connect_one(&mut relays[place].relay, peer, conn)
 }
 
 /// What is sent where a relay refuses a call for another reason than memory.
@@ -79,7 +79,7 @@ fn receive_one<W: Wire>(
 }
 
 /// A relay learns that a connection has ended. One that it does not know changes nothing.
-fn lose_one<W: Wire>(relay: &mut Relay, alloc: Global, conn: ConnId) -> Result<Out, AllocError>
+fn conn_lost_one<W: Wire>(relay: &mut Relay, alloc: Global, conn: ConnId) -> Result<Out, AllocError>
     ensures { IfOk result (λ out. OnEvent relay.old (Lost conn) out.items relay.new) }
 {
     match relay.conn_lost::<W>(alloc, conn) {
@@ -107,7 +107,7 @@ pub fn receive<W: Wire>(
 
 /// The relay that is this node learns that a connection has ended. The answer is what it sends: nothing
 /// where there is no such relay.
-pub fn lose<W: Wire>(
+pub fn conn_lost<W: Wire>(
     alloc: Global,
     relays: &mut Vec<RelayAt>,
     node: NodeNo,
@@ -118,7 +118,7 @@ pub fn lose<W: Wire>(
     let Some(place) = place_of_relay(relays, node) else {
         return Ok(Out::nothing(alloc));
     };
-    lose_one::<W>(&mut relays[place].relay, alloc, conn)
+    conn_lost_one::<W>(&mut relays[place].relay, alloc, conn)
 }
 
 /// A relay begins anew. Where the node is no relay, nothing happens.

@@ -45,8 +45,8 @@ impl World {
         self.directions.push(empty_direction(alloc, conn, b, a))?;
         connect(&mut self.fronts, a, conn)?;
         connect(&mut self.fronts, b, conn)?;
-        relays::link(&mut self.relays, a, b, conn)?;
-        relays::link(&mut self.relays, b, a, conn)?;
+        relays::connect(&mut self.relays, a, b, conn)?;
+        relays::connect(&mut self.relays, b, a, conn)?;
         self.ends.push((a, b))?;
         Ok(true)
     }

@@ -1,12 +1,12 @@
 use Rattle.std.proofs.lemmas.Result.{IfOk-weaker}
 use Rattle.relay_core.specs.declared.run.RelayEvent.TheVariants.{Lost}
 use Rattle.farm_world.proofs.Relaying.{relay_takes}
-use Rattle.farm_world.proofs.relays.lose.Goals as goal
+use Rattle.farm_world.proofs.relays.conn_lost.Goals as goal
 
 pub returns : goal.returns
 returns g c =
     let at = c.index_mut.result.now in
     let first = rw c.deref.ensures.value at c.in-Some.ensures.found in
-    IfOk-weaker c.lose_one.result _ _
-    (λ out does. relay_takes c.args.node (Lost c.args.conn) c.args.relays.now.items c.in-Some.place at c.lose_one.new.relay out.items first c.index_mut.ensures.value does)
-    c.lose_one.ensures
+    IfOk-weaker c.conn_lost_one.result _ _
+    (λ out does. relay_takes c.args.node (Lost c.args.conn) c.args.relays.now.items c.in-Some.place at c.conn_lost_one.new.relay out.items first c.index_mut.ensures.value does)
+    c.conn_lost_one.ensures
