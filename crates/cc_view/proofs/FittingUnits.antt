@@ -5,6 +5,7 @@ use Rattle.std.specs.Int.{cast_unsigned, w32, w64}
 use Rattle.std.proofs.lemmas.List.Elements.{All-head, All-tail}
 use Rattle.dia_base.specs.declared.number.Code.{Code}
 use Rattle.dia_base.specs.Codes.{origin_host, origin_realm, service_identifier, cc_time, check_balance_result, cost_information, currency_code, exponent, final_unit_action, final_unit_indication, granted_service_unit, multiple_services, rating_group, result_code, unit_value, validity_time, value_digits}
+use Rattle.dia_avp.specs.declared.avp.RawAvp.{RawAvp}
 use Rattle.cc_view.specs.declared.reply.CcReply.{CcReply}
 use Rattle.cc_view.specs.declared.reply.Cost.{Cost}
 use Rattle.cc_view.specs.declared.reply.ServiceReply.{ServiceReply}
@@ -25,8 +26,11 @@ takes-unit : (b : Bool) (m code n : ℕ) → code < 2 ^ 32 → Takes 16 (cond b 
 takes-unit true m code n fits = takes-more 12 16 (u32_avp cc_time m ∷ []) (lit≤ tt) (takes-u32 cc_time m (lit≤ tt))
 takes-unit false m code n fits = takes-u64 code n fits
 
+pub takes-granted_units : (kind : Code) (n : ℕ) → kind.0 < 2 ^ 32 → Takes 16 (unit_avp kind n ∷ [])
+takes-granted_units kind n fits = takes-unit _ (min n 4294967295) kind.0 n fits
+
 takes-granted : (kind : Option Code) (n : Option ℕ) → IfSome kind (λ k. k.0 < 2 ^ 32) → Takes 24 (granted_part kind n)
-takes-granted (Some kind) (Some n) fits = takes-group granted_service_unit 16 (unit_avp kind n ∷ []) (lit≤ tt) (lit≤ tt) (takes-unit _ (min n 4294967295) kind.0 n fits).most
+takes-granted (Some kind) (Some n) fits = takes-group granted_service_unit 16 (unit_avp kind n ∷ []) (lit≤ tt) (lit≤ tt) (takes-granted_units kind n fits).most
 takes-granted (Some kind) None fits = takes-more 0 24 [] (lit≤ tt) takes-nil
 takes-granted None n fits = takes-more 0 24 [] (lit≤ tt) takes-nil
 
@@ -34,15 +38,24 @@ takes-final : (last : Bool) → Takes 20 (final_part last)
 takes-final true = takes-group final_unit_indication 12 (u32_avp final_unit_action 0 ∷ []) (lit≤ tt) (lit≤ tt) (takes-u32 final_unit_action 0 (lit≤ tt)).most
 takes-final false = takes-more 0 20 [] (lit≤ tt) takes-nil
 
-takes-service : (service : ServiceReply) → HasUnitCode service → Takes 100 (service_avp service ∷ [])
-takes-service service fits =
+-- the members of its Multiple-Services-Credit-Control
+abbrev pub service_members : ServiceReply → List RawAvp
+service_members service =
+    granted_part service.kind service.granted
+    ++ optional_u32 service_identifier service.name.ident
+    ++ optional_u32 rating_group service.name.group
+    ++ optional_u32 validity_time service.validity
+    ++ u32_avp result_code (number_of service.code) ∷ []
+    ++ final_part service.last
+
+pub takes-members : (service : ServiceReply) → HasUnitCode service → Takes 92 (service_members service)
+takes-members service fits =
     let granted = granted_part service.kind service.granted in
     let ident = optional_u32 service_identifier service.name.ident in
     let group = optional_u32 rating_group service.name.group in
     let validity = optional_u32 validity_time service.validity in
     let code = u32_avp result_code (number_of service.code) ∷ [] in
-    takes-group multiple_services 92 (granted ++ ident ++ group ++ validity ++ code ++ final_part service.last) (lit≤ tt) (lit≤ tt)
-    (takes-append 72 20 (granted ++ ident ++ group ++ validity ++ code) (final_part service.last)
+    takes-append 72 20 (granted ++ ident ++ group ++ validity ++ code) (final_part service.last)
     (takes-append 60 12 (granted ++ ident ++ group ++ validity) code
     (takes-append 48 12 (granted ++ ident ++ group) validity
     (takes-append 36 12 (granted ++ ident) group
@@ -50,7 +63,10 @@ takes-service service fits =
     (takes-optional rating_group service.name.group (lit≤ tt)))
     (takes-optional validity_time service.validity (lit≤ tt)))
     (takes-u32 result_code (number_of service.code) (lit≤ tt)))
-    (takes-final service.last)).most
+    (takes-final service.last)
+
+takes-service : (service : ServiceReply) → HasUnitCode service → Takes 100 (service_avp service ∷ [])
+takes-service service fits = takes-group multiple_services 92 (service_members service) (lit≤ tt) (lit≤ tt) (takes-members service fits).most
 
 -- ---- all services
 
@@ -69,11 +85,12 @@ takes-services (service ∷ services) fits =
 
 -- ---- the service of the command's own units
 
-bare_fits : (services : List ServiceReply) → All HasUnitCode services → IfSome (bare_in services) HasUnitCode
-bare_fits [] fits = tt
-bare_fits (service ∷ services) fits = found service.bare service (bare_in services) (All-head HasUnitCode service services fits) (bare_fits services (All-tail HasUnitCode service services fits))
+-- it has what all have
+pub bare_has : (P : ServiceReply → Type 0) (services : List ServiceReply) → All P services → IfSome (bare_in services) P
+bare_has P [] all = tt
+bare_has P (service ∷ services) all = found service.bare service (bare_in services) (All-head P service services all) (bare_has P services (All-tail P service services all))
   where
-    found : (b : Bool) (service : ServiceReply) (later : Option ServiceReply) → HasUnitCode service → IfSome later HasUnitCode → IfSome (cond b (Some service) later) HasUnitCode
+    found : (b : Bool) (service : ServiceReply) (later : Option ServiceReply) → P service → IfSome later P → IfSome (cond b (Some service) later) P
     found true service later p q = p
     found false service later p q = q
 
@@ -97,15 +114,25 @@ takes-i64 code z fits = takes-u64 code (cast_unsigned w64 z) fits
 takes-i32 : (code : ℕ) (z : ℤ) → code < 2 ^ 32 → Takes 12 (i32_avp code z ∷ [])
 takes-i32 code z fits = takes-u32 code (cast_unsigned w32 z) fits
 
+-- the members of a Unit-Value, and of a Cost-Information
+abbrev pub value_members : Cost → List RawAvp
+value_members cost = i64_avp value_digits cost.digits ∷ i32_avp exponent cost.exponent ∷ []
+
+abbrev pub cost_members : Cost → List RawAvp
+cost_members cost = group_avp unit_value (value_members cost) ∷ u32_avp currency_code cost.currency ∷ []
+
+pub takes-value : (cost : Cost) → Takes 28 (value_members cost)
+takes-value cost = takes-append 16 12 (i64_avp value_digits cost.digits ∷ []) (i32_avp exponent cost.exponent ∷ []) (takes-i64 value_digits cost.digits (lit≤ tt)) (takes-i32 exponent cost.exponent (lit≤ tt))
+
+pub takes-cost_members : (cost : Cost) → Takes 48 (cost_members cost)
+takes-cost_members cost =
+    takes-append 36 12 (group_avp unit_value (value_members cost) ∷ []) (u32_avp currency_code cost.currency ∷ [])
+    (takes-group unit_value 28 (value_members cost) (lit≤ tt) (lit≤ tt) (takes-value cost).most)
+    (takes-u32 currency_code cost.currency (lit≤ tt))
+
 takes-cost : (cost : Option Cost) → Takes 56 (cost_part cost)
 takes-cost None = takes-more 0 56 [] (lit≤ tt) takes-nil
-takes-cost (Some cost) =
-    let value = i64_avp value_digits cost.digits ∷ i32_avp exponent cost.exponent ∷ [] in
-    takes-group cost_information 48 (group_avp unit_value value ∷ u32_avp currency_code cost.currency ∷ []) (lit≤ tt) (lit≤ tt)
-    (takes-append 36 12 (group_avp unit_value value ∷ []) (u32_avp currency_code cost.currency ∷ [])
-    (takes-group unit_value 28 value (lit≤ tt) (lit≤ tt)
-    (takes-append 16 12 (i64_avp value_digits cost.digits ∷ []) (i32_avp exponent cost.exponent ∷ []) (takes-i64 value_digits cost.digits (lit≤ tt)) (takes-i32 exponent cost.exponent (lit≤ tt))).most)
-    (takes-u32 currency_code cost.currency (lit≤ tt))).most
+takes-cost (Some cost) = takes-group cost_information 48 (cost_members cost) (lit≤ tt) (lit≤ tt) (takes-cost_members cost).most
 
 -- ---- the whole
 
@@ -121,7 +148,7 @@ takes-units reply fits =
     (takes-append 3300 12 (granted ++ services ++ cost ++ final) check
     (takes-append 3280 20 (granted ++ services ++ cost) final
     (takes-append 3224 56 (granted ++ services) cost
-    (takes-append 24 3200 granted services (takes-bare_granted bare (bare_fits reply.services fits.codes))
+    (takes-append 24 3200 granted services (takes-bare_granted bare (bare_has HasUnitCode reply.services fits.codes))
     (takes-more (100 * length reply.services) 3200 services (omega (arith, fits.few)) (takes-services reply.services fits.codes)))
     (takes-cost reply.cost))
     (takes-bare_final bare))

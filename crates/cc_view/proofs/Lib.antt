@@ -17,6 +17,7 @@ mod Shortness
 mod Spelling
 mod Places
 mod Splits
+mod TypedAnswers
 mod Unread
 mod ViewedSessions
 mod Views

@@ -2,6 +2,7 @@
 pub mod Carried
 pub mod Fitting
 pub mod Short
+pub mod Typed
 pub mod Writing
 use Rattle.std.specs.Prelude.{ℕ, List, [], ◌∷◌, ◌++◌, map, filter, find, length, Bool, true, false, not, min, nat_le, ◌==◌, if◌then◌else◌, Option, Some, None, option_map, option_to_list}
 use Rattle.dia_base.specs.declared.number.Code.{Code}

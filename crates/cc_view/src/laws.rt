@@ -9,6 +9,7 @@ ghost use Rattle.cc_view.specs.Answer.{answer_avps, answer_to, refusal_avps, ref
 ghost use Rattle.dia_base.specs.Codes.{session_id};
 ghost use Rattle.cc_view.specs.FirstDebit.{answer_message, debit_message, debit_reply, debit_request, front_name, realm_name};
 ghost use Rattle.cc_view.specs.Answer.Fitting.{Fits, IsReadBack};
+ghost use Rattle.cc_view.specs.Answer.Typed.{GrantsUnits, SplitTyped};
 ghost use Rattle.cc_view.specs.Forwarding.{CarryAlike, IsForwarded, with_hop};
 ghost use Rattle.cc_view.specs.Readdressing.{sent_again, with_identifiers};
 ghost use Rattle.cc_view.specs.Refusal.{avps_of};
@@ -93,7 +94,15 @@ pub fn answers_are_read_back()
         IsReadBack (answer_to front realm message request reply) (answer_avps front realm message request reply) }
 {}
 
-/// The same of a refusal, of whatever message. Failed-AVP takes at most 8,200 octets.
+/// A receiver with the dictionary reads that answer: its octets split into AVPs that have a row, and a value of its
+/// kind, and so do the members of each of its groups.
+pub fn answers_read_as_their_kinds()
+    ensures { (vendors : List ℕ) (front realm : List ℕ) (message : Message) (request : CcRequest) (reply : CcReply) →
+        IsIdentity front → IsIdentity realm → HasOctets message.header → AreOctets message.body → view_of vendors message ≡ Ok request → Fits reply → GrantsUnits reply →
+        SplitTyped (answer_to front realm message request reply).body }
+{}
+
+/// A refusal, of whatever message, is read back like an answer. Failed-AVP takes at most 8,200 octets.
 pub fn refusals_are_read_back()
     ensures { (node realm : List ℕ) (message : Message) (refusal : Refusal) →
         IsIdentity node → IsIdentity realm → HasOctets message.header → AreOctets message.body →

@@ -6,13 +6,13 @@
 //! - [`answer_bytes`] writes an answer from what the account machine replies, a [`CcReply`], and
 //!   [`refusal_bytes`] a refusal. What both write stands in `answer`.
 //! - The laws are functions without a body, for crates above to call: what a view does not read, that
-//!   answers and refusals are read back within 65,536 octets, and that a request that a relay forwarded
-//!   has the view, the answer and the refusal of its request.
+//!   answers and refusals are read back within 65,536 octets, each AVP of an answer by its kind, and that
+//!   a request that a relay forwarded has the view, the answer and the refusal of its request.
 //!
 //! The definitions, in `specs/`: `RequestView` says the view, and below it `Checking` the values and groups
 //! that are looked at, `Content` what a request asks and `Readable` what a request is that is not refused;
 //! `Refusal` and `RefusalByCode` the refusals with the AVP at fault; `Answer` what is answered, and below it
-//! `Carried` what of the request comes back; `Forwarding` what a relay changes; `FirstDebit` is computed.
+//! `Carried` what of the request comes back and `Typed` what a receiver reads; `Forwarding` what a relay changes; `FirstDebit` is computed.
 //!
 //! A server that knows AVPs of vendor 10415:
 //!
@@ -42,10 +42,10 @@ pub use answer::answer_bytes;
 pub use code::ResultCode;
 pub use laws::{
     answer_by_what_is_carried, answer_without_identifiers, answers_are_read_back,
-    failed_avps_are_of_the_request, failed_avps_are_short, first_debit, forwarded_requests,
-    refusal_by_what_is_carried, refusal_without_identifiers, refusals_are_read_back,
-    refusals_by_code, requests_are_readable, session_is_written, view_without_identifiers,
-    view_without_unread_avps,
+    answers_read_as_their_kinds, failed_avps_are_of_the_request, failed_avps_are_short,
+    first_debit, forwarded_requests, refusal_by_what_is_carried, refusal_without_identifiers,
+    refusals_are_read_back, refusals_by_code, requests_are_readable, session_is_written,
+    view_without_identifiers, view_without_unread_avps,
 };
 pub use refusal::{Refusal, refusal_bytes};
 pub use reply::{CcReply, Cost, ServiceReply};
