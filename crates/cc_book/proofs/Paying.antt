@@ -1,12 +1,14 @@
 -- What a debit pays for.
-use Rattle.std.proofs.Common.{◌≡◌, ℕ, suc, ◌+◌, ◌<◌, ◌≤◌, ◌^◌, Bool, true, false, ◌&&◌, cond, ltb, List, [], ◌∷◌, length, map, All, Option, Some, None, option_map, refl, sym, ap, subst, ◌∙◌, arith, lit≤}
+use Rattle.std.proofs.Common.{◌≡◌, ℕ, suc, ◌+◌, ◌<◌, ◌≤◌, ◌^◌, Bool, true, false, ◌&&◌, cond, ltb, List, [], ◌∷◌, length, map, All, Option, Some, None, option_map, inl, inr, refl, sym, ap, subst, ◌∙◌, arith, lit≤}
 use Rattle.std.specs.Prelude.{ℤ, pos, ◌-ℤ◌, ◌≤ℤ◌, int_le, is_none, unwrap_or, sum_by, IfSome}
 use Rattle.std.specs.Option.{option_and_then}
 use Rattle.std.proofs.lemmas.Int.{ints}
 use Rattle.std.proofs.lemmas.List.{length-map}
-use Rattle.std.proofs.lemmas.List.Elements.{All-cons, All-nil}
+use Rattle.std.proofs.lemmas.List.Elements.{All-cons, All-nil, All-weaker}
 use Rattle.std.proofs.lemmas.List.Sums.{sum_by-cons}
+use Rattle.dia_base.specs.declared.number.Code.{Code}
 use Rattle.cc_view.specs.Answer.Fitting.{Fits, HasUnitCode}
+use Rattle.cc_view.specs.Answer.Typed.{GrantsUnits, HasUnits, IsUnitCode}
 use Rattle.cc_view.specs.Request.ServiceLimits.{WithinLimits}
 use Rattle.cc_view.specs.declared.code.ResultCode.{ResultCode}
 use Rattle.cc_view.specs.declared.code.ResultCode.TheVariants.{Success, CreditLimitReached, UnableToComply, UnknownSessionId, UserUnknown, RatingFailed}
@@ -160,49 +162,54 @@ enquired terms history request event asks = debit_of-event terms (postings_of te
 
 -- ---- what fits
 
-unit_code-small : (kind : UnitKind) → (unit_code kind).0 < 2 ^ 32
-unit_code-small Time = omega arith
-unit_code-small Octets = omega arith
-unit_code-small Units = omega arith
+-- a reply to at most as many services as a request may have, whose grants are of time, octets or units
+record GrantsFew (reply : CcReply) : Type 0 where
+  pub few : length reply.services ≤ 32
+  pub units : GrantsUnits reply
 
-granted-code : (found : Option Tariff) → IfSome (option_map (λ (tariff : Tariff). unit_code tariff.kind) found) (λ kind. kind.0 < 2 ^ 32)
-granted-code (Some tariff) = unit_code-small tariff.kind
+unit_code-named : (kind : UnitKind) → IsUnitCode (unit_code kind).0
+unit_code-named Time = inl refl
+unit_code-named Octets = inr (inl refl)
+unit_code-named Units = inr (inr refl)
+
+granted-code : (found : Option Tariff) → IfSome (option_map (λ (tariff : Tariff). unit_code tariff.kind) found) (λ kind. IsUnitCode kind.0)
+granted-code (Some tariff) = unit_code-named tariff.kind
 granted-code None = tt
 
-granted-codes : (tariffs : List Tariff) (services : List Service) → All HasUnitCode (map (granted tariffs) services)
-granted-codes tariffs [] = All-nil HasUnitCode
-granted-codes tariffs (service ∷ services) =
-    All-cons HasUnitCode (granted tariffs service) (map (granted tariffs) services)
-    (granted-code (tariff_of tariffs service)) (granted-codes tariffs services)
+granted-units : (tariffs : List Tariff) (services : List Service) → All HasUnits (map (granted tariffs) services)
+granted-units tariffs [] = All-nil HasUnits
+granted-units tariffs (service ∷ services) =
+    All-cons HasUnits (granted tariffs service) (map (granted tariffs) services)
+    (granted-code (tariff_of tariffs service)) (granted-units tariffs services)
 
-fits-alone : (code : _) → Fits (code_alone code)
-fits-alone code = record { few = lit≤ tt; codes = All-nil HasUnitCode }
+fits-alone : (code : _) → GrantsFew (code_alone code)
+fits-alone code = record { few = lit≤ tt; units = All-nil HasUnits }
 
-fits-room : (tariffs : List Tariff) (services : List Service) (room : Bool) → length services ≤ 32 → Fits (cond room (granted_all tariffs services) (code_alone CreditLimitReached))
-fits-room tariffs services true few = record { few = subst (λ (n : ℕ). n ≤ 32) (sym (length-map services (granted tariffs))) few; codes = granted-codes tariffs services }
+fits-room : (tariffs : List Tariff) (services : List Service) (room : Bool) → length services ≤ 32 → GrantsFew (cond room (granted_all tariffs services) (code_alone CreditLimitReached))
+fits-room tariffs services true few = record { few = subst (λ (n : ℕ). n ≤ 32) (sym (length-map services (granted tariffs))) few; units = granted-units tariffs services }
 fits-room tariffs services false few = fits-alone CreditLimitReached
 
-fits-check : (total : ℕ) (free : ℤ) → Fits (check_reply total free)
-fits-check total free = record { few = lit≤ tt; codes = All-nil HasUnitCode }
+fits-check : (total : ℕ) (free : ℤ) → GrantsFew (check_reply total free)
+fits-check total free = record { few = lit≤ tt; units = All-nil HasUnits }
 
-fits-price : (money : Money) (total : ℕ) → Fits (price_reply money total)
+fits-price : (money : Money) (total : ℕ) → GrantsFew (price_reply money total)
 fits-price money total = by (ltb total (2 ^ 63)) where
-  by : (b : Bool) → Fits (cond b (record { code = Success; services = []; cost = Some (record { digits = pos total; exponent = money.exponent; currency = money.currency }); check = None }) (code_alone RatingFailed))
-  by true = record { few = lit≤ tt; codes = All-nil HasUnitCode }
+  by : (b : Bool) → GrantsFew (cond b (record { code = Success; services = []; cost = Some (record { digits = pos total; exponent = money.exponent; currency = money.currency }); check = None }) (code_alone RatingFailed))
+  by true = record { few = lit≤ tt; units = All-nil HasUnits }
   by false = fits-alone RatingFailed
 
-fits-rated : (terms : Terms) (services : List Service) (free : ℤ) (total : Option ℕ) (action : RequestedAction) → length services ≤ 32 → Fits (rated_reply terms services total free action)
+fits-rated : (terms : Terms) (services : List Service) (free : ℤ) (total : Option ℕ) (action : RequestedAction) → length services ≤ 32 → GrantsFew (rated_reply terms services total free action)
 fits-rated terms services free None action few = fits-alone RatingFailed
 fits-rated terms services free (Some total) DirectDebiting few = fits-room terms.tariffs services (int_le (pos total) free) few
 fits-rated terms services free (Some total) RefundAccount few = fits-alone Success
 fits-rated terms services free (Some total) CheckBalance few = fits-check total free
 fits-rated terms services free (Some total) PriceEnquiry few = fits-price terms.money total
 
-fits-test : (b : Bool) (one other : CcReply) → Fits one → Fits other → Fits (cond b one other)
+fits-test : (b : Bool) (one other : CcReply) → GrantsFew one → GrantsFew other → GrantsFew (cond b one other)
 fits-test true one other p q = p
 fits-test false one other p q = q
 
-fits-event : (terms : Terms) (services : List Service) (account : Option ℕ) (free : ℤ) (action : Option RequestedAction) → length services ≤ 32 → Fits (event_reply terms services account free action)
+fits-event : (terms : Terms) (services : List Service) (account : Option ℕ) (free : ℤ) (action : Option RequestedAction) → length services ≤ 32 → GrantsFew (event_reply terms services account free action)
 fits-event terms services account free None few = fits-alone UnableToComply
 fits-event terms services account free (Some action) few =
     fits-test (needs_account action && is_none account) (code_alone UserUnknown) (rated_reply terms services (total_of terms.tariffs services) free action)
@@ -213,44 +220,63 @@ replies_from-length : (terms : Terms) (free : ℤ) (services : List Service) →
 replies_from-length terms free [] = refl
 replies_from-length terms free (service ∷ services) = ap suc (replies_from-length terms (free_behind free (grant_to terms.tariffs free service)) services)
 
-replies_from-codes : (terms : Terms) (free : ℤ) (services : List Service) → All HasUnitCode (replies_from terms free services)
-replies_from-codes terms free [] = All-nil HasUnitCode
-replies_from-codes terms free (service ∷ services) =
+replies_from-units : (terms : Terms) (free : ℤ) (services : List Service) → All HasUnits (replies_from terms free services)
+replies_from-units terms free [] = All-nil HasUnits
+replies_from-units terms free (service ∷ services) =
     let grant = grant_to terms.tariffs free service in
-    All-cons HasUnitCode (settled_reply terms service grant) (replies_from terms (free_behind free grant) services)
-    (granted-code (tariff_of terms.tariffs service)) (replies_from-codes terms (free_behind free grant) services)
+    All-cons HasUnits (settled_reply terms service grant) (replies_from terms (free_behind free grant) services)
+    (granted-code (tariff_of terms.tariffs service)) (replies_from-units terms (free_behind free grant) services)
 
 closed : Terms → Service → ServiceReply
 closed terms service = settled_reply terms service None
 
-closed-codes : (terms : Terms) (services : List Service) → All HasUnitCode (map (closed terms) services)
+closed-units : (terms : Terms) (services : List Service) → All HasUnits (map (closed terms) services)
 unfolding closed
-closed-codes terms [] = All-nil HasUnitCode
-closed-codes terms (service ∷ services) =
-    All-cons HasUnitCode (closed terms service) (map (closed terms) services) (granted-code (tariff_of terms.tariffs service)) (closed-codes terms services)
+closed-units terms [] = All-nil HasUnits
+closed-units terms (service ∷ services) =
+    All-cons HasUnits (closed terms service) (map (closed terms) services) (granted-code (tariff_of terms.tariffs service)) (closed-units terms services)
 
-fits-granting : (terms : Terms) (free : ℤ) (services : List Service) → length services ≤ 32 → Fits (granting_reply terms free services)
+fits-granting : (terms : Terms) (free : ℤ) (services : List Service) → length services ≤ 32 → GrantsFew (granting_reply terms free services)
 fits-granting terms free services few =
-    record { few = subst (λ (n : ℕ). n ≤ 32) (sym (replies_from-length terms free services)) few; codes = replies_from-codes terms free services }
+    record { few = subst (λ (n : ℕ). n ≤ 32) (sym (replies_from-length terms free services)) few; units = replies_from-units terms free services }
 
-fits-closing : (terms : Terms) (services : List Service) → length services ≤ 32 → Fits (closing_reply terms services)
+fits-closing : (terms : Terms) (services : List Service) → length services ≤ 32 → GrantsFew (closing_reply terms services)
 unfolding closed
-fits-closing terms services few = record { few = subst (λ (n : ℕ). n ≤ 32) (sym (length-map services (closed terms))) few; codes = closed-codes terms services }
+fits-closing terms services few = record { few = subst (λ (n : ℕ). n ≤ 32) (sym (length-map services (closed terms))) few; units = closed-units terms services }
 
-pub fits : (terms : Terms) (history : List Entry) (request : CcRequest) → WithinLimits request.services → Fits (reply_to terms history request)
+grants_few : (terms : Terms) (history : List Entry) (request : CcRequest) → WithinLimits request.services → GrantsFew (reply_to terms history request)
 unfolding reply_to
-fits terms history request limits = by request.kind where
+grants_few terms history request limits = by request.kind where
   before : List Posting
   before = postings_of terms history
 
-  granting : (code : ResultCode) → Fits (cond (settles_after terms before request) (granting_reply terms (free_to_grant terms before request) request.services) (code_alone code))
+  granting : (code : ResultCode) → GrantsFew (cond (settles_after terms before request) (granting_reply terms (free_to_grant terms before request) request.services) (code_alone code))
   granting code =
       fits-test (settles_after terms before request) (granting_reply terms (free_to_grant terms before request) request.services) (code_alone code)
       (fits-granting terms (free_to_grant terms before request) request.services limits.few) (fits-alone code)
 
-  by : (kind : RequestKind) → Fits (reply_by terms before request kind)
+  by : (kind : RequestKind) → GrantsFew (reply_by terms before request kind)
   by Event = fits-event terms request.services (account_of terms.accounts request.subscriptions) (free_for terms before (account_of terms.accounts request.subscriptions)) request.action limits.few
   by Initial = granting (unsettled_code Initial (is_open terms.validity request.session before))
   by Update = granting UnknownSessionId
   by Termination =
       fits-test (settles_after terms before request) (closing_reply terms request.services) (code_alone UnknownSessionId) (fits-closing terms request.services limits.few) (fits-alone UnknownSessionId)
+
+pub grants_units : (terms : Terms) (history : List Entry) (request : CcRequest) → WithinLimits request.services → GrantsUnits (reply_to terms history request)
+grants_units terms history request limits = (grants_few terms history request limits).units
+
+-- the code of a unit fits the 4 octets of an AVP Code
+unit_code-small : (code : ℕ) → IsUnitCode code → code < 2 ^ 32
+unit_code-small code (inl e) = omega (arith, e)
+unit_code-small code (inr (inl e)) = omega (arith, e)
+unit_code-small code (inr (inr e)) = omega (arith, e)
+
+fits-code : (kind : Option Code) → IfSome kind (λ k. IsUnitCode k.0) → IfSome kind (λ k. k.0 < 2 ^ 32)
+fits-code (Some kind) unit = unit_code-small kind.0 unit
+fits-code None unit = tt
+
+pub fits : (terms : Terms) (history : List Entry) (request : CcRequest) → WithinLimits request.services → Fits (reply_to terms history request)
+fits terms history request limits =
+    let reply = reply_to terms history request in
+    let all = grants_few terms history request limits in
+    record { few = all.few; codes = All-weaker HasUnits HasUnitCode (λ service unit. fits-code service.kind unit) reply.services all.units }

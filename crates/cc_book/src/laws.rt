@@ -5,6 +5,7 @@ ghost use Rattle.std.specs.Prelude.{◌≡◌, ◌≢◌, ℕ, ◌+◌, ◌<◌,
 ghost use Rattle.std.specs.Int.{int_max};
 ghost use Rattle.dia_base.specs.declared.number.Moment.{Moment};
 ghost use Rattle.cc_view.specs.Answer.Fitting.{Fits};
+ghost use Rattle.cc_view.specs.Answer.Typed.{GrantsUnits};
 ghost use Rattle.cc_view.specs.Request.ServiceLimits.{WithinLimits};
 ghost use Rattle.cc_view.specs.declared.code.ResultCode.TheVariants.{Success, CreditLimitReached, UnableToComply, UnknownSessionId, UserUnknown};
 ghost use Rattle.cc_view.specs.declared.request.RequestKind.TheVariants.{Event, Initial, Termination, Update};
@@ -125,6 +126,11 @@ pub fn refunds_are_debits_below_zero()
 /// answer is a message (RFC 6733, section 3).
 pub fn replies_fit()
     ensures { (terms : Terms) (history : List Entry) (request : CcRequest) → WithinLimits request.services → Fits (reply_to terms history request) }
+{}
+
+/// What a reply grants is time, octets or units: so a receiver with the dictionary reads each AVP of the answer.
+pub fn replies_grant_units()
+    ensures { (terms : Terms) (history : List Entry) (request : CcRequest) → WithinLimits request.services → GrantsUnits (reply_to terms history request) }
 {}
 
 /// No reply is kept for a request exactly where its key is new.
