@@ -12,7 +12,9 @@
 //!
 //! The functions of `laws` have no body: their contracts are laws of these definitions. Names and
 //! codes match one to one ([`names_and_codes`]), the codes that `dia_base` names are those of the rows
-//! under these names ([`codes_have_names`]), and what is written is read back ([`value_is_read`]).
+//! under these names ([`codes_have_names`]), no AVP of a vendor has a row ([`what_has_no_row`]), and what
+//! is written is read back ([`value_is_read`]). Worked examples say octets and faults
+//! ([`what_each_kind_is_written_as`], [`what_is_not_written`]).
 //!
 //! ```
 //! use dia_base::{Code, codes::RATING_GROUP};
