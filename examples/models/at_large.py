@@ -188,6 +188,8 @@ def compare(program, seed, places, jobs, folder):
             if told:
                 differences += 1
                 print(told, flush=True)
+    if not any(folder.iterdir()):
+        folder.rmdir()
     for line in told_figures(figures, time.monotonic() - began):
         print(line)
     print(f"{len(places)} runs: {differences} differences")

@@ -13,8 +13,9 @@
 Its parts: diameter.py has messages, credit_control.py requests and answers, book.py the accounts, site_data.py what a
 site is, row_site.py the row site, site_file.py how a site file is read, nodes.py clients, fronts and relays, world.py
 the farm, its steps and its output, program.py the command line, messages.py, scenarios.py and site_stories.py the
-schedules written by hand, at_random.py those that are chosen, rows.py the worked examples. Two programs stand beside
-it: request.py prints a request for a schedule of one's own, follow.py what a schedule puts in flight at each step.
+schedules written by hand, at_random.py those that are chosen, rows.py the worked examples. Three programs stand beside
+it: request.py prints a request for a schedule of one's own, follow.py what a schedule puts in flight at each step, and
+at_large.py compares the program with the model in random runs.
 """
 import sys
 from pathlib import Path
