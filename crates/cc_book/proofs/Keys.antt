@@ -1,6 +1,6 @@
 -- Requests with a key, and the replies that are kept for them.
 use Rattle.std.proofs.Common.{◌≡◌, ◌≢◌, ℕ, zero, suc, ◌+◌, ◌<◌, Bool, true, false, cond, not, ◌&&◌, eqb, ltb, List, [], ◌∷◌, ◌++◌, length, take, Option, Some, None, inl, inr, refl, sym, subst, ap, ◌∙◌, arith, rules, append_assoc}
-use Rattle.std.specs.Prelude.{◌⊎◌, slice_get}
+use Rattle.std.specs.Prelude.{◌⊎◌, ◌↔◌, slice_get}
 use Rattle.std.specs.List.{position_or_len, list_all, IsDistinct, AllByRecursion}
 use Rattle.std.proofs.lemmas.List.{append-nil}
 use Rattle.dia_base.specs.declared.number.Moment.{Moment}
@@ -14,7 +14,7 @@ use Rattle.cc_book.specs.Duplicate.{Key, key_of, same_session, same_key, has_key
 use Rattle.cc_book.specs.History.{keys_of, ended_sessions, IsLegal, place_of, IsNew, IsKeptAt}
 use Rattle.cc_book.specs.Laws.{RepliesToEntry}
 use Rattle.std.proofs.lemmas.Bool.{and_from, and_parts}
-use Rattle.cc_book.proofs.Sessions.{same_number, same_session-self}
+use Rattle.cc_book.proofs.Sessions.{equal_number, same_number, same_session-equal, same_session-met, same_session-self}
 
 not_true : (b : Bool) → not b ≡ true → b ≡ false
 not_true true e = absurd cc
@@ -199,6 +199,19 @@ IsLegal-empty terms = record { distinct = tt; sweeps = λ before after moment e.
 
 same_key-self : (key : Key) → same_key key key ≡ true
 same_key-self key = and_from (eqb key.number key.number) (same_session key.session key.session) (same_number key.number) (same_session-self key.session)
+
+-- two requests have one key exactly where both parts of it are equal
+pub key-same : (one other : CcRequest) → (same_key (key_of one) (key_of other) ≡ true) ↔ ((one.session ≡ other.session) × (one.number ≡ other.number))
+key-same one other = (parts, met) where
+  parts : same_key (key_of one) (key_of other) ≡ true → (one.session ≡ other.session) × (one.number ≡ other.number)
+  parts e =
+      let both = and_parts (eqb one.number other.number) (same_session one.session other.session) e in
+      (same_session-equal one.session other.session both.1, equal_number one.number other.number both.0)
+
+  met : (one.session ≡ other.session) × (one.number ≡ other.number) → same_key (key_of one) (key_of other) ≡ true
+  met e =
+      and_from (eqb one.number other.number) (same_session one.session other.session)
+      (subst (λ (n : ℕ). eqb one.number n ≡ true) e.1 (same_number one.number)) (same_session-met one.session other.session e.0)
 
 kept_stays_by : (b : Bool) (here later grown : Option CcReply) (reply : CcReply) → (later ≡ Some reply → grown ≡ Some reply) → cond b here later ≡ Some reply → cond b here grown ≡ Some reply
 kept_stays_by true here later grown reply more e = e

@@ -6,6 +6,7 @@ mod Greatest
 mod Holding
 mod Paying
 mod Refusing
+mod Reserving
 mod SweepLaws
 pub mod Alive
 pub mod Amounts

@@ -2,6 +2,7 @@
 -- 600 seconds. Amounts are cents of currency 978.
 use Rattle.std.specs.Prelude.{ℕ, List, [], ◌∷◌, ◌++◌, Bool, false, true, codes, Option, Some, None, pos, negsuc}
 use Rattle.cc_rating.specs.declared.tariff.Tariff.{Tariff}
+use Rattle.cc_rating.specs.declared.tariff.UnitKind.{UnitKind}
 use Rattle.cc_rating.specs.declared.tariff.UnitKind.TheVariants.{Octets}
 use Rattle.cc_view.specs.declared.code.ResultCode.{ResultCode}
 use Rattle.cc_view.specs.declared.code.ResultCode.TheVariants.{Success, RatingFailed}
@@ -12,6 +13,7 @@ use Rattle.cc_view.specs.declared.request.RequestKind.{RequestKind}
 use Rattle.cc_view.specs.declared.request.RequestKind.TheVariants.{Initial, Update, Termination, Event}
 use Rattle.cc_view.specs.declared.request.RequestedAction.{RequestedAction}
 use Rattle.cc_view.specs.declared.request.Service.{Service}
+use Rattle.cc_view.specs.declared.request.Subscription.{Subscription}
 use Rattle.cc_book.specs.declared.account.Account.{Account}
 use Rattle.cc_book.specs.declared.entry.Entry.{Entry}
 use Rattle.cc_book.specs.declared.entry.Entry.TheVariants.{Take}
@@ -199,3 +201,16 @@ gratis_terms = record row_terms {
   accounts = record { id_kind = 0; id = codes "491700000001"; opening = negsuc 9 } ∷ [];
   tariffs = record row_tariff { price = 0 } ∷ [];
 }
+
+-- ---- Subscription-Ids, and the units of services
+
+abbrev pub subscription : ℕ → List ℕ → Subscription
+subscription kind text = record { kind = kind; text = text }
+
+-- the tariff in units of a kind
+abbrev pub tariff_in : UnitKind → Tariff
+tariff_in kind = record row_tariff { kind = kind }
+
+-- a service that asks for one second, two octets or three pieces, and reports four, five and six
+abbrev pub counted_service : Service
+counted_service = record (row_service None (Some (Some 1 ∷ Some 2 ∷ Some 3 ∷ [])) 0) { used = 4 ∷ 5 ∷ 6 ∷ [] }

@@ -16,19 +16,20 @@ ghost use Rattle.cc_view.specs.declared.request.ServiceName.{ServiceName};
 ghost use Rattle.cc_rating.specs.Rating.{cost_of};
 ghost use Rattle.cc_rating.specs.Tariffs.{fault_of, rates};
 ghost use Rattle.cc_rating.specs.declared.tariff.Tariff.{Tariff};
+ghost use Rattle.cc_rating.specs.declared.tariff.UnitKind.TheVariants.{Time, Octets, Units};
 ghost use Rattle.cc_book.specs.declared.book.BookRefusal.TheVariants.{Full};
 ghost use Rattle.cc_book.specs.declared.entry.Entry.{Entry};
 ghost use Rattle.cc_book.specs.declared.entry.Entry.TheVariants.{Take, Sweep};
 ghost use Rattle.cc_book.specs.declared.terms.Terms.{Terms};
 ghost use Rattle.cc_book.specs.AccountMachine.{account_of, charged_account, code_alone, free_after, free_to_grant, grants_after, opening_at, total_of, postings_of, reply_to, kept_reply};
 ghost use Rattle.cc_book.specs.Balance.{debit_of, balance_of, open_sessions_of, reserved_of};
-ghost use Rattle.cc_book.specs.Duplicate.{key_of};
+ghost use Rattle.cc_book.specs.Duplicate.{key_of, same_key};
 ghost use Rattle.cc_book.specs.History.{IsLegal, IsNew, ended_sessions, place_of};
 ghost use Rattle.cc_book.specs.Laws.{HasLimits, IsRefused, RepliesToEntry, cost_of_reply, debits_of, grants_alive, total_below};
 ghost use Rattle.cc_book.specs.Posting.{is_account};
 ghost use Rattle.cc_book.specs.Reservation.{held_by, reserved_by};
-ghost use Rattle.cc_book.specs.RowExample.{any_units, bare_initial, bare_reply, bare_terms, ended_by, event_between, event_on, granted_units, gratis_terms, half_bare_initial, initial, initial_again, no_units, octets, opened_by, opened_then, request_of, row_book, row_service, row_terms, success, taken, termination, two_services_initial, two_services_update, unrated_initial, unrated_reply, update, updated_by};
-ghost use Rattle.cc_book.specs.ServiceRating.{used_total};
+ghost use Rattle.cc_book.specs.RowExample.{any_units, bare_initial, bare_reply, bare_terms, counted_service, ended_by, event_between, event_on, granted_units, gratis_terms, half_bare_initial, initial, initial_again, no_units, octets, opened_by, opened_then, request_of, row_book, row_reply, row_service, row_terms, subscription, success, taken, tariff_in, termination, two_services_initial, two_services_update, unrated_initial, unrated_reply, update, updated_by};
+ghost use Rattle.cc_book.specs.ServiceRating.{asked_of, unit_code, used_of, used_total};
 ghost use Rattle.cc_book.specs.Session.{Opened, is_open, open_count, session_of};
 ghost use Rattle.cc_book.specs.SessionExample.{early_update, failed_opening, first_termination, first_update, group_opening, narrow_update, opening, other_opening, other_termination, reopening, second_opening, service_name, session, small_terms, strange_update, swept, unrelated_event, wide_opening};
 ghost use Rattle.cc_book.specs.Standing.{held_in};
@@ -85,6 +86,12 @@ pub fn legal_histories_grow()
 pub fn keys_are_distinct()
     ensures { (terms : Terms) (before between after : List Entry) (m n : Moment) (one other : CcRequest) →
         IsLegal terms (before ++ Take m one ∷ (between ++ Take n other ∷ after)) → key_of one ≢ key_of other }
+{}
+
+/// Two requests have one key exactly where they have one Session-Id and one CC-Request-Number (RFC 8506, section 8.2).
+pub fn what_a_key_is()
+    ensures { (one other : CcRequest) →
+        (same_key (key_of one) (key_of other) ≡ true) ↔ ((one.session ≡ other.session) × (one.number ≡ other.number)) }
 {}
 
 /// A request moves the balance of the account that it charges by its debit, and no other balance. A sweep moves none.
@@ -177,6 +184,7 @@ pub fn sessions_and_services_stand_apart()
 
 /// The worked example: the four actions of an EVENT on 3200 octets, which cost 20 (RFC 8506, section 8.41).
 pub fn what_events_do()
+    ensures shown { reply_to row_terms [] (event_on (codes "491700000001") DirectDebiting) ≡ success (row_reply None Success (Some 3200) None false ∷ []) }
     ensures debited { balance_of row_terms (taken 1000 (event_on (codes "491700000001") DirectDebiting) ∷ []) 0 ≡ pos 980 }
     ensures refund { reply_to row_terms [] (event_on (codes "491700000001") RefundAccount) ≡ code_alone Success }
     ensures refunded { balance_of row_terms (taken 1000 (event_on (codes "491700000001") RefundAccount) ∷ []) 0 ≡ pos 1020 }
@@ -185,6 +193,32 @@ pub fn what_events_do()
     ensures unchanged { balance_of row_terms (taken 1000 (event_on (codes "491700000003") CheckBalance) ∷ []) 2 ≡ pos 4 }
     ensures price { (reply_to row_terms [] (event_on (codes "499") PriceEnquiry)).cost ≡ Some (record { digits = pos 20; exponent = negsuc 1; currency = 978 }) }
     ensures unknown { reply_to row_terms [] (event_on (codes "499") DirectDebiting) ≡ code_alone UserUnknown }
+{}
+
+/// The worked example: whom a request charges. The first of its Subscription-Ids that is of an account counts, by type
+/// and text; an EVENT charges the account that it names, also under the Session-Id of another's session. An account may
+/// begin in debt.
+pub fn whom_requests_charge()
+    ensures first_known { account_of row_terms.accounts (subscription 0 (codes "499") ∷ subscription 0 (codes "491700000004") ∷ subscription 0 (codes "491700000002") ∷ []) ≡ Some 3 }
+    ensures of_another_type { account_of row_terms.accounts (subscription 1 (codes "491700000001") ∷ []) ≡ None }
+    ensures of_another_text { account_of row_terms.accounts (subscription 0 (codes "49170000000") ∷ []) ≡ None }
+    ensures by_event { balance_of row_terms (opened_by (codes "491700000001") ++ taken 2000 (event_between (codes "491700000004") DirectDebiting) ∷ []) 3 ≡ pos 7 }
+    ensures not_the_session { balance_of row_terms (opened_by (codes "491700000001") ++ taken 2000 (event_between (codes "491700000004") DirectDebiting) ∷ []) 0 ≡ pos 1000 }
+    ensures in_debt { balance_of gratis_terms [] 0 ≡ negsuc 9 }
+{}
+
+/// The worked example: the units of each kind of tariff, among counts of seconds, of octets and of pieces (RFC 8506,
+/// sections 8.18 and 8.19): what is asked, what was used, and the code of the AVP in which they are told.
+pub fn which_units_count()
+    ensures seconds_asked { asked_of (tariff_in Time) counted_service ≡ Some 1 }
+    ensures octets_asked { asked_of (tariff_in Octets) counted_service ≡ Some 2 }
+    ensures pieces_asked { asked_of (tariff_in Units) counted_service ≡ Some 3 }
+    ensures seconds_used { used_of (tariff_in Time) counted_service ≡ 4 }
+    ensures octets_used { used_of (tariff_in Octets) counted_service ≡ 5 }
+    ensures pieces_used { used_of (tariff_in Units) counted_service ≡ 6 }
+    ensures seconds_code { (unit_code Time).0 ≡ 420 }
+    ensures octets_code { (unit_code Octets).0 ≡ 421 }
+    ensures pieces_code { (unit_code Units).0 ≡ 417 }
 {}
 
 /// The worked example: what an INITIAL is granted where a block of 1000 octets costs 5, and what is then reserved. All
@@ -344,6 +378,18 @@ pub fn grants_are_of_what_is_free()
     ensures not_below { (terms : Terms) (history : List Entry) (moment : Moment) (request : CcRequest) (account : ℕ) → fault_of terms.tariffs ≡ None →
         charged_account terms (postings_of terms history) request ≡ Some account → pos 0 ≤ℤ free_to_grant terms (postings_of terms history) request →
         pos 0 ≤ℤ free_after terms (postings_of terms (history ++ Take moment request ∷ [])) account }
+{}
+
+/// What a reply grants to a session is reserved: what an UPDATE reserves, and an INITIAL that is answered
+/// DIAMETER_SUCCESS, is what the units cost that the reply grants, by the tariffs of its services. A TERMINATION is
+/// granted nothing.
+pub fn grants_are_reserved()
+    ensures opening { (terms : Terms) (history : List Entry) (request : CcRequest) → request.kind ≡ Initial → (reply_to terms history request).code ≡ Success →
+        held_in (grants_after terms (postings_of terms history) request) ≡ cost_of_reply terms.tariffs (reply_to terms history request) }
+    ensures update { (terms : Terms) (history : List Entry) (request : CcRequest) → request.kind ≡ Update →
+        held_in (grants_after terms (postings_of terms history) request) ≡ cost_of_reply terms.tariffs (reply_to terms history request) }
+    ensures termination { (terms : Terms) (history : List Entry) (request : CcRequest) → request.kind ≡ Termination →
+        cost_of_reply terms.tariffs (reply_to terms history request) ≡ 0 }
 {}
 
 /// A session that is not open holds nothing for any service: what was reserved for it is free again. Where no session

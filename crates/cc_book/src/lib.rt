@@ -46,13 +46,15 @@ pub use book::{Answered, Book, BookRefusal};
 pub use entry::Entry;
 pub use laws::{
     balances_move_by_debits, books_with_one_history_answer_alike, debits_pay_for_what_is_granted,
-    ended_sessions_hold_nothing, grants_are_of_what_is_free, kept_replies_are_of_entries,
-    kept_reply_is_the_first, kept_reply_stays, keys_are_distinct, legal_histories_grow,
-    new_keys_have_no_reply, openings_less_debits_are_balances, other_requests_are_refused,
-    refunds_are_debits_below_zero, repeats_change_nothing, replies_fit, replies_grant_units,
-    requests_leave_other_sessions_alone, services_are_held_once, sessions_and_services_stand_apart,
-    sessions_last_twice_their_validity, sessions_pay_for_what_is_used, sweeps_end_a_session_once,
-    sweeps_end_what_is_due, the_empty_history_is_legal, what_bare_services_decide, what_events_do,
+    ended_sessions_hold_nothing, grants_are_of_what_is_free, grants_are_reserved,
+    kept_replies_are_of_entries, kept_reply_is_the_first, kept_reply_stays, keys_are_distinct,
+    legal_histories_grow, new_keys_have_no_reply, openings_less_debits_are_balances,
+    other_requests_are_refused, refunds_are_debits_below_zero, repeats_change_nothing, replies_fit,
+    replies_grant_units, requests_leave_other_sessions_alone, services_are_held_once,
+    sessions_and_services_stand_apart, sessions_last_twice_their_validity,
+    sessions_pay_for_what_is_used, sweeps_end_a_session_once, sweeps_end_what_is_due,
+    the_empty_history_is_legal, what_a_key_is, what_bare_services_decide, what_events_do,
     what_events_leave_alone, what_openings_grant, what_services_share, what_sweeps_end,
-    what_sweeps_release, what_terminations_end, what_updates_settle,
+    what_sweeps_release, what_terminations_end, what_updates_settle, which_units_count,
+    whom_requests_charge,
 };
