@@ -24,7 +24,7 @@ use Rattle.front_core.specs.FrontStep.{after_arrival, sent_at_arrival, after_pic
 use Rattle.front_core.specs.Promise.{traffic_of, message_at, all_sent, IsAsked, IsRightAnswer, GrowsByRequests, IsSentRightly, EachSent, KeepsPromise}
 use Rattle.front_core.proofs.FrontKeeping.{AllUp, TurnStands, event_turn}
 use Rattle.front_core.proofs.FrontRuns.{run_of-nil, run_of-push}
-use Rattle.front_core.proofs.FrontTally.{one, at_front, of_items, idle-is, with_connection-is, arrival-le, pick-is, charges-is, refusal-is, emit-le, restart-is}
+use Rattle.front_core.proofs.FrontTally.{one, at_front, of_items, idle-is, with_connection-is, arrival-is, pick-is, charges-is, refusal-is, emit-le, restart-is}
 use Rattle.front_core.proofs.Standing.{JobStands, WorkerStands, FrontStands, Keeps, longer, fuller, FrontStands-grows, IsRightAnswer-grows, GrowsByRequests-grows, asked_now, cause_now}
 
 -- ---- how often
@@ -44,7 +44,7 @@ module _ (conn : ConnId) (hop end : ℕ) where
   message_le : (front : FrontState) (ledger : Ledger) (c : ConnId) (message : Message) (up : Bool)
       → Enough front (FrontEvent.Message c message) (cond up (sending_turn (after_arrival front c message, sent_at_arrival front c message) ledger) (silent_turn front ledger))
   message_le front ledger c message true =
-      let came = arrival-le conn hop end front c message in
+      let came = arrival-is conn hop end front c message in
       let asked = both_le message.header.request (is_with conn hop end (c, message)) in
       omega (arith, came, asked)
   message_le front ledger c message false = omega arith

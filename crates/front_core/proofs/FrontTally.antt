@@ -1,8 +1,8 @@
 -- How many answers a front may still give, with some identifiers on some connection: no event makes it more
 -- than the requests that come.
-use Rattle.std.proofs.Common.{◌≡◌, ℕ, ◌+◌, ◌≤◌, Bool, true, false, cond, ltb, List, [], ◌∷◌, ◌++◌, length, get_or, replicate, Option, Some, None, refl, sym, subst, ap, ◌∙◌, arith}
+use Rattle.std.proofs.Common.{◌≡◌, ℕ, ◌+◌, ◌≤◌, Bool, true, false, cond, eqb, ltb, ◌&&◌, List, [], ◌∷◌, ◌++◌, length, get_or, replicate, Option, Some, None, refl, sym, subst, ap, ◌∙◌, arith, rules}
 use Rattle.std.specs.Prelude.{slice_get, slice_set}
-use Rattle.std.specs.List.{sum_by}
+use Rattle.std.specs.List.{list_any, sum_by}
 use Rattle.std.proofs.lemmas.List.Folds.{sum_by-replicate}
 use Rattle.std.proofs.lemmas.List.Sums.{sum_by-cons, sum_by_push, sum_by-set}
 use Rattle.std.proofs.lemmas.Option.{slice_get_within, get_or_from_slice_get, same_Some}
@@ -17,13 +17,16 @@ use Rattle.front_core.specs.declared.worker.Job.{Job}
 use Rattle.front_core.specs.declared.worker.Worker.{Worker}
 use Rattle.front_core.specs.declared.worker.Worker.TheVariants.{Idle, Picked, Done}
 use Rattle.front_core.specs.ChargeCases.{IsCharge, refuses, repeats, has_no_room, takes}
-use Rattle.front_core.specs.Counts.{is_with}
+use Rattle.front_core.specs.Counts.{answers_with, is_at_worker, is_with, requests_with, unanswered_with}
 use Rattle.front_core.specs.FrontState.{FrontState, is_among}
 use Rattle.front_core.specs.FrontStep.{with_connection, with_job, with_worker, too_busy, after_arrival, sent_at_arrival, after_pick_from, after_pick_by, after_pick, after_charge_by, after_charge, after_refusal_by, after_refusal, after_emit_by, after_emit, after_restart}
 use Rattle.front_core.proofs.Charges.{charge_case}
 
 abbrev pub one : Bool → ℕ
 one b = cond {A = ℕ} b 1 0
+
+equal_number : (m n : ℕ) → eqb m n ≡ true → m ≡ n
+equal_number m n e = search rules
 
 pub sum_by-written : {A : Type 0} (f : A → ℕ) (xs : List A) (i : ℕ) (x y : A) → slice_get xs i ≡ Some y → sum_by f (slice_set xs i x) + f y ≡ sum_by f xs + f x
 sum_by-written f xs i x y e =
@@ -39,9 +42,7 @@ module _ (conn : ConnId) (hop end : ℕ) where
   of_job job = counts job.conn job.request
 
   abbrev pub of_worker : Worker → ℕ
-  of_worker Idle = 0
-  of_worker (Picked c message) = counts c message
-  of_worker (Done c answer) = counts c answer
+  of_worker held = one (is_at_worker conn hop end held)
 
   abbrev pub at_front : FrontState → ℕ
   at_front front = sum_by of_job front.queue + sum_by of_worker front.workers
@@ -97,13 +98,13 @@ module _ (conn : ConnId) (hop end : ℕ) where
   with_connection-is front c = with_connection_by front c (is_among front.connections c)
 
   arrival_by : (front : FrontState) (c : ConnId) (message : Message) (requests room : Bool)
-      → at_front (cond requests (cond room (with_job front c message) front) front) + of_items (cond requests (cond room [] ((c, too_busy front.site message) ∷ [])) []) ≤ at_front front + cond requests (counts c message) 0
+      → at_front (cond requests (cond room (with_job front c message) front) front) + of_items (cond requests (cond room [] ((c, too_busy front.site message) ∷ [])) []) ≡ at_front front + cond requests (counts c message) 0
   arrival_by front c message true true = omega (arith, with_job-is front c message)
   arrival_by front c message true false = omega (arith, of_too_busy c front.site message)
   arrival_by front c message false room = omega arith
 
-  pub arrival-le : (front : FrontState) (c : ConnId) (message : Message) → at_front (after_arrival front c message) + of_items (sent_at_arrival front c message) ≤ at_front front + cond message.header.request (counts c message) 0
-  arrival-le front c message = arrival_by front c message message.header.request (ltb (length front.queue) front.site.queue)
+  pub arrival-is : (front : FrontState) (c : ConnId) (message : Message) → at_front (after_arrival front c message) + of_items (sent_at_arrival front c message) ≡ at_front front + cond message.header.request (counts c message) 0
+  arrival-is front c message = arrival_by front c message message.header.request (ltb (length front.queue) front.site.queue)
 
   pick_from-is : (front next : FrontState) (worker : ℕ) (queue : List Job) → front.queue ≡ queue → slice_get front.workers worker ≡ Some Idle → after_pick_from front worker queue ≡ Some next → at_front next ≡ at_front front
   pick_from-is front next worker [] q idle e = absurd cc
@@ -162,3 +163,41 @@ module _ (conn : ConnId) (hop end : ℕ) where
 
   pub restart-is : (front : FrontState) → at_front (after_restart front) ≡ 0
   restart-is front = omega (arith, idle-is (length front.workers))
+
+  -- ---- what comes is kept until it is answered
+
+  asked_both : (a b : Bool) → cond a (one b) 0 + 0 ≡ one (a && b) + 0
+  asked_both true b = refl
+  asked_both false b = refl
+
+  pub arrival-kept : (front : FrontState) (c : ConnId) (message : Message)
+      → unanswered_with (after_arrival front c message) conn hop end + answers_with (sent_at_arrival front c message) conn hop end ≡ unanswered_with front conn hop end + requests_with ((c, message) ∷ []) conn hop end
+  arrival-kept front c message =
+      let came = arrival-is front c message in
+      let asked = asked_both message.header.request (is_with conn hop end (c, message)) in
+      omega (arith, came, asked)
+
+  -- a message with these identifiers is on the connection
+  own_up : (conns : List ConnId) (c : ConnId) (message : Message) → is_with conn hop end (c, message) ≡ true → is_among conns conn ≡ true → is_among conns c ≡ true
+  own_up conns c message own up = by (eqb c.0 conn.0) refl own where
+    by : (b : Bool) → eqb c.0 conn.0 ≡ b → ((b && eqb message.header.hop hop) && eqb message.header.end end) ≡ true → is_among conns c ≡ true
+    by true e all = ap (λ (n : ℕ). list_any (λ (other : ConnId). eqb other.0 n) conns) (equal_number c.0 conn.0 e) ∙ up
+    by false e all = absurd cc
+
+  items_up : (up own : Bool) (c : ConnId) (answer : Message) → is_with conn hop end (c, answer) ≡ own → (own ≡ true → up ≡ true) → of_items (cond up ((c, answer) ∷ []) []) ≡ counts c answer
+  items_up true own c answer e sends = omega arith
+  items_up false true c answer e sends = absurd (let sent = sends refl in cc)
+  items_up false false c answer e sends = sym (ap one e)
+
+  emit_by-kept : (front : FrontState) (worker : ℕ) (turn : FrontState × Traffic) (held : Option Worker) → slice_get front.workers worker ≡ held → is_among front.connections conn ≡ true
+      → after_emit_by front worker held ≡ Some turn → at_front turn.0 + of_items turn.1 ≡ at_front front
+  emit_by-kept front worker turn None at up e = absurd cc
+  emit_by-kept front worker turn (Some Idle) at up e = absurd cc
+  emit_by-kept front worker turn (Some (Picked c message)) at up e = absurd cc
+  emit_by-kept front worker turn (Some (Done c answer)) at up e =
+      let works = with_worker-is front worker (Done c answer) Idle at in
+      let items = items_up (is_among front.connections c) (is_with conn hop end (c, answer)) c answer refl (λ own. own_up front.connections c answer own up) in
+      subst (λ (t : FrontState × Traffic). at_front t.0 + of_items t.1 ≡ at_front front) (same_Some _ _ e) (omega (arith, works, items))
+
+  pub emit-kept : (front : FrontState) (worker : ℕ) (turn : FrontState × Traffic) → after_emit front worker ≡ Some turn → is_among front.connections conn ≡ true → at_front turn.0 + of_items turn.1 ≡ at_front front
+  emit-kept front worker turn e up = emit_by-kept front worker turn (slice_get front.workers worker) refl up e

@@ -1,9 +1,10 @@
 //! Laws of a front, in the words of a reader who knows none of its code.
 
-ghost use Rattle.std.specs.Prelude.{◌≡◌, ◌⊎◌, List, [], ◌∷◌, ◌++◌, All};
+ghost use Rattle.std.specs.Prelude.{◌≡◌, ◌⊎◌, ℕ, ◌+◌, true, List, [], ◌∷◌, ◌++◌, All, Some};
 ghost use Rattle.dia_base.specs.declared.number.ConnId.{ConnId};
 ghost use Rattle.dia_base.specs.declared.number.Moment.{Moment};
 ghost use Rattle.dia_message.specs.declared.message.Message.{Message};
+ghost use Rattle.dia_message.specs.Traffic.{Traffic};
 ghost use Rattle.cc_book.specs.declared.entry.Entry.{Entry};
 ghost use Rattle.cc_book.specs.History.{IsLegal};
 ghost use Rattle.cc_book.specs.Taking.{Ledger};
@@ -11,8 +12,9 @@ ghost use Rattle.front_core.specs.declared.site.FrontSite.{FrontSite};
 ghost use Rattle.front_core.specs.Answered.{IsAnswered, IsRefusedAtCharge, IsRefusedAtArrival};
 ghost use Rattle.front_core.specs.ChargeCases.{IsCharge};
 ghost use Rattle.front_core.specs.Charging.{answer_in, book_after};
-ghost use Rattle.front_core.specs.FrontState.{FrontState};
-ghost use Rattle.front_core.specs.FrontStep.{preparation_at, sent_at_arrival};
+ghost use Rattle.front_core.specs.Counts.{answers_with, requests_with, unanswered_with};
+ghost use Rattle.front_core.specs.FrontState.{FrontState, is_among};
+ghost use Rattle.front_core.specs.FrontStep.{after_arrival, after_charge, after_emit, after_pick, after_refusal, preparation_at, sent_at_arrival};
 ghost use Rattle.front_core.specs.ShortRuns.{busy_front, charge, debit, emit, lost, pick, refuse, restart, second_emits, second_picks, second_up, sent_after, silence, sweep, told, unknown_user, up};
 
 use cc_view::first_debit;
@@ -40,6 +42,24 @@ pub fn answers_stay()
 pub fn an_arrival_is_refused_with_cause()
     ensures { (front : FrontState) (conn : ConnId) (message : Message) →
         All (λ item. (item.0 ≡ conn) × IsRefusedAtArrival front message item.1) (sent_at_arrival front conn message) }
+{}
+
+/// A front loses no request, counted by connection and identifiers: each that comes waits for its answer, or is refused
+/// at once. It waits through a pick, a charge and a refusal, and where its answer is sent it goes out on a connection
+/// that is up. Only a restart forgets it.
+pub fn requests_wait_for_their_answers()
+    ensures arrival { (front : FrontState) (on : ConnId) (message : Message) (conn : ConnId) (hop end : ℕ) →
+        unanswered_with (after_arrival front on message) conn hop end + answers_with (sent_at_arrival front on message) conn hop end
+        ≡ unanswered_with front conn hop end + requests_with ((on, message) ∷ []) conn hop end }
+    ensures pick { (front next : FrontState) (worker : ℕ) (conn : ConnId) (hop end : ℕ) → after_pick front worker ≡ Some next →
+        unanswered_with next conn hop end ≡ unanswered_with front conn hop end }
+    ensures charge { (front : FrontState) (ledger : Ledger) (moment : Moment) (worker : ℕ) (turn : FrontState × Ledger) (conn : ConnId) (hop end : ℕ) →
+        after_charge front ledger moment worker ≡ Some turn → unanswered_with turn.0 conn hop end ≡ unanswered_with front conn hop end }
+    ensures refusal { (front next : FrontState) (worker : ℕ) (conn : ConnId) (hop end : ℕ) → after_refusal front worker ≡ Some next →
+        unanswered_with next conn hop end ≡ unanswered_with front conn hop end }
+    ensures emit { (front : FrontState) (worker : ℕ) (turn : FrontState × Traffic) (conn : ConnId) (hop end : ℕ) →
+        after_emit front worker ≡ Some turn → is_among front.connections conn ≡ true →
+        unanswered_with turn.0 conn hop end + answers_with turn.1 conn hop end ≡ unanswered_with front conn hop end }
 {}
 
 /// Worked examples: what a front with one worker, at which one request may wait, sends at the last of these events, and

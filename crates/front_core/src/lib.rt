@@ -39,7 +39,8 @@ pub use event::FrontEvent;
 pub use front::Front;
 pub use laws::{
     a_charge_answers_or_refuses, an_arrival_is_refused_with_cause, answers_stay,
-    charges_by_four_cases, what_a_front_answers, what_a_front_does_not_send,
+    charges_by_four_cases, requests_wait_for_their_answers, what_a_front_answers,
+    what_a_front_does_not_send,
 };
 pub use preparing::{Prepared, prepare};
 pub use site::FrontSite;
