@@ -1,4 +1,4 @@
--- Sessions: which are open, and until when (RFC 8506, sections 5.1 and 5.7).
+-- Sessions: which are open, and until when (RFC 8506, sections 5.1 and 13).
 use Rattle.std.specs.Prelude.{ℕ, ◌+◌, ◌*◌, List, [], ◌∷◌, Bool, true, false, ◌&&◌, nat_le, if◌then◌else◌, Option, Some, None, is_some}
 use Rattle.std.specs.List.{fold}
 use Rattle.std.specs.Option.{option_and_then}

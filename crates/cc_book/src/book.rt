@@ -176,7 +176,7 @@ impl Book {
     }
 
     /// Ends each session whose deadline is at most the moment: a session lasts for twice its validity from its last
-    /// request on that is no EVENT (RFC 8506, section 5.7), and what it had reserved is free again. It answers how many
+    /// request on that is no EVENT (RFC 8506, section 13), and what it had reserved is free again. It answers how many
     /// ended, and appends an entry only where some did. Full where some would and the history is at its limit. Memory is
     /// wanted only for that entry. After a refusal the book is unchanged. Moments need not rise from call to call.
     pub fn sweep(&mut self, moment: Moment) -> Result<u64, BookRefusal>

@@ -8,6 +8,6 @@ use dia_base::Moment;
 pub enum Entry {
     /// A request that was taken.
     Take { moment: Moment, request: CcRequest },
-    /// A look at the clock that ended sessions (RFC 8506, section 5.7).
+    /// A look at the clock that ended sessions (RFC 8506, section 13).
     Sweep { moment: Moment },
 }

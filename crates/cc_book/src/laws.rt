@@ -146,7 +146,7 @@ pub fn new_keys_have_no_reply()
 {}
 
 /// The worked example: a session lasts for twice its validity from its last request on (RFC 8506,
-/// section 5.7). A later grant for a service takes the place of the earlier one. What has ended holds
+/// section 13). A later grant for a service takes the place of the earlier one. What has ended holds
 /// nothing more, though the session opens anew.
 pub fn sessions_last_twice_their_validity()
     ensures lasts { is_open 600 session (opening ∷ swept 1199999 ∷ []) ≡ true }
@@ -276,7 +276,7 @@ pub fn what_terminations_end()
 {}
 
 /// The worked example: a sweep ends a session twice its validity after its last request, and what it held is free again
-/// (RFC 8506, section 5.7).
+/// (RFC 8506, section 13).
 pub fn what_sweeps_release()
     ensures too_early { reserved_of row_terms (opened_by (codes "491700000001") ++ Sweep (record { 0 = 1200999 }) ∷ []) 0 ≡ 25 }
     ensures released { reserved_of row_terms (opened_by (codes "491700000001") ++ Sweep (record { 0 = 1201000 }) ∷ []) 0 ≡ 0 }
@@ -414,7 +414,7 @@ pub fn requests_leave_other_sessions_alone()
 {}
 
 /// A sweep ends exactly the sessions whose deadline is at most its moment, and what they held is free again. All others
-/// stay as they are, with what they hold (RFC 8506, section 5.7). Moments need not rise.
+/// stay as they are, with what they hold (RFC 8506, section 13). Moments need not rise.
 pub fn sweeps_end_what_is_due()
     ensures ended { (terms : Terms) (history : List Entry) (moment : Moment) (session : List ℕ) (opened : Opened) →
         session_of terms.validity session (postings_of terms history) ≡ Some opened → opened.deadline ≤ moment.0 →

@@ -43,7 +43,7 @@ impl OpenSession {
     }
 
     /// Whether the session has ended by a moment: it does so twice the validity, which is in seconds, after its last
-    /// request (RFC 8506, section 5.7).
+    /// request (RFC 8506, section 13).
     pub fn is_due(&self, validity: u32, moment: Moment) -> bool
         ensures { result ≡ is_due validity moment self.now }
     {

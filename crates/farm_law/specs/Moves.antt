@@ -70,7 +70,7 @@ pub data Move (p : Parties) : Farm → Farm → Type 0 where
   takes : {f : Farm} {item : Item} (moment : Moment) (request : CcRequest) → Has item f.items → item.message.header.request ≡ true → view_of p.vendors item.message ≡ Ok request →
       kept_reply f.book.terms f.book.history request ≡ None → length f.book.history < f.book.limit →
       Move p f (record f { book = with_take f.book moment request })
-  -- the book ends sessions that are due (RFC 8506, section 5.7)
+  -- the book ends sessions that are due (RFC 8506, section 13)
   sweeps : {f : Farm} (moment : Moment) → 0 < ended_sessions f.book.terms f.book.history moment → length f.book.history < f.book.limit →
       Move p f (record f { book = with_sweep f.book moment })
   -- a node refuses a request

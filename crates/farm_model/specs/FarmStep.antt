@@ -153,7 +153,7 @@ abbrev pub after_charge_at : WorldState → NodeNo → ℕ → Moment → Option
 after_charge_at w node worker moment None = None
 after_charge_at w node worker moment (Some front) = with_charge w node (after_charge front w.book moment worker)
 
--- ---- sweep: the book ends the sessions that are due (RFC 8506, section 5.7)
+-- ---- sweep: the book ends the sessions that are due (RFC 8506, section 13)
 
 abbrev pub after_sweep_at : WorldState → Moment → WorldState
 after_sweep_at w moment = record w { book = after_sweep w.book moment }

@@ -60,7 +60,7 @@ pub enum Step {
         front: NodeNo,
         worker: u64,
     },
-    /// The book ends the sessions that are due at this moment (RFC 8506, section 5.7). It always applies.
+    /// The book ends the sessions that are due at this moment (RFC 8506, section 13). It always applies.
     Sweep {
         moment: Moment,
     },

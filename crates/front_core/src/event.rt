@@ -18,7 +18,7 @@ pub enum FrontEvent {
     Refuse { worker: u64 },
     /// A worker sends the answer that it holds.
     Emit { worker: u64 },
-    /// The book ends the sessions that are due at this moment (RFC 8506, section 5.7).
+    /// The book ends the sessions that are due at this moment (RFC 8506, section 13).
     Sweep { moment: Moment },
     /// A connection is lost.
     Lost { conn: ConnId },
