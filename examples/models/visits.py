@@ -6,6 +6,8 @@ from pathlib import Path
 FOLDER = Path(__file__).resolve().parent
 # The model itself; the other files of the folder choose, compare and tell.
 FILES = ["book.py", "credit_control.py", "diameter.py", "nodes.py", "site_data.py", "site_file.py", "world.py"]
+# Functions in these that no run asks: the command line of site_file.py, and a choice of identifiers.
+NOT_ASKED = {"told", "text_of_row", "check", "main", "lowest_free"}
 
 
 def codes_in(code):
@@ -19,7 +21,8 @@ def codes_in(code):
 def lines_in(path):
     """The lines of a file's functions, without their first ones and their comments."""
     module = compile(path.read_text(), path, "exec")
-    return {line for code in codes_in(module) for *_, line in code.co_lines() if line and line != code.co_firstlineno}
+    asked = [code for code in codes_in(module) if code.co_name not in NOT_ASKED]
+    return {line for code in asked for *_, line in code.co_lines() if line and line != code.co_firstlineno}
 
 
 class Visits:
