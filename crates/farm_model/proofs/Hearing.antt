@@ -1,5 +1,5 @@
 -- What clients have sent and received stands on connections of one client, and the book is the site's, with sweeps of steps of the run.
-use Rattle.std.proofs.Common.{◌≡◌, ℕ, zero, suc, Bool, true, false, cond, List, [], ◌∷◌, ◌++◌, Option, Some, None, Result, Ok, Err, inl, inr, refl, sym, subst, ap, ◌∙◌}
+use Rattle.std.proofs.Common.{◌≡◌, ℕ, zero, suc, Bool, true, false, cond, List, [], ◌∷◌, ◌++◌, Option, Some, None, Result, Ok, Err, ◌⊎◌, inl, inr, refl, sym, subst, ap, ◌∙◌}
 use Rattle.std.specs.Prelude.{slice_get, unwrap_or}
 use Rattle.std.specs.List.{find}
 use Rattle.dia_base.specs.declared.number.ConnId.{ConnId}
@@ -28,7 +28,7 @@ use Rattle.farm_law.proofs.Lists.{all-end}
 use Rattle.farm_model.specs.declared.site.Site.{Site}
 use Rattle.farm_model.specs.declared.state.Direction.{Direction}
 use Rattle.farm_model.specs.declared.step.Step.{Step}
-use Rattle.farm_model.specs.declared.step.Step.TheVariants.{Sweep as SweepStep}
+use Rattle.farm_model.specs.declared.step.Step.TheVariants.{Charge as ChargeStep, Sweep as SweepStep}
 use Rattle.farm_model.specs.Arrival.{AtRelay}
 use Rattle.farm_model.specs.CheckedSite.{IsChecked}
 use Rattle.farm_model.specs.FarmStep.{Outcome, Flight, after_lost_message, after_up, with_new_connection, can_connect, after_send, after_send_in, with_pick, after_pick_at, after_refusal_at, with_emit, after_emit_at, with_charge, after_charge_at, after_sweep_at}
@@ -44,22 +44,30 @@ use Rattle.farm_model.proofs.Linked.{beside_client}
 use Rattle.farm_model.proofs.Wired.{IsWired}
 use Rattle.farm_model.proofs.WorldLemmas.{direction_nodes}
 
+-- a step charges at the moment
+abbrev pub IsChargedIn : List Step → Moment → Type 0
+IsChargedIn steps moment = (front : NodeNo) × (worker : ℕ) × Has (ChargeStep front worker moment) steps
+
 pub record Heard (site : Site) (all : Ends) (steps : List Step) (sent received : Traffic) (book : Ledger) : Type 0 where
   pub senders : (item : ConnId × Message) → Has item sent → HasOneClient site all item.0
   pub receivers : (item : ConnId × Message) → Has item received → HasOneClient site all item.0
   pub terms : book.terms ≡ (empty_book site).terms
   pub limit : book.limit ≡ site.limit
   pub sweeps : (moment : Moment) → Has (Sweep moment) book.history → Has (SweepStep moment) steps
+  pub takes : (moment : Moment) (request : CcRequest) → Has (Take moment request) book.history → IsChargedIn steps moment
 
 abbrev pub HeardIn : Site → Ends → List Step → WorldState → Type 0
 HeardIn site all steps w = Heard site all steps w.sent w.received w.book
 
 -- the run goes on
 pub heard_on : {site : Site} {all : Ends} {steps more : List Step} (w : WorldState) → ((step : Step) → Has step steps → Has step more) → HeardIn site all steps w → HeardIn site all more w
-heard_on w on h = record { senders = h.senders; receivers = h.receivers; terms = h.terms; limit = h.limit; sweeps = λ moment among. on (SweepStep moment) (h.sweeps moment among) }
+heard_on w on h = record { senders = h.senders; receivers = h.receivers; terms = h.terms; limit = h.limit; sweeps = λ moment among. on (SweepStep moment) (h.sweeps moment among); takes = λ moment request among. let c = h.takes moment request among in (c.0, c.1, on (ChargeStep c.0 c.1 moment) c.2) }
 
 same_moment : (one other : Moment) → Sweep one ≡ Sweep other → one ≡ other
 same_moment one other e = cc
+
+taken_moment : (one other : Moment) (x y : CcRequest) → Take one x ≡ Take other y → one ≡ other
+taken_moment one other x y e = cc
 
 -- ---- what is told stays
 
@@ -99,7 +107,7 @@ module _ (site : Site) (all : Ends) (steps : List Step) (checked : IsChecked sit
   up_heard a b out = outcome_heard (after_up site old a b) (λ next e. go next (can_connect site old a b) e) out
     where
       go : (next : WorldState) (b' : Bool) → cond b' (Some (with_new_connection old a b)) None ≡ Some next → HeardIn site all steps next
-      go next true e = let same : with_new_connection old a b ≡ next = cc in subst (HeardIn site all steps) same (record { senders = heard.senders; receivers = heard.receivers; terms = heard.terms; limit = heard.limit; sweeps = heard.sweeps })
+      go next true e = let same : with_new_connection old a b ≡ next = cc in subst (HeardIn site all steps) same (record { senders = heard.senders; receivers = heard.receivers; terms = heard.terms; limit = heard.limit; sweeps = heard.sweeps; takes = heard.takes })
       go next false e = absurd cc
 
   pub send_heard : (client to : NodeNo) (message : Message) → Outcome (after_send site old client to message) applied old new → HeardIn site all steps new
@@ -122,6 +130,7 @@ module _ (site : Site) (all : Ends) (steps : List Step) (checked : IsChecked sit
             terms = heard.terms;
             limit = heard.limit;
             sweeps = heard.sweeps;
+            takes = heard.takes;
           })
 
       go : (next : WorldState) (b : Bool) → is_client site client ≡ b → cond b (after_send_in old client to message (find (is_between client to) old.directions)) None ≡ Some next → HeardIn site all steps next
@@ -130,11 +139,11 @@ module _ (site : Site) (all : Ends) (steps : List Step) (checked : IsChecked sit
 
   pub lose_heard : (flight : Option Flight) → Outcome (after_lost_message old flight) applied old new → HeardIn site all steps new
   lose_heard None out = same_state new out.1
-  lose_heard (Some flight) out = subst (HeardIn site all steps) (sym out.1) (record { senders = heard.senders; receivers = heard.receivers; terms = heard.terms; limit = heard.limit; sweeps = heard.sweeps })
+  lose_heard (Some flight) out = subst (HeardIn site all steps) (sym out.1) (record { senders = heard.senders; receivers = heard.receivers; terms = heard.terms; limit = heard.limit; sweeps = heard.sweeps; takes = heard.takes })
 
   pick_heard : (node : NodeNo) (front : Option FrontState) → Outcome (with_pick old node front) applied old new → HeardIn site all steps new
   pick_heard node None out = same_state new out.1
-  pick_heard node (Some front) out = subst (HeardIn site all steps) (sym out.1) (record { senders = heard.senders; receivers = heard.receivers; terms = heard.terms; limit = heard.limit; sweeps = heard.sweeps })
+  pick_heard node (Some front) out = subst (HeardIn site all steps) (sym out.1) (record { senders = heard.senders; receivers = heard.receivers; terms = heard.terms; limit = heard.limit; sweeps = heard.sweeps; takes = heard.takes })
 
   pub pick_at_heard : (node : NodeNo) (worker : ℕ) (front : Option FrontState) → Outcome (after_pick_at old node worker front) applied old new → HeardIn site all steps new
   pick_at_heard node worker None out = same_state new out.1
@@ -146,7 +155,7 @@ module _ (site : Site) (all : Ends) (steps : List Step) (checked : IsChecked sit
 
   emit_heard : (node : NodeNo) (turn : Option (FrontState × Traffic)) → Outcome (with_emit old node turn) applied old new → HeardIn site all steps new
   emit_heard node None out = same_state new out.1
-  emit_heard node (Some turn) out = subst (HeardIn site all steps) (sym out.1) (record { senders = heard.senders; receivers = heard.receivers; terms = heard.terms; limit = heard.limit; sweeps = heard.sweeps })
+  emit_heard node (Some turn) out = subst (HeardIn site all steps) (sym out.1) (record { senders = heard.senders; receivers = heard.receivers; terms = heard.terms; limit = heard.limit; sweeps = heard.sweeps; takes = heard.takes })
 
   pub emit_at_heard : (node : NodeNo) (worker : ℕ) (front : Option FrontState) → Outcome (after_emit_at old node worker front) applied old new → HeardIn site all steps new
   emit_at_heard node worker None out = same_state new out.1
@@ -170,17 +179,32 @@ module _ (site : Site) (all : Ends) (steps : List Step) (checked : IsChecked sit
       go true = (refl, refl, λ at among. no_sweep book.history moment at request among)
       go false = (refl, refl, λ at among. among)
 
-  charge_heard : (node : NodeNo) (front : FrontState) (moment : Moment) (worker : ℕ) (held : Option Worker) → Outcome (with_charge old node (after_charge_by front old.book moment worker held)) applied old new → HeardIn site all steps new
-  charge_heard node front moment worker None out = same_state new out.1
-  charge_heard node front moment worker (Some Idle) out = same_state new out.1
-  charge_heard node front moment worker (Some (Done conn answer)) out = same_state new out.1
-  charge_heard node front moment worker (Some (Picked conn message)) out =
-      let same = same_book old.book moment (preparation_at front.site message) in
-      subst (HeardIn site all steps) (sym out.1) (record { senders = heard.senders; receivers = heard.receivers; terms = same.0 ∙ heard.terms; limit = same.1 ∙ heard.limit; sweeps = λ at among. heard.sweeps at (same.2 at among) })
+  -- what it takes more is taken at the moment
+  new_take : (history : List Entry) (moment at : Moment) (request other : CcRequest) → Has (Take at other) (history ++ Take moment request ∷ []) → Has (Take at other) history ⊎ (at ≡ moment)
+  new_take history moment at request other among = elim (Has-parts history among) [
+    | inl old ↦ inl old
+    | inr new ↦ elim (Has-cons new) [ inl is ↦ inr (taken_moment at moment other request is) | inr none ↦ elim none [ ] ]
+  ]
 
-  pub charge_at_heard : (node : NodeNo) (worker : ℕ) (moment : Moment) (front : Option FrontState) → Outcome (after_charge_at old node worker moment front) applied old new → HeardIn site all steps new
-  charge_at_heard node worker moment None out = same_state new out.1
-  charge_at_heard node worker moment (Some front) out = charge_heard node front moment worker (slice_get front.workers worker) out
+  takes_of : (book : Ledger) (moment : Moment) (prepared : Prepared) (at : Moment) (other : CcRequest) → Has (Take at other) (book_after book moment prepared).history → Has (Take at other) book.history ⊎ (at ≡ moment)
+  takes_of book moment (Refused refusal) at other among = inl among
+  takes_of book moment (Ask request) at other among = go (is_fresh (answer_of book request)) among
+    where
+      go : (b : Bool) → Has (Take at other) (cond b (with_take book moment request) book).history → Has (Take at other) book.history ⊎ (at ≡ moment)
+      go true more = new_take book.history moment at request other more
+      go false more = inl more
+
+  charge_heard : (node : NodeNo) (front : FrontState) (moment : Moment) (worker : ℕ) (held : Option Worker) → IsChargedIn steps moment → Outcome (with_charge old node (after_charge_by front old.book moment worker held)) applied old new → HeardIn site all steps new
+  charge_heard node front moment worker None is_step out = same_state new out.1
+  charge_heard node front moment worker (Some Idle) is_step out = same_state new out.1
+  charge_heard node front moment worker (Some (Done conn answer)) is_step out = same_state new out.1
+  charge_heard node front moment worker (Some (Picked conn message)) is_step out =
+      let same = same_book old.book moment (preparation_at front.site message) in
+      subst (HeardIn site all steps) (sym out.1) (record { senders = heard.senders; receivers = heard.receivers; terms = same.0 ∙ heard.terms; limit = same.1 ∙ heard.limit; sweeps = λ at among. heard.sweeps at (same.2 at among); takes = λ at other among. elim (takes_of old.book moment (preparation_at front.site message) at other among) [ inl before ↦ heard.takes at other before | inr is ↦ subst (IsChargedIn steps) (sym is) is_step ] })
+
+  pub charge_at_heard : (node : NodeNo) (worker : ℕ) (moment : Moment) (front : Option FrontState) → IsChargedIn steps moment → Outcome (after_charge_at old node worker moment front) applied old new → HeardIn site all steps new
+  charge_at_heard node worker moment None is_step out = same_state new out.1
+  charge_at_heard node worker moment (Some front) is_step out = charge_heard node front moment worker (slice_get front.workers worker) is_step out
 
   -- a sweep is one of the run
   swept_heard : (moment : Moment) → Has (SweepStep moment) steps → (answer : Result ℕ BookRefusal) → Heard site all steps old.sent old.received (after_sweep_with old.book moment answer)
@@ -197,6 +221,10 @@ module _ (site : Site) (all : Ends) (steps : List Step) (checked : IsChecked sit
         | inl is ↦ subst (λ (m : Moment). Has (SweepStep m) steps) (sym (same_moment at moment is)) is_step
         | inr none ↦ elim none [ ]
       ]
+    ];
+    takes = λ at other among. elim (Has-parts old.book.history among) [
+      | inl before ↦ heard.takes at other before
+      | inr new ↦ absurd (elim (Has-cons new) [ inl is ↦ (let clash : Take at other ≡ Sweep moment = is in cc) | inr none ↦ elim none [ ] ])
     ];
   }
 

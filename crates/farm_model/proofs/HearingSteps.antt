@@ -49,6 +49,7 @@ module _ (site : Site) (all : Ends) (steps : List Step) (checked : IsChecked sit
     terms = heard.terms;
     limit = heard.limit;
     sweeps = heard.sweeps;
+    takes = heard.takes;
   })
 
   deliver_heard : (old new : WorldState) (applied : Bool) (from to : NodeNo) (place : ℕ) → IsWired site all old → HeardIn site all steps old → (flight : Option Flight) → flight_at old.directions from to place ≡ flight → Delivers site old to flight applied new → HeardIn site all steps new
@@ -57,17 +58,17 @@ module _ (site : Site) (all : Ends) (steps : List Step) (checked : IsChecked sit
       let t = taken site all old from to place wired flight e in
       arrives_heard (record old { directions = flight.directions }) from to flight.conn flight.message new (is_client site to) refl
       (λ is. one_client (Joins-turned t.joins) is (client_beside site checked from to t.linked is))
-      (record { senders = heard.senders; receivers = heard.receivers; terms = heard.terms; limit = heard.limit; sweeps = heard.sweeps }) d.1
+      (record { senders = heard.senders; receivers = heard.receivers; terms = heard.terms; limit = heard.limit; sweeps = heard.sweeps; takes = heard.takes }) d.1
 
   -- ---- connections end
 
   cut_heard : (old new : WorldState) (a b : NodeNo) (conn : Option ConnId) (applied : Bool) (losses : List LossAt) → HeardIn site all steps old → Cuts old a b conn applied losses new → HeardIn site all steps new
   cut_heard old new a b None applied losses heard c = subst (HeardIn site all steps) (sym c.2) heard
-  cut_heard old new a b (Some conn) applied losses heard c = tells_heard (after_cut old conn) new (losses_tell c.1) (record { senders = heard.senders; receivers = heard.receivers; terms = heard.terms; limit = heard.limit; sweeps = heard.sweeps })
+  cut_heard old new a b (Some conn) applied losses heard c = tells_heard (after_cut old conn) new (losses_tell c.1) (record { senders = heard.senders; receivers = heard.receivers; terms = heard.terms; limit = heard.limit; sweeps = heard.sweeps; takes = heard.takes })
 
   restart_heard : (old new : WorldState) (node : NodeNo) (applied : Bool) (losses : List LossAt) (b : Bool) → HeardIn site all steps old
       → MatchBool b ((applied ≡ true) × LearnLosses (losses_of_restart node old.directions) (after_restart old node) losses new) ((applied ≡ false) × (losses ≡ []) × (new ≡ old)) → HeardIn site all steps new
-  restart_heard old new node applied losses true heard c = tells_heard (after_restart old node) new (losses_tell c.1) (record { senders = heard.senders; receivers = heard.receivers; terms = heard.terms; limit = heard.limit; sweeps = heard.sweeps })
+  restart_heard old new node applied losses true heard c = tells_heard (after_restart old node) new (losses_tell c.1) (record { senders = heard.senders; receivers = heard.receivers; terms = heard.terms; limit = heard.limit; sweeps = heard.sweeps; takes = heard.takes })
   restart_heard old new node applied losses false heard c = subst (HeardIn site all steps) (sym c.2) heard
 
   -- ---- any step
@@ -80,7 +81,7 @@ module _ (site : Site) (all : Ends) (steps : List Step) (checked : IsChecked sit
   step_heard old new (Cut a b) applied losses s is_step wired heard = cut_heard old new a b (conn_between old.directions a b) applied losses heard s
   step_heard old new (Restart node) applied losses s is_step wired heard = restart_heard old new node applied losses (can_restart site node) heard s
   step_heard old new (Pick front worker) applied losses s is_step wired heard = pick_at_heard site all steps checked old new applied wired heard front worker (front_at front old.fronts) s.0
-  step_heard old new (Charge front worker moment) applied losses s is_step wired heard = charge_at_heard site all steps checked old new applied wired heard front worker moment (front_at front old.fronts) s.0
+  step_heard old new (Charge front worker moment) applied losses s is_step wired heard = charge_at_heard site all steps checked old new applied wired heard front worker moment (front_at front old.fronts) (front, worker, is_step) s.0
   step_heard old new (Refuse front worker) applied losses s is_step wired heard = refusal_at_heard site all steps checked old new applied wired heard front worker (front_at front old.fronts) s.0
   step_heard old new (Emit front worker) applied losses s is_step wired heard = emit_at_heard site all steps checked old new applied wired heard front worker (front_at front old.fronts) s.0
   step_heard old new (Sweep moment) applied losses s is_step wired heard = sweep_heard site all steps checked old new applied wired heard moment is_step s.0

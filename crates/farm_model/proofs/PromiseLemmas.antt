@@ -103,7 +103,7 @@ module _ (site : Site) (past : Past) (w : WorldState) (h : RunHolds site w.ends 
   of_run entry among = go entry among (h.kept.taken entry among)
     where
       go : (e : Entry) → Has e w.book.history → IsTaken (parties site w.ends) w.sent e → IsOfRun site past w.sent e
-      go (Take moment request) there_is t = (t.0, t.1, (Contains-has t.2, t.3), t.4)
+      go (Take moment request) there_is t = let c = h.heard.takes moment request there_is in (t.0, t.1, (Contains-has t.2, t.3), t.4, (c.0, c.1, Contains-has c.2))
       go (Sweep moment) there_is t = Contains-has (h.heard.sweeps moment there_is)
 
   -- where requests of one key are one request, its entry is the one that is replied to

@@ -159,7 +159,7 @@ start_wired site all = record {
 }
 
 pub start_heard : (site : Site) (all : Ends) → HeardIn site all [] (start site)
-start_heard site all = record { senders = λ item h. elim h [ ]; receivers = λ item h. elim h [ ]; terms = refl; limit = refl; sweeps = λ moment h. elim h [ ] }
+start_heard site all = record { senders = λ item h. elim h [ ]; receivers = λ item h. elim h [ ]; terms = refl; limit = refl; sweeps = λ moment h. elim h [ ]; takes = λ moment request h. elim h [ ] }
 
 pub start_moves : (site : Site) (all : Ends) → Moves (parties site all) (new_farm (empty_book site)) (farm_of all [] (start site))
 start_moves site all =

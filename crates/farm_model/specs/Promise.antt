@@ -30,7 +30,7 @@ use Rattle.farm_model.specs.declared.site.Site.{Site}
 use Rattle.farm_model.specs.declared.state.Direction.{Direction}
 use Rattle.farm_model.specs.declared.state.Trace.{Trace}
 use Rattle.farm_model.specs.declared.step.Step.{Step}
-use Rattle.farm_model.specs.declared.step.Step.TheVariants.{Deliver}
+use Rattle.farm_model.specs.declared.step.Step.TheVariants.{Charge, Deliver}
 use Rattle.farm_model.specs.Cause.{HasCause}
 use Rattle.farm_model.specs.FarmStep.{flight_at}
 use Rattle.farm_model.specs.Nodes.{is_node, is_client, is_relay}
@@ -151,9 +151,14 @@ pub record IsRightAnswer (site : Site) (journal : Journal) (conn : ConnId) (answ
 abbrev pub WasSwept : Past → Moment → Type 0
 WasSwept past moment = Contains (steps_in past) (Rattle.farm_model.specs.declared.step.Step.TheVariants.Sweep moment)
 
--- an entry of the history takes what is read in a request that a client sent, or is a sweep of a step of the run
+-- the run has a step that charges at this moment
+abbrev pub WasCharged : Past → Moment → Type 0
+WasCharged past moment = (front : NodeNo) × (worker : ℕ) × Contains (steps_in past) (Charge front worker moment)
+
+-- an entry of the history takes, at the moment of a step of the run that charges, what is read in a request that a
+-- client sent, or is a sweep of a step of the run
 abbrev pub IsOfRun : Site → Past → Traffic → Entry → Type 0
-IsOfRun site past sent (Take moment request) = (conn : ConnId) × (message : Message) × WasRequested sent conn message × (view_of site.vendors message ≡ Ok request)
+IsOfRun site past sent (Take moment request) = (conn : ConnId) × (message : Message) × WasRequested sent conn message × (view_of site.vendors message ≡ Ok request) × WasCharged past moment
 IsOfRun site past sent (Sweep moment) = WasSwept past moment
 
 -- ---- loops
