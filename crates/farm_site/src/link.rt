@@ -74,7 +74,5 @@ fn may_be(link: Link, graph: Graph) -> bool
 fn is_there(links: &[Link], link: Link) -> bool
     ensures { result ≡ list_any (λ other. same_pair other link) links.now }
 {
-    links
-        .iter()
-        .any(|other| joins(&link, other.from, other.to))
+    links.iter().any(|other| joins(&link, other.from, other.to))
 }
