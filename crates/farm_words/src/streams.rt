@@ -1,6 +1,7 @@
 //! A text from a reader, and to a writer.
 
-ghost use Rattle.std.specs.Prelude.{◌≡◌, ◌≤◌, IfOk, IsOkUnless, length};
+ghost use Rattle.std.specs.Prelude.{◌≡◌, ◌≤◌, IfOk, IfSome, IsOkUnless, OnOk, length};
+ghost use Rattle.std.specs.Io.KnownBytes.{Appends};
 ghost use Rattle.farm_words.specs.declared.streams.WordsFault.TheVariants.{OutOfMemory};
 
 use std::alloc::{AllocError, Global};
@@ -33,10 +34,11 @@ impl From<AllocError> for WordsFault {
 
 /// All that the reader gives, where that is within the limit.
 pub fn read_text<R: Read>(alloc: Global, reader: &mut R) -> Result<Vec<u8>, WordsFault>
-    ensures { IfOk result (λ text. length text.items ≤ 16777216) }
+    ensures size { IfOk result (λ text. length text.items ≤ 16777216) }
+    ensures all { IfOk result (λ text. IfSome (R.remaining reader.old) (λ octets. text.items ≡ octets)) }
 {
     let mut text = Vec::new(alloc);
-    let mut limited = reader.by_ref().take(TEXT_LIMIT as u64 + 1);
+    let mut limited = reader.take(TEXT_LIMIT as u64 + 1);
     match limited.read_to_end(&mut text) {
         Ok(_) => {}
         Err(error) if error.kind() == ErrorKind::OutOfMemory => {
@@ -53,7 +55,8 @@ pub fn read_text<R: Read>(alloc: Global, reader: &mut R) -> Result<Vec<u8>, Word
 
 /// Writes all of the text.
 pub fn write_text<W: Write>(writer: &mut W, text: &[u8]) -> Result<(), WordsFault>
-    ensures { IsOkUnless result WordsFault.Write }
+    ensures ok { OnOk result (Appends (W.contents writer.old) (W.contents writer.new) text.now) }
+    ensures fault { IsOkUnless result WordsFault.Write }
 {
     if writer.write_all(text).is_ok() && writer.flush().is_ok() {
         Ok(())
