@@ -2,3 +2,4 @@ pub mod Checking
 pub mod Following
 pub mod Owning
 pub mod Pushing
+pub mod Spelled

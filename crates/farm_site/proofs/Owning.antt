@@ -1,5 +1,5 @@
 -- The Subscription-Ids of accounts, as a set that is kept in order.
-use Rattle.std.proofs.Common.{◌≡◌, ℕ, Bool, true, false, cond, not, ◌&&◌, ◌||◌, ◌==◌, List, [], ◌∷◌, ◌++◌, length, refl, sym, ap, ◌∙◌}
+use Rattle.std.proofs.Common.{◌≡◌, ℕ, Bool, true, false, cond, not, ◌&&◌, ◌||◌, ◌==◌, List, [], ◌∷◌, ◌++◌, length, Some, refl, sym, ap, ◌∙◌}
 use Rattle.std.specs.BTreeMap.{is_at}
 use Rattle.std.specs.Cmp.{unsigned_tied}
 use Rattle.std.specs.Cmp.Lexicographic.{slice_cmp}
@@ -12,7 +12,10 @@ use Rattle.std.specs.Prelude.{nat_le}
 use Rattle.cc_book.specs.declared.account.Account.{Account}
 use Rattle.farm_model.specs.CheckedSite.{is_sound_account, is_visible, is_within, same_account, same_octets, size_of}
 use Rattle.farm_site.specs.declared.account.Owner.{Owner}
+use Rattle.farm_site.specs.declared.key.Key.TheVariants.{Id, IdKind, Opening}
 use Rattle.farm_site.specs.Growing.{MayFollow}
+use Rattle.farm_site.specs.Spelling.{SpellsAccount, number, value_at}
+use Rattle.toml.specs.Data.{Members, integer, string}
 use Rattle.farm_site.proofs.Pushing.{and_both, and_left, and_right}
 
 -- by type, and then by text
@@ -80,6 +83,14 @@ account_may_follow accounts account owner kind id kind_within id_sound opening n
           ∙ ap (λ (xs : List ℕ). list_any (λ (other : Account). (other.id_kind == owner.id_kind) && same_octets other.id xs) accounts) id
           ∙ none;
     }
+
+-- an account is what its entry spells, where its owner is
+pub spelled_by : (entry : Members) (account : Account) (owner : Owner) → account.id_kind ≡ owner.id_kind → account.id ≡ owner.id.now → value_at IdKind entry ≡ Some (number owner.id_kind) → value_at Id entry ≡ Some (string owner.id.now) → value_at Opening entry ≡ Some (integer account.opening) → SpellsAccount entry account
+spelled_by entry account owner kind id kind_stands id_stands opening = record {
+  id_kind = kind_stands ∙ ap (λ (n : ℕ). Some (number n)) (sym kind);
+  id = id_stands ∙ ap (λ (octets : List ℕ). Some (string octets)) (sym id);
+  opening = opening;
+}
 
 -- what was not there before it was added
 pub was_absent : (added there : Bool) → added ≡ not there → added ≡ true → there ≡ false

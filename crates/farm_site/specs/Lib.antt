@@ -1,3 +1,4 @@
 pub mod Growing
 pub mod Graph
-pub mod Defaults
+pub mod Keys
+pub mod Spelling

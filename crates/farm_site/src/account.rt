@@ -4,6 +4,9 @@ ghost use Rattle.std.specs.Prelude.{◌≡◌, ◌≤◌, IfOk, vec_len, true, n
 ghost use Rattle.std.specs.List.{list_all, list_any};
 ghost use Rattle.farm_model.specs.CheckedSite.{is_sound_account, is_visible, is_within, same_account, size_of};
 ghost use Rattle.farm_site.specs.Growing.{AreSound};
+ghost use Rattle.farm_site.specs.Spelling.{SpellsAccount, SpellsTable, number, value_at};
+ghost use Rattle.toml.specs.Data.{string, integer};
+ghost use Rattle.toml.specs.View.{table_view};
 
 use crate::entry::Entry;
 use crate::fault::SiteFault;
@@ -36,6 +39,7 @@ struct Owner<'a> {
 pub fn accounts_of(alloc: Global, file: Entry) -> Result<Vec<Account>, SiteFault>
     ensures count { IfOk result (λ accounts. vec_len accounts ≤ 65536) }
     ensures sound { IfOk result (λ accounts. AreSound is_sound_account same_account accounts.items) }
+    ensures spelled { IfOk result (λ accounts. SpellsTable SpellsAccount Key.Account (table_view file.entry.table.now) accounts.items) }
 {
     let entries = file.entries(alloc, Key::Account, ACCOUNT_LIMIT)?;
     let mut owners = BTreeSet::new(alloc);
@@ -56,6 +60,8 @@ pub fn accounts_of(alloc: Global, file: Entry) -> Result<Vec<Account>, SiteFault
 fn owner_of(entry: Entry<'_>) -> Result<Owner<'_>, SiteFault>
     ensures kind { IfOk result (λ owner. nat_le owner.id_kind 4 ≡ true) }
     ensures id { IfOk result (λ owner. (is_within 1 64 (length owner.id.now) && list_all is_visible owner.id.now) ≡ true) }
+    ensures kind_spelled { IfOk result (λ owner. value_at Key.IdKind (table_view entry.entry.table.now) ≡ Some (number owner.id_kind)) }
+    ensures id_spelled { IfOk result (λ owner. value_at Key.Id (table_view entry.entry.table.now) ≡ Some (string owner.id.now)) }
 {
     let id_kind = entry.unsigned32(Key::IdKind, 0, ID_KIND_LIMIT)?;
     let id = entry.text(Key::Id)?.as_bytes();
@@ -84,6 +90,7 @@ fn account_of(alloc: Global, entry: Entry, owner: Owner) -> Result<Account, Site
     ensures kind { IfOk result (λ account. account.id_kind ≡ owner.entry.id_kind) }
     ensures id { IfOk result (λ account. account.id ≡ owner.entry.id.now) }
     ensures opening { IfOk result (λ account. nat_le (size_of account.opening) 4611686018427387904 ≡ true) }
+    ensures opening_spelled { IfOk result (λ account. value_at Key.Opening (table_view entry.entry.table.now) ≡ Some (integer account.opening)) }
 {
     Ok(Account {
         id_kind: owner.id_kind,

@@ -1,10 +1,11 @@
 //! The keys of one table, read one by one.
 
-ghost use Rattle.std.specs.Prelude.{◌≡◌, ◌≤◌, [], ◌∷◌, IfOk, None, true, length, vec_len, nat_le};
+ghost use Rattle.std.specs.Prelude.{◌≡◌, ◌≤◌, [], ◌∷◌, IfOk, None, true, length, vec_len, nat_le, map, option_map, pos};
 ghost use Rattle.dia_base.specs.Identity.{fault_of};
 ghost use Rattle.farm_model.specs.CheckedSite.{is_within, size_of};
-ghost use Rattle.farm_site.specs.Defaults.{LeavesOut};
-ghost use Rattle.toml.specs.View.{table_view};
+ghost use Rattle.farm_site.specs.Spelling.{value_at, value_or, number, numbers, texts, tables, tables_of};
+ghost use Rattle.toml.specs.Data.{string, integer, array, table};
+ghost use Rattle.toml.specs.View.{table_view, view, items_view};
 
 use crate::fault::SiteFault;
 use crate::key::Key;
@@ -28,23 +29,29 @@ impl<'a> Entry<'a> {
 
     /// What stands at a key, if the key is there.
     fn find(self, key: Key) -> Option<&'a Value>
-        ensures { LeavesOut (table_view self.entry.table.now) key → result ≡ None }
+        ensures { option_map (λ value. view value.now) result ≡ value_at key (table_view self.entry.table.now) }
     {
         self.table.get(key.as_str())
     }
 
     /// What stands at a key that must be there.
-    fn value(self, key: Key) -> Result<&'a Value, SiteFault> {
+    fn value(self, key: Key) -> Result<&'a Value, SiteFault>
+        ensures { IfOk result (λ value. value_at key (table_view self.entry.table.now) ≡ Some (view value.now)) }
+    {
         self.find(key).ok_or(SiteFault::Missing { key })
     }
 
     /// The text at a key that must be there.
-    pub fn text(self, key: Key) -> Result<&'a str, SiteFault> {
+    pub fn text(self, key: Key) -> Result<&'a str, SiteFault>
+        ensures { IfOk result (λ text. value_at key (table_view self.entry.table.now) ≡ Some (string text.now)) }
+    {
         text_of(key, self.value(key)?)
     }
 
     /// The text at a key that may be absent.
-    pub fn optional_text(self, key: Key) -> Result<Option<&'a str>, SiteFault> {
+    pub fn optional_text(self, key: Key) -> Result<Option<&'a str>, SiteFault>
+        ensures { IfOk result (λ text. value_at key (table_view self.entry.table.now) ≡ option_map (λ some_text. string some_text.now) text) }
+    {
         match self.find(key) {
             None => Ok(None),
             Some(value) => Ok(Some(text_of(key, value)?)),
@@ -53,7 +60,8 @@ impl<'a> Entry<'a> {
 
     /// The identity at a key that must be there.
     pub fn identity(self, alloc: Global, key: Key) -> Result<Identity, SiteFault>
-        ensures { IfOk result (λ identity. fault_of identity ≡ None) }
+        ensures sound { IfOk result (λ identity. fault_of identity ≡ None) }
+        ensures value { IfOk result (λ identity. value_at key (table_view self.entry.table.now) ≡ Some (string identity)) }
     {
         match Identity::read(alloc, self.text(key)?.as_bytes()) {
             Ok(identity) => Ok(identity),
@@ -65,7 +73,8 @@ impl<'a> Entry<'a> {
     /// The integer at a key that must be there, which is of at most this size, below or above 0.
     #[tactic(auto, using(crate::proofs::Following::sized))]
     pub fn integer(self, key: Key, size: u64) -> Result<i64, SiteFault>
-        ensures { IfOk result (λ n. nat_le (size_of n) size ≡ true) }
+        ensures size { IfOk result (λ n. nat_le (size_of n) size ≡ true) }
+        ensures value { IfOk result (λ n. value_at key (table_view self.entry.table.now) ≡ Some (integer n)) }
     {
         let number = integer_of(key, self.value(key)?)?;
         if number.unsigned_abs() <= size {
@@ -77,7 +86,8 @@ impl<'a> Entry<'a> {
 
     /// The number at a key that must be there.
     pub fn unsigned64(self, key: Key, least: u64, most: u64) -> Result<u64, SiteFault>
-        ensures { IfOk result (λ n. is_within least most n ≡ true) }
+        ensures range { IfOk result (λ n. is_within least most n ≡ true) }
+        ensures value { IfOk result (λ n. value_at key (table_view self.entry.table.now) ≡ Some (number n)) }
     {
         unsigned_of(key, self.value(key)?, least, most)
     }
@@ -92,7 +102,7 @@ impl<'a> Entry<'a> {
     ) -> Result<u64, SiteFault>
         requires { is_within least most absent ≡ true }
         ensures range { IfOk result (λ n. is_within least most n ≡ true) }
-        ensures default { LeavesOut (table_view self.entry.table.now) key → IfOk result (λ n. n ≡ absent) }
+        ensures value { IfOk result (λ n. value_or (number absent) key (table_view self.entry.table.now) ≡ number n) }
     {
         match self.find(key) {
             None => Ok(absent),
@@ -102,7 +112,8 @@ impl<'a> Entry<'a> {
 
     /// The number at a key that must be there.
     pub fn unsigned32(self, key: Key, least: u32, most: u32) -> Result<u32, SiteFault>
-        ensures { IfOk result (λ n. is_within least most n ≡ true) }
+        ensures range { IfOk result (λ n. is_within least most n ≡ true) }
+        ensures value { IfOk result (λ n. value_at key (table_view self.entry.table.now) ≡ Some (number n)) }
     {
         let number = self.unsigned64(key, u64::from(least), u64::from(most))?;
         Ok(number as u32)
@@ -118,7 +129,7 @@ impl<'a> Entry<'a> {
     ) -> Result<u32, SiteFault>
         requires { is_within least most absent ≡ true }
         ensures range { IfOk result (λ n. is_within least most n ≡ true) }
-        ensures default { LeavesOut (table_view self.entry.table.now) key → IfOk result (λ n. n ≡ absent) }
+        ensures value { IfOk result (λ n. value_or (number absent) key (table_view self.entry.table.now) ≡ number n) }
     {
         let (least, most) = (u64::from(least), u64::from(most));
         let number = self.unsigned64_or(key, least, most, u64::from(absent))?;
@@ -126,7 +137,9 @@ impl<'a> Entry<'a> {
     }
 
     /// The number at a key that may be absent.
-    pub fn optional_unsigned32(self, key: Key) -> Result<Option<u32>, SiteFault> {
+    pub fn optional_unsigned32(self, key: Key) -> Result<Option<u32>, SiteFault>
+        ensures { IfOk result (λ n. value_at key (table_view self.entry.table.now) ≡ option_map number n) }
+    {
         match self.find(key) {
             None => Ok(None),
             Some(_) => Ok(Some(self.unsigned32(key, 0, u32::MAX)?)),
@@ -135,7 +148,7 @@ impl<'a> Entry<'a> {
 
     /// The numbers of the array at a key, or this one alone where the key is absent.
     pub fn numbers_or(self, alloc: Global, key: Key, absent: u32) -> Result<Vec<u32>, SiteFault>
-        ensures { LeavesOut (table_view self.entry.table.now) key → IfOk result (λ numbers. numbers.items ≡ absent ∷ []) }
+        ensures { IfOk result (λ read. value_or (numbers (absent ∷ [])) key (table_view self.entry.table.now) ≡ numbers read.items) }
     {
         let Some(value) = self.find(key) else {
             return Ok(vec![in alloc; absent]?);
@@ -143,15 +156,15 @@ impl<'a> Entry<'a> {
         let integers = integers_of(alloc, key, array_of(key, value)?)?;
         let mut numbers = Vec::new(alloc);
         for integer in &integers {
-            let number = u32::try_from(*integer).map_err(|_| SiteFault::OutOfRange { key })?;
-            numbers.push(number)?;
+            numbers.push(small_of(key, *integer)?)?;
         }
         Ok(numbers)
     }
 
     /// The texts of the array at a key that must be there. How many they are is judged before any is looked at.
     pub fn texts(self, alloc: Global, key: Key, most: usize) -> Result<Vec<&'a str>, SiteFault>
-        ensures { IfOk result (λ texts. vec_len texts ≤ most) }
+        ensures count { IfOk result (λ read. vec_len read ≤ most) }
+        ensures value { IfOk result (λ read. value_at key (table_view self.entry.table.now) ≡ Some (texts (map (λ text. text.now) read.items))) }
     {
         let values = array_within(key, self.value(key)?, most)?;
         let mut texts = Vec::new(alloc);
@@ -164,30 +177,42 @@ impl<'a> Entry<'a> {
     /// The entries of the array of tables at a key, which has none where the key is absent. How many they are is
     /// judged before any is looked at, and that they are tables before what is in them.
     pub fn entries(self, alloc: Global, key: Key, most: usize) -> Result<Vec<Entry<'a>>, SiteFault>
-        ensures { IfOk result (λ entries. vec_len entries ≤ most) }
+        ensures count { IfOk result (λ entries. vec_len entries ≤ most) }
+        ensures value { IfOk result (λ entries. value_or (tables []) key (table_view self.entry.table.now) ≡ tables (tables_of entries.items)) }
     {
         let mut entries = Vec::new(alloc);
         let Some(value) = self.find(key) else {
             return Ok(entries);
         };
-        for value in array_within(key, value, most)? {
-            match value {
-                Value::Table(table) => entries.push(Entry { table })?,
-                _ => return Err(SiteFault::WrongType { key }),
-            }
+        let values = array_within(key, value, most)?;
+        for value in values {
+            entries.push(entry_of(key, value)?)?;
         }
         Ok(entries)
     }
 }
 
-fn text_of(key: Key, value: &Value) -> Result<&str, SiteFault> {
+fn entry_of(key: Key, value: &Value) -> Result<Entry<'_>, SiteFault>
+    ensures { IfOk result (λ entry. view value.now ≡ table (table_view entry.table.now)) }
+{
+    match value {
+        Value::Table(table) => Ok(Entry { table }),
+        _ => Err(SiteFault::WrongType { key }),
+    }
+}
+
+fn text_of(key: Key, value: &Value) -> Result<&str, SiteFault>
+    ensures { IfOk result (λ text. view value.now ≡ string text.now) }
+{
     match value {
         Value::String(text) => Ok(text.as_str()),
         _ => Err(SiteFault::WrongType { key }),
     }
 }
 
-fn integer_of(key: Key, value: &Value) -> Result<i64, SiteFault> {
+fn integer_of(key: Key, value: &Value) -> Result<i64, SiteFault>
+    ensures { IfOk result (λ n. view value.now ≡ integer n) }
+{
     match value {
         Value::Integer(number) => Ok(*number),
         _ => Err(SiteFault::WrongType { key }),
@@ -195,7 +220,8 @@ fn integer_of(key: Key, value: &Value) -> Result<i64, SiteFault> {
 }
 
 fn unsigned_of(key: Key, value: &Value, least: u64, most: u64) -> Result<u64, SiteFault>
-    ensures { IfOk result (λ n. is_within least most n ≡ true) }
+    ensures range { IfOk result (λ n. is_within least most n ≡ true) }
+    ensures value { IfOk result (λ n. view value.now ≡ number n) }
 {
     match u64::try_from(integer_of(key, value)?) {
         Ok(number) if least <= number && number <= most => Ok(number),
@@ -203,7 +229,16 @@ fn unsigned_of(key: Key, value: &Value, least: u64, most: u64) -> Result<u64, Si
     }
 }
 
-fn array_of(key: Key, value: &Value) -> Result<&[Value], SiteFault> {
+/// The integer, where it is from 0 to 4294967295.
+fn small_of(key: Key, integer: i64) -> Result<u32, SiteFault>
+    ensures { IfOk result (λ n. integer ≡ pos n) }
+{
+    u32::try_from(integer).map_err(|_| SiteFault::OutOfRange { key })
+}
+
+fn array_of(key: Key, value: &Value) -> Result<&[Value], SiteFault>
+    ensures { IfOk result (λ values. view value.now ≡ array (items_view values.now)) }
+{
     match value {
         Value::Array(values) => Ok(values.as_slice()),
         _ => Err(SiteFault::WrongType { key }),
@@ -211,7 +246,8 @@ fn array_of(key: Key, value: &Value) -> Result<&[Value], SiteFault> {
 }
 
 fn array_within(key: Key, value: &Value, most: usize) -> Result<&[Value], SiteFault>
-    ensures { IfOk result (λ values. length values.now ≤ most) }
+    ensures count { IfOk result (λ values. length values.now ≤ most) }
+    ensures value { IfOk result (λ values. view value.now ≡ array (items_view values.now)) }
 {
     let values = array_of(key, value)?;
     if values.len() > most {
@@ -220,7 +256,9 @@ fn array_within(key: Key, value: &Value, most: usize) -> Result<&[Value], SiteFa
     Ok(values)
 }
 
-fn integers_of(alloc: Global, key: Key, values: &[Value]) -> Result<Vec<i64>, SiteFault> {
+fn integers_of(alloc: Global, key: Key, values: &[Value]) -> Result<Vec<i64>, SiteFault>
+    ensures { IfOk result (λ integers. map view values.now ≡ map integer integers.items) }
+{
     let mut integers = Vec::new(alloc);
     for value in values {
         integers.push(integer_of(key, value)?)?;

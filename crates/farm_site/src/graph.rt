@@ -1,9 +1,10 @@
 //! The nodes and links of a site, as far as they are read.
 
-ghost use Rattle.std.specs.Prelude.{◌≡◌, IfSome, true};
+ghost use Rattle.std.specs.Prelude.{◌≡◌, ◌<◌, IfSome, true, length, position};
 ghost use Rattle.farm_model.specs.Nodes.{joins, is_linked, is_client, is_front, is_relay, kind_at};
 ghost use Rattle.farm_model.specs.CheckedSite.{is_known};
 ghost use Rattle.farm_site.specs.Graph.{drawn};
+ghost use Rattle.farm_site.specs.Spelling.{Names, is_named};
 
 use dia_base::{NodeKind, NodeNo};
 use farm_model::{Link, Node};
@@ -18,12 +19,10 @@ pub struct Graph<'a> {
 impl Graph<'_> {
     /// The node of a name, compared without ASCII case.
     pub fn find(self, name: &str) -> Option<NodeNo>
-        ensures { IfSome result (λ node. is_known (drawn self.entry) node ≡ true) }
+        ensures known { IfSome result (λ node. is_known (drawn self.entry) node ≡ true) }
+        ensures named { IfSome result (Names self.entry.nodes.now name.now) }
     {
-        let place = self.nodes.iter().position(|node| node
-            .name
-            .as_slice()
-            .eq_ignore_ascii_case(name.as_bytes()))?;
+        let place = place_of(self.nodes, name.as_bytes())?;
         u32::try_from(place).ok().map(NodeNo)
     }
 
@@ -58,6 +57,20 @@ impl Graph<'_> {
     {
         self.links.iter().any(|link| joins(link, a, b))
     }
+}
+
+/// The place of the first node of a name.
+fn place_of(nodes: &[Node], name: &[u8]) -> Option<usize>
+    ensures place { result ≡ position (is_named name.now) nodes.now }
+    ensures within { IfSome result (λ place. place < length nodes.now) }
+{
+    nodes.iter().position(|node| is_named(node, name))
+}
+
+fn is_named(node: &Node, name: &[u8]) -> bool
+    ensures { result ≡ is_named name.now node.now }
+{
+    node.name.as_slice().eq_ignore_ascii_case(name)
 }
 
 /// Whether a link joins two nodes, in either direction.

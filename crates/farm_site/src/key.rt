@@ -1,7 +1,7 @@
 //! The keys of a site file.
 
 ghost use Rattle.std.specs.Prelude.{◌≡◌};
-ghost use Rattle.farm_site.specs.Defaults.{spelled};
+ghost use Rattle.farm_site.specs.Keys.{spelled};
 
 use std::fmt;
 

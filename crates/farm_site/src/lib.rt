@@ -46,6 +46,8 @@
 //! type and one text.
 //!
 //! - [`site_of`], [`site_of_octets`]: the site that a text spells, or the first fault of it.
+//!   That the site is checked, and that each value of it is the one that the text has at its place, is
+//!   proved (`specs/Spelling`); that a text without fault is read, and which fault is told, is not.
 //! - [`SiteFault`] with its [`Key`]: why a text is no site, with the words that are printed.
 //!
 //! Inside, `entry` reads a key of a table, `graph` finds nodes and links by name, and `node`, `link`,
@@ -63,9 +65,10 @@
 //! ```
 #![tactic(auto)]
 
-ghost use Rattle.std.specs.Prelude.{◌≡◌, IfOk, IfSome, Some, nat_le, true};
+ghost use Rattle.std.specs.Prelude.{◌≡◌, IfOk, Some, nat_le, true};
 ghost use Rattle.farm_model.specs.CheckedSite.{IsChecked, size_of};
-ghost use Rattle.farm_site.specs.Defaults.{TakesDefaults};
+ghost use Rattle.farm_site.specs.Spelling.{Spells, SpellsSite, value_at};
+ghost use Rattle.toml.specs.Data.{integer};
 ghost use Rattle.toml.specs.Parse.{parse_document};
 ghost use Rattle.toml.specs.View.{table_view};
 
@@ -100,7 +103,7 @@ pub const SITE_LIMIT: usize = 16_777_216;
 /// The site that octets spell, as [`site_of`] reads them. Octets that are no UTF-8 are `NotToml`.
 pub fn site_of_octets(alloc: Global, octets: &[u8]) -> Result<Site, SiteFault>
     ensures checked { IfOk result IsChecked }
-    ensures defaults { IfOk result (λ site. IfSome (parse_document octets.now) (λ file. TakesDefaults file site)) }
+    ensures spelled { IfOk result (Spells octets.now) }
 {
     match str::from_utf8(octets) {
         Ok(text) => site_of(alloc, text),
@@ -120,7 +123,7 @@ pub fn site_of_octets(alloc: Global, octets: &[u8]) -> Result<Site, SiteFault>
 /// - `Twice route` is told before `peers` is read, and `Twice id` before `opening`.
 pub fn site_of(alloc: Global, text: &str) -> Result<Site, SiteFault>
     ensures checked { IfOk result IsChecked }
-    ensures defaults { IfOk result (λ site. IfSome (parse_document text.now) (λ file. TakesDefaults file site)) }
+    ensures spelled { IfOk result (Spells text.now) }
 {
     let table = table_of(alloc, text)?;
     site_in(alloc, Entry::new(&table))
@@ -142,7 +145,7 @@ fn table_of(alloc: Global, text: &str) -> Result<Table, SiteFault>
 /// The site that a table has.
 fn site_in(alloc: Global, file: Entry) -> Result<Site, SiteFault>
     ensures checked { IfOk result IsChecked }
-    ensures defaults { IfOk result (TakesDefaults (table_view file.entry.table.now)) }
+    ensures spelled { IfOk result (SpellsSite (table_view file.entry.table.now)) }
 {
     let realm = file.identity(alloc, Key::Realm)?;
     let validity = file.unsigned32(Key::Validity, 1, 86_400)?;
@@ -182,7 +185,8 @@ fn site_in(alloc: Global, file: Entry) -> Result<Site, SiteFault>
 
 /// From -9 to 9.
 fn exponent_of(file: Entry) -> Result<i32, SiteFault>
-    ensures { IfOk result (λ exponent. nat_le (size_of exponent) 9 ≡ true) }
+    ensures size { IfOk result (λ exponent. nat_le (size_of exponent) 9 ≡ true) }
+    ensures value { IfOk result (λ exponent. value_at Key.Exponent (table_view file.entry.table.now) ≡ Some (integer exponent)) }
 {
     let exponent = file.integer(Key::Exponent, 9)?;
     i32::try_from(exponent).map_err(|_| SiteFault::OutOfRange { key: Key::Exponent })

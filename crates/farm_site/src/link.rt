@@ -6,6 +6,8 @@ ghost use Rattle.farm_model.specs.Nodes.{is_client, is_front, is_node};
 ghost use Rattle.farm_model.specs.CheckedSite.{is_sound_link, is_known, joins_two_of, same_pair};
 ghost use Rattle.farm_site.specs.Graph.{drawn, site_over};
 ghost use Rattle.farm_site.specs.Growing.{AreSound, MayFollow};
+ghost use Rattle.farm_site.specs.Spelling.{NamesAt, SpellsLink, SpellsTable};
+ghost use Rattle.toml.specs.View.{table_view};
 
 use crate::entry::Entry;
 use crate::fault::SiteFault;
@@ -22,6 +24,7 @@ const LINK_LIMIT: usize = 256;
 pub fn links_of(alloc: Global, file: Entry, nodes: &[Node]) -> Result<Vec<Link>, SiteFault>
     ensures count { IfOk result (λ links. vec_len links ≤ 256) }
     ensures sound { IfOk result (λ links. AreSound (is_sound_link (site_over nodes.now [])) same_pair links.items) }
+    ensures spelled { IfOk result (λ links. SpellsTable (SpellsLink nodes.now) Key.Link (table_view file.entry.table.now) links.items) }
 {
     let entries = file.entries(alloc, Key::Link, LINK_LIMIT)?;
     let mut links = Vec::new(alloc);
@@ -39,7 +42,8 @@ pub fn links_of(alloc: Global, file: Entry, nodes: &[Node]) -> Result<Vec<Link>,
 /// The link of an entry, where these stand before it.
 #[tactic(auto, using(crate::proofs::Following::link_may_follow))]
 fn link_of(entry: Entry, before: Graph) -> Result<Link, SiteFault>
-    ensures { IfOk result (MayFollow (is_sound_link (drawn before.entry)) same_pair before.entry.links.now) }
+    ensures follows { IfOk result (MayFollow (is_sound_link (drawn before.entry)) same_pair before.entry.links.now) }
+    ensures spelled { IfOk result (SpellsLink before.entry.nodes.now (table_view entry.entry.table.now)) }
 {
     let link = Link {
         from: end_of(entry, Key::From, before)?,
@@ -54,11 +58,13 @@ fn link_of(entry: Entry, before: Graph) -> Result<Link, SiteFault>
 
 /// The node that a key names.
 fn end_of(entry: Entry, key: Key, graph: Graph) -> Result<NodeNo, SiteFault>
-    ensures { IfOk result (λ node. is_known (drawn graph.entry) node ≡ true) }
+    ensures known { IfOk result (λ node. is_known (drawn graph.entry) node ≡ true) }
+    ensures named { IfOk result (NamesAt graph.entry.nodes.now key (table_view entry.entry.table.now)) }
 {
-    graph
-        .find(entry.text(key)?)
-        .ok_or(SiteFault::UnknownName { key })
+    match graph.find(entry.text(key)?) {
+        Some(node) => Ok(node),
+        None => Err(SiteFault::UnknownName { key }),
+    }
 }
 
 /// Whether a link joins two nodes, and neither two clients nor two fronts.

@@ -7,6 +7,8 @@ ghost use Rattle.farm_model.specs.CheckedSite.{is_candidate, is_sound_route, sam
 ghost use Rattle.farm_model.specs.Nodes.{is_node, is_relay};
 ghost use Rattle.farm_site.specs.Graph.{drawn};
 ghost use Rattle.farm_site.specs.Growing.{AreSound, MayFollow};
+ghost use Rattle.farm_site.specs.Spelling.{Names, NamesAt, NamesAllAt, SpellsRoute, SpellsTable};
+ghost use Rattle.toml.specs.View.{table_view};
 
 use crate::entry::Entry;
 use crate::fault::SiteFault;
@@ -26,6 +28,7 @@ const PEER_LIMIT: usize = 16;
 pub fn routes_of(alloc: Global, file: Entry, graph: Graph) -> Result<Vec<Route>, SiteFault>
     ensures count { IfOk result (λ routes. vec_len routes ≤ 256) }
     ensures sound { IfOk result (λ routes. AreSound (is_sound_route (drawn graph.entry)) same_route routes.items) }
+    ensures spelled { IfOk result (λ routes. SpellsTable (SpellsRoute graph.entry.nodes.now) Key.Route (table_view file.entry.table.now) routes.items) }
 {
     let entries = file.entries(alloc, Key::Route, ROUTE_LIMIT)?;
     let mut routes = Vec::new(alloc);
@@ -39,7 +42,8 @@ pub fn routes_of(alloc: Global, file: Entry, graph: Graph) -> Result<Vec<Route>,
 /// The route of an entry, where these stand before it.
 #[tactic(auto, using(crate::proofs::Following::route_may_follow))]
 fn route_of(alloc: Global, entry: Entry, graph: Graph, before: &[Route]) -> Result<Route, SiteFault>
-    ensures { IfOk result (MayFollow (is_sound_route (drawn graph.entry)) same_route before.now) }
+    ensures follows { IfOk result (MayFollow (is_sound_route (drawn graph.entry)) same_route before.now) }
+    ensures spelled { IfOk result (SpellsRoute graph.entry.nodes.now (table_view entry.entry.table.now)) }
 {
     let at = relay_of(entry, graph)?;
     let realm = entry.identity(alloc, Key::Realm)?;
@@ -57,7 +61,8 @@ fn route_of(alloc: Global, entry: Entry, graph: Graph, before: &[Route]) -> Resu
 
 /// The relay that has the route.
 fn relay_of(entry: Entry, graph: Graph) -> Result<NodeNo, SiteFault>
-    ensures { IfOk result (λ relay. is_relay (drawn graph.entry) relay ≡ true) }
+    ensures relay { IfOk result (λ relay. is_relay (drawn graph.entry) relay ≡ true) }
+    ensures named { IfOk result (NamesAt graph.entry.nodes.now Key.At (table_view entry.entry.table.now)) }
 {
     match graph.find(entry.text(Key::At)?) {
         Some(relay) if graph.is_relay(relay) => Ok(relay),
@@ -82,6 +87,7 @@ fn peers_of(
 ) -> Result<Vec<NodeNo>, SiteFault>
     ensures count { IfOk result (λ peers. vec_len peers ≤ 16) }
     ensures candidates { IfOk result (λ peers. list_all (is_candidate (drawn graph.entry) relay) peers.items ≡ true) }
+    ensures named { IfOk result (λ peers. NamesAllAt graph.entry.nodes.now Key.Peers (table_view entry.entry.table.now) peers.items) }
 {
     let names = entry.texts(alloc, Key::Peers, PEER_LIMIT)?;
     let mut peers = Vec::new(alloc);
@@ -94,7 +100,8 @@ fn peers_of(
 
 /// The relay or front of a name, which is linked with a relay.
 fn peer_of(name: &str, graph: Graph, relay: NodeNo) -> Result<NodeNo, SiteFault>
-    ensures { IfOk result (λ peer. is_candidate (drawn graph.entry) relay peer ≡ true) }
+    ensures candidate { IfOk result (λ peer. is_candidate (drawn graph.entry) relay peer ≡ true) }
+    ensures named { IfOk result (Names graph.entry.nodes.now name.now) }
 {
     match graph.find(name) {
         Some(peer) if is_candidate(graph, relay, peer) => Ok(peer),

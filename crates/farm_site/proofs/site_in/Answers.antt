@@ -1,4 +1,4 @@
-use Rattle.std.proofs.Common.{◌≡◌, ◌≤◌, List, [], length, None, ℤ, sym, subst, ap, ◌∙◌, arith}
+use Rattle.std.proofs.Common.{◌≡◌, ◌≤◌, List, [], length, Some, None, ℤ, to_z, of_z, sym, subst, ap, ◌∙◌, arith}
 use Rattle.std.specs.Prelude.{nat_le}
 use Rattle.std.specs.Int.{w32}
 use Rattle.std.proofs.lemmas.Int.{to_z-of_z}
@@ -12,10 +12,15 @@ use Rattle.farm_model.specs.declared.site.Link.{Link}
 use Rattle.farm_model.specs.declared.site.Node.{Node}
 use Rattle.farm_model.specs.declared.site.Route.{Route}
 use Rattle.farm_model.specs.declared.site.Site.{Site}
+use Rattle.toml.specs.Data.{Members, integer}
+use Rattle.toml.specs.View.{table_view}
+use Rattle.farm_site.specs.declared.key.Key.TheVariants as keys
 use Rattle.farm_site.specs.Graph.{site_over}
 use Rattle.farm_site.specs.Growing.{AreSound}
+use Rattle.farm_site.specs.Spelling.{SpellsAccount, SpellsLink, SpellsNode, SpellsRoute, SpellsTable, SpellsTariff, numbers}
 use Rattle.farm_site.proofs.Checking.{links_of_site, routes_of_site}
 use Rattle.farm_site.proofs.Pushing.{and_right}
+use Rattle.farm_site.proofs.Spelled.{spelled_between}
 use Rattle.farm_site.proofs.site_in.Goals as goal
 
 pub returns-clause-checked : goal.returns-clause-checked
@@ -49,12 +54,12 @@ returns-clause-checked c =
     let tariff_count : length site.tariffs ≤ 1024 = subst (λ (xs : List Tariff). length xs ≤ 1024) (sym c.from_vec-5.ensures) (omega (arith, c.in_ok-tariffs.ensures.count, c.in_ok-tariffs.tariffs.ok.0)) in
     let account_count : length site.accounts ≤ 65536 = subst (λ (xs : List Account). length xs ≤ 65536) (sym c.from_vec-6.ensures) (omega (arith, c.in_ok-accounts.ensures.count, c.in_ok-accounts.accounts.ok.0)) in
     record {
-      validity = c.in_ok-validity.ensures;
+      validity = c.in_ok-validity.ensures.range;
       limit = c.in_ok-limit.ensures.range;
       workers = c.in_ok-workers.ensures.range;
       queue = c.in_ok-queue.ensures.range;
-      currency = and_right (nat_le 0 c.in_ok-currency.currency) (nat_le c.in_ok-currency.currency 999) c.in_ok-currency.ensures;
-      exponent = ap (λ (z : ℤ). nat_le (size_of z) 9) (to_z-of_z w32 c.in_ok-exponent.exponent (fits_small c.in_ok-exponent.exponent c.in_ok-exponent.ensures)) ∙ c.in_ok-exponent.ensures;
+      currency = and_right (nat_le 0 c.in_ok-currency.currency) (nat_le c.in_ok-currency.currency 999) c.in_ok-currency.ensures.range;
+      exponent = ap (λ (z : ℤ). nat_le (size_of z) 9) (to_z-of_z w32 c.in_ok-exponent.exponent (fits_small c.in_ok-exponent.exponent c.in_ok-exponent.ensures.size)) ∙ c.in_ok-exponent.ensures.size;
       watchdog = c.in_ok-watchdog.ensures.range;
       nodes = le-leb (length site.nodes) 64 node_count;
       sound_names = nodes.sound;
@@ -72,11 +77,23 @@ returns-clause-checked c =
       identifiers = accounts.distinct;
     }
 
-pub returns-clause-defaults : goal.returns-clause-defaults
-returns-clause-defaults c = record {
-  limit = c.in_ok-limit.ensures.default;
-  workers = c.in_ok-workers.ensures.default;
-  queue = c.in_ok-queue.ensures.default;
-  vendors = λ out. c.from_vec.ensures ∙ c.in_ok-vendors.ensures out;
-  watchdog = c.in_ok-watchdog.ensures.default;
-}
+pub returns-clause-spelled : goal.returns-clause-spelled
+returns-clause-spelled c =
+    let file : Members = table_view c.args.file.table.now in
+    let small : to_z w32 (of_z w32 c.in_ok-exponent.exponent) ≡ c.in_ok-exponent.exponent = to_z-of_z w32 c.in_ok-exponent.exponent (fits_small c.in_ok-exponent.exponent c.in_ok-exponent.ensures.size) in
+    record {
+      realm = c.in_ok-realm.ensures.value;
+      validity = c.in_ok-validity.ensures.value;
+      limit = c.in_ok-limit.ensures.value;
+      workers = c.in_ok-workers.ensures.value;
+      queue = c.in_ok-queue.ensures.value;
+      vendors = c.in_ok-vendors.ensures ∙ ap numbers (sym c.from_vec.ensures);
+      currency = c.in_ok-currency.ensures.value;
+      exponent = c.in_ok-exponent.ensures.value ∙ ap (λ (z : ℤ). Some (integer z)) (sym small);
+      watchdog = c.in_ok-watchdog.ensures.value;
+      nodes = subst (λ (xs : List Node). SpellsTable SpellsNode keys.Node file xs) (sym c.from_vec-2.ensures) c.in_ok-nodes.ensures.spelled;
+      links = spelled_between SpellsLink keys.Link file c.from_vec-2.result c.in_ok-nodes.nodes.items c.deref.result.now c.from_vec-3.result c.in_ok-links.links.items c.from_vec-2.ensures c.from_vec-3.ensures c.deref.ensures.value c.in_ok-links.ensures.spelled;
+      routes = spelled_between SpellsRoute keys.Route file c.from_vec-2.result c.in_ok-nodes.nodes.items c.deref-2.result.now c.from_vec-4.result c.in_ok-routes.routes.items c.from_vec-2.ensures c.from_vec-4.ensures c.deref-2.ensures.value c.in_ok-routes.ensures.spelled;
+      tariffs = subst (λ (xs : List Tariff). SpellsTable SpellsTariff keys.Tariff file xs) (sym c.from_vec-5.ensures) c.in_ok-tariffs.ensures.spelled;
+      accounts = subst (λ (xs : List Account). SpellsTable SpellsAccount keys.Account file xs) (sym c.from_vec-6.ensures) c.in_ok-accounts.ensures.spelled;
+    }

@@ -3,8 +3,11 @@ use Rattle.std.specs.BTreeMap.{is_at}
 use Rattle.std.specs.List.{list_any}
 use Rattle.cc_book.specs.declared.account.Account.{Account}
 use Rattle.farm_model.specs.CheckedSite.{is_sound_account, same_account}
-use Rattle.farm_site.proofs.Owning.{AreOwners, account_may_follow, is_owned_by, owner_cmp, owners_push, was_absent}
+use Rattle.toml.specs.View.{table_view}
+use Rattle.farm_site.specs.Spelling.{SpellsAccount}
+use Rattle.farm_site.proofs.Owning.{AreOwners, account_may_follow, is_owned_by, owner_cmp, owners_push, spelled_by, was_absent}
 use Rattle.farm_site.proofs.Pushing.{grown}
+use Rattle.farm_site.proofs.Spelled.{table_all, table_more}
 use Rattle.farm_site.proofs.account.accounts_of.Goals as goal
 
 pub loop-entry-preserved : goal.loop-entry-preserved
@@ -19,4 +22,8 @@ loop-entry-preserved c =
       counted = omega (arith, c.in_ok-push.ensures.len);
       sound = grown is_sound_account same_account accounts accounts c.push.new.self.items account c.loop-entry.invariant.sound refl (account_may_follow accounts account owner c.in_ok-account.ensures.kind c.in_ok-account.ensures.id c.in_ok-owner.ensures.kind c.in_ok-owner.ensures.id c.in_ok-account.ensures.opening none) c.in_ok-push.ensures.items;
       owners = subst (λ (xs : List Account). AreOwners c.insert.new.self.keys xs) (sym c.in_ok-push.ensures.items) (owners_push c.loop-entry.owners.keys c.insert.new.self.keys accounts account owner c.loop-entry.invariant.owners c.in_ok-is_new.ensures.updates.0 c.in_ok-account.ensures.kind c.in_ok-account.ensures.id);
+      spelled = table_more SpellsAccount c.deref-entry-items.result.now c.loop-entry.entry-index c.entry-item.result accounts c.push.new.self.items account c.loop-entry-test.true c.entry-item.is c.loop-entry.invariant.spelled (spelled_by (table_view c.entry-item.result.table.now) account owner c.in_ok-account.ensures.kind c.in_ok-account.ensures.id c.in_ok-owner.ensures.kind_spelled c.in_ok-owner.ensures.id_spelled c.in_ok-account.ensures.opening_spelled) c.in_ok-push.ensures.items;
     }
+
+pub returns-clause-spelled : goal.returns-clause-spelled
+returns-clause-spelled c = table_all SpellsAccount _ _ c.deref-entry-items.result.now c.in_ok-entries.entries.items c.loop-entry.entry-index c.loop-entry.accounts.items c.deref-entry-items.ensures.value c.in_ok-entries.ensures.value c.loop-entry-test.false c.loop-entry.invariant.spelled

@@ -1,11 +1,17 @@
 use Rattle.std.proofs.Common.{[], arith}
 use Rattle.farm_model.specs.CheckedSite.{is_sound_link, same_pair}
 use Rattle.farm_site.specs.Graph.{site_over}
+use Rattle.farm_site.specs.Spelling.{SpellsLink}
 use Rattle.farm_site.proofs.Pushing.{grown}
+use Rattle.farm_site.proofs.Spelled.{table_all, table_more}
 use Rattle.farm_site.proofs.link.links_of.Goals as goal
 
 pub loop-entry-preserved : goal.loop-entry-preserved
 loop-entry-preserved c = record {
   counted = omega (arith, c.in_ok-push.ensures.len);
-  sound = grown (is_sound_link (site_over c.args.nodes.now [])) same_pair c.loop-entry.links.items c.deref.result.now c.push.new.self.items c.in_ok-link.link c.loop-entry.invariant.sound c.deref.ensures.value c.in_ok-link.ensures c.in_ok-push.ensures.items;
+  sound = grown (is_sound_link (site_over c.args.nodes.now [])) same_pair c.loop-entry.links.items c.deref.result.now c.push.new.self.items c.in_ok-link.link c.loop-entry.invariant.sound c.deref.ensures.value c.in_ok-link.ensures.follows c.in_ok-push.ensures.items;
+  spelled = table_more (SpellsLink c.args.nodes.now) c.deref-entry-items.result.now c.loop-entry.entry-index c.entry-item.result c.loop-entry.links.items c.push.new.self.items c.in_ok-link.link c.loop-entry-test.true c.entry-item.is c.loop-entry.invariant.spelled c.in_ok-link.ensures.spelled c.in_ok-push.ensures.items;
 }
+
+pub returns-clause-spelled : goal.returns-clause-spelled
+returns-clause-spelled c = table_all (SpellsLink c.args.nodes.now) _ _ c.deref-entry-items.result.now c.in_ok-entries.entries.items c.loop-entry.entry-index c.loop-entry.links.items c.deref-entry-items.ensures.value c.in_ok-entries.ensures.value c.loop-entry-test.false c.loop-entry.invariant.spelled

@@ -1,10 +1,16 @@
 use Rattle.std.proofs.Common.{arith}
 use Rattle.farm_model.specs.CheckedSite.{is_sound_name, same_name}
+use Rattle.farm_site.specs.Spelling.{SpellsNode}
 use Rattle.farm_site.proofs.Pushing.{grown}
+use Rattle.farm_site.proofs.Spelled.{table_all, table_more}
 use Rattle.farm_site.proofs.node.nodes_of.Goals as goal
 
 pub loop-entry-preserved : goal.loop-entry-preserved
 loop-entry-preserved c = record {
   counted = omega (arith, c.in_ok-push.ensures.len);
-  sound = grown is_sound_name same_name c.loop-entry.nodes.items c.deref.result.now c.push.new.self.items c.in_ok-node.node c.loop-entry.invariant.sound c.deref.ensures.value c.in_ok-node.ensures c.in_ok-push.ensures.items;
+  sound = grown is_sound_name same_name c.loop-entry.nodes.items c.deref.result.now c.push.new.self.items c.in_ok-node.node c.loop-entry.invariant.sound c.deref.ensures.value c.in_ok-node.ensures.follows c.in_ok-push.ensures.items;
+  spelled = table_more SpellsNode c.deref-entry-items.result.now c.loop-entry.entry-index c.entry-item.result c.loop-entry.nodes.items c.push.new.self.items c.in_ok-node.node c.loop-entry-test.true c.entry-item.is c.loop-entry.invariant.spelled c.in_ok-node.ensures.spelled c.in_ok-push.ensures.items;
 }
+
+pub returns-clause-spelled : goal.returns-clause-spelled
+returns-clause-spelled c = table_all SpellsNode _ _ c.deref-entry-items.result.now c.in_ok-entries.entries.items c.loop-entry.entry-index c.loop-entry.nodes.items c.deref-entry-items.ensures.value c.in_ok-entries.ensures.value c.loop-entry-test.false c.loop-entry.invariant.spelled

@@ -1,11 +1,17 @@
 use Rattle.std.proofs.Common.{arith}
 use Rattle.farm_model.specs.CheckedSite.{is_sound_route, same_route}
 use Rattle.farm_site.specs.Graph.{drawn}
+use Rattle.farm_site.specs.Spelling.{SpellsRoute}
 use Rattle.farm_site.proofs.Pushing.{grown}
+use Rattle.farm_site.proofs.Spelled.{table_all, table_more}
 use Rattle.farm_site.proofs.route.routes_of.Goals as goal
 
 pub loop-entry-preserved : goal.loop-entry-preserved
 loop-entry-preserved c = record {
   counted = omega (arith, c.in_ok-push.ensures.len);
-  sound = grown (is_sound_route (drawn c.args.graph)) same_route c.loop-entry.routes.items c.deref.result.now c.push.new.self.items c.in_ok-route.route c.loop-entry.invariant.sound c.deref.ensures.value c.in_ok-route.ensures c.in_ok-push.ensures.items;
+  sound = grown (is_sound_route (drawn c.args.graph)) same_route c.loop-entry.routes.items c.deref.result.now c.push.new.self.items c.in_ok-route.route c.loop-entry.invariant.sound c.deref.ensures.value c.in_ok-route.ensures.follows c.in_ok-push.ensures.items;
+  spelled = table_more (SpellsRoute c.args.graph.nodes.now) c.deref-entry-items.result.now c.loop-entry.entry-index c.entry-item.result c.loop-entry.routes.items c.push.new.self.items c.in_ok-route.route c.loop-entry-test.true c.entry-item.is c.loop-entry.invariant.spelled c.in_ok-route.ensures.spelled c.in_ok-push.ensures.items;
 }
+
+pub returns-clause-spelled : goal.returns-clause-spelled
+returns-clause-spelled c = table_all (SpellsRoute c.args.graph.nodes.now) _ _ c.deref-entry-items.result.now c.in_ok-entries.entries.items c.loop-entry.entry-index c.loop-entry.routes.items c.deref-entry-items.ensures.value c.in_ok-entries.ensures.value c.loop-entry-test.false c.loop-entry.invariant.spelled

@@ -1,7 +1,5 @@
--- What the file of a site says of its keys.
-use Rattle.std.specs.Prelude.{◌≡◌, ℕ, List, [], ◌∷◌, codes, None}
-use Rattle.toml.specs.Data.{Members, get_member}
-use Rattle.farm_model.specs.declared.site.Site.{Site}
+-- How the file of a site spells its keys.
+use Rattle.std.specs.Prelude.{ℕ, List, codes}
 use Rattle.farm_site.specs.declared.key.Key.{Key}
 use Rattle.farm_site.specs.declared.key.Key.TheVariants.{Realm, Validity, Limit, Workers, Queue, Vendors, Currency, Exponent, Watchdog, Node, Link, Route, Tariff, Account, Name, Kind, Address, From, To, At, App, Peers, Group, Ident, Block, Price, Quantum, Greatest, IdKind, Id, Opening}
 
@@ -38,15 +36,3 @@ spelled Greatest = codes "greatest"
 spelled IdKind = codes "type"
 spelled Id = codes "id"
 spelled Opening = codes "opening"
-
--- the file leaves the key out
-abbrev pub LeavesOut : Members → Key → Type 0
-LeavesOut file key = get_member (spelled key) file ≡ None
-
--- The site has the default of each key that the file leaves out.
-pub record TakesDefaults (file : Members) (site : Site) : Type 0 where
-  pub limit : LeavesOut file Limit → site.limit ≡ 1048576
-  pub workers : LeavesOut file Workers → site.workers ≡ 2
-  pub queue : LeavesOut file Queue → site.queue ≡ 1024
-  pub vendors : LeavesOut file Vendors → site.vendors ≡ 10415 ∷ []
-  pub watchdog : LeavesOut file Watchdog → site.watchdog ≡ 30000

@@ -1,0 +1,21 @@
+use Rattle.std.proofs.Common.{◌≡◌, List, None, sym, subst, arith}
+use Rattle.cc_rating.specs.declared.tariff.Tariff.{Tariff}
+use Rattle.cc_rating.specs.Tariffs.{fault_after, fault_of}
+use Rattle.farm_site.specs.Spelling.{SpellsTariff}
+use Rattle.farm_site.proofs.Pushing.{faultless_push}
+use Rattle.farm_site.proofs.Spelled.{table_all, table_more}
+use Rattle.farm_site.proofs.tariff.tariffs_of.Goals as goal
+
+pub loop-entry-preserved : goal.loop-entry-preserved
+loop-entry-preserved c =
+    let old : List Tariff = c.loop-entry.tariffs.items in
+    let tariff : Tariff = c.in_ok-tariff.tariff in
+    let sound : fault_after old tariff ≡ None = subst (λ (ts : List Tariff). fault_after ts tariff ≡ None) c.deref.ensures.value c.in_ok-tariff.ensures.sound in
+    record {
+      counted = omega (arith, c.in_ok-push.ensures.len);
+      sound = subst (λ (ts : List Tariff). fault_of ts ≡ None) (sym c.in_ok-push.ensures.items) (faultless_push old tariff c.loop-entry.invariant.sound sound);
+      spelled = table_more SpellsTariff c.deref-entry-items.result.now c.loop-entry.entry-index c.entry-item.result old c.push.new.self.items tariff c.loop-entry-test.true c.entry-item.is c.loop-entry.invariant.spelled c.in_ok-tariff.ensures.spelled c.in_ok-push.ensures.items;
+    }
+
+pub returns-clause-spelled : goal.returns-clause-spelled
+returns-clause-spelled c = table_all SpellsTariff _ _ c.deref-entry-items.result.now c.in_ok-entries.entries.items c.loop-entry.entry-index c.loop-entry.tariffs.items c.deref-entry-items.ensures.value c.in_ok-entries.ensures.value c.loop-entry-test.false c.loop-entry.invariant.spelled
