@@ -5,7 +5,7 @@ ghost use Rattle.std.specs.Io.KnownBytes.{Keeps, Appends};
 ghost use Rattle.farm_script.specs.declared.fault.ScriptFault.{ScriptFault};
 ghost use Rattle.farm_site.specs.declared.fault.SiteFault.{SiteFault};
 ghost use Rattle.farm_cli.specs.Replay.{Replays, IsRefused, ReadsSchedule, WasRead};
-ghost use Rattle.farm_cli.specs.Sites.{OfCheckedSite, WasReadBehind};
+ghost use Rattle.farm_cli.specs.Sites.{OfSpelledSite, WasReadBehind};
 ghost use Rattle.farm_model.specs.declared.site.Site.{Site};
 ghost use Rattle.farm_model.specs.RowSite.{the_row_site};
 ghost use Rattle.farm_cli.specs.Writing.{BeginsWriting};
@@ -49,12 +49,13 @@ pub fn replay_site_file<R: Read, W: Write>(
     reader: &mut R,
     writer: &mut W,
 ) -> Result<(), Fault>
-    // The site is a checked one: no site file reaches a run that keeps less than is promised.
-    ensures ok { OnOk result (OfCheckedSite (λ site. IfSome (R.remaining reader.old) (λ octets.
+    // The site is the one that the file spells, and a checked one: no site file reaches a run that keeps less than is
+    // promised.
+    ensures ok { OnOk result (OfSpelledSite file.now (λ site. IfSome (R.remaining reader.old) (λ octets.
         (printed : List ℕ) × Replays action site octets printed × Appends (W.contents writer.old) (W.contents writer.new) printed))) }
     ensures script { (fault : ScriptFault) → result ≡ Err (Fault.Replay (ReplayFault.Script fault)) →
-        OfCheckedSite (λ site. IfSome (R.remaining reader.old) (λ octets. IsRefused site octets fault)) }
-    ensures write { result ≡ Err (Fault.Replay ReplayFault.Write) → OfCheckedSite (λ site. IfSome (R.remaining reader.old) (λ octets.
+        OfSpelledSite file.now (λ site. IfSome (R.remaining reader.old) (λ octets. IsRefused site octets fault)) }
+    ensures write { result ≡ Err (Fault.Replay ReplayFault.Write) → OfSpelledSite file.now (λ site. IfSome (R.remaining reader.old) (λ octets.
         (printed : List ℕ) × Replays action site octets printed × BeginsWriting (W.contents writer.old) (W.contents writer.new) printed)) }
     ensures read { WasReadBehind result → ReadsSchedule (R.remaining reader.old) (R.remaining reader.new) }
 
