@@ -35,6 +35,7 @@ use Rattle.relay_core.specs.Verdict.{verdict, decision}
 use Rattle.relay_core.proofs.Holding.{is_from, holding-event, holding-orphans, counted-event, counted-orphans}
 use Rattle.relay_core.proofs.Promising.{Kept, kept-request, kept-answer, kept-failover}
 use Rattle.relay_core.proofs.Reaching.{none_on}
+use Rattle.relay_core.proofs.Unanswered.{Unanswered, EndsNothing, linked-lost, unanswered-event, received-idle, lost-idle, unanswered-up, unanswered-nothing, unanswered-request, unanswered-answer, waiting-lost}
 
 -- ---- a request in which the relay finds itself
 
@@ -80,17 +81,19 @@ record Stands (name realm : List ℕ) (past : List RelayStep) (relay : RelayStat
   name_is : relay.node.name ≡ name
   realm_is : relay.node.realm ≡ realm
   kept : Kept name realm (acts_of past) relay.pending.rows
+  unanswered : Unanswered relay.node (acts_of past) relay.pending.rows
   loops : RefusesLoops past
 
 record After (name realm : List ℕ) (acts : List Act) (relay : RelayState) : Type 0 where
   name_is : relay.node.name ≡ name
   realm_is : relay.node.realm ≡ realm
   kept : Kept name realm acts relay.pending.rows
+  unanswered : Unanswered relay.node acts relay.pending.rows
 
 -- nothing is sent, and the pending requests stay
 quiet : (name realm : List ℕ) (event : RelayEvent) (acts : List Act) (relay next after : RelayState) (items : Traffic) → items ≡ [] → after ≡ next → next.node.name ≡ name → next.node.realm ≡ realm
-    → next.pending.rows ≡ relay.pending.rows → Kept name realm acts relay.pending.rows → After name realm (acts_with items (happened event ∷ acts)) after
-quiet name realm event acts relay next after items none is n r same k =
+    → next.pending.rows ≡ relay.pending.rows → Unanswered next.node (happened event ∷ acts) next.pending.rows → Kept name realm acts relay.pending.rows → After name realm (acts_with items (happened event ∷ acts)) after
+quiet name realm event acts relay next after items none is n r same u k =
     subst (λ (s : RelayState). After name realm (acts_with items (happened event ∷ acts)) s) (sym is)
     (subst (λ (xs : Traffic). After name realm (acts_with xs (happened event ∷ acts)) next) (sym none) (record {
       name_is = n;
@@ -100,17 +103,18 @@ quiet name realm event acts relay next after items none is n r same k =
         counted = counted-event event acts relay.pending.rows k.counted;
         right = (tt, k.right);
       });
+      unanswered = u;
     }))
 
-idle : (name realm : List ℕ) (event : RelayEvent) (acts : List Act) (relay after : RelayState) (items : Traffic) → IsIdle relay items after → relay.node.name ≡ name → relay.node.realm ≡ realm
-    → Kept name realm acts relay.pending.rows → After name realm (acts_with items (happened event ∷ acts)) after
-idle name realm event acts relay after items i n r k = quiet name realm event acts relay relay after items i.0 i.1 n r refl k
+idle : (name realm : List ℕ) (event : RelayEvent) (acts : List Act) (relay after : RelayState) (items : Traffic) → EndsNothing relay.node event → IsIdle relay items after → relay.node.name ≡ name → relay.node.realm ≡ realm
+    → Unanswered relay.node acts relay.pending.rows → Kept name realm acts relay.pending.rows → After name realm (acts_with items (happened event ∷ acts)) after
+idle name realm event acts relay after items ends i n r u k = quiet name realm event acts relay relay after items i.0 i.1 n r refl (unanswered-event relay.node event acts relay.pending.rows ends u) k
 
-up_step : (name realm : List ℕ) (event : RelayEvent) (acts : List Act) (relay next after : RelayState) (items : Traffic) (fault : Option RelayError) → MatchOption fault ((items ≡ []) × (after ≡ next)) (λ _. IsIdle relay items after)
-    → next.node.name ≡ name → next.node.realm ≡ realm → next.pending.rows ≡ relay.pending.rows → relay.node.name ≡ name → relay.node.realm ≡ realm
-    → Kept name realm acts relay.pending.rows → After name realm (acts_with items (happened event ∷ acts)) after
-up_step name realm event acts relay next after items None m n r same p q k = quiet name realm event acts relay next after items m.0 m.1 n r same k
-up_step name realm event acts relay next after items (Some fault) m n r same p q k = idle name realm event acts relay after items m p q k
+up_step : (name realm : List ℕ) (peer : NodeNo) (conn : ConnId) (acts : List Act) (relay after : RelayState) (items : Traffic) (fault : Option RelayError) → up_fault relay peer conn ≡ fault
+    → MatchOption fault ((items ≡ []) × (after ≡ after_up relay peer conn)) (λ _. IsIdle relay items after) → relay.node.name ≡ name → relay.node.realm ≡ realm
+    → Unanswered relay.node acts relay.pending.rows → Kept name realm acts relay.pending.rows → After name realm (acts_with items (happened (Up peer conn) ∷ acts)) after
+up_step name realm peer conn acts relay after items None e m n r u k = quiet name realm (Up peer conn) acts relay (after_up relay peer conn) after items m.0 m.1 n r refl (unanswered-up relay peer conn acts e u) k
+up_step name realm peer conn acts relay after items (Some fault) e m n r u k = idle name realm (Up peer conn) acts relay after items (λ to hop f. absurd cc) m n r u k
 
 -- a message leaves the peers as they are
 request_node : {relay : RelayState} {conn : ConnId} {sender : List ℕ} {request : Message} {items : Traffic} {after : RelayState} → OnRequest relay conn sender request items after → after.node ≡ relay.node
@@ -124,45 +128,52 @@ answer_node (ignored e) = refl
 
 message_step : (name realm : List ℕ) (acts : List Act) (relay after : RelayState) (conn : ConnId) (sender : List ℕ) (message : Message) (items : Traffic) (flag : Bool) → message.header.request ≡ flag
     → MatchBool flag (OnRequest relay conn sender message items after) (OnAnswer relay conn message items after) → relay.node.name ≡ name → relay.node.realm ≡ realm
-    → Kept name realm acts relay.pending.rows → After name realm (acts_with items (happened (Received conn message) ∷ acts)) after
-message_step name realm acts relay after conn sender message items true is step n r k = record {
-  name_is = ap (λ (x : RelayNode). x.name) (request_node step) ∙ n;
-  realm_is = ap (λ (x : RelayNode). x.realm) (request_node step) ∙ r;
-  kept = kept-request name realm relay after conn sender message items acts n r is step k;
-}
-message_step name realm acts relay after conn sender message items false is step n r k = record {
+    → Unanswered relay.node acts relay.pending.rows → Kept name realm acts relay.pending.rows → After name realm (acts_with items (happened (Received conn message) ∷ acts)) after
+message_step name realm acts relay after conn sender message items true is step n r u k =
+    let all = kept-request name realm relay after conn sender message items acts n r is step k in
+    record {
+      name_is = ap (λ (x : RelayNode). x.name) (request_node step) ∙ n;
+      realm_is = ap (λ (x : RelayNode). x.realm) (request_node step) ∙ r;
+      kept = all;
+      unanswered = unanswered-request relay after conn sender message items acts is step all.holding.map u;
+    }
+message_step name realm acts relay after conn sender message items false is step n r u k = record {
   name_is = ap (λ (x : RelayNode). x.name) (answer_node step) ∙ n;
   realm_is = ap (λ (x : RelayNode). x.realm) (answer_node step) ∙ r;
-  kept = kept-answer name realm relay after conn message items acts is step k;
+  kept = kept-answer name realm relay after conn message items acts is step u.waiting k;
+  unanswered = unanswered-answer relay after conn message items acts step k.holding.map u;
 }
 
-received_step : (name realm : List ℕ) (acts : List Act) (relay after : RelayState) (conn : ConnId) (message : Message) (items : Traffic) (peer : Option LinkedPeer)
+received_step : (name realm : List ℕ) (acts : List Act) (relay after : RelayState) (conn : ConnId) (message : Message) (items : Traffic) (peer : Option LinkedPeer) → peer_on relay.node conn ≡ peer
     → MatchOption peer (IsIdle relay items after) (λ sender. OnMessage relay conn sender.name message items after) → relay.node.name ≡ name → relay.node.realm ≡ realm
-    → Kept name realm acts relay.pending.rows → After name realm (acts_with items (happened (Received conn message) ∷ acts)) after
-received_step name realm acts relay after conn message items None m n r k = idle name realm (Received conn message) acts relay after items m n r k
-received_step name realm acts relay after conn message items (Some sender) m n r k = message_step name realm acts relay after conn sender.name message items message.header.request refl m n r k
+    → Unanswered relay.node acts relay.pending.rows → Kept name realm acts relay.pending.rows → After name realm (acts_with items (happened (Received conn message) ∷ acts)) after
+received_step name realm acts relay after conn message items None none m n r u k = idle name realm (Received conn message) acts relay after items (received-idle relay.node conn message none) m n r u k
+received_step name realm acts relay after conn message items (Some sender) is m n r u k = message_step name realm acts relay after conn sender.name message items message.header.request refl m n r u k
 
 ended : (conn : ConnId) (rest : Bool) → (not (conn.0 == conn.0) && rest) ≡ false
 ended conn rest = ap (λ (b : Bool). not b && rest) (eq-eqb conn.0 conn.0 refl)
 
 lost_step : (name realm : List ℕ) (acts : List Act) (relay after : RelayState) (conn : ConnId) (items : Traffic) → OnConnLost relay conn items after → relay.node.name ≡ name → relay.node.realm ≡ realm
-    → Kept name realm acts relay.pending.rows → After name realm (acts_with items (happened (Lost conn) ∷ acts)) after
-lost_step name realm acts relay after conn items step n r k =
+    → Unanswered relay.node acts relay.pending.rows → Kept name realm acts relay.pending.rows → After name realm (acts_with items (happened (Lost conn) ∷ acts)) after
+lost_step name realm acts relay after conn items step n r u k =
     let before = happened (Lost conn) ∷ acts in
     let start : Kept name realm before (without_origins conn relay.pending.rows) = record {
       holding = holding-orphans conn before relay.pending.rows (holding-event (Lost conn) acts relay.pending.rows k.holding);
       counted = counted-orphans conn before relay.pending.rows (counted-event (Lost conn) acts relay.pending.rows k.counted);
       right = (tt, k.right);
     } in
-    let all : Kept name realm (acts_with items before) step.rows =
-    kept-failover name realm (after_end conn relay.node) conn before n r (none_on relay.node.peers.links conn) step.failover start (λ hop. ended conn (is_in_use conn hop acts)) refl in
-    subst (λ (s : RelayState). After name realm (acts_with items before) s) (sym step.after) (record { name_is = n; realm_is = r; kept = all })
+    let linked = linked-lost relay.node conn u.linked in
+    let all =
+    kept-failover name realm (after_end conn relay.node) conn before n r (none_on relay.node.peers.links conn) linked step.failover
+    (waiting-lost relay.node conn acts relay.pending.rows u) start (λ hop. ended conn (is_in_use conn hop acts)) refl in
+    subst (λ (s : RelayState). After name realm (acts_with items before) s) (sym step.after)
+    (record { name_is = n; realm_is = r; kept = all.0; unanswered = record { linked = linked; waiting = all.1 } })
 
-maybe_lost : (name realm : List ℕ) (acts : List Act) (relay after : RelayState) (conn : ConnId) (items : Traffic) (peer : Option NodeNo)
+maybe_lost : (name realm : List ℕ) (acts : List Act) (relay after : RelayState) (conn : ConnId) (items : Traffic) (peer : Option NodeNo) → peer_in relay.node.peers.links conn ≡ peer
     → MatchOption peer (IsIdle relay items after) (λ _. OnConnLost relay conn items after) → relay.node.name ≡ name → relay.node.realm ≡ realm
-    → Kept name realm acts relay.pending.rows → After name realm (acts_with items (happened (Lost conn) ∷ acts)) after
-maybe_lost name realm acts relay after conn items None m n r k = idle name realm (Lost conn) acts relay after items m n r k
-maybe_lost name realm acts relay after conn items (Some peer) m n r k = lost_step name realm acts relay after conn items m n r k
+    → Unanswered relay.node acts relay.pending.rows → Kept name realm acts relay.pending.rows → After name realm (acts_with items (happened (Lost conn) ∷ acts)) after
+maybe_lost name realm acts relay after conn items None none m n r u k = idle name realm (Lost conn) acts relay after items (lost-idle relay.node conn none) m n r u k
+maybe_lost name realm acts relay after conn items (Some peer) is m n r u k = lost_step name realm acts relay after conn items m n r u k
 
 nothing_counted : (p : Row → Bool) → count_by p [] ≤ 1
 nothing_counted p = let zero_rows : count_by p [] ≡ 0 = refl in omega arith
@@ -179,14 +190,14 @@ restart_step : (name realm : List ℕ) (acts : List Act) (relay after : RelaySta
 restart_step name realm acts relay after items none is n r k =
     subst (λ (s : RelayState). After name realm (acts_with items (happened Restart ∷ acts)) s) (sym is)
     (subst (λ (xs : Traffic). After name realm (acts_with xs (happened Restart ∷ acts)) (after_restart relay)) (sym none)
-    (record { name_is = n; realm_is = r; kept = no_rows name realm acts relay.pending.rows k }))
+    (record { name_is = n; realm_is = r; kept = no_rows name realm acts relay.pending.rows k; unanswered = unanswered-nothing (after_restart relay).node (happened Restart ∷ acts) refl }))
 
 step_kept : (name realm : List ℕ) (event : RelayEvent) (acts : List Act) (relay after : RelayState) (items : Traffic) → OnEvent relay event items after → relay.node.name ≡ name → relay.node.realm ≡ realm
-    → Kept name realm acts relay.pending.rows → After name realm (acts_with items (happened event ∷ acts)) after
-step_kept name realm (Up peer conn) acts relay after items step n r k = up_step name realm (Up peer conn) acts relay (after_up relay peer conn) after items (up_fault relay peer conn) step n r refl n r k
-step_kept name realm (Received conn message) acts relay after items step n r k = received_step name realm acts relay after conn message items (peer_on relay.node conn) step n r k
-step_kept name realm (Lost conn) acts relay after items step n r k = maybe_lost name realm acts relay after conn items (peer_in relay.node.peers.links conn) step n r k
-step_kept name realm Restart acts relay after items step n r k = restart_step name realm acts relay after items step.0 step.1 n r k
+    → Unanswered relay.node acts relay.pending.rows → Kept name realm acts relay.pending.rows → After name realm (acts_with items (happened event ∷ acts)) after
+step_kept name realm (Up peer conn) acts relay after items step n r u k = up_step name realm peer conn acts relay after items (up_fault relay peer conn) refl step n r u k
+step_kept name realm (Received conn message) acts relay after items step n r u k = received_step name realm acts relay after conn message items (peer_on relay.node conn) refl step n r u k
+step_kept name realm (Lost conn) acts relay after items step n r u k = maybe_lost name realm acts relay after conn items (peer_in relay.node.peers.links conn) refl step n r u k
+step_kept name realm Restart acts relay after items step n r u k = restart_step name realm acts relay after items step.0 step.1 n r k
 
 -- ---- a run
 
@@ -199,6 +210,7 @@ begins site = record {
     counted = λ to hop. let zero_rows : count_by (is_from to hop) [] ≡ 0 = refl in omega arith;
     right = tt;
   };
+  unanswered = unanswered-nothing (new_relay site).node [] refl;
   loops = tt;
 }
 
@@ -206,8 +218,8 @@ goes_on : (site : RelaySite) {events : List RelayEvent} {outs : List Out} {past 
 goes_on site not_begun = begins site
 goes_on site (one_more events event outs out past before after run step) =
     let s = goes_on site run in
-    let a = step_kept site.name site.realm event (acts_of past) before after out.items step s.name_is s.realm_is s.kept in
-    record { name_is = a.name_is; realm_is = a.realm_is; kept = a.kept; loops = (loop_step before event out.items after step, s.loops) }
+    let a = step_kept site.name site.realm event (acts_of past) before after out.items step s.name_is s.realm_is s.unanswered s.kept in
+    record { name_is = a.name_is; realm_is = a.realm_is; kept = a.kept; unanswered = a.unanswered; loops = (loop_step before event out.items after step, s.loops) }
 
 pub promise-kept : (site : RelaySite) {events : List RelayEvent} {outs : List Out} {past : List RelayStep} {last : RelayState} → IsRun (new_relay site) events outs past last → KeepsPromise site.name site.realm past
 promise-kept site {past = past} {last = last} run =

@@ -8,3 +8,4 @@ pub mod Promising
 pub mod Reaching
 pub mod Rules
 pub mod Running
+pub mod Unanswered

@@ -1,7 +1,7 @@
 -- A relay keeps its promise at each event.
 use Rattle.std.proofs.Common.{◌≡◌, ℕ, ◌+◌, ◌≤◌, ◌==◌, ◌&&◌, ◌||◌, not, ◌⊎◌, inl, inr, Bool, true, false, cond, is_some, MatchBool, ◌<◌, ◌^◌, length, length-append, nat_lt, List, [], ◌∷◌, ◌++◌, Option, Some, None, Ok, refl, ap, sym, subst, ◌∙◌, arith}
 use Rattle.std.specs.List.{count_by}
-use Rattle.std.proofs.lemmas.Bool.{eqb-true, ltb-false}
+use Rattle.std.proofs.lemmas.Bool.{ltb-false}
 use Rattle.dia_base.specs.declared.number.ConnId.{ConnId}
 use Rattle.dia_message.specs.declared.message.Message.{Message}
 use Rattle.dia_message.specs.Traffic.{Traffic}
@@ -18,7 +18,7 @@ use Rattle.relay_hops.proofs.InUse.{held-without}
 use Rattle.relay_peers.specs.PeerTable.{peer_in}
 use Rattle.relay_core.specs.declared.node.RelayNode.{RelayNode}
 use Rattle.relay_core.specs.declared.run.RelayEvent.TheVariants.{Received}
-use Rattle.relay_core.specs.Acts.{Act, happened, sent, acts_with, is_under, is_in_use, last_sent, one}
+use Rattle.relay_core.specs.Acts.{Act, happened, sent, acts_with, is_under, is_in_use, before_event, last_sent, one}
 use Rattle.relay_core.specs.Failover.{RequestFailover, forgotten, sent_again, given_up, Failover, none_left, least_first, avps_in}
 use Rattle.relay_core.specs.Forwarding.{recorded, is_too_long, with_record, Descends, renumbered, recorded_by}
 use Rattle.relay_routes.specs.Routing.{record_of}
@@ -31,6 +31,7 @@ use Rattle.relay_core.specs.RelayStep.{OnRequest, OnAnswer, refused, forwarded, 
 use Rattle.relay_core.proofs.Holding.{Holding, Counted, is_from, comes_from, come_more, cause_of, count-with, last_is_sent, holding-event, holding-answer, holding-less, holding-more, counted-event, counted-request, counted-same, counted-answer}
 use Rattle.relay_core.proofs.Reaching.{next_hop-never}
 use Rattle.relay_core.proofs.Rules.{forwarded-by}
+use Rattle.relay_core.proofs.Unanswered.{OfPending, AreLinked, IsWaiting, WasWaiting, same_conn, waiting-failover_one, waiting-elsewhere, was_in_use}
 
 -- what is so of a run up to here
 pub record Kept (name realm : List ℕ) (acts : List Act) (rows : List Row) : Type 0 where
@@ -141,12 +142,6 @@ kept-request name realm relay next conn sender request items acts n r flag step 
 
 -- ---- an answer comes
 
-same_conn : (a b : ConnId) → (a.0 == b.0) ≡ true → a ≡ b
-same_conn a b e = ap conn_id (eqb-true a.0 b.0 e)
-  where
-    conn_id : ℕ → ConnId
-    conn_id n = record { 0 = n }
-
 not_ended : (flag under_it rest : Bool) → flag ≡ false → (not (not flag && under_it) && rest) ≡ true → (under_it ≡ false) × (rest ≡ true)
 not_ended true under_it rest e f = absurd cc
 not_ended false true rest e f = absurd cc
@@ -169,9 +164,9 @@ answered relay conn answer held rows acts flag at_hop w h =
     (holding-event (Received conn answer) acts relay h)
 
 pub kept-answer : (name realm : List ℕ) (relay next : RelayState) (conn : ConnId) (answer : Message) (items : Traffic) (acts : List Act)
-    → answer.header.request ≡ false → OnAnswer relay conn answer items next
+    → answer.header.request ≡ false → OnAnswer relay conn answer items next → OfPending (IsWaiting relay.node acts) relay.pending.rows
     → Kept name realm acts relay.pending.rows → Kept name realm (acts_with items (happened (Received conn answer) ∷ acts)) next.pending.rows
-kept-answer name realm relay next conn answer items acts flag step k = kept step
+kept-answer name realm relay next conn answer items acts flag step waits k = kept step
   where
     kept : {out : Traffic} {after : RelayState} → OnAnswer relay conn answer out after → Kept name realm (acts_with out (happened (Received conn answer) ∷ acts)) after.pending.rows
     kept (sent_back held origin rows at_hop from w) =
@@ -185,7 +180,8 @@ kept-answer name realm relay next conn answer items acts flag step k = kept step
           right = (
             at_false answer.header.request (RequestCause before origin.conn (under origin.hop answer) × (is_in_use origin.conn origin.hop before ≡ false)) (AnswerCause name realm before origin.conn (under origin.hop answer)) flag
                 (subst (λ (o : Origin). AnswerCause name realm before o.conn (under o.hop answer)) (sym same)
-                (AnswerCause.sent_back conn answer cause.request held.request acts refl cause.came (sym (ap (λ (h : ℕ). last_sent conn h acts) its) ∙ cause.last) cause.descends refl)),
+                (AnswerCause.sent_back conn answer cause.request held.request acts refl cause.came (sym (ap (λ (h : ℕ). last_sent conn h acts) its) ∙ cause.last)
+                (waits conn answer.header.hop (ap is_some at_hop)).in_use cause.descends refl)),
             (tt, k.right),
           );
         }
@@ -229,9 +225,9 @@ unused-other true false hop rest e f = f
 unused-other false false hop rest e f = f
 
 pub kept-failover_one : (name realm : List ℕ) (node : RelayNode) (lost : ConnId) (held : Held) (rows left : List Row) (items : Traffic) (acts : List Act) → node.name ≡ name → node.realm ≡ realm
-    → peer_in node.peers.links lost ≡ None → RequestFailover node lost held rows items left
+    → peer_in node.peers.links lost ≡ None → RequestFailover node lost held rows items left → is_in_use lost held.request.header.hop (before_event acts) ≡ true
     → Kept name realm acts rows → IsUnused acts lost → HasEnded acts lost → Kept name realm (acts_with items acts) left × IsUnused (acts_with items acts) lost × HasEnded (acts_with items acts) lost
-kept-failover_one name realm node lost held rows left items acts n r down step k unused now = kept step
+kept-failover_one name realm node lost held rows left items acts n r down step until k unused now = kept step
   where
     less : (others : List Row) → IsWith (row_of lost held) others rows → Holding acts others
     less others w = holding-less (row_of lost held) others rows acts w (λ to hop e. elsewhere lost to hop held.request.header.hop acts unused e) k.holding
@@ -256,7 +252,7 @@ kept-failover_one name realm node lost held rows left items acts n r down step k
             counted = counted-request to message acts after cause.flag (counted-same acts rows after (same_count parts.0 after parts.1 parts.2) k.counted);
             right = (
               at_true message.header.request (RequestCause acts to message × (is_in_use to hop acts ≡ false)) (AnswerCause name realm acts to message) cause.flag (
-                RequestCause.sent_again cause.conn lost cause.request held.request now (other_conn to lost apart) cause.came cause.last refl descends refl,
+                RequestCause.sent_again cause.conn lost cause.request held.request now (other_conn to lost apart) cause.came cause.last until refl descends refl,
                 free_is_unused (is_in_use to hop acts) (held_at rows to hop) (k.holding.used to hop) free,
               ),
               k.right,
@@ -286,7 +282,7 @@ kept-failover_one name realm node lost held rows left items acts n r down step k
             right = (
               at_false answer.header.request (RequestCause acts origin.conn answer × (is_in_use origin.conn origin.hop acts ≡ false)) (AnswerCause name realm acts origin.conn answer) its
                   (subst (λ (o : Origin). AnswerCause name realm acts o.conn (under o.hop (refusal_of node.name node.realm held.request (refusal_with code)))) (sym same)
-                  (AnswerCause.given_up lost cause.request held.request code now cause.came cause.last cause.descends
+                  (AnswerCause.given_up lost cause.request held.request code now cause.came cause.last until cause.descends
                   (ap (λ (h : List ℕ). under cause.request.header.hop (refusal_of h node.realm held.request (refusal_with code))) n ∙ ap (λ (h : List ℕ). under cause.request.header.hop (refusal_of name h held.request (refusal_with code))) r))),
               k.right,
             );
@@ -300,10 +296,11 @@ acts_with-more [] more acts = refl
 acts_with-more (item ∷ items) more acts = acts_with-more items more (sent item.0 item.1 ∷ acts)
 
 pub kept-failover : (name realm : List ℕ) (node : RelayNode) (lost : ConnId) {rows left : List Row} {items : Traffic} (acts : List Act) → node.name ≡ name → node.realm ≡ realm
-    → peer_in node.peers.links lost ≡ None → Failover node lost rows items left
-    → Kept name realm acts rows → IsUnused acts lost → HasEnded acts lost → Kept name realm (acts_with items acts) left
-kept-failover name realm node lost acts n r down (none_left rows none) k unused now = k
-kept-failover name realm node lost acts n r down (least_first hop held rows between left items more at_hop least step rest) k unused now =
-    let one_done = kept-failover_one name realm node lost held rows between items acts n r down step k unused now in
-    subst (λ (all : List Act). Kept name realm all left) (sym (acts_with-more items more acts))
-    (kept-failover name realm node lost (acts_with items acts) n r down rest one_done.0 one_done.1 one_done.2)
+    → peer_in node.peers.links lost ≡ None → AreLinked node → Failover node lost rows items left → OfPending (WasWaiting node lost acts) rows
+    → Kept name realm acts rows → IsUnused acts lost → HasEnded acts lost → Kept name realm (acts_with items acts) left × OfPending (IsWaiting node (acts_with items acts)) left
+kept-failover name realm node lost acts n r down linked (none_left rows none) waits k unused now = (k, waiting-elsewhere node lost rows acts none waits)
+kept-failover name realm node lost acts n r down linked (least_first hop held rows between left items more at_hop least step rest) waits k unused now =
+    let one_done = kept-failover_one name realm node lost held rows between items acts n r down step (was_in_use node lost hop held rows acts at_hop waits) k unused now in
+    let wait = waiting-failover_one node lost held rows between items acts linked down step k.holding one_done.0.holding.map waits in
+    subst (λ (all : List Act). Kept name realm all left × OfPending (IsWaiting node all) left) (sym (acts_with-more items more acts))
+    (kept-failover name realm node lost (acts_with items acts) n r down linked rest wait one_done.0 one_done.1 one_done.2)

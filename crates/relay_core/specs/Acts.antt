@@ -51,6 +51,12 @@ last_event [] = None
 last_event (happened event ∷ acts) = Some event
 last_event (sent conn message ∷ acts) = last_event acts
 
+-- the acts before that event
+abbrev pub before_event : List Act → List Act
+before_event [] = []
+before_event (happened event ∷ acts) = acts
+before_event (sent conn message ∷ acts) = before_event acts
+
 -- the last request that went out on the connection under the identifier
 abbrev pub last_sent : ConnId → ℕ → List Act → Option Message
 last_sent to hop [] = None

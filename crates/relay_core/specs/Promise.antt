@@ -10,7 +10,7 @@ use Rattle.cc_view.specs.declared.refusal.Refusal.{Refusal}
 use Rattle.relay_routes.specs.Routing.{IsLoop}
 use Rattle.relay_hops.specs.PendingTable.{under, again}
 use Rattle.relay_core.specs.declared.run.RelayEvent.TheVariants.{Received, Lost}
-use Rattle.relay_core.specs.Acts.{Act, happened, sent, acts_of, IsAmong, is_in_use, last_event, last_sent, requests_in, answers_in}
+use Rattle.relay_core.specs.Acts.{Act, happened, sent, acts_of, IsAmong, is_in_use, last_event, before_event, last_sent, requests_in, answers_in}
 use Rattle.relay_core.specs.Forwarding.{Descends}
 use Rattle.relay_core.specs.RelayRun.{RelayStep}
 use Rattle.relay_core.specs.RelayState.{peer_on}
@@ -32,24 +32,25 @@ pub data RequestCause (acts : List Act) (to : ConnId) (message : Message) : Type
   -- a request has just come, it descends from that, and T stays
   forwarded : (conn : ConnId) (request : Message) (before : List Act) → acts ≡ happened (Received conn request) ∷ before → request.header.request ≡ true →
       Descends request message → message.header.resent ≡ request.header.resent → RequestCause acts to message
-  -- another connection has just ended, on which it was sent before, the last one there under its identifier, and T is set; it descends from a request that came
+  -- another connection has just ended, on which it was sent before, the last one there under its identifier, and was not answered until then; T is set, and it descends from a request that came
   sent_again : (conn lost : ConnId) (request earlier : Message) → HasEnded acts lost → (to.0 == lost.0) ≡ false → HasCome acts conn request →
-      last_sent lost earlier.header.hop acts ≡ Some earlier → message ≡ again message.header.hop earlier →
+      last_sent lost earlier.header.hop acts ≡ Some earlier → is_in_use lost earlier.header.hop (before_event acts) ≡ true → message ≡ again message.header.hop earlier →
       Descends request message → message.header.resent ≡ true → RequestCause acts to message
 
 -- ---- an answer that a relay sends
 
 -- Why a relay of this name and realm sends an answer on a connection, by the acts before.
 pub data AnswerCause (name realm : List ℕ) (acts : List Act) (to : ConnId) (answer : Message) : Type 0 where
-  -- An answer has just come, and the last request that went out under its identifier where it came from was sent for a request that came there: but for the identifier of that it is unchanged.
+  -- An answer has just come, and the last request that went out under its identifier where it came from, which was not answered before, was sent for a request that came there: but for the identifier of that it is unchanged.
   sent_back : (conn : ConnId) (came request earlier : Message) (before : List Act) → acts ≡ happened (Received conn came) ∷ before →
-      HasCome before to request → last_sent conn came.header.hop before ≡ Some earlier → Descends request earlier →
+      HasCome before to request → last_sent conn came.header.hop before ≡ Some earlier → is_in_use conn came.header.hop before ≡ true → Descends request earlier →
       answer ≡ under request.header.hop came → AnswerCause name realm acts to answer
   -- a request has just come there, and is refused
   refused : (request : Message) (refusal : Refusal) (before : List Act) → acts ≡ happened (Received to request) ∷ before → request.header.request ≡ true →
       answer ≡ refusal_of name realm request refusal → AnswerCause name realm acts to answer
-  -- a connection has just ended, and what was sent on it for a request that came there goes nowhere any more
-  given_up : (lost : ConnId) (request earlier : Message) (code : ResultCode) → HasEnded acts lost → HasCome acts to request → last_sent lost earlier.header.hop acts ≡ Some earlier → Descends request earlier →
+  -- a connection has just ended, and what was sent on it for a request that came there, and was not answered until then, goes nowhere any more
+  given_up : (lost : ConnId) (request earlier : Message) (code : ResultCode) → HasEnded acts lost → HasCome acts to request → last_sent lost earlier.header.hop acts ≡ Some earlier →
+      is_in_use lost earlier.header.hop (before_event acts) ≡ true → Descends request earlier →
       answer ≡ under request.header.hop (refusal_of name realm earlier (refusal_with code)) → AnswerCause name realm acts to answer
 
 -- ---- the promise
