@@ -27,12 +27,13 @@ use Rattle.relay_core.specs.declared.run.RelayEvent.TheVariants.{Up, Received, L
 use Rattle.relay_core.specs.Acts.{Act, happened, acts_with, acts_of, is_in_use}
 use Rattle.relay_core.specs.Connecting.{new_relay, up_fault, after_up, after_restart}
 use Rattle.relay_core.specs.Failover.{OnConnLost, after_end, without_origins}
-use Rattle.relay_core.specs.Promise.{RefusesLoop, RefusesLoops, KeepsPromise}
+use Rattle.relay_core.specs.Promise.{FailOverOnce, RefusesLoop, RefusesLoops, KeepsPromise}
 use Rattle.relay_core.specs.RelayRun.{IsIdle, OnEvent, RelayStep, IsRun, not_begun, one_more}
 use Rattle.relay_core.specs.RelayState.{RelayState, peer_on}
 use Rattle.relay_core.specs.RelayStep.{OnRequest, refused, forwarded, OnAnswer, sent_back, dropped, ignored, OnMessage, refusal_to}
 use Rattle.relay_core.specs.Verdict.{verdict, decision}
 use Rattle.relay_core.proofs.Holding.{is_from, holding-event, holding-orphans, counted-event, counted-orphans}
+use Rattle.relay_core.proofs.OnceEach.{fails_over}
 use Rattle.relay_core.proofs.Promising.{Kept, kept-request, kept-answer, kept-failover}
 use Rattle.relay_core.proofs.Reaching.{none_on}
 use Rattle.relay_core.proofs.Unanswered.{Unanswered, EndsNothing, linked-lost, unanswered-event, received-idle, lost-idle, unanswered-up, unanswered-nothing, unanswered-request, unanswered-answer, waiting-lost}
@@ -82,6 +83,7 @@ record Stands (name realm : List ℕ) (past : List RelayStep) (relay : RelayStat
   realm_is : relay.node.realm ≡ realm
   kept : Kept name realm (acts_of past) relay.pending.rows
   unanswered : Unanswered relay.node (acts_of past) relay.pending.rows
+  failovers : FailOverOnce name realm past
   loops : RefusesLoops past
 
 record After (name realm : List ℕ) (acts : List Act) (relay : RelayState) : Type 0 where
@@ -211,6 +213,7 @@ begins site = record {
     right = tt;
   };
   unanswered = unanswered-nothing (new_relay site).node [] refl;
+  failovers = tt;
   loops = tt;
 }
 
@@ -219,7 +222,14 @@ goes_on site not_begun = begins site
 goes_on site (one_more events event outs out past before after run step) =
     let s = goes_on site run in
     let a = step_kept site.name site.realm event (acts_of past) before after out.items step s.name_is s.realm_is s.unanswered s.kept in
-    record { name_is = a.name_is; realm_is = a.realm_is; kept = a.kept; unanswered = a.unanswered; loops = (loop_step before event out.items after step, s.loops) }
+    record {
+      name_is = a.name_is;
+      realm_is = a.realm_is;
+      kept = a.kept;
+      unanswered = a.unanswered;
+      failovers = (fails_over site.name site.realm (acts_of past) before after event out.items s.name_is s.realm_is s.kept.holding s.unanswered step, s.failovers);
+      loops = (loop_step before event out.items after step, s.loops);
+    }
 
 pub promise-kept : (site : RelaySite) {events : List RelayEvent} {outs : List Out} {past : List RelayStep} {last : RelayState} → IsRun (new_relay site) events outs past last → KeepsPromise site.name site.realm past
 promise-kept site {past = past} {last = last} run =
@@ -227,5 +237,6 @@ promise-kept site {past = past} {last = last} run =
     record {
       right = s.kept.right;
       once = λ conn hop. let le = s.kept.counted conn hop in omega arith;
+      failovers = s.failovers;
       loops = s.loops;
     }

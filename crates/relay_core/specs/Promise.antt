@@ -1,7 +1,8 @@
 -- What a relay promises over any list of events (RFC 6733, sections 5.5.4, 6.1 and 6.2).
-use Rattle.std.specs.Prelude.{◌≡◌, ◌==◌, ℕ, ◌≤◌, true, false, List, [], ◌∷◌, Some, IsSome, MatchBool}
+use Rattle.std.specs.Prelude.{◌≡◌, ◌==◌, ℕ, ◌+◌, ◌≤◌, true, false, List, [], ◌∷◌, Some, IsSome, MatchBool}
 use Rattle.dia_base.specs.declared.number.ConnId.{ConnId}
 use Rattle.dia_message.specs.declared.message.Message.{Message}
+use Rattle.dia_message.specs.Traffic.{Traffic}
 use Rattle.cc_view.specs.Answer.{refusal_of}
 use Rattle.cc_view.specs.Refusal.{refusal_with}
 use Rattle.cc_view.specs.declared.code.ResultCode.{ResultCode}
@@ -53,6 +54,27 @@ pub data AnswerCause (name realm : List ℕ) (acts : List Act) (to : ConnId) (an
       is_in_use lost earlier.header.hop (before_event acts) ≡ true → Descends request earlier →
       answer ≡ under request.header.hop (refusal_of name realm earlier (refusal_with code)) → AnswerCause name realm acts to answer
 
+-- ---- a connection that ends
+
+-- The message goes out for a request that was sent before: it is that again, or its refusal.
+pub data IsFor (name realm : List ℕ) (earlier message : Message) : Type 0 where
+  sent_again : message ≡ again message.header.hop earlier → IsFor name realm earlier message
+  given_up : (code : ResultCode) → message ≡ under message.header.hop (refusal_of name realm earlier (refusal_with code)) → IsFor name realm earlier message
+
+-- Each of these messages goes out for another request that was sent on the connection, and was not answered by these acts: under identifiers that rise, from this one on.
+pub data EachForAnother (name realm : List ℕ) (acts : List Act) (lost : ConnId) : ℕ → Traffic → Type 0 where
+  none_more : (least : ℕ) → EachForAnother name realm acts lost least []
+  one_more : (least hop : ℕ) (earlier : Message) (to : ConnId) (message : Message) (items : Traffic) → least ≤ hop → is_in_use lost hop acts ≡ true → last_sent lost hop acts ≡ Some earlier →
+      IsFor name realm earlier message → EachForAnother name realm acts lost (hop + 1) items → EachForAnother name realm acts lost least ((to, message) ∷ items)
+
+-- When a connection has ended, no request that was sent on it goes out twice, is given up twice, or both (5.5.4). The acts are those before.
+abbrev pub FailsOverOnce : List ℕ → List ℕ → List Act → RelayStep → Type 0
+FailsOverOnce name realm acts step = (lost : ConnId) → step.event ≡ Lost lost → EachForAnother name realm acts lost 0 step.sent
+
+abbrev pub FailOverOnce : List ℕ → List ℕ → List RelayStep → Type 0
+FailOverOnce name realm [] = Unit {0}
+FailOverOnce name realm (step ∷ past) = FailsOverOnce name realm (acts_of past) step × FailOverOnce name realm past
+
 -- ---- the promise
 
 -- A request that is sent has its cause, and its identifier is not in use there. An answer has its cause.
@@ -81,4 +103,6 @@ pub record KeepsPromise (name realm : List ℕ) (past : List RelayStep) : Type 0
   pub right : AreRightActs name realm (acts_of past)
   -- on each connection no more answers go out under an identifier than requests came with it
   pub once : (conn : ConnId) (hop : ℕ) → answers_in conn hop (acts_of past) ≤ requests_in conn hop (acts_of past)
+  -- where a connection has ended, each request that was sent on it goes out again, or is given up, at most once
+  pub failovers : FailOverOnce name realm past
   pub loops : RefusesLoops past
