@@ -16,7 +16,7 @@ use Rattle.relay_core.specs.declared.run.RelayEvent.{RelayEvent}
 use Rattle.relay_core.specs.Acts.{Act, happened, sent, ends, is_under, is_in_use, last_sent, one, requests_in, answers_in}
 use Rattle.relay_core.specs.Failover.{without_origins}
 use Rattle.relay_core.specs.Forwarding.{Descends}
-use Rattle.relay_core.specs.Promise.{HasCome}
+use Rattle.relay_core.specs.Promise.{HasCome, comes_from, is_from}
 
 -- ---- where a pending request comes from
 
@@ -229,13 +229,6 @@ holding-orphans ended acts rows h = record {
 }
 
 -- ---- how many answers there may still be
-
-abbrev pub comes_from : ConnId → ℕ → Option Origin → Bool
-comes_from to hop None = false
-comes_from to hop (Some origin) = (origin.conn.0 == to.0) && (origin.hop == hop)
-
-abbrev pub is_from : ConnId → ℕ → Row → Bool
-is_from to hop row = comes_from to hop row.held.origin
 
 -- the answers that went out, and those that may still go out, are no more than the requests that came
 abbrev pub Counted : List Act → List Row → Type 0

@@ -27,12 +27,13 @@ use Rattle.relay_core.specs.declared.run.RelayEvent.TheVariants.{Up, Received, L
 use Rattle.relay_core.specs.Acts.{Act, happened, acts_with, acts_of, is_in_use}
 use Rattle.relay_core.specs.Connecting.{new_relay, up_fault, after_up, after_restart}
 use Rattle.relay_core.specs.Failover.{OnConnLost, after_end, without_origins}
-use Rattle.relay_core.specs.Promise.{FailOverOnce, RefusesLoop, RefusesLoops, KeepsPromise}
+use Rattle.relay_core.specs.Promise.{FailOverOnce, LoseNoRequests, RefusesLoop, RefusesLoops, KeepsPromise, is_from}
 use Rattle.relay_core.specs.RelayRun.{IsIdle, OnEvent, RelayStep, IsRun, not_begun, one_more}
 use Rattle.relay_core.specs.RelayState.{RelayState, peer_on}
 use Rattle.relay_core.specs.RelayStep.{OnRequest, refused, forwarded, OnAnswer, sent_back, dropped, ignored, OnMessage, refusal_to}
 use Rattle.relay_core.specs.Verdict.{verdict, decision}
-use Rattle.relay_core.proofs.Holding.{is_from, holding-event, holding-orphans, counted-event, counted-orphans}
+use Rattle.relay_core.proofs.Holding.{holding-event, holding-orphans, counted-event, counted-orphans}
+use Rattle.relay_core.proofs.NoneLost.{loses_none}
 use Rattle.relay_core.proofs.OnceEach.{fails_over}
 use Rattle.relay_core.proofs.Promising.{Kept, kept-request, kept-answer, kept-failover}
 use Rattle.relay_core.proofs.Reaching.{none_on}
@@ -84,6 +85,7 @@ record Stands (name realm : List ℕ) (past : List RelayStep) (relay : RelayStat
   kept : Kept name realm (acts_of past) relay.pending.rows
   unanswered : Unanswered relay.node (acts_of past) relay.pending.rows
   failovers : FailOverOnce name realm past
+  waits : LoseNoRequests past
   loops : RefusesLoops past
 
 record After (name realm : List ℕ) (acts : List Act) (relay : RelayState) : Type 0 where
@@ -214,6 +216,7 @@ begins site = record {
   };
   unanswered = unanswered-nothing (new_relay site).node [] refl;
   failovers = tt;
+  waits = tt;
   loops = tt;
 }
 
@@ -227,6 +230,7 @@ goes_on site (one_more events event outs out past before after run step) =
       realm_is = a.realm_is;
       kept = a.kept;
       unanswered = a.unanswered;
+      waits = (loses_none (acts_of past) before after event out.items s.kept.holding step, s.waits);
       failovers = (fails_over site.name site.realm (acts_of past) before after event out.items s.name_is s.realm_is s.kept.holding s.unanswered step, s.failovers);
       loops = (loop_step before event out.items after step, s.loops);
     }
@@ -238,5 +242,6 @@ promise-kept site {past = past} {last = last} run =
       right = s.kept.right;
       once = λ conn hop. let le = s.kept.counted conn hop in omega arith;
       failovers = s.failovers;
+      waits = s.waits;
       loops = s.loops;
     }

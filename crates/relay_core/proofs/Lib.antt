@@ -3,6 +3,7 @@ pub mod Descending
 pub mod Holding
 pub mod Keeping
 pub mod Losing
+pub mod NoneLost
 pub mod OnceEach
 pub mod Planning
 pub mod Promising

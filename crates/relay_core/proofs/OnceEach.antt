@@ -55,10 +55,10 @@ AreKnown acts lost least rows = (hop : ℕ) (held : Held) → held_at rows lost 
 -- ---- one request is gone from the connection
 
 -- nothing is held under this identifier any more, and under each other one what was held
-abbrev IsGone : ConnId → ℕ → List Row → List Row → Type 0
+abbrev pub IsGone : ConnId → ℕ → List Row → List Row → Type 0
 IsGone lost hop rows left = (other : ℕ) → held_at left lost other ≡ cond (other == hop) None (held_at rows lost other)
 
-not_gone : (b : Bool) (o : Option Held) (held : Held) → cond b None o ≡ Some held → (b ≡ false) × (o ≡ Some held)
+pub not_gone : (b : Bool) (o : Option Held) (held : Held) → cond b None o ≡ Some held → (b ≡ false) × (o ≡ Some held)
 not_gone true o held e = absurd cc
 not_gone false o held e = (refl, e)
 
@@ -71,7 +71,7 @@ known-rest acts lost least hop rows left first gone known other held e =
     let its = known other held there.1 in
     (omega (arith, ne), its.1, its.2)
 
-gone : (node : RelayNode) (lost : ConnId) (hop : ℕ) (held : Held) {rows left : List Row} {items : Traffic} → peer_in node.peers.links lost ≡ None → held_at rows lost hop ≡ Some held → IsMap rows
+pub gone : (node : RelayNode) (lost : ConnId) (hop : ℕ) (held : Held) {rows left : List Row} {items : Traffic} → peer_in node.peers.links lost ≡ None → held_at rows lost hop ≡ Some held → IsMap rows
     → RequestFailover node lost held rows items left → IsMap left × IsGone lost hop rows left
 gone node lost hop held {rows = rows} down e map (forgotten left from w) = (IsMap-less (row_of lost held) left rows w map, held-taken_out lost hop held rows left e w map)
 gone node lost hop held {rows = rows} down e map (sent_again origin to fresh left from way free w) =

@@ -25,10 +25,10 @@ use Rattle.relay_routes.specs.Routing.{record_of}
 use Rattle.dia_base.specs.Limits.{message_limit}
 use Rattle.dia_avp.specs.AvpList.{HasSpelling, length_of, padding_of, with_padding, written}
 use Rattle.dia_avp.proofs.ReadBack.{length_spelling}
-use Rattle.relay_core.specs.Promise.{HasCome, HasEnded, RequestCause, AnswerCause, AreRightActs}
+use Rattle.relay_core.specs.Promise.{HasCome, HasEnded, RequestCause, AnswerCause, AreRightActs, comes_from, is_from}
 use Rattle.relay_core.specs.RelayState.{RelayState}
 use Rattle.relay_core.specs.RelayStep.{OnRequest, OnAnswer, refused, forwarded, sent_back, dropped, ignored, row_of, held_for}
-use Rattle.relay_core.proofs.Holding.{Holding, Counted, is_from, comes_from, come_more, cause_of, count-with, last_is_sent, holding-event, holding-answer, holding-less, holding-more, counted-event, counted-request, counted-same, counted-answer}
+use Rattle.relay_core.proofs.Holding.{Holding, Counted, come_more, cause_of, count-with, last_is_sent, holding-event, holding-answer, holding-less, holding-more, counted-event, counted-request, counted-same, counted-answer}
 use Rattle.relay_core.proofs.Reaching.{next_hop-never}
 use Rattle.relay_core.proofs.Rules.{forwarded-by}
 use Rattle.relay_core.proofs.Unanswered.{OfPending, AreLinked, IsWaiting, WasWaiting, same_conn, waiting-failover_one, waiting-elsewhere, was_in_use}
@@ -51,11 +51,11 @@ at_false : (b : Bool) (P Q : Type 0) → b ≡ false → Q → MatchBool b P Q
 at_false true P Q e q = absurd cc
 at_false false P Q e q = q
 
-refusal-flag : (name realm : List ℕ) (request : Message) (refusal : Refusal) → (refusal_of name realm request refusal).header.request ≡ false
+pub refusal-flag : (name realm : List ℕ) (request : Message) (refusal : Refusal) → (refusal_of name realm request refusal).header.request ≡ false
 unfolding refusal_of
 refusal-flag name realm request refusal = refl
 
-refusal-hop : (name realm : List ℕ) (request : Message) (refusal : Refusal) → (refusal_of name realm request refusal).header.hop ≡ request.header.hop
+pub refusal-hop : (name realm : List ℕ) (request : Message) (refusal : Refusal) → (refusal_of name realm request refusal).header.hop ≡ request.header.hop
 unfolding refusal_of
 refusal-hop name realm request refusal = refl
 
@@ -291,7 +291,7 @@ kept-failover_one name realm node lost held rows left items acts n r down step u
           now,
         )
 
-acts_with-more : (items more : Traffic) (acts : List Act) → acts_with (items ++ more) acts ≡ acts_with more (acts_with items acts)
+pub acts_with-more : (items more : Traffic) (acts : List Act) → acts_with (items ++ more) acts ≡ acts_with more (acts_with items acts)
 acts_with-more [] more acts = refl
 acts_with-more (item ∷ items) more acts = acts_with-more items more (sent item.0 item.1 ∷ acts)
 

@@ -1,5 +1,5 @@
 -- What a relay promises over any list of events (RFC 6733, sections 5.5.4, 6.1 and 6.2).
-use Rattle.std.specs.Prelude.{◌≡◌, ◌==◌, ℕ, ◌+◌, ◌≤◌, true, false, List, [], ◌∷◌, Some, IsSome, MatchBool}
+use Rattle.std.specs.Prelude.{◌≡◌, ◌==◌, ℕ, ◌+◌, ◌≤◌, ◌&&◌, Bool, true, false, List, [], ◌∷◌, count_by, Option, Some, None, IsSome, MatchBool}
 use Rattle.dia_base.specs.declared.number.ConnId.{ConnId}
 use Rattle.dia_message.specs.declared.message.Message.{Message}
 use Rattle.dia_message.specs.Traffic.{Traffic}
@@ -9,12 +9,15 @@ use Rattle.cc_view.specs.declared.code.ResultCode.{ResultCode}
 use Rattle.cc_view.specs.declared.code.ResultCode.TheVariants.{LoopDetected}
 use Rattle.cc_view.specs.declared.refusal.Refusal.{Refusal}
 use Rattle.relay_routes.specs.Routing.{IsLoop}
+use Rattle.relay_hops.specs.declared.row.Origin.{Origin}
+use Rattle.relay_hops.specs.declared.row.Row.{Row}
 use Rattle.relay_hops.specs.PendingTable.{under, again}
-use Rattle.relay_core.specs.declared.run.RelayEvent.TheVariants.{Received, Lost}
+use Rattle.relay_core.specs.declared.run.RelayEvent.{RelayEvent}
+use Rattle.relay_core.specs.declared.run.RelayEvent.TheVariants.{Up, Received, Lost, Restart}
 use Rattle.relay_core.specs.Acts.{Act, happened, sent, acts_of, IsAmong, is_in_use, last_event, before_event, last_sent, requests_in, answers_in}
 use Rattle.relay_core.specs.Forwarding.{Descends}
 use Rattle.relay_core.specs.RelayRun.{RelayStep}
-use Rattle.relay_core.specs.RelayState.{peer_on}
+use Rattle.relay_core.specs.RelayState.{RelayState, peer_on}
 use Rattle.relay_core.specs.RelayStep.{refusal_to}
 
 -- ---- a request that a relay sends
@@ -75,6 +78,36 @@ abbrev pub FailOverOnce : List ℕ → List ℕ → List RelayStep → Type 0
 FailOverOnce name realm [] = Unit {0}
 FailOverOnce name realm (step ∷ past) = FailsOverOnce name realm (acts_of past) step × FailOverOnce name realm past
 
+-- ---- no request is lost
+
+-- a request came on the connection under the identifier
+abbrev pub comes_from : ConnId → ℕ → Option Origin → Bool
+comes_from to hop None = false
+comes_from to hop (Some origin) = (origin.conn.0 == to.0) && (origin.hop == hop)
+
+abbrev pub is_from : ConnId → ℕ → Row → Bool
+is_from to hop row = comes_from to hop row.held.origin
+
+-- how many requests that came so the relay has sent, and awaits the answers of
+abbrev pub waiting_in : ConnId → ℕ → RelayState → ℕ
+waiting_in to hop relay = count_by (is_from to hop) relay.pending.rows
+
+-- at the event what came on the connection is forgotten: the connection ends, or the relay begins anew
+abbrev pub forgets : ConnId → RelayEvent → Bool
+forgets conn (Up peer other) = false
+forgets conn (Received other message) = false
+forgets conn (Lost lost) = lost.0 == conn.0
+forgets conn Restart = true
+
+-- A request that comes on the connection of a peer that is up is answered at once or waits, and what waits there is answered or waits on, counted by connection and identifier. Only the end of that connection forgets it, or a restart.
+abbrev pub LosesNoRequest : RelayStep → Type 0
+LosesNoRequest step = (conn : ConnId) (hop : ℕ) → IsSome (peer_on step.before.node conn) → forgets conn step.event ≡ false →
+    waiting_in conn hop step.after + answers_in conn hop (acts_of (step ∷ [])) ≡ waiting_in conn hop step.before + requests_in conn hop (acts_of (step ∷ []))
+
+abbrev pub LoseNoRequests : List RelayStep → Type 0
+LoseNoRequests [] = Unit {0}
+LoseNoRequests (step ∷ past) = LosesNoRequest step × LoseNoRequests past
+
 -- ---- the promise
 
 -- A request that is sent has its cause, and its identifier is not in use there. An answer has its cause.
@@ -105,4 +138,6 @@ pub record KeepsPromise (name realm : List ℕ) (past : List RelayStep) : Type 0
   pub once : (conn : ConnId) (hop : ℕ) → answers_in conn hop (acts_of past) ≤ requests_in conn hop (acts_of past)
   -- where a connection has ended, each request that was sent on it goes out again, or is given up, at most once
   pub failovers : FailOverOnce name realm past
+  -- each request waits for its answer until it is answered
+  pub waits : LoseNoRequests past
   pub loops : RefusesLoops past

@@ -35,9 +35,10 @@ impl Relay {
     /// that came, and has T set if it was sent before; it sends again, or gives up, only what it had sent on a
     /// connection that has just ended, unanswered until then, and each such request at most once; each answer
     /// that goes back is to a request not answered before, and goes to the connection of that with its
-    /// identifier, otherwise unchanged, and no more answers go there than requests came; an identifier in use
-    /// on a connection is given to no other request; and a request in which the relay finds itself is answered
-    /// DIAMETER_LOOP_DETECTED, and nothing else happens.
+    /// identifier, otherwise unchanged, and no more answers go there than requests came; each request from a
+    /// peer that is up is answered at once or waits for its answer, which only the end of its connection or a
+    /// restart forgets; an identifier in use on a connection is given to no other request; and a request in
+    /// which the relay finds itself is answered DIAMETER_LOOP_DETECTED, and nothing else happens.
     pub fn run<W: Wire>(
         alloc: Global,
         site: &RelaySite,
