@@ -88,7 +88,7 @@ module _ (validity : ℕ) (moment : Moment) (request : CcRequest) (posting : Pos
   alive_by false true false d = refl
   alive_by false false c d = refl
 
-  is_alive-push : (entry : Entry) (name : ServiceName) (after : List Posting) → is_alive validity entry name (after ++ q ∷ []) ≡ (is_alive validity entry name after && survives request posting.settles (session_in entry) name)
+  pub is_alive-push : (entry : Entry) (name : ServiceName) (after : List Posting) → is_alive validity entry name (after ++ q ∷ []) ≡ (is_alive validity entry name after && survives request posting.settles (session_in entry) name)
   is_alive-push (Take m r) name after =
       ap (λ (b : Bool). not b && outlasts validity (Take m r) (after ++ q ∷ [])) (any-push (replaces r.session name) after q)
       ∙ ap (λ (b : Bool). not (list_any (replaces r.session name) after || replaces r.session name q) && b) (outlasts-push (Take m r) after)

@@ -232,11 +232,11 @@ covers_left validity session left now (posting ∷ after) covers =
     step (Some one) None covers = absurd covers
     step (Some one) (Some other) covers = covers_entry validity session None one other false false posting.entry covers
 
-covers_open : (left now : Option Opened) → Covers left now → is_some left ≡ true → is_some now ≡ true
+pub covers_open : (left now : Option Opened) → Covers left now → is_some left ≡ true → is_some now ≡ true
 covers_open left None covers lives = sym (covers_closed left None covers refl) ∙ lives
 covers_open left (Some other) covers lives = refl
 
-closed_stays : (validity : ℕ) (session : List ℕ) (after : List Posting) → is_some (fold (left_after validity session) None after) ≡ false
+pub closed_stays : (validity : ℕ) (session : List ℕ) (after : List Posting) → is_some (fold (left_after validity session) None after) ≡ false
 closed_stays validity session [] = refl
 closed_stays validity session (posting ∷ after) = closed_stays validity session after
 

@@ -75,7 +75,7 @@ named-once name (service ∷ services) own = by (has_name name service) refl (na
 
 -- ---- so its grants are of services with names of their own
 
-held : ServiceName → List Hold → ℕ
+unfoldable pub held : ServiceName → List Hold → ℕ
 held name holds = count_by (λ hold. same_name hold.service name) holds
 
 hold-named : (name : ServiceName) (service : Service) (made : Option Grant) (rest : List Hold) → held name (hold_of service made ++ rest) ≤ one (has_name name service) + held name rest
@@ -110,7 +110,7 @@ with-le name Update code holds = omega arith
 with-le name Termination code holds = omega arith
 with-le name Event code holds = omega arith
 
-grants-named : (terms : Terms) (before : List Posting) (request : CcRequest) (name : ServiceName) → held name (grants_after terms before request) ≤ count_by (has_name name) request.services
+pub grants-named : (terms : Terms) (before : List Posting) (request : CcRequest) (name : ServiceName) → held name (grants_after terms before request) ≤ count_by (has_name name) request.services
 unfolding held
 grants-named terms before request name = by (settles_after terms before request) where
   by : (b : Bool) → count_by (λ (hold : Hold). same_name hold.service name) (grants_by terms before request b) ≤ count_by (has_name name) request.services

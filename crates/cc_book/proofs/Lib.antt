@@ -1,3 +1,4 @@
+mod Accounts
 mod Beside
 mod Due
 mod Ending
@@ -8,6 +9,7 @@ mod Paying
 mod Refusing
 mod Reserving
 mod SweepLaws
+mod Unnamed
 pub mod Alive
 pub mod Amounts
 pub mod Books

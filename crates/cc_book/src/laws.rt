@@ -6,7 +6,7 @@ ghost use Rattle.std.specs.Int.{int_max};
 ghost use Rattle.dia_base.specs.declared.number.Moment.{Moment};
 ghost use Rattle.cc_view.specs.Answer.Fitting.{Fits};
 ghost use Rattle.cc_view.specs.Answer.Typed.{GrantsUnits};
-ghost use Rattle.cc_view.specs.Request.ServiceLimits.{WithinLimits};
+ghost use Rattle.cc_view.specs.Request.ServiceLimits.{WithinLimits, name_of};
 ghost use Rattle.cc_view.specs.declared.code.ResultCode.TheVariants.{Success, CreditLimitReached, UnableToComply, UnknownSessionId, UserUnknown};
 ghost use Rattle.cc_view.specs.declared.request.RequestKind.TheVariants.{Event, Initial, Termination, Update};
 ghost use Rattle.cc_view.specs.declared.request.RequestedAction.TheVariants.{DirectDebiting, RefundAccount, CheckBalance, PriceEnquiry};
@@ -411,6 +411,26 @@ pub fn requests_leave_other_sessions_alone()
         session_of terms.validity session (postings_of terms (history ++ Take moment request ∷ [])) ≡ session_of terms.validity session (postings_of terms history) }
     ensures held_by_event { (terms : Terms) (history : List Entry) (moment : Moment) (request : CcRequest) (session : List ℕ) (name : ServiceName) → request.kind ≡ Event →
         held_by terms.validity session name (postings_of terms (history ++ Take moment request ∷ [])) ≡ held_by terms.validity session name (postings_of terms history) }
+{}
+
+/// A request touches no account but the one that it charges: the balance of every other stays, and so does what sessions
+/// hold of it. An EVENT leaves alone what they hold of its own account too.
+pub fn requests_leave_other_accounts_alone()
+    ensures balance { (terms : Terms) (history : List Entry) (moment : Moment) (request : CcRequest) (account : ℕ) →
+        charged_account terms (postings_of terms history) request ≢ Some account →
+        balance_of terms (history ++ Take moment request ∷ []) account ≡ balance_of terms history account }
+    ensures reserved { (terms : Terms) (history : List Entry) (moment : Moment) (request : CcRequest) (account : ℕ) →
+        charged_account terms (postings_of terms history) request ≢ Some account →
+        reserved_of terms (history ++ Take moment request ∷ []) account ≡ reserved_of terms history account }
+    ensures by_event { (terms : Terms) (history : List Entry) (moment : Moment) (request : CcRequest) (account : ℕ) → request.kind ≡ Event →
+        reserved_of terms (history ++ Take moment request ∷ []) account ≡ reserved_of terms history account }
+{}
+
+/// A request leaves what its session holds for the services that it does not name, unless it ends the session.
+pub fn requests_leave_other_services_alone()
+    ensures { (terms : Terms) (history : List Entry) (moment : Moment) (request : CcRequest) (name : ServiceName) →
+        request.kind ≢ Termination → All (λ service. name_of service ≢ name) request.services →
+        held_by terms.validity request.session name (postings_of terms (history ++ Take moment request ∷ [])) ≡ held_by terms.validity request.session name (postings_of terms history) }
 {}
 
 /// A sweep ends exactly the sessions whose deadline is at most its moment, and what they held is free again. All others
