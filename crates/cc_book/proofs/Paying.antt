@@ -1,7 +1,8 @@
 -- What a debit pays for.
-use Rattle.std.proofs.Common.{◌≡◌, ℕ, suc, ◌+◌, ◌<◌, ◌≤◌, ◌^◌, Bool, true, false, ◌&&◌, cond, ltb, List, [], ◌∷◌, length, map, All, Option, Some, None, option_map, inl, inr, refl, sym, ap, subst, ◌∙◌, arith, lit≤}
-use Rattle.std.specs.Prelude.{ℤ, pos, ◌-ℤ◌, ◌≤ℤ◌, int_le, is_none, unwrap_or, sum_by, IfSome}
+use Rattle.std.proofs.Common.{◌≡◌, ◌≢◌, ℕ, suc, ◌+◌, ◌<◌, ◌≤◌, ◌^◌, Bool, true, false, ◌&&◌, cond, ltb, List, [], ◌∷◌, length, map, All, Option, Some, None, option_map, inl, inr, refl, sym, ap, subst, ◌∙◌, arith, lit≤}
+use Rattle.std.specs.Prelude.{ℤ, pos, ◌-ℤ◌, ◌≤ℤ◌, ◌<ℤ◌, int_le, is_none, unwrap_or, sum_by, IfSome}
 use Rattle.std.specs.Option.{option_and_then}
+use Rattle.std.proofs.lemmas.Bool.{and_right}
 use Rattle.std.proofs.lemmas.Int.{ints}
 use Rattle.std.proofs.lemmas.List.{length-map}
 use Rattle.std.proofs.lemmas.List.Elements.{All-cons, All-nil, All-weaker}
@@ -24,7 +25,7 @@ use Rattle.cc_book.specs.declared.account.Money.{Money}
 use Rattle.cc_book.specs.declared.entry.Entry.{Entry}
 use Rattle.cc_rating.specs.declared.tariff.Tariff.{Tariff}
 use Rattle.cc_book.specs.declared.terms.Terms.{Terms}
-use Rattle.cc_book.specs.AccountMachine.{account_of, action_debit, add, check_reply, closing_reply, code_alone, debit_after, debit_by, event_reply, free_after, free_behind, free_for, free_to_grant, grant_to, granted, granted_all, granting_reply, needs_account, postings_of, price_reply, rated_reply, replies_from, reply_after, reply_by, reply_to, service_cost, settled_reply, settles_after, sum_of_costs, total_of, unsettled_code}
+use Rattle.cc_book.specs.AccountMachine.{account_of, action_debit, action_reply, add, check_reply, closing_reply, code_alone, debit_after, debit_by, event_reply, free_after, free_behind, free_for, free_to_grant, grant_to, granted, granted_all, granting_reply, needs_account, postings_of, price_reply, rated_reply, replies_from, reply_after, reply_by, reply_to, service_cost, settled_reply, settles_after, sum_of_costs, total_of, unsettled_code}
 use Rattle.cc_book.specs.Balance.{debit_of}
 use Rattle.cc_book.specs.Laws.{cost_of_reply, granted_cost}
 use Rattle.cc_book.specs.Posting.{Posting}
@@ -138,6 +139,54 @@ covered terms history request account event debits is_account e =
     ∙ ap (λ (code : ResultCode). action_debit (unwrap_or total 0) code (Some DirectDebiting)) success in
     subst (λ (z : ℤ). z ≤ℤ free) (sym debit) (covered-total terms request.services free total success)
 
+-- ---- what is made, and what is not
+
+test_yes : (a b : ℤ) → a ≤ℤ b → int_le a b ≡ true
+test_yes a b h = grind (arith, ints)
+
+test_no : (a b : ℤ) → b <ℤ a → int_le a b ≡ false
+test_no a b h = grind (arith, ints)
+
+-- the reply to an EVENT on a known account whose services have a cost
+answered : (terms : Terms) (before : List Posting) (request : CcRequest) (action : RequestedAction) (account total : ℕ) → request.kind ≡ Event → request.action ≡ Some action
+    → account_of terms.accounts request.subscriptions ≡ Some account → total_of terms.tariffs request.services ≡ Some total
+    → reply_after terms before request ≡ action_reply terms request.services total (free_after terms before account) action
+unfolding replied
+answered terms before request action account total event is is_account is_total =
+    reply-event terms before request (Some action) event is
+    ∙ ap (λ (a : Option ℕ). event_reply terms request.services a (free_for terms before a) (Some action)) is_account
+    ∙ ap (λ (b : Bool). cond b (code_alone UserUnknown) (rated_reply terms request.services (total_of terms.tariffs request.services) (free_after terms before account) action)) (and_right (needs_account action) false refl)
+    ∙ ap (λ (t : Option ℕ). rated_reply terms request.services t (free_after terms before account) action) is_total
+
+module _ (terms : Terms) (history : List Entry) (request : CcRequest) (account total : ℕ) (event : request.kind ≡ Event)
+    (is_account : account_of terms.accounts request.subscriptions ≡ Some account) (is_total : total_of terms.tariffs request.services ≡ Some total) where
+  abbrev room : ℤ
+  room = free_after terms (postings_of terms history) account
+
+  pub debit-made : request.action ≡ Some DirectDebiting → pos total ≤ℤ room → (reply_to terms history request).code ≡ Success
+  unfolding reply_to
+  debit-made is enough =
+      ap (λ (reply : CcReply). reply.code) (answered terms (postings_of terms history) request DirectDebiting account total event is is_account is_total)
+      ∙ ap (λ (b : Bool). (cond b (granted_all terms.tariffs request.services) (code_alone CreditLimitReached)).code) (test_yes (pos total) room enough)
+
+  pub debit-refused : request.action ≡ Some DirectDebiting → room <ℤ pos total → reply_to terms history request ≡ code_alone CreditLimitReached
+  unfolding reply_to
+  debit-refused is less =
+      answered terms (postings_of terms history) request DirectDebiting account total event is is_account is_total
+      ∙ ap (λ (b : Bool). cond b (granted_all terms.tariffs request.services) (code_alone CreditLimitReached)) (test_no (pos total) room less)
+
+  pub check-enough : request.action ≡ Some CheckBalance → pos total ≤ℤ room → (reply_to terms history request).check ≡ Some 0
+  unfolding reply_to
+  check-enough is enough =
+      ap (λ (reply : CcReply). reply.check) (answered terms (postings_of terms history) request CheckBalance account total event is is_account is_total)
+      ∙ ap (λ (b : Bool). Some (cond {A = ℕ} b 0 1)) (test_yes (pos total) room enough)
+
+  pub check-too_little : request.action ≡ Some CheckBalance → room <ℤ pos total → (reply_to terms history request).check ≡ Some 1
+  unfolding reply_to
+  check-too_little is less =
+      ap (λ (reply : CcReply). reply.check) (answered terms (postings_of terms history) request CheckBalance account total event is is_account is_total)
+      ∙ ap (λ (b : Bool). Some (cond {A = ℕ} b 0 1)) (test_no (pos total) room less)
+
 -- ---- refunds, and what moves nothing
 
 pub refunded : (terms : Terms) (history : List Entry) (request : CcRequest) (total : ℕ) → request.kind ≡ Event → request.action ≡ Some RefundAccount
@@ -159,6 +208,22 @@ pub enquired : (terms : Terms) (history : List Entry) (request : CcRequest) → 
 unfolding debit_of
 enquired terms history request event asks = debit_of-event terms (postings_of terms history) request (Some PriceEnquiry) event asks
     ∙ prices_nothing (unwrap_or (total_of terms.tariffs request.services) 0) (replied terms (postings_of terms history) request (Some PriceEnquiry)).code
+
+pub unnamed : (terms : Terms) (history : List Entry) (request : CcRequest) → request.kind ≡ Event → request.action ≡ None → debit_of terms history request ≡ pos 0
+unfolding debit_of replied
+unnamed terms history request event none = debit_of-event terms (postings_of terms history) request None event none
+
+refuses_nothing : (amount : ℕ) (code : ResultCode) (action : Option RequestedAction) → code ≢ Success → action_debit amount code action ≡ pos 0
+refuses_nothing amount Success action refused = absurd (refused refl)
+refuses_nothing amount _ action refused = refl
+
+pub refused : (terms : Terms) (history : List Entry) (request : CcRequest) → request.kind ≡ Event → (reply_to terms history request).code ≢ Success → debit_of terms history request ≡ pos 0
+unfolding debit_of reply_to
+refused terms history request event failed =
+    let before = postings_of terms history in
+    debit_of-event terms before request request.action event refl
+    ∙ refuses_nothing (unwrap_or (total_of terms.tariffs request.services) 0) (replied terms before request request.action).code request.action
+    (λ success. failed (ap (λ (reply : CcReply). reply.code) (reply-event terms before request request.action event refl) ∙ success))
 
 -- ---- what fits
 

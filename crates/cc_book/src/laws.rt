@@ -1,7 +1,7 @@
 //! Laws of the account book, in the words of a reader who knows none of its code.
 #![tactic(auto, unfolding(crate::specs::AccountMachine::postings_of, crate::specs::AccountMachine::reply_to, crate::specs::Balance::balance_of, crate::specs::Balance::open_sessions_of, crate::specs::Balance::reserved_of, crate::specs::Balance::spent_by,))]
 
-ghost use Rattle.std.specs.Prelude.{◌≡◌, ◌≢◌, ℕ, ◌+◌, ◌<◌, ◌≤◌, All, List, find, [], ◌∷◌, ◌++◌, ◌↔◌, length, None, Some, true, false, codes, if◌then◌else◌, pos, negsuc, ◌-ℤ◌, ◌≤ℤ◌, Ok, Err, unwrap_or};
+ghost use Rattle.std.specs.Prelude.{◌≡◌, ◌≢◌, ℕ, ◌+◌, ◌<◌, ◌≤◌, All, List, find, [], ◌∷◌, ◌++◌, ◌↔◌, length, None, Some, true, false, codes, if◌then◌else◌, pos, negsuc, ◌-ℤ◌, ◌≤ℤ◌, ◌<ℤ◌, Ok, Err, unwrap_or};
 ghost use Rattle.std.specs.Int.{int_max};
 ghost use Rattle.dia_base.specs.declared.number.Moment.{Moment};
 ghost use Rattle.cc_view.specs.Answer.Fitting.{Fits};
@@ -111,22 +111,42 @@ pub fn openings_less_debits_are_balances()
 {}
 
 /// A DIRECT_DEBITING debits what the units cost that its reply grants, by the tariffs of its services: nothing
-/// where nothing is granted. One that succeeds takes no more than is free of its account, beside what sessions hold
-/// of it (RFC 8506, section 8.41).
+/// where nothing is granted. One whose units have a cost is made exactly where so much is free of its account, beside
+/// what sessions hold of it (RFC 8506, section 8.41).
 pub fn debits_pay_for_what_is_granted()
     ensures paid { (terms : Terms) (history : List Entry) (request : CcRequest) → request.kind ≡ Event → request.action ≡ Some DirectDebiting →
         debit_of terms history request ≡ pos (cost_of_reply terms.tariffs (reply_to terms history request)) }
     ensures covered { (terms : Terms) (history : List Entry) (request : CcRequest) (account : ℕ) →
         request.kind ≡ Event → request.action ≡ Some DirectDebiting → account_of terms.accounts request.subscriptions ≡ Some account →
         (reply_to terms history request).code ≡ Success → debit_of terms history request ≤ℤ free_after terms (postings_of terms history) account }
+    ensures made { (terms : Terms) (history : List Entry) (request : CcRequest) (account total : ℕ) → request.kind ≡ Event →
+        account_of terms.accounts request.subscriptions ≡ Some account → total_of terms.tariffs request.services ≡ Some total → request.action ≡ Some DirectDebiting →
+        pos total ≤ℤ free_after terms (postings_of terms history) account → (reply_to terms history request).code ≡ Success }
+    ensures too_little { (terms : Terms) (history : List Entry) (request : CcRequest) (account total : ℕ) → request.kind ≡ Event →
+        account_of terms.accounts request.subscriptions ≡ Some account → total_of terms.tariffs request.services ≡ Some total → request.action ≡ Some DirectDebiting →
+        free_after terms (postings_of terms history) account <ℤ pos total → reply_to terms history request ≡ code_alone CreditLimitReached }
 {}
 
-/// A REFUND_ACCOUNT that succeeds credits what its asked units cost. No other EVENT but a debit moves a balance.
+/// A CHECK_BALANCE tells 0 exactly where a DIRECT_DEBITING of the same units would be made, and else 1 (RFC 8506,
+/// section 8.6).
+pub fn checks_tell_what_is_free()
+    ensures enough { (terms : Terms) (history : List Entry) (request : CcRequest) (account total : ℕ) → request.kind ≡ Event →
+        account_of terms.accounts request.subscriptions ≡ Some account → total_of terms.tariffs request.services ≡ Some total → request.action ≡ Some CheckBalance →
+        pos total ≤ℤ free_after terms (postings_of terms history) account → (reply_to terms history request).check ≡ Some 0 }
+    ensures too_little { (terms : Terms) (history : List Entry) (request : CcRequest) (account total : ℕ) → request.kind ≡ Event →
+        account_of terms.accounts request.subscriptions ≡ Some account → total_of terms.tariffs request.services ≡ Some total → request.action ≡ Some CheckBalance →
+        free_after terms (postings_of terms history) account <ℤ pos total → (reply_to terms history request).check ≡ Some 1 }
+{}
+
+/// A REFUND_ACCOUNT that succeeds credits what its asked units cost. No other EVENT but a debit moves a balance, and
+/// none that is refused.
 pub fn refunds_are_debits_below_zero()
     ensures refunded { (terms : Terms) (history : List Entry) (request : CcRequest) (total : ℕ) → request.kind ≡ Event → request.action ≡ Some RefundAccount →
         (reply_to terms history request).code ≡ Success → total_of terms.tariffs request.services ≡ Some total → debit_of terms history request ≡ pos 0 -ℤ pos total }
     ensures checked { (terms : Terms) (history : List Entry) (request : CcRequest) → request.kind ≡ Event → request.action ≡ Some CheckBalance → debit_of terms history request ≡ pos 0 }
     ensures enquired { (terms : Terms) (history : List Entry) (request : CcRequest) → request.kind ≡ Event → request.action ≡ Some PriceEnquiry → debit_of terms history request ≡ pos 0 }
+    ensures unnamed { (terms : Terms) (history : List Entry) (request : CcRequest) → request.kind ≡ Event → request.action ≡ None → debit_of terms history request ≡ pos 0 }
+    ensures refused { (terms : Terms) (history : List Entry) (request : CcRequest) → request.kind ≡ Event → (reply_to terms history request).code ≢ Success → debit_of terms history request ≡ pos 0 }
 {}
 
 /// A reply has no more services than its request, and its units have codes that fit an AVP: so each
