@@ -1,17 +1,20 @@
 -- Which requests of sessions are settled, and what the others get.
-use Rattle.std.proofs.Common.{◌≡◌, ℕ, Bool, true, false, cond, not, ◌&&◌, List, Option, Some, None, refl, ap, ◌∙◌}
-use Rattle.std.specs.Prelude.{pos, is_some}
+use Rattle.std.proofs.Common.{◌≡◌, ℕ, Bool, true, false, cond, not, ◌&&◌, List, [], ◌∷◌, Option, Some, None, refl, ap, ◌∙◌, arith}
+use Rattle.std.specs.Prelude.{pos, is_some, sum_by}
+use Rattle.std.proofs.lemmas.List.Sums.{sum_by-cons}
 use Rattle.cc_view.specs.declared.code.ResultCode.{ResultCode}
 use Rattle.cc_view.specs.declared.code.ResultCode.TheVariants.{UnableToComply, UnknownSessionId, UserUnknown}
 use Rattle.cc_view.specs.declared.request.CcRequest.{CcRequest}
 use Rattle.cc_view.specs.declared.request.RequestKind.{RequestKind}
 use Rattle.cc_view.specs.declared.request.RequestKind.TheVariants.{Initial, Update, Termination}
+use Rattle.cc_view.specs.declared.request.Service.{Service}
+use Rattle.cc_rating.specs.declared.tariff.Tariff.{Tariff}
 use Rattle.cc_book.specs.declared.entry.Entry.{Entry}
 use Rattle.cc_book.specs.declared.terms.Terms.{Terms}
 use Rattle.cc_book.specs.AccountMachine.{account_of, closing_reply, code_alone, debit_by, free_to_grant, granting_reply, grants_by, postings_of, reply_by, reply_to, settles_after, settles_by, unsettled_code}
 use Rattle.cc_book.specs.Balance.{debit_of}
 use Rattle.cc_book.specs.Laws.{IsRefused}
-use Rattle.cc_book.specs.ServiceRating.{used_total}
+use Rattle.cc_book.specs.ServiceRating.{used_cost, used_total}
 use Rattle.cc_book.specs.Session.{is_open}
 
 -- whether the session of a request is lasts, and whether the request names an account
@@ -27,6 +30,10 @@ unfolding opened known
 settles-kind terms history request kind is = ap (λ (k : RequestKind). settles_by k (opened terms history request) (known terms request)) is
 
 -- ---- what is settled is paid for
+
+pub used-each : (tariffs : List Tariff) (services : List Service) → used_total tariffs services ≡ sum_by (used_cost tariffs) services
+used-each tariffs [] = refl
+used-each tariffs (service ∷ services) = let more = used-each tariffs services in let sum = sum_by-cons (used_cost tariffs) service services in omega (arith, more, sum)
 
 used-kind : (terms : Terms) (history : List Entry) (request : CcRequest) (kind : RequestKind) → request.kind ≡ kind
     → debit_by terms (postings_of terms history) request kind ≡ cond (settles_after terms (postings_of terms history) request) (pos (used_total terms.tariffs request.services)) (pos 0)

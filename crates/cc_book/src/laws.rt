@@ -1,7 +1,7 @@
 //! Laws of the account book, in the words of a reader who knows none of its code.
 #![tactic(auto, unfolding(crate::specs::AccountMachine::postings_of, crate::specs::AccountMachine::reply_to, crate::specs::Balance::balance_of, crate::specs::Balance::open_sessions_of, crate::specs::Balance::reserved_of, crate::specs::Balance::spent_by,))]
 
-ghost use Rattle.std.specs.Prelude.{◌≡◌, ◌≢◌, ℕ, ◌+◌, ◌<◌, ◌≤◌, All, List, find, [], ◌∷◌, ◌++◌, ◌↔◌, length, None, Some, true, false, codes, if◌then◌else◌, pos, negsuc, ◌-ℤ◌, ◌≤ℤ◌, ◌<ℤ◌, Ok, Err, unwrap_or};
+ghost use Rattle.std.specs.Prelude.{◌≡◌, ◌≢◌, ℕ, ◌+◌, ◌<◌, ◌≤◌, All, List, find, [], ◌∷◌, ◌++◌, ◌↔◌, length, None, Some, true, false, codes, if◌then◌else◌, pos, negsuc, ◌-ℤ◌, ◌≤ℤ◌, ◌<ℤ◌, Ok, Err, sum_by, unwrap_or};
 ghost use Rattle.std.specs.Int.{int_max};
 ghost use Rattle.dia_base.specs.declared.number.Moment.{Moment};
 ghost use Rattle.cc_view.specs.Answer.Fitting.{Fits};
@@ -12,6 +12,7 @@ ghost use Rattle.cc_view.specs.declared.request.RequestKind.TheVariants.{Event, 
 ghost use Rattle.cc_view.specs.declared.request.RequestedAction.TheVariants.{DirectDebiting, RefundAccount, CheckBalance, PriceEnquiry};
 ghost use Rattle.cc_view.specs.declared.reply.CcReply.{CcReply};
 ghost use Rattle.cc_view.specs.declared.request.CcRequest.{CcRequest};
+ghost use Rattle.cc_view.specs.declared.request.Service.{Service};
 ghost use Rattle.cc_view.specs.declared.request.ServiceName.{ServiceName};
 ghost use Rattle.cc_rating.specs.Rating.{cost_of};
 ghost use Rattle.cc_rating.specs.Tariffs.{fault_of, rates};
@@ -29,7 +30,7 @@ ghost use Rattle.cc_book.specs.Laws.{HasLimits, IsRefused, RepliesToEntry, cost_
 ghost use Rattle.cc_book.specs.Posting.{is_account};
 ghost use Rattle.cc_book.specs.Reservation.{held_by, reserved_by};
 ghost use Rattle.cc_book.specs.RowExample.{any_units, bare_initial, bare_reply, bare_terms, counted_service, ended_by, event_between, event_on, granted_units, gratis_terms, half_bare_initial, initial, initial_again, no_units, octets, opened_by, opened_then, request_of, row_book, row_reply, row_service, row_terms, subscription, success, taken, tariff_in, termination, two_services_initial, two_services_update, unrated_initial, unrated_reply, update, updated_by};
-ghost use Rattle.cc_book.specs.ServiceRating.{asked_of, unit_code, used_of, used_total};
+ghost use Rattle.cc_book.specs.ServiceRating.{asked_of, unit_code, used_cost, used_of, used_total};
 ghost use Rattle.cc_book.specs.Session.{Opened, is_open, open_count, session_of};
 ghost use Rattle.cc_book.specs.SessionExample.{early_update, failed_opening, first_termination, first_update, group_opening, narrow_update, opening, other_opening, other_termination, reopening, second_opening, service_name, session, small_terms, strange_update, swept, unrelated_event, wide_opening};
 ghost use Rattle.cc_book.specs.Standing.{held_in};
@@ -171,6 +172,8 @@ pub fn new_keys_have_no_reply()
 pub fn sessions_last_twice_their_validity()
     ensures lasts { is_open 600 session (opening ∷ swept 1199999 ∷ []) ≡ true }
     ensures ends { is_open 600 session (opening ∷ swept 1200000 ∷ []) ≡ false }
+    ensures shorter_lasts { is_open 60 session (opening ∷ swept 119999 ∷ []) ≡ true }
+    ensures shorter_ends { is_open 60 session (opening ∷ swept 120000 ∷ []) ≡ false }
     ensures moves { is_open 600 session (opening ∷ first_update ∷ swept 1200000 ∷ []) ≡ true }
     ensures reserved { reserved_by 600 0 (opening ∷ []) ≡ 25 }
     ensures replaced { reserved_by 600 0 (opening ∷ first_update ∷ []) ≡ 10 }
@@ -361,7 +364,7 @@ pub fn what_events_leave_alone()
 
 /// A request of a session debits in full what its used units cost, also where less is free: an INITIAL of a session that
 /// is not open, with an account that the site knows, and an UPDATE or a TERMINATION of an open session (RFC 8506,
-/// sections 5.3 and 5.4).
+/// sections 5.3 and 5.4). Each of its services is paid for.
 pub fn sessions_pay_for_what_is_used()
     ensures initial { (terms : Terms) (history : List Entry) (request : CcRequest) (account : ℕ) → request.kind ≡ Initial →
         is_open terms.validity request.session (postings_of terms history) ≡ false → account_of terms.accounts request.subscriptions ≡ Some account →
@@ -370,6 +373,7 @@ pub fn sessions_pay_for_what_is_used()
         is_open terms.validity request.session (postings_of terms history) ≡ true → debit_of terms history request ≡ pos (used_total terms.tariffs request.services) }
     ensures termination { (terms : Terms) (history : List Entry) (request : CcRequest) → request.kind ≡ Termination →
         is_open terms.validity request.session (postings_of terms history) ≡ true → debit_of terms history request ≡ pos (used_total terms.tariffs request.services) }
+    ensures each { (tariffs : List Tariff) (services : List Service) → used_total tariffs services ≡ sum_by (used_cost tariffs) services }
 {}
 
 /// All other requests of sessions are refused: they debit nothing and reserve nothing.
