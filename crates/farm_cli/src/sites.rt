@@ -5,6 +5,7 @@ ghost use Rattle.std.specs.Io.KnownBytes.{Keeps, Appends};
 ghost use Rattle.farm_script.specs.declared.fault.ScriptFault.{ScriptFault};
 ghost use Rattle.farm_site.specs.declared.fault.SiteFault.{SiteFault};
 ghost use Rattle.farm_cli.specs.Replay.{Replays, IsRefused, ReadsSchedule, WasRead};
+ghost use Rattle.farm_site.specs.Faults.{AreWhyOctets};
 ghost use Rattle.farm_cli.specs.Sites.{OfSpelledSite, WasReadBehind};
 ghost use Rattle.farm_model.specs.declared.site.Site.{Site};
 ghost use Rattle.farm_model.specs.RowSite.{the_row_site};
@@ -59,7 +60,8 @@ pub fn replay_site_file<R: Read, W: Write>(
         (printed : List ℕ) × Replays action site octets printed × BeginsWriting (W.contents writer.old) (W.contents writer.new) printed)) }
     ensures read { WasReadBehind result → ReadsSchedule (R.remaining reader.old) (R.remaining reader.new) }
 
-    // Of a site that is refused no schedule is read, and nothing is written.
+    // A site is refused by a fault that its file has. No schedule is read then, and nothing is written.
+    ensures why { (fault : SiteFault) → result ≡ Err (Fault.Site fault) → AreWhyOctets file.now fault }
     ensures site { (fault : SiteFault) → result ≡ Err (Fault.Site fault) → Keeps (R.remaining reader.old) (R.remaining reader.new) }
     ensures nothing { IfErr result (λ fault. fault ≢ Fault.Replay ReplayFault.Write → Keeps (W.contents writer.old) (W.contents writer.new)) }
 {

@@ -1,3 +1,4 @@
+pub mod Faults
 pub mod Growing
 pub mod Graph
 pub mod Keys

@@ -1,8 +1,9 @@
 //! The accounts of a site file.
 
-ghost use Rattle.std.specs.Prelude.{◌≡◌, ◌≤◌, IfOk, vec_len, true, nat_le, length, ◌&&◌};
+ghost use Rattle.std.specs.Prelude.{◌≡◌, ◌≤◌, IfErr, IfOk, vec_len, true, nat_le, length, ◌&&◌};
 ghost use Rattle.std.specs.List.{list_all, list_any};
 ghost use Rattle.farm_model.specs.CheckedSite.{is_sound_account, is_visible, is_within, same_account, size_of};
+ghost use Rattle.farm_site.specs.Faults.{IsFaultIn, IsFaultOf};
 ghost use Rattle.farm_site.specs.Growing.{AreSound};
 ghost use Rattle.farm_site.specs.Spelling.{SpellsAccount, SpellsTable, number, value_at};
 ghost use Rattle.toml.specs.Data.{string, integer};
@@ -40,6 +41,7 @@ pub fn accounts_of(alloc: Global, file: Entry) -> Result<Vec<Account>, SiteFault
     ensures count { IfOk result (λ accounts. vec_len accounts ≤ 65536) }
     ensures sound { IfOk result (λ accounts. AreSound is_sound_account same_account accounts.items) }
     ensures spelled { IfOk result (λ accounts. SpellsTable SpellsAccount Key.Account (table_view file.entry.table.now) accounts.items) }
+    ensures fault { IfErr result (IsFaultIn (table_view file.entry.table.now)) }
 {
     let entries = file.entries(alloc, Key::Account, ACCOUNT_LIMIT)?;
     let mut owners = BTreeSet::new(alloc);
@@ -62,6 +64,7 @@ fn owner_of(entry: Entry<'_>) -> Result<Owner<'_>, SiteFault>
     ensures id { IfOk result (λ owner. (is_within 1 64 (length owner.id.now) && list_all is_visible owner.id.now) ≡ true) }
     ensures kind_spelled { IfOk result (λ owner. value_at Key.IdKind (table_view entry.entry.table.now) ≡ Some (number owner.id_kind)) }
     ensures id_spelled { IfOk result (λ owner. value_at Key.Id (table_view entry.entry.table.now) ≡ Some (string owner.id.now)) }
+    ensures fault { IfErr result (IsFaultOf (table_view entry.entry.table.now)) }
 {
     let id_kind = entry.unsigned32(Key::IdKind, 0, ID_KIND_LIMIT)?;
     let id = entry.text(Key::Id)?.as_bytes();
@@ -91,6 +94,7 @@ fn account_of(alloc: Global, entry: Entry, owner: Owner) -> Result<Account, Site
     ensures id { IfOk result (λ account. account.id ≡ owner.entry.id.now) }
     ensures opening { IfOk result (λ account. nat_le (size_of account.opening) 4611686018427387904 ≡ true) }
     ensures opening_spelled { IfOk result (λ account. value_at Key.Opening (table_view entry.entry.table.now) ≡ Some (integer account.opening)) }
+    ensures fault { IfErr result (IsFaultOf (table_view entry.entry.table.now)) }
 {
     Ok(Account {
         id_kind: owner.id_kind,

@@ -1,10 +1,11 @@
 //! The keys of one table, read one by one.
 
-ghost use Rattle.std.specs.Prelude.{◌≡◌, ◌≤◌, [], ◌∷◌, IfOk, None, true, length, vec_len, nat_le, map, option_map, pos};
+ghost use Rattle.std.specs.Prelude.{◌≡◌, ◌≤◌, ◌⊎◌, [], ◌∷◌, IfErr, IfOk, None, true, false, length, vec_len, nat_le, map, option_map, pos};
 ghost use Rattle.dia_base.specs.Identity.{fault_of};
 ghost use Rattle.farm_model.specs.CheckedSite.{is_within, size_of};
+ghost use Rattle.farm_site.specs.Faults.{IsFaultOf, all_items, covers, form_of, has_more_than, integer_of_size, is_for_text, is_from_to, is_integer, is_number, is_string, is_table, list_of_numbers, list_of_tables, list_of_texts};
 ghost use Rattle.farm_site.specs.Spelling.{value_at, value_or, number, numbers, texts, tables, tables_of};
-ghost use Rattle.toml.specs.Data.{string, integer, array, table};
+ghost use Rattle.toml.specs.Data.{string, integer, array, table, as_array};
 ghost use Rattle.toml.specs.View.{table_view, view, items_view};
 
 use crate::fault::SiteFault;
@@ -36,21 +37,24 @@ impl<'a> Entry<'a> {
 
     /// What stands at a key that must be there.
     fn value(self, key: Key) -> Result<&'a Value, SiteFault>
-        ensures { IfOk result (λ value. value_at key (table_view self.entry.table.now) ≡ Some (view value.now)) }
+        ensures value { IfOk result (λ value. value_at key (table_view self.entry.table.now) ≡ Some (view value.now)) }
+        ensures fault { IfErr result (IsFaultOf (table_view self.entry.table.now)) }
     {
         self.find(key).ok_or(SiteFault::Missing { key })
     }
 
     /// The text at a key that must be there.
     pub fn text(self, key: Key) -> Result<&'a str, SiteFault>
-        ensures { IfOk result (λ text. value_at key (table_view self.entry.table.now) ≡ Some (string text.now)) }
+        ensures value { IfOk result (λ text. value_at key (table_view self.entry.table.now) ≡ Some (string text.now)) }
+        ensures fault { is_for_text (form_of key) ≡ true → IfErr result (IsFaultOf (table_view self.entry.table.now)) }
     {
         text_of(key, self.value(key)?)
     }
 
     /// The text at a key that may be absent.
     pub fn optional_text(self, key: Key) -> Result<Option<&'a str>, SiteFault>
-        ensures { IfOk result (λ text. value_at key (table_view self.entry.table.now) ≡ option_map (λ some_text. string some_text.now) text) }
+        ensures value { IfOk result (λ text. value_at key (table_view self.entry.table.now) ≡ option_map (λ some_text. string some_text.now) text) }
+        ensures fault { is_for_text (form_of key) ≡ true → IfErr result (IsFaultOf (table_view self.entry.table.now)) }
     {
         match self.find(key) {
             None => Ok(None),
@@ -62,6 +66,7 @@ impl<'a> Entry<'a> {
     pub fn identity(self, alloc: Global, key: Key) -> Result<Identity, SiteFault>
         ensures sound { IfOk result (λ identity. fault_of identity ≡ None) }
         ensures value { IfOk result (λ identity. value_at key (table_view self.entry.table.now) ≡ Some (string identity)) }
+        ensures fault { is_for_text (form_of key) ≡ true → IfErr result (IsFaultOf (table_view self.entry.table.now)) }
     {
         match Identity::read(alloc, self.text(key)?.as_bytes()) {
             Ok(identity) => Ok(identity),
@@ -75,6 +80,7 @@ impl<'a> Entry<'a> {
     pub fn integer(self, key: Key, size: u64) -> Result<i64, SiteFault>
         ensures size { IfOk result (λ n. nat_le (size_of n) size ≡ true) }
         ensures value { IfOk result (λ n. value_at key (table_view self.entry.table.now) ≡ Some (integer n)) }
+        ensures fault { form_of key ≡ integer_of_size size → IfErr result (IsFaultOf (table_view self.entry.table.now)) }
     {
         let number = integer_of(key, self.value(key)?)?;
         if number.unsigned_abs() <= size {
@@ -88,6 +94,7 @@ impl<'a> Entry<'a> {
     pub fn unsigned64(self, key: Key, least: u64, most: u64) -> Result<u64, SiteFault>
         ensures range { IfOk result (λ n. is_within least most n ≡ true) }
         ensures value { IfOk result (λ n. value_at key (table_view self.entry.table.now) ≡ Some (number n)) }
+        ensures fault { covers least most (form_of key) ≡ true → IfErr result (IsFaultOf (table_view self.entry.table.now)) }
     {
         unsigned_of(key, self.value(key)?, least, most)
     }
@@ -103,6 +110,7 @@ impl<'a> Entry<'a> {
         requires { is_within least most absent ≡ true }
         ensures range { IfOk result (λ n. is_within least most n ≡ true) }
         ensures value { IfOk result (λ n. value_or (number absent) key (table_view self.entry.table.now) ≡ number n) }
+        ensures fault { covers least most (form_of key) ≡ true → IfErr result (IsFaultOf (table_view self.entry.table.now)) }
     {
         match self.find(key) {
             None => Ok(absent),
@@ -114,6 +122,7 @@ impl<'a> Entry<'a> {
     pub fn unsigned32(self, key: Key, least: u32, most: u32) -> Result<u32, SiteFault>
         ensures range { IfOk result (λ n. is_within least most n ≡ true) }
         ensures value { IfOk result (λ n. value_at key (table_view self.entry.table.now) ≡ Some (number n)) }
+        ensures fault { covers least most (form_of key) ≡ true → IfErr result (IsFaultOf (table_view self.entry.table.now)) }
     {
         let number = self.unsigned64(key, u64::from(least), u64::from(most))?;
         Ok(number as u32)
@@ -130,6 +139,7 @@ impl<'a> Entry<'a> {
         requires { is_within least most absent ≡ true }
         ensures range { IfOk result (λ n. is_within least most n ≡ true) }
         ensures value { IfOk result (λ n. value_or (number absent) key (table_view self.entry.table.now) ≡ number n) }
+        ensures fault { covers least most (form_of key) ≡ true → IfErr result (IsFaultOf (table_view self.entry.table.now)) }
     {
         let (least, most) = (u64::from(least), u64::from(most));
         let number = self.unsigned64_or(key, least, most, u64::from(absent))?;
@@ -138,7 +148,8 @@ impl<'a> Entry<'a> {
 
     /// The number at a key that may be absent.
     pub fn optional_unsigned32(self, key: Key) -> Result<Option<u32>, SiteFault>
-        ensures { IfOk result (λ n. value_at key (table_view self.entry.table.now) ≡ option_map number n) }
+        ensures value { IfOk result (λ n. value_at key (table_view self.entry.table.now) ≡ option_map number n) }
+        ensures fault { covers 0 4294967295 (form_of key) ≡ true → IfErr result (IsFaultOf (table_view self.entry.table.now)) }
     {
         match self.find(key) {
             None => Ok(None),
@@ -148,7 +159,8 @@ impl<'a> Entry<'a> {
 
     /// The numbers of the array at a key, or this one alone where the key is absent.
     pub fn numbers_or(self, alloc: Global, key: Key, absent: u32) -> Result<Vec<u32>, SiteFault>
-        ensures { IfOk result (λ read. value_or (numbers (absent ∷ [])) key (table_view self.entry.table.now) ≡ numbers read.items) }
+        ensures value { IfOk result (λ read. value_or (numbers (absent ∷ [])) key (table_view self.entry.table.now) ≡ numbers read.items) }
+        ensures fault { form_of key ≡ list_of_numbers → IfErr result (IsFaultOf (table_view self.entry.table.now)) }
     {
         let Some(value) = self.find(key) else {
             return Ok(vec![in alloc; absent]?);
@@ -165,6 +177,7 @@ impl<'a> Entry<'a> {
     pub fn texts(self, alloc: Global, key: Key, most: usize) -> Result<Vec<&'a str>, SiteFault>
         ensures count { IfOk result (λ read. vec_len read ≤ most) }
         ensures value { IfOk result (λ read. value_at key (table_view self.entry.table.now) ≡ Some (texts (map (λ text. text.now) read.items))) }
+        ensures fault { form_of key ≡ list_of_texts most → IfErr result (IsFaultOf (table_view self.entry.table.now)) }
     {
         let values = array_within(key, self.value(key)?, most)?;
         let mut texts = Vec::new(alloc);
@@ -179,6 +192,7 @@ impl<'a> Entry<'a> {
     pub fn entries(self, alloc: Global, key: Key, most: usize) -> Result<Vec<Entry<'a>>, SiteFault>
         ensures count { IfOk result (λ entries. vec_len entries ≤ most) }
         ensures value { IfOk result (λ entries. value_or (tables []) key (table_view self.entry.table.now) ≡ tables (tables_of entries.items)) }
+        ensures fault { form_of key ≡ list_of_tables most → IfErr result (IsFaultOf (table_view self.entry.table.now)) }
     {
         let mut entries = Vec::new(alloc);
         let Some(value) = self.find(key) else {
@@ -193,35 +207,33 @@ impl<'a> Entry<'a> {
 }
 
 fn entry_of(key: Key, value: &Value) -> Result<Entry<'_>, SiteFault>
-    ensures { IfOk result (λ entry. view value.now ≡ table (table_view entry.table.now)) }
+    ensures value { IfOk result (λ entry. view value.now ≡ table (table_view entry.table.now)) }
+    ensures fault { IfErr result (λ fault. (fault ≡ SiteFault.WrongType key) × (is_table (view value.now) ≡ false)) }
 {
-    match value {
-        Value::Table(table) => Ok(Entry { table }),
-        _ => Err(SiteFault::WrongType { key }),
+    match value.as_table() {
+        Some(table) => Ok(Entry { table }),
+        None => Err(SiteFault::WrongType { key }),
     }
 }
 
 fn text_of(key: Key, value: &Value) -> Result<&str, SiteFault>
-    ensures { IfOk result (λ text. view value.now ≡ string text.now) }
+    ensures value { IfOk result (λ text. view value.now ≡ string text.now) }
+    ensures fault { IfErr result (λ fault. (fault ≡ SiteFault.WrongType key) × (is_string (view value.now) ≡ false)) }
 {
-    match value {
-        Value::String(text) => Ok(text.as_str()),
-        _ => Err(SiteFault::WrongType { key }),
-    }
+    value.as_str().ok_or(SiteFault::WrongType { key })
 }
 
 fn integer_of(key: Key, value: &Value) -> Result<i64, SiteFault>
-    ensures { IfOk result (λ n. view value.now ≡ integer n) }
+    ensures value { IfOk result (λ n. view value.now ≡ integer n) }
+    ensures fault { IfErr result (λ fault. (fault ≡ SiteFault.WrongType key) × (is_integer (view value.now) ≡ false)) }
 {
-    match value {
-        Value::Integer(number) => Ok(*number),
-        _ => Err(SiteFault::WrongType { key }),
-    }
+    value.as_integer().ok_or(SiteFault::WrongType { key })
 }
 
 fn unsigned_of(key: Key, value: &Value, least: u64, most: u64) -> Result<u64, SiteFault>
     ensures range { IfOk result (λ n. is_within least most n ≡ true) }
     ensures value { IfOk result (λ n. view value.now ≡ number n) }
+    ensures fault { IfErr result (λ fault. ((fault ≡ SiteFault.WrongType key) × (is_integer (view value.now) ≡ false)) ⊎ ((fault ≡ SiteFault.OutOfRange key) × (is_number least most (view value.now) ≡ false))) }
 {
     match u64::try_from(integer_of(key, value)?) {
         Ok(number) if least <= number && number <= most => Ok(number),
@@ -231,23 +243,26 @@ fn unsigned_of(key: Key, value: &Value, least: u64, most: u64) -> Result<u64, Si
 
 /// The integer, where it is from 0 to 4294967295.
 fn small_of(key: Key, integer: i64) -> Result<u32, SiteFault>
-    ensures { IfOk result (λ n. integer ≡ pos n) }
+    ensures value { IfOk result (λ n. integer ≡ pos n) }
+    ensures fault { IfErr result (λ fault. (fault ≡ SiteFault.OutOfRange key) × (is_from_to 0 4294967295 integer ≡ false)) }
 {
     u32::try_from(integer).map_err(|_| SiteFault::OutOfRange { key })
 }
 
 fn array_of(key: Key, value: &Value) -> Result<&[Value], SiteFault>
-    ensures { IfOk result (λ values. view value.now ≡ array (items_view values.now)) }
+    ensures value { IfOk result (λ values. view value.now ≡ array (items_view values.now)) }
+    ensures fault { IfErr result (λ fault. (fault ≡ SiteFault.WrongType key) × (as_array (view value.now) ≡ None)) }
 {
-    match value {
-        Value::Array(values) => Ok(values.as_slice()),
-        _ => Err(SiteFault::WrongType { key }),
+    match value.as_array() {
+        Some(values) => Ok(values.as_slice()),
+        None => Err(SiteFault::WrongType { key }),
     }
 }
 
 fn array_within(key: Key, value: &Value, most: usize) -> Result<&[Value], SiteFault>
     ensures count { IfOk result (λ values. length values.now ≤ most) }
     ensures value { IfOk result (λ values. view value.now ≡ array (items_view values.now)) }
+    ensures fault { IfErr result (λ fault. ((fault ≡ SiteFault.WrongType key) × (as_array (view value.now) ≡ None)) ⊎ ((fault ≡ SiteFault.TooMany key) × (has_more_than most (as_array (view value.now)) ≡ true))) }
 {
     let values = array_of(key, value)?;
     if values.len() > most {
@@ -257,7 +272,8 @@ fn array_within(key: Key, value: &Value, most: usize) -> Result<&[Value], SiteFa
 }
 
 fn integers_of(alloc: Global, key: Key, values: &[Value]) -> Result<Vec<i64>, SiteFault>
-    ensures { IfOk result (λ integers. map view values.now ≡ map integer integers.items) }
+    ensures value { IfOk result (λ integers. map view values.now ≡ map integer integers.items) }
+    ensures fault { IfErr result (λ fault. (fault ≡ SiteFault.OutOfMemory) ⊎ ((fault ≡ SiteFault.WrongType key) × (all_items is_integer (items_view values.now) ≡ false))) }
 {
     let mut integers = Vec::new(alloc);
     for value in values {

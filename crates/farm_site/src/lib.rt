@@ -46,8 +46,9 @@
 //! type and one text.
 //!
 //! - [`site_of`], [`site_of_octets`]: the site that a text spells, or the first fault of it.
-//!   That the site is checked, and that each value of it is the one that the text has at its place, is
-//!   proved (`specs/Spelling`); that a text without fault is read, and which fault is told, is not.
+//!   That the site is checked, that each value of it is the one that the text has at its place
+//!   (`specs/Spelling`), and that a fault is one that the text has (`specs/Faults`) is proved; that a
+//!   text without fault is read, and which of several faults is told, is not.
 //! - [`SiteFault`] with its [`Key`]: why a text is no site, with the words that are printed.
 //!
 //! Inside, `entry` reads a key of a table, `graph` finds nodes and links by name, and `node`, `link`,
@@ -65,8 +66,10 @@
 //! ```
 #![tactic(auto)]
 
-ghost use Rattle.std.specs.Prelude.{◌≡◌, IfOk, Some, nat_le, true};
+ghost use Rattle.std.specs.Prelude.{◌≡◌, ◌<◌, ◌⊎◌, Err, IfErr, IfOk, None, Some, length, nat_le, true};
+ghost use Rattle.std.specs.Str.{IsUtf8};
 ghost use Rattle.farm_model.specs.CheckedSite.{IsChecked, size_of};
+ghost use Rattle.farm_site.specs.Faults.{AreWhyOctets, IsFaultIn, IsFaultOf, IsNoFile, IsWhyText};
 ghost use Rattle.farm_site.specs.Spelling.{Spells, SpellsSite, value_at};
 ghost use Rattle.toml.specs.Data.{integer};
 ghost use Rattle.toml.specs.Parse.{parse_document};
@@ -104,6 +107,10 @@ pub const SITE_LIMIT: usize = 16_777_216;
 pub fn site_of_octets(alloc: Global, octets: &[u8]) -> Result<Site, SiteFault>
     ensures checked { IfOk result IsChecked }
     ensures spelled { IfOk result (Spells octets.now) }
+    ensures no_text { ¬ (IsUtf8 octets.now) → result ≡ Err SiteFault.NotToml }
+    ensures long { 16777216 < length octets.now → result ≡ Err SiteFault.NotToml }
+    ensures no_toml { parse_document octets.now ≡ None → (result ≡ Err SiteFault.NotToml) ⊎ (result ≡ Err SiteFault.OutOfMemory) }
+    ensures fault { IfErr result (AreWhyOctets octets.now) }
 {
     match str::from_utf8(octets) {
         Ok(text) => site_of(alloc, text),
@@ -124,13 +131,19 @@ pub fn site_of_octets(alloc: Global, octets: &[u8]) -> Result<Site, SiteFault>
 pub fn site_of(alloc: Global, text: &str) -> Result<Site, SiteFault>
     ensures checked { IfOk result IsChecked }
     ensures spelled { IfOk result (Spells text.now) }
+    ensures long { 16777216 < length text.now → result ≡ Err SiteFault.NotToml }
+    ensures no_toml { parse_document text.now ≡ None → (result ≡ Err SiteFault.NotToml) ⊎ (result ≡ Err SiteFault.OutOfMemory) }
+    ensures fault { IfErr result (IsWhyText text.now) }
 {
     let table = table_of(alloc, text)?;
     site_in(alloc, Entry::new(&table))
 }
 
 fn table_of(alloc: Global, text: &str) -> Result<Table, SiteFault>
-    ensures { IfOk result (λ table. parse_document text.now ≡ Some (table_view table)) }
+    ensures document { IfOk result (λ table. parse_document text.now ≡ Some (table_view table)) }
+    ensures long { 16777216 < length text.now → result ≡ Err SiteFault.NotToml }
+    ensures no_toml { parse_document text.now ≡ None → (result ≡ Err SiteFault.NotToml) ⊎ (result ≡ Err SiteFault.OutOfMemory) }
+    ensures fault { IfErr result (λ fault. ((fault ≡ SiteFault.NotToml) × IsNoFile text.now) ⊎ (fault ≡ SiteFault.OutOfMemory)) }
 {
     if text.len() > SITE_LIMIT {
         return Err(SiteFault::NotToml);
@@ -146,6 +159,7 @@ fn table_of(alloc: Global, text: &str) -> Result<Table, SiteFault>
 fn site_in(alloc: Global, file: Entry) -> Result<Site, SiteFault>
     ensures checked { IfOk result IsChecked }
     ensures spelled { IfOk result (SpellsSite (table_view file.entry.table.now)) }
+    ensures fault { IfErr result (IsFaultIn (table_view file.entry.table.now)) }
 {
     let realm = file.identity(alloc, Key::Realm)?;
     let validity = file.unsigned32(Key::Validity, 1, 86_400)?;
@@ -187,6 +201,7 @@ fn site_in(alloc: Global, file: Entry) -> Result<Site, SiteFault>
 fn exponent_of(file: Entry) -> Result<i32, SiteFault>
     ensures size { IfOk result (λ exponent. nat_le (size_of exponent) 9 ≡ true) }
     ensures value { IfOk result (λ exponent. value_at Key.Exponent (table_view file.entry.table.now) ≡ Some (integer exponent)) }
+    ensures fault { IfErr result (IsFaultOf (table_view file.entry.table.now)) }
 {
     let exponent = file.integer(Key::Exponent, 9)?;
     i32::try_from(exponent).map_err(|_| SiteFault::OutOfRange { key: Key::Exponent })

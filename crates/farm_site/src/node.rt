@@ -1,9 +1,10 @@
 //! The nodes of a site file.
 
-ghost use Rattle.std.specs.Prelude.{◌≡◌, ◌≤◌, IfOk, vec_len, option_map};
+ghost use Rattle.std.specs.Prelude.{◌≡◌, ◌≤◌, IfErr, IfOk, vec_len, option_map};
 ghost use Rattle.std.specs.List.{list_any};
 ghost use Rattle.dia_base.specs.Folding.{same_folded};
 ghost use Rattle.farm_model.specs.CheckedSite.{is_sound_name, same_name};
+ghost use Rattle.farm_site.specs.Faults.{IsFaultIn, IsFaultOf};
 ghost use Rattle.farm_site.specs.Growing.{AreSound, MayFollow};
 ghost use Rattle.farm_site.specs.Spelling.{SpellsNode, SpellsTable, value_at, node_word};
 ghost use Rattle.toml.specs.Data.{string};
@@ -26,6 +27,7 @@ pub fn nodes_of(alloc: Global, file: Entry) -> Result<Vec<Node>, SiteFault>
     ensures count { IfOk result (λ nodes. vec_len nodes ≤ 64) }
     ensures sound { IfOk result (λ nodes. AreSound is_sound_name same_name nodes.items) }
     ensures spelled { IfOk result (λ nodes. SpellsTable SpellsNode Key.Node (table_view file.entry.table.now) nodes.items) }
+    ensures fault { IfErr result (IsFaultIn (table_view file.entry.table.now)) }
 {
     let entries = file.entries(alloc, Key::Node, NODE_LIMIT)?;
     let mut nodes = Vec::new(alloc);
@@ -40,6 +42,7 @@ pub fn nodes_of(alloc: Global, file: Entry) -> Result<Vec<Node>, SiteFault>
 fn node_of(alloc: Global, entry: Entry, before: &[Node]) -> Result<Node, SiteFault>
     ensures follows { IfOk result (MayFollow is_sound_name same_name before.now) }
     ensures spelled { IfOk result (SpellsNode (table_view entry.entry.table.now)) }
+    ensures fault { IfErr result (IsFaultOf (table_view entry.entry.table.now)) }
 {
     let name = entry.identity(alloc, Key::Name)?;
     if is_named(before, &name) {
@@ -60,7 +63,8 @@ fn is_named(nodes: &[Node], name: &Identity) -> bool
 }
 
 fn kind_of(word: &str) -> Result<NodeKind, SiteFault>
-    ensures { IfOk result (λ kind. word.now ≡ node_word kind) }
+    ensures value { IfOk result (λ kind. word.now ≡ node_word kind) }
+    ensures fault { IfErr result (λ fault. fault ≡ SiteFault.OutOfRange Key.Kind) }
 {
     match word {
         "relay" => Ok(NodeKind::Relay),
@@ -72,7 +76,8 @@ fn kind_of(word: &str) -> Result<NodeKind, SiteFault>
 
 /// The address of an entry, as it is written: an IPv4 address, or an IPv6 address in brackets, and a port.
 fn address_of(alloc: Global, entry: Entry) -> Result<Option<Octets>, SiteFault>
-    ensures { IfOk result (λ address. value_at Key.Address (table_view entry.entry.table.now) ≡ option_map string address) }
+    ensures value { IfOk result (λ address. value_at Key.Address (table_view entry.entry.table.now) ≡ option_map string address) }
+    ensures fault { IfErr result (IsFaultOf (table_view entry.entry.table.now)) }
 {
     let Some(written) = entry.optional_text(Key::Address)? else {
         return Ok(None);

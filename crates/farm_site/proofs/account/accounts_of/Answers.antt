@@ -1,12 +1,17 @@
-use Rattle.std.proofs.Common.{◌≡◌, List, true, false, sym, subst, refl, ◌∙◌, arith, rules}
+use Rattle.std.proofs.Common.{◌≡◌, List, Option, true, false, sym, subst, refl, ◌∙◌, arith, rules}
+use Rattle.std.specs.Prelude.{IsSome}
 use Rattle.std.specs.BTreeMap.{is_at}
 use Rattle.std.specs.List.{list_any}
 use Rattle.cc_book.specs.declared.account.Account.{Account}
 use Rattle.farm_model.specs.CheckedSite.{is_sound_account, same_account}
+use Rattle.toml.specs.Data.{Data}
 use Rattle.toml.specs.View.{table_view}
-use Rattle.farm_site.specs.Spelling.{SpellsAccount}
+use Rattle.farm_site.specs.declared.fault.SiteFault.TheVariants.{Twice}
+use Rattle.farm_site.specs.Spelling.{SpellsAccount, value_at}
 use Rattle.farm_site.proofs.Owning.{AreOwners, account_may_follow, is_owned_by, owner_cmp, owners_push, spelled_by, was_absent}
 use Rattle.farm_site.proofs.Pushing.{grown}
+use Rattle.farm_site.specs.declared.key.Key.TheVariants as keys
+use Rattle.farm_site.proofs.Refusing.{handed_on, told_in}
 use Rattle.farm_site.proofs.Spelled.{table_all, table_more}
 use Rattle.farm_site.proofs.account.accounts_of.Goals as goal
 
@@ -27,3 +32,18 @@ loop-entry-preserved c =
 
 pub returns-clause-spelled : goal.returns-clause-spelled
 returns-clause-spelled c = table_all SpellsAccount _ _ c.deref-entry-items.result.now c.in_ok-entries.entries.items c.loop-entry.entry-index c.loop-entry.accounts.items c.deref-entry-items.ensures.value c.in_ok-entries.ensures.value c.loop-entry-test.false c.loop-entry.invariant.spelled
+
+pub returns-in_err-owner-clause-fault : goal.returns-in_err-owner-clause-fault
+returns-in_err-owner-clause-fault c =
+    let told = told_in keys.Account (table_view c.args.file.table.now) c.deref-entry-items.result.now c.in_ok-entries.entries.items c.loop-entry.entry-index c.entry-item.result c.in_err-owner.field-0.0 c.deref-entry-items.ensures.value c.in_ok-entries.ensures.value c.loop-entry-test.true c.entry-item.is c.in_err-owner.ensures.fault in
+    handed_on (table_view c.args.file.table.now) c.from_residual-in_err-owner.result c.in_err-owner.field-0.0 c.from_residual-in_err-owner.ensures.1 told
+
+pub returns-in_err-account-clause-fault : goal.returns-in_err-account-clause-fault
+returns-in_err-account-clause-fault c =
+    let told = told_in keys.Account (table_view c.args.file.table.now) c.deref-entry-items.result.now c.in_ok-entries.entries.items c.loop-entry.entry-index c.entry-item.result c.in_err-account.field-0.0 c.deref-entry-items.ensures.value c.in_ok-entries.ensures.value c.loop-entry-test.true c.entry-item.is c.in_err-account.ensures.fault in
+    handed_on (table_view c.args.file.table.now) c.from_residual-in_err-account.result c.in_err-account.field-0.0 c.from_residual-in_err-account.ensures.1 told
+
+pub returns-then-not-is_new-clause-fault : goal.returns-then-not-is_new-clause-fault
+returns-then-not-is_new-clause-fault c =
+    let there : IsSome (value_at keys.Id (table_view c.entry-item.result.table.now)) = subst (λ (value : Option Data). IsSome value) (sym c.in_ok-owner.ensures.id_spelled) refl in
+    told_in keys.Account (table_view c.args.file.table.now) c.deref-entry-items.result.now c.in_ok-entries.entries.items c.loop-entry.entry-index c.entry-item.result (Twice keys.Id) c.deref-entry-items.ensures.value c.in_ok-entries.ensures.value c.loop-entry-test.true c.entry-item.is there

@@ -3,6 +3,9 @@ use Rattle.farm_model.specs.CheckedSite.{is_sound_link, same_pair}
 use Rattle.farm_site.specs.Graph.{site_over}
 use Rattle.farm_site.specs.Spelling.{SpellsLink}
 use Rattle.farm_site.proofs.Pushing.{grown}
+use Rattle.toml.specs.View.{table_view}
+use Rattle.farm_site.specs.declared.key.Key.TheVariants as keys
+use Rattle.farm_site.proofs.Refusing.{handed_on, told_in}
 use Rattle.farm_site.proofs.Spelled.{table_all, table_more}
 use Rattle.farm_site.proofs.link.links_of.Goals as goal
 
@@ -15,3 +18,8 @@ loop-entry-preserved c = record {
 
 pub returns-clause-spelled : goal.returns-clause-spelled
 returns-clause-spelled c = table_all (SpellsLink c.args.nodes.now) _ _ c.deref-entry-items.result.now c.in_ok-entries.entries.items c.loop-entry.entry-index c.loop-entry.links.items c.deref-entry-items.ensures.value c.in_ok-entries.ensures.value c.loop-entry-test.false c.loop-entry.invariant.spelled
+
+pub returns-in_err-link-clause-fault : goal.returns-in_err-link-clause-fault
+returns-in_err-link-clause-fault c =
+    let told = told_in keys.Link (table_view c.args.file.table.now) c.deref-entry-items.result.now c.in_ok-entries.entries.items c.loop-entry.entry-index c.entry-item.result c.in_err-link.field-0.0 c.deref-entry-items.ensures.value c.in_ok-entries.ensures.value c.loop-entry-test.true c.entry-item.is c.in_err-link.ensures.fault in
+    handed_on (table_view c.args.file.table.now) c.from_residual-in_err-link.result c.in_err-link.field-0.0 c.from_residual-in_err-link.ensures.1 told

@@ -2,6 +2,9 @@ use Rattle.std.proofs.Common.{arith}
 use Rattle.farm_model.specs.CheckedSite.{is_sound_name, same_name}
 use Rattle.farm_site.specs.Spelling.{SpellsNode}
 use Rattle.farm_site.proofs.Pushing.{grown}
+use Rattle.toml.specs.View.{table_view}
+use Rattle.farm_site.specs.declared.key.Key.TheVariants as keys
+use Rattle.farm_site.proofs.Refusing.{handed_on, told_in}
 use Rattle.farm_site.proofs.Spelled.{table_all, table_more}
 use Rattle.farm_site.proofs.node.nodes_of.Goals as goal
 
@@ -14,3 +17,8 @@ loop-entry-preserved c = record {
 
 pub returns-clause-spelled : goal.returns-clause-spelled
 returns-clause-spelled c = table_all SpellsNode _ _ c.deref-entry-items.result.now c.in_ok-entries.entries.items c.loop-entry.entry-index c.loop-entry.nodes.items c.deref-entry-items.ensures.value c.in_ok-entries.ensures.value c.loop-entry-test.false c.loop-entry.invariant.spelled
+
+pub returns-in_err-node-clause-fault : goal.returns-in_err-node-clause-fault
+returns-in_err-node-clause-fault c =
+    let told = told_in keys.Node (table_view c.args.file.table.now) c.deref-entry-items.result.now c.in_ok-entries.entries.items c.loop-entry.entry-index c.entry-item.result c.in_err-node.field-0.0 c.deref-entry-items.ensures.value c.in_ok-entries.ensures.value c.loop-entry-test.true c.entry-item.is c.in_err-node.ensures.fault in
+    handed_on (table_view c.args.file.table.now) c.from_residual-in_err-node.result c.in_err-node.field-0.0 c.from_residual-in_err-node.ensures.1 told

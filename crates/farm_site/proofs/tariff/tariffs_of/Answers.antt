@@ -3,6 +3,9 @@ use Rattle.cc_rating.specs.declared.tariff.Tariff.{Tariff}
 use Rattle.cc_rating.specs.Tariffs.{fault_after, fault_of}
 use Rattle.farm_site.specs.Spelling.{SpellsTariff}
 use Rattle.farm_site.proofs.Pushing.{faultless_push}
+use Rattle.toml.specs.View.{table_view}
+use Rattle.farm_site.specs.declared.key.Key.TheVariants as keys
+use Rattle.farm_site.proofs.Refusing.{handed_on, told_in}
 use Rattle.farm_site.proofs.Spelled.{table_all, table_more}
 use Rattle.farm_site.proofs.tariff.tariffs_of.Goals as goal
 
@@ -19,3 +22,8 @@ loop-entry-preserved c =
 
 pub returns-clause-spelled : goal.returns-clause-spelled
 returns-clause-spelled c = table_all SpellsTariff _ _ c.deref-entry-items.result.now c.in_ok-entries.entries.items c.loop-entry.entry-index c.loop-entry.tariffs.items c.deref-entry-items.ensures.value c.in_ok-entries.ensures.value c.loop-entry-test.false c.loop-entry.invariant.spelled
+
+pub returns-in_err-tariff-clause-fault : goal.returns-in_err-tariff-clause-fault
+returns-in_err-tariff-clause-fault c =
+    let told = told_in keys.Tariff (table_view c.args.file.table.now) c.deref-entry-items.result.now c.in_ok-entries.entries.items c.loop-entry.entry-index c.entry-item.result c.in_err-tariff.field-0.0 c.deref-entry-items.ensures.value c.in_ok-entries.ensures.value c.loop-entry-test.true c.entry-item.is c.in_err-tariff.ensures.fault in
+    handed_on (table_view c.args.file.table.now) c.from_residual-in_err-tariff.result c.in_err-tariff.field-0.0 c.from_residual-in_err-tariff.ensures.1 told

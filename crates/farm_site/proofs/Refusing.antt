@@ -1,0 +1,140 @@
+-- Why nothing is read: of a key, of an entry, of a text.
+use Rattle.std.proofs.Common.{◌≡◌, ℕ, zero, suc, ◌<◌, Bool, true, false, ◌&&◌, List, [], ◌∷◌, length, map, get_or, Option, Some, None, Result, Ok, Err, ℤ, refl, sym, subst, ap, ◌∙◌, inr, arith}
+use Rattle.std.specs.Prelude.{IfErr, IsErrAnd, IsSome, is_some, option_map}
+use Rattle.std.specs.List.{Contains, list_any}
+use Rattle.std.proofs.lemmas.Bool.{lt-ltb}
+use Rattle.std.proofs.lemmas.List.{get_or-map, length-map}
+use Rattle.std.proofs.lemmas.List.Elements.{Contains-get_or}
+use Rattle.toml.specs.Data.{Data, Items, Members, array, integer, as_array, as_integer}
+use Rattle.toml.specs.Parse.{parse_document}
+use Rattle.toml.specs.View.{items_of, items_view, table_view, view}
+use Rattle.toml.specs.declared.value.Value.{Value}
+use Rattle.cc_rating.specs.Tariffs.{rates}
+use Rattle.cc_rating.specs.declared.tariff.Tariff.{Tariff}
+use Rattle.farm_model.specs.declared.site.Site.{Site}
+use Rattle.farm_site.specs.declared.entry.Entry.{Entry}
+use Rattle.farm_site.specs.declared.fault.SiteFault.{SiteFault}
+use Rattle.farm_site.specs.declared.fault.SiteFault.TheVariants.{NotToml, Missing, WrongType, OutOfRange, Twice, UnknownName, BadIdentity, TooMany, BadLink, OutOfMemory}
+use Rattle.farm_site.specs.declared.key.Key.{Key}
+use Rattle.farm_site.specs.Faults.{AreWhyOctets, Form, IsFaultIn, IsFaultOf, IsWhyText, of_entry, of_file, all_in, all_items, form_of, has_more_than, has_type, is_in_range, items_len, on_integer}
+use Rattle.farm_site.specs.Spelling.{number, tables, tables_of, value_at, value_or}
+
+and_false : (a b : Bool) → b ≡ false → (a && b) ≡ false
+and_false true b e = e
+and_false false b e = refl
+
+-- one that does not pass
+one_fails : (test : Data → Bool) (values : List Data) (i : ℕ) (d : Data) → i < length values → test (get_or values i d) ≡ false → all_items test (items_of values) ≡ false
+one_fails test [] i d h e = absurd (omega arith)
+one_fails test (x ∷ xs) zero d h e = ap (λ (b : Bool). b && all_items test (items_of xs)) e
+one_fails test (x ∷ xs) (suc i) d h e = and_false (test x) (all_items test (items_of xs)) (one_fails test xs i d (omega arith) e)
+
+pub value_fails : (test : Data → Bool) (values : List Value) (i : ℕ) (value : Value) → i < length values → value ≡ get_or values i value → test (view value) ≡ false → all_items test (items_view values) ≡ false
+value_fails test values i value h is e =
+    let there : get_or (map view values) i (view value) ≡ view value = get_or-map view values i value (view value) h ∙ ap view (sym is) in
+    let len : length (map view values) ≡ length values = simp length-map in
+    one_fails test (map view values) i (view value) (omega arith) (ap test there ∙ e)
+
+items_len-of : (values : List Data) → items_len (items_of values) ≡ length values
+items_len-of [] = refl
+items_len-of (x ∷ xs) = ap suc (items_len-of xs)
+
+pub has_more : (most : ℕ) (values : List Value) → most < length values → has_more_than most (Some (items_view values)) ≡ true
+has_more most values h =
+    let len : items_len (items_view values) ≡ length values = items_len-of (map view values) ∙ simp length-map in
+    lt-ltb most (items_len (items_view values)) (omega arith)
+
+-- so no item of another type is in an array of the form that a key wants
+pub array_fails : (test : Data → Bool) (value : Data) (items : Items) → value ≡ array items → all_items test items ≡ false → all_in test (as_array value) ≡ false
+array_fails test value items is e = subst (λ (d : Data). all_in test (as_array d) ≡ false) (sym is) e
+
+-- one of the integers is not within the range
+pub integer_fails : (test : ℤ → Bool) (values : List Value) (integers : List ℤ) (i : ℕ) (d : ℤ) → map view values ≡ map integer integers → i < length integers → test (get_or integers i d) ≡ false → all_items (λ value. on_integer test (as_integer value)) (items_view values) ≡ false
+integer_fails test values integers i d same h e =
+    let there : get_or (map integer integers) i (integer d) ≡ integer (get_or integers i d) = get_or-map integer integers i d (integer d) h in
+    let len : length (map integer integers) ≡ length integers = simp length-map in
+    subst (λ (ds : List Data). all_items (λ value. on_integer test (as_integer value)) (items_of ds) ≡ false) (sym same)
+    (one_fails (λ value. on_integer test (as_integer value)) (map integer integers) i (integer d) (omega arith) (ap (λ (d : Data). on_integer test (as_integer d)) there ∙ e))
+
+-- what stands at the key is of another type
+pub wrong_type : (entry : Members) (key : Key) (form : Form) (value : Data) (fault : SiteFault) → form_of key ≡ form → value_at key entry ≡ Some value → has_type form value ≡ false → fault ≡ WrongType key → IsFaultOf entry fault
+wrong_type entry key form value fault wants at h is =
+    subst (λ (f : SiteFault). IsFaultOf entry f) (sym is) (value, at, ap (λ (f : Form). has_type f value) wants ∙ h)
+
+pub out_of_range : (entry : Members) (key : Key) (form : Form) (value : Data) (fault : SiteFault) → form_of key ≡ form → value_at key entry ≡ Some value → is_in_range form value ≡ false → fault ≡ OutOfRange key → IsFaultOf entry fault
+out_of_range entry key form value fault wants at h is =
+    subst (λ (f : SiteFault). IsFaultOf entry f) (sym is) (value, at, ap (λ (f : Form). is_in_range f value) wants ∙ h)
+
+-- ---- tariffs
+
+nothing_rated : (before : List Tariff) → list_any (rates None None) before ≡ false
+nothing_rated [] = refl
+nothing_rated (tariff ∷ before) = nothing_rated before
+
+-- what is rated already stands in the entry
+pub group_rated : (group : Option ℕ) (before : List Tariff) → list_any (rates group None) before ≡ true → is_some group ≡ true
+group_rated None before e = absurd (let none = nothing_rated before in cc)
+group_rated (Some group) before e = refl
+
+pub ident_rated : (ident : Option ℕ) (before : List Tariff) → list_any (rates None ident) before ≡ true → is_some ident ≡ true
+ident_rated None before e = absurd (let none = nothing_rated before in cc)
+ident_rated (Some ident) before e = refl
+
+pub number_stands : (value : Option Data) (read : Option ℕ) → value ≡ option_map number read → is_some read ≡ true → IsSome value
+number_stands value None is some = absurd cc
+number_stands value (Some n) is some = subst (λ (v : Option Data). IsSome v) (sym is) refl
+
+-- ---- entries, and the file
+
+-- a fault of an entry of a table
+pub told_in : (key : Key) (file : Members) (seen entries : List Entry) (i : ℕ) (entry : Entry) (fault : SiteFault) → seen ≡ entries → value_or (tables []) key file ≡ tables (tables_of entries) → i < length seen → entry ≡ get_or seen i entry → IsFaultOf (table_view entry.table.now) fault → IsFaultIn file fault
+told_in key file seen entries i entry fault same stand h is told =
+    let here : i < length entries = subst (λ (es : List Entry). i < length es) same h in
+    let len : length (tables_of entries) ≡ length entries = simp length-map in
+    let found : get_or (tables_of entries) i (table_view entry.table.now) ≡ table_view entry.table.now =
+    get_or-map (λ (e : Entry). table_view e.table.now) entries i entry (table_view entry.table.now) here ∙ ap (λ (e : Entry). table_view e.table.now) (sym (is ∙ ap (λ (es : List Entry). get_or es i entry) same)) in
+    let among : Contains (tables_of entries) (table_view entry.table.now) = subst (λ (m : Members). Contains (tables_of entries) m) found (Contains-get_or (tables_of entries) i (table_view entry.table.now) (omega arith)) in
+    of_entry key (tables_of entries) (table_view entry.table.now) stand among told
+
+-- the same, as `?` hands it on
+pub handed_on : {A : Type 0} (file : Members) (result : Result A SiteFault) (fault : SiteFault) → IsErrAnd result (λ given. given ≡ fault) → IsFaultIn file fault → IfErr result (IsFaultIn file)
+handed_on file (Ok x) fault is told = tt
+handed_on file (Err given) fault is told = subst (λ (f : SiteFault). IsFaultIn file f) (sym is) told
+
+-- ---- texts
+
+never_told : (file : Members) → IsFaultIn file NotToml → ⊥
+never_told file (of_file told) = told
+never_told file (of_entry key entries entry stand among told) = told
+
+told_of_text : (text : List ℕ) (file : Members) (fault : SiteFault) → parse_document text ≡ Some file → IsFaultIn file fault → IsWhyText text fault
+told_of_text text file NotToml at told = absurd (never_told file told)
+told_of_text text file (Missing key) at told = (file, at, told)
+told_of_text text file (WrongType key) at told = (file, at, told)
+told_of_text text file (OutOfRange key) at told = (file, at, told)
+told_of_text text file (Twice key) at told = (file, at, told)
+told_of_text text file (UnknownName key) at told = (file, at, told)
+told_of_text text file (BadIdentity key) at told = (file, at, told)
+told_of_text text file (TooMany key) at told = (file, at, told)
+told_of_text text file BadLink at told = (file, at, told)
+told_of_text text file OutOfMemory at told = tt
+
+pub why_text : (text : List ℕ) (file : Members) (result : Result Site SiteFault) → parse_document text ≡ Some file → IfErr result (IsFaultIn file) → IfErr result (IsWhyText text)
+why_text text file (Ok site) at told = tt
+why_text text file (Err fault) at told = told_of_text text file fault at told
+
+told_of_octets : (octets : List ℕ) (fault : SiteFault) → IsWhyText octets fault → AreWhyOctets octets fault
+told_of_octets octets NotToml told = inr told
+told_of_octets octets (Missing key) told = told
+told_of_octets octets (WrongType key) told = told
+told_of_octets octets (OutOfRange key) told = told
+told_of_octets octets (Twice key) told = told
+told_of_octets octets (UnknownName key) told = told
+told_of_octets octets (BadIdentity key) told = told
+told_of_octets octets (TooMany key) told = told
+told_of_octets octets BadLink told = told
+told_of_octets octets OutOfMemory told = tt
+
+pub why_octets : (octets text : List ℕ) (result : Result Site SiteFault) → text ≡ octets → IfErr result (IsWhyText text) → IfErr result (AreWhyOctets octets)
+why_octets octets text (Ok site) same told = tt
+why_octets octets text (Err fault) same told = told_of_octets octets fault (subst (λ (xs : List ℕ). IsWhyText xs fault) same told)
