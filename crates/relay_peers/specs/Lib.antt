@@ -1,1 +1,2 @@
+pub mod PeerExample
 pub mod PeerTable

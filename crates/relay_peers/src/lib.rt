@@ -4,7 +4,8 @@
 //! - [`Peers`]: the linked peers, found by number and by identity, and a map from those that are up to their
 //!   connections. A peer has one connection at most, and a connection one peer.
 //! - [`LinkedPeer`], [`Link`], [`UpFault`]: what it holds, and why a peer does not come up.
-//! - [`each_finds_the_other`], [`conns_after_up`], [`conns_after_down`]: laws, functions without a body.
+//! - [`each_finds_the_other`], [`conns_after_up`], [`conns_after_down`]: laws, functions without a body;
+//!   [`which_peer_is_found`], [`which_peers_are_up`]: worked examples, likewise.
 //!
 //! What contracts see of the table stands in `specs/PeerTable`.
 //!
@@ -27,8 +28,7 @@
 mod laws;
 mod peers;
 
-pub use laws::{conns_after_down, conns_after_up, each_finds_the_other};
+pub use laws::{
+    conns_after_down, conns_after_up, each_finds_the_other, which_peer_is_found, which_peers_are_up,
+};
 pub use peers::{Link, LinkedPeer, Peers, UpFault};
-
-#[cfg(test)]
-mod tests;

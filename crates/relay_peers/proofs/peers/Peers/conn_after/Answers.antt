@@ -1,6 +1,6 @@
 use Rattle.std.proofs.Common.{rules, ◌≡◌, ◌==◌, ◌∙◌, true, false, cond, Bool, Some, None, ap, sym, Option}
 use Rattle.dia_base.specs.declared.number.ConnId.{ConnId}
-use Rattle.relay_peers.specs.PeerTable.{conn_in, without_conn, but_for}
+use Rattle.relay_peers.specs.PeerTable.{conn_in, but_for}
 use Rattle.relay_peers.proofs.Links.{conn_in-without}
 use Rattle.relay_peers.proofs.peers.Peers.conn_after.Goals as goal
 
