@@ -1,1 +1,2 @@
+pub mod RouteExample
 pub mod Routing

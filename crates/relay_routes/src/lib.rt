@@ -4,7 +4,8 @@
 //! - [`Routes`], [`Route`]: which peers a request of a realm and an application may be sent to;
 //!   [`RouteFault`]: why there are none.
 //! - [`loop_check`]: whether a request was at a node before, and the Route-Record that a relay appends.
-//! - [`what_loops`], [`same_loop`], [`what_candidates_are`] and others: laws, functions without a body.
+//! - [`what_loops`], [`same_loop`], [`what_candidates_are`] and others: laws, functions without a body;
+//!   [`which_candidates_a_relay_has`], [`which_records_name_a_node`]: worked examples, likewise.
 //!
 //! What a loop is, and what the candidates are, stands in `specs/Routing`.
 //!
@@ -25,8 +26,8 @@ mod laws;
 pub mod loop_check;
 mod routes;
 
-pub use laws::{added_record_names, names_with_more, same_loop, what_candidates_are, what_loops};
+pub use laws::{
+    added_record_names, names_with_more, same_loop, what_candidates_are, what_loops,
+    which_candidates_a_relay_has, which_records_name_a_node,
+};
 pub use routes::{Route, RouteFault, Routes};
-
-#[cfg(test)]
-mod tests;
