@@ -1,5 +1,7 @@
 //! The program over streams and texts: what no clause says.
 
+mod nodes;
+
 use crate::command::Action;
 use crate::replay::{ReplayFault, replay_io, replay_text};
 use dia_avp::PlainWire;
