@@ -16,6 +16,7 @@ use Rattle.cc_view.specs.Refusal.{refusal_with}
 use Rattle.cc_view.specs.RequestView.{view_of}
 use Rattle.cc_book.specs.declared.entry.Entry.{Entry}
 use Rattle.cc_book.specs.declared.entry.Entry.TheVariants.{Take, Sweep}
+use Rattle.cc_book.specs.declared.terms.Terms.{Terms}
 use Rattle.cc_book.specs.AccountMachine.{reply_to}
 use Rattle.cc_book.specs.Duplicate.{key_of, same_key}
 use Rattle.cc_book.specs.History.{IsLegal}
@@ -34,7 +35,7 @@ use Rattle.farm_model.specs.declared.step.Step.TheVariants.{Charge, Deliver}
 use Rattle.farm_model.specs.Cause.{HasCause}
 use Rattle.farm_model.specs.FarmStep.{flight_at}
 use Rattle.farm_model.specs.Nodes.{is_node, is_client, is_relay}
-use Rattle.farm_model.specs.Run.{Past, Transition, IsTrace, steps_in, empty_book, front_site}
+use Rattle.farm_model.specs.Run.{Past, Transition, IsTrace, steps_in, front_site}
 use Rattle.farm_model.specs.World.{Ends, is_outward, with_message_from}
 
 -- What all states of a run share, and what grows alone as it goes on: the transitions so far, the connections
@@ -187,6 +188,12 @@ pub record HasComeBack (name : List ℕ) (message : Message) : Type 0 where
 abbrev pub RefusesWhatComesBack : Site → Transition → Type 0
 RefusesWhatComesBack site t = RefusesAsLoop HasComeBack site t
 
+-- ---- what the book is opened with
+
+-- the site's accounts with their opening amounts, its prices, its validity and its money
+abbrev pub terms_of : Site → Terms
+terms_of site = record { accounts = site.accounts; tariffs = site.tariffs; validity = site.validity; money = record { currency = site.currency; exponent = site.exponent } }
+
 -- ---- the whole
 
 -- What is promised of the trace of a run with these transitions. Balances, reservations and open sessions are those
@@ -200,7 +207,7 @@ pub record KeepsPromise (site : Site) (past : Past) (trace : Trace) : Type 0 whe
   pub limit : trace.book.limit ≡ site.limit
   pub within : length trace.book.history ≤ site.limit
   pub taken : All (IsOfRun site past trace.sent) trace.book.history
-  pub terms : trace.book.terms ≡ (empty_book site).terms
+  pub terms : trace.book.terms ≡ terms_of site
   pub loops : All (RefusesLoop site) past
   pub come_back : All (RefusesWhatComesBack site) past
 
