@@ -1,3 +1,4 @@
 pub mod Laws
 pub mod Rating
+pub mod TariffExample
 pub mod Tariffs

@@ -6,7 +6,9 @@
 //! - [`Tariffs`]: the tariffs of a site, each in its ranges, no two for the same services.
 //!
 //! What units cost and what is granted stands in `specs/Rating`, which tariffs have a fault in
-//! `specs/Tariffs`, and what the laws speak of in `specs/Laws`. Amounts are whole minor units of money.
+//! `specs/Tariffs`, and what the laws speak of in `specs/Laws`. Amounts are whole minor units of money. Worked examples
+//! are laws too: [`what_units_cost`], [`what_a_grant_holds`], [`which_tariffs_are_refused`] and
+//! [`which_tariff_rates_a_service`].
 //!
 //! ```text
 //! let tariff = Tariff {
@@ -27,10 +29,8 @@ mod tariffs;
 
 pub use laws::{
     cost_is_of_fewest_blocks, grants_are_free, grants_are_the_most_that_is_free,
-    last_grants_are_cut_down, what_tariffs_are,
+    last_grants_are_cut_down, what_a_grant_holds, what_tariffs_are, what_units_cost,
+    which_tariff_rates_a_service, which_tariffs_are_refused,
 };
 pub use tariff::{BLOCK_LIMIT, Grant, PRICE_LIMIT, SECONDS_LIMIT, Tariff, UNITS_LIMIT, UnitKind};
 pub use tariffs::{TariffFault, Tariffs};
-
-#[cfg(test)]
-mod tests;
