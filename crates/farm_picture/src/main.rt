@@ -2,9 +2,11 @@
 //! or over the site of a file with `--site FILE`, and writes an SVG.
 #![tactic(auto)]
 
-ghost use Rattle.std.specs.Prelude.{◌≢◌, IfErr};
+ghost use Rattle.std.specs.Prelude.{◌≢◌, IfErr, IfOk, OnOk};
 ghost use Rattle.std.specs.Io.KnownBytes.{Keeps};
 ghost use Rattle.farm_model.specs.CheckedSite.{IsChecked};
+ghost use Rattle.farm_model.specs.RowSite.{the_row_site};
+ghost use Rattle.farm_picture.specs.Painting.{IsSchedule, GivesSchedule, GivesScheduleOfFile};
 
 mod accounts;
 mod drawing;
@@ -39,6 +41,7 @@ const _: () = prove!(SITE_LIMIT == SCHEDULE_LIMIT);
 /// The picture of a schedule's run over the site, from an empty history.
 fn picture_of(alloc: Global, site: &Site, text: &[u8]) -> Result<String, PictureFault>
     requires { IsChecked site.now }
+    ensures { IfOk result (λ _. IsSchedule site.now text.now) }
 {
     let steps = steps_of(alloc, text, site).map_err(|fault| PictureFault::Script(fault))?;
     let timeline = timeline_of::<PlainWire>(alloc, site, &steps)?;
@@ -54,6 +57,7 @@ fn paint<R: Read, W: Write>(
     writer: &mut W,
 ) -> Result<(), PictureFault>
     requires { IsChecked site.now }
+    ensures ok { OnOk result (GivesSchedule site.now (R.remaining reader.old)) }
 
     // Nothing is written before all is drawn.
     ensures nothing { IfErr result (λ fault. fault ≢ PictureFault.Write → Keeps (W.contents writer.old) (W.contents writer.new)) }
@@ -69,6 +73,7 @@ fn paint_row_site<R: Read, W: Write>(
     reader: &mut R,
     writer: &mut W,
 ) -> Result<(), PictureFault>
+    ensures ok { OnOk result (GivesSchedule the_row_site (R.remaining reader.old)) }
     ensures nothing { IfErr result (λ fault. fault ≢ PictureFault.Write → Keeps (W.contents writer.old) (W.contents writer.new)) }
 {
     let site = row_site(alloc)?;
@@ -82,6 +87,7 @@ fn paint_site_file<R: Read, W: Write>(
     reader: &mut R,
     writer: &mut W,
 ) -> Result<(), PictureFault>
+    ensures ok { OnOk result (GivesScheduleOfFile file.now (R.remaining reader.old)) }
     ensures nothing { IfErr result (λ fault. fault ≢ PictureFault.Write → Keeps (W.contents writer.old) (W.contents writer.new)) }
 {
     match site_of_octets(alloc, file) {

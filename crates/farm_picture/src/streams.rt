@@ -1,6 +1,7 @@
 //! A text from a reader, and to a writer.
 
-ghost use Rattle.std.specs.Prelude.{◌≡◌, ◌≤◌, IfOk, IsOkUnless, length};
+ghost use Rattle.std.specs.Prelude.{◌≡◌, IfOk, IfSome, IsOkUnless, OnOk, take};
+ghost use Rattle.std.specs.Io.KnownBytes.{Appends};
 ghost use Rattle.farm_picture.specs.declared.streams.PictureFault.TheVariants.{OutOfMemory};
 
 use dia_base::SCHEDULE_LIMIT;
@@ -38,9 +39,11 @@ impl From<AllocError> for PictureFault {
 }
 
 /// All that the reader gives, up to one octet above the size limit of a schedule.
-pub fn read_text<R: Read>(alloc: Global, reader: &mut R) -> Result<Vec<u8>, PictureFault> {
+pub fn read_text<R: Read>(alloc: Global, reader: &mut R) -> Result<Vec<u8>, PictureFault>
+    ensures { IfOk result (λ text. IfSome (R.remaining reader.old) (λ octets. text.items ≡ take 16777217 octets)) }
+{
     let mut text = Vec::new(alloc);
-    let mut limited = reader.by_ref().take(SCHEDULE_LIMIT as u64 + 1);
+    let mut limited = reader.take(SCHEDULE_LIMIT as u64 + 1);
     match limited.read_to_end(&mut text) {
         Ok(_) => Ok(text),
         Err(error) if error.kind() == ErrorKind::OutOfMemory => Err(PictureFault::OutOfMemory),
@@ -50,7 +53,8 @@ pub fn read_text<R: Read>(alloc: Global, reader: &mut R) -> Result<Vec<u8>, Pict
 
 /// Writes all of the text.
 pub fn write_text<W: Write>(writer: &mut W, text: &[u8]) -> Result<(), PictureFault>
-    ensures { IsOkUnless result PictureFault.Write }
+    ensures ok { OnOk result (Appends (W.contents writer.old) (W.contents writer.new) text.now) }
+    ensures fault { IsOkUnless result PictureFault.Write }
 {
     if writer.write_all(text).is_ok() && writer.flush().is_ok() {
         Ok(())
