@@ -1,8 +1,8 @@
 -- A schedule that is read up to one octet above its size limit has the steps, or the fault, of the whole.
-use Rattle.std.proofs.Common.{◌≡◌, ℕ, ◌+◌, ◌<◌, ◌≤◌, Bool, true, false, cond, ltb, List, length, take, Option, Some, None, Result, Ok, Err, refl, sym, subst, ap, ◌∙◌, arith, length-take}
+use Rattle.std.proofs.Common.{◌≡◌, ℕ, ◌+◌, ◌<◌, ◌≤◌, Bool, true, false, cond, ltb, List, length, take, Option, Some, None, Result, Ok, Err, refl, sym, subst, ap, ◌∙◌, inl, inr, arith, length-take}
 use Rattle.std.specs.Prelude.{IfSome}
 use Rattle.std.specs.Str.Lines.{lines}
-use Rattle.std.proofs.lemmas.Bool.{ltb-true, ltb-false, lt-ltb}
+use Rattle.std.proofs.lemmas.Bool.{cases_Bool, ltb-true, ltb-false, lt-ltb}
 use Rattle.std.proofs.lemmas.List.{take_all}
 use Rattle.farm_script.specs.declared.fault.LineFault.TheVariants.{UnknownWord, WrongCount, UnknownName, BadNumber, BadHex, BadMessage, TooManySteps, OutOfMemory}
 use Rattle.farm_script.specs.declared.fault.ScriptFault.{ScriptFault}
@@ -34,17 +34,28 @@ IsCut site text octets = steps_of site text ≡ steps_of site octets
 pub steps_of-cut : (site : Site) (octets : List ℕ) → IsCut site (take 16777217 octets) octets
 steps_of-cut site octets = chosen 16777216 (λ text. all_of (readings_from site 0 1 (lines text))) octets (ltb 16777216 (length octets)) refl
 
+-- where no line has a fault yet, the text is not too long
+not_long : (site : Site) (octets : List ℕ) (number : ℕ) → NoneBefore number (steps_of site octets) → length octets ≤ 16777216
+not_long site octets number before = elim (cases_Bool (ltb 16777216 (length octets))) [
+  | inl long ↦ absurd (subst (λ (b : Bool). NoneBefore number (cond b (Err TooLong) (all_of (readings_from site 0 1 (lines octets))))) long before)
+  | inr short ↦ ltb-false 16777216 (length octets) short
+]
+
 -- the fault of what was read is that of the whole
-refused_for : (site : Site) (text octets : List ℕ) (fault : ScriptFault) → IsCut site text octets → IsRefused site text fault → IsRefused site octets fault
-refused_for site text octets (Line number OutOfMemory) same e = subst (λ (r : Answer). NoneBefore number r) same e
-refused_for site text octets (Line number UnknownWord) same e = sym same ∙ e
-refused_for site text octets (Line number WrongCount) same e = sym same ∙ e
-refused_for site text octets (Line number UnknownName) same e = sym same ∙ e
-refused_for site text octets (Line number BadNumber) same e = sym same ∙ e
-refused_for site text octets (Line number BadHex) same e = sym same ∙ e
-refused_for site text octets (Line number BadMessage) same e = sym same ∙ e
-refused_for site text octets (Line number TooManySteps) same e = sym same ∙ e
-refused_for site text octets TooLong same e = sym same ∙ e
+refused_for : (site : Site) (text octets : List ℕ) (fault : ScriptFault) → text ≡ take 16777217 octets → IsCut site text octets → IsRefused site text fault → IsRefused site octets fault
+refused_for site text octets (Line number OutOfMemory) read same e =
+    let before : NoneBefore number (steps_of site octets) = subst (λ (r : Answer). NoneBefore number r) same e.0 in
+    let short : length octets ≤ 16777216 = not_long site octets number before in
+    let all : text ≡ octets = read ∙ take_all 16777217 octets (omega arith) in
+    (before, e.1, subst (λ (xs : List ℕ). number ≤ length (lines xs)) all e.2)
+refused_for site text octets (Line number UnknownWord) read same e = sym same ∙ e
+refused_for site text octets (Line number WrongCount) read same e = sym same ∙ e
+refused_for site text octets (Line number UnknownName) read same e = sym same ∙ e
+refused_for site text octets (Line number BadNumber) read same e = sym same ∙ e
+refused_for site text octets (Line number BadHex) read same e = sym same ∙ e
+refused_for site text octets (Line number BadMessage) read same e = sym same ∙ e
+refused_for site text octets (Line number TooManySteps) read same e = sym same ∙ e
+refused_for site text octets TooLong read same e = sym same ∙ e
 
 -- what is read of a stream
 abbrev pub IsRead : Option (List ℕ) → List ℕ → Type 0
@@ -52,7 +63,7 @@ IsRead stream text = IfSome stream (λ octets. text ≡ take 16777217 octets)
 
 pub stream_refused : (site : Site) (stream : Option (List ℕ)) (text given : List ℕ) (fault : ScriptFault) → IsRead stream text → given ≡ text → IsRefused site given fault → IfSome stream (λ octets. IsRefused site octets fault)
 stream_refused site None text given fault read same e = tt
-stream_refused site (Some octets) text given fault read same e = refused_for site given octets fault (ap (steps_of site) (same ∙ read) ∙ steps_of-cut site octets) e
+stream_refused site (Some octets) text given fault read same e = refused_for site given octets fault (same ∙ read) (ap (steps_of site) (same ∙ read) ∙ steps_of-cut site octets) e
 
 -- what is printed for what is read
 pub stream_replays : (action : Action) (site : Site) (stream : Option (List ℕ)) (text given out : List ℕ) (P : List ℕ → Type 0) → IsRead stream text → given ≡ text → Replays action site given out → P out → IfSome stream (λ octets. (printed : List ℕ) × Replays action site octets printed × P printed)

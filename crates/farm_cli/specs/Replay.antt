@@ -1,6 +1,7 @@
 -- What comes of a schedule that is read from a stream.
-use Rattle.std.specs.Prelude.{◌≡◌, ℕ, List, length, take, IfSome, Option, Result, Ok, Err}
+use Rattle.std.specs.Prelude.{◌≡◌, ◌≤◌, ℕ, List, length, take, IfSome, Option, Result, Ok, Err}
 use Rattle.std.specs.Io.KnownBytes.{Consumes}
+use Rattle.std.specs.Str.Lines.{lines}
 use Rattle.farm_cli.specs.declared.replay.ReplayFault.{ReplayFault}
 use Rattle.farm_cli.specs.declared.replay.ReplayFault.TheVariants.{Read, Write, Script, OutOfMemory}
 use Rattle.farm_script.specs.declared.fault.ScriptFault.{ScriptFault}
@@ -22,9 +23,9 @@ pub record Replays (action : Action) (site : Site) (octets printed : List ℕ) :
   pub promised : IsPromised site steps trace
   pub output : printed ≡ output_of action site (length steps) trace
 
--- the octets are no schedule, by this fault; or memory ran out at a line before which none has a fault
+-- the octets are no schedule, by this fault; or memory ran out at one of their lines, before which none has a fault
 abbrev pub IsRefused : Site → List ℕ → ScriptFault → Type 0
-IsRefused site octets (Line number no_memory) = NoneBefore number (steps_of site octets)
+IsRefused site octets (Line number no_memory) = NoneBefore number (steps_of site octets) × (1 ≤ number) × (number ≤ length (lines octets))
 IsRefused site octets fault = steps_of site octets ≡ Err fault
 
 -- a schedule is read to its end, or up to one octet above its size limit, and nothing behind
