@@ -3,9 +3,12 @@
 ghost use Rattle.std.specs.Prelude.{◌≡◌, ◌≤◌, ◌++◌, ◌∷◌, ◌↔◌, ℕ, List, [], None, Some, false, map, count_by, All};
 ghost use Rattle.std.specs.List.{list_any};
 ghost use Rattle.dia_avp.specs.declared.avp.RawAvp.{RawAvp};
+ghost use Rattle.dia_avp.specs.AvpList.{raw_avp};
 ghost use Rattle.dia_grammar.specs.declared.fault.GrammarFault.{GrammarFault};
-ghost use Rattle.dia_grammar.specs.Grammar.{grammar_fault, is_among, is_event_type, is_of, is_unknown_mandatory, second_of, single_codes};
+ghost use Rattle.dia_grammar.specs.declared.fault.GrammarFault.TheVariants.{FirstNotSessionId, Missing, Twice, UnknownM};
+ghost use Rattle.dia_grammar.specs.Grammar.{grammar_fault, is_among, is_event_type, is_of, is_unknown_mandatory, missing_of, second_of, single_codes, unknown_of};
 ghost use Rattle.dia_grammar.specs.Request.{IsFaultOf, IsRequest, IsSecondAt, route_record, shape_of};
+ghost use Rattle.dia_grammar.specs.RequestExample.{action, avp, context, destination, event, fault_behind, group, host, initial, number, realm, session, short_event, vendor_avp, written_group};
 
 /// AVPs have no fault exactly where they begin with a Session-Id, each of them that has the flag M is
 /// known, none of the single ones stands there twice, each required one is there, and an event has a
@@ -41,4 +44,41 @@ pub fn route_record_may_follow()
 /// Of values only that of CC-Request-Type counts, and of that only whether it is EVENT_REQUEST.
 pub fn values_do_not_count()
     ensures { (vendors : List ℕ) (avps others : List RawAvp) → map shape_of avps ≡ map shape_of others → list_any is_event_type avps ≡ list_any is_event_type others → grammar_fault vendors avps ≡ grammar_fault vendors others }
+{}
+
+/// Worked examples: what may stand behind the seven AVPs that a request begins with here. AVPs of a listed vendor and of
+/// the codes 1 to 461 are known; those of a vendor are no second ones.
+pub fn which_requests_are_whole()
+    ensures kinds { map fault_behind ((initial ∷ []) ∷ (event ∷ action ∷ []) ∷ (action ∷ event ∷ []) ∷ (short_event ∷ []) ∷ []) ≡ None ∷ None ∷ None ∷ None ∷ [] }
+    ensures others { map fault_behind ((initial ∷ vendor_avp 10415 264 ∷ []) ∷ (initial ∷ avp 2 [] ∷ avp 1 [] ∷ []) ∷ []) ≡ None ∷ None ∷ [] }
+{}
+
+/// Worked examples: what is wrong with AVPs behind those seven. Places count from 0.
+pub fn which_fault_a_request_has()
+    ensures missing { map fault_behind ([] ∷ (event ∷ []) ∷ (vendor_avp 10415 416 ∷ []) ∷ []) ≡ Some (Missing 416) ∷ Some (Missing 436) ∷ Some (Missing 416) ∷ [] }
+    ensures unknown { map fault_behind ((initial ∷ avp 0 [] ∷ []) ∷ (initial ∷ vendor_avp 10415 900 ∷ avp 462 [] ∷ []) ∷ [])
+        ≡ Some (UnknownM 8) ∷ Some (UnknownM 9) ∷ [] }
+    // An AVP with every flag but M is not refused; one of a vendor that is not listed is, whatever its code.
+    ensures vendor { fault_behind (initial ∷ raw_avp 462 191 0 [] ∷ vendor_avp 10416 263 ∷ []) ≡ Some (UnknownM 9) }
+    // A second one is refused before what is missing, and behind what is unknown.
+    ensures second { map fault_behind ((realm ∷ host ∷ []) ∷ (host ∷ avp 462 [] ∷ []) ∷ []) ≡ Some (Twice 7) ∷ Some (UnknownM 8) ∷ [] }
+    // Subscription-Id may stand there twice, Service-Identifier and Requested-Action may not.
+    ensures single { map fault_behind ((initial ∷ avp 443 [] ∷ avp 443 [] ∷ raw_avp 439 0 0 [] ∷ raw_avp 439 0 0 [] ∷ []) ∷ (initial ∷ action ∷ action ∷ []) ∷ [])
+        ≡ Some (Twice 11) ∷ Some (Twice 9) ∷ [] }
+{}
+
+/// Worked examples: what is wrong with AVPs that do not begin as a request does, where no vendor is listed.
+pub fn which_fault_a_beginning_has()
+    ensures session { map (grammar_fault []) ([] ∷ (vendor_avp 10415 263 ∷ host ∷ []) ∷ (avp 462 [] ∷ session ∷ []) ∷ (session ∷ session ∷ []) ∷ [])
+        ≡ Some (Missing 263) ∷ Some (Missing 263) ∷ Some FirstNotSessionId ∷ Some (Twice 1) ∷ [] }
+    ensures required { map (grammar_fault []) ((session ∷ number ∷ context ∷ host ∷ []) ∷ (session ∷ event ∷ host ∷ realm ∷ destination ∷ []) ∷ [])
+        ≡ Some (Missing 296) ∷ Some (Missing 258) ∷ [] }
+{}
+
+/// Worked examples: what is asked of a group.
+pub fn what_a_group_lacks()
+    ensures unknown { map (λ vendors. unknown_of vendors group) ([] ∷ (10415 ∷ 7 ∷ []) ∷ []) ≡ Some 1 ∷ None ∷ [] }
+    ensures second { map (λ codes. second_of codes group) ((444 ∷ 450 ∷ []) ∷ (444 ∷ 999 ∷ []) ∷ []) ≡ Some 2 ∷ None ∷ [] }
+    ensures missing { map (λ codes. missing_of codes group) ((450 ∷ 444 ∷ 443 ∷ []) ∷ (450 ∷ []) ∷ []) ≡ Some 444 ∷ None ∷ [] }
+    ensures written { (second_of (415 ∷ 432 ∷ []) written_group ≡ Some 2) × (missing_of (415 ∷ 432 ∷ 420 ∷ []) written_group ≡ Some 420) }
 {}

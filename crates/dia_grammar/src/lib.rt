@@ -12,7 +12,9 @@
 //! decide. The functions of `laws` have no body: their contracts are laws of these definitions. They
 //! say what a request is ([`what_a_request_is`]) and what a fault is ([`what_a_fault_is`],
 //! [`what_a_second_one_is`]), and what leaves the answer as it is ([`more_may_follow`],
-//! [`route_record_may_follow`], [`values_do_not_count`]).
+//! [`route_record_may_follow`], [`values_do_not_count`]). Worked examples are laws too
+//! ([`which_requests_are_whole`], [`which_fault_a_request_has`], [`which_fault_a_beginning_has`],
+//! [`what_a_group_lacks`]).
 //!
 //! ```
 //! use dia_base::codes::{SUBSCRIPTION_ID_DATA, SUBSCRIPTION_ID_TYPE};
@@ -38,9 +40,7 @@ pub use asking::{first_missing, first_repeated, first_unknown, is_among, is_know
 pub use fault::GrammarFault;
 pub use laws::{
     more_may_follow, route_record_may_follow, values_do_not_count, what_a_fault_is,
-    what_a_request_is, what_a_second_one_is,
+    what_a_group_lacks, what_a_request_is, what_a_second_one_is, which_fault_a_beginning_has,
+    which_fault_a_request_has, which_requests_are_whole,
 };
 pub use request::check;
-
-#[cfg(test)]
-mod tests;
