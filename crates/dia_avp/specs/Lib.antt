@@ -1,2 +1,3 @@
+pub mod AvpExample
 pub mod AvpList
 pub mod AvpReading

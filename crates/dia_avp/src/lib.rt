@@ -11,7 +11,7 @@
 //! `specs/AvpList` says which octets spell which list, as a relation on whole texts: the padding of
 //! an AVP is any octets, and that of the last may be missing. Where octets spell no list, it says
 //! which is the first fault. It also says how an AVP is written. `specs/AvpReading` computes the
-//! reading as a function. Both are computed on worked examples in `proofs/Examples`.
+//! reading as a function.
 //!
 //! The functions of `laws` have no body: their contracts are laws of these definitions, for the
 //! proofs of the crates above. Octets have one reading, which is that function ([`one_reading`],
@@ -19,6 +19,9 @@
 //! [`written_list_is_read`]) and what was read can be written ([`read_is_writable`]); spellings
 //! differ in their padding alone ([`only_padding_differs`]); and more AVPs may stand behind whole
 //! ones ([`more_avps`]), or behind any with the padding that the last one may lack ([`one_avp_more`]).
+//! Worked examples are laws too ([`which_avps_octets_spell`], [`which_fault_octets_have`],
+//! [`what_avps_are_written_as`], [`what_one_avp_more_gives`], [`which_avps_are_too_long`],
+//! [`what_flags_and_lengths_say`], [`which_numbers_values_are`]).
 //!
 //! ```
 //! use dia_avp::{Octets, PlainWire, Wire, u32_of, with_avp};
@@ -48,13 +51,12 @@ pub use avp::RawAvp;
 pub use fault::AvpFault;
 pub use laws::{
     more_avps, one_answer, one_avp_more, one_list, one_reading, only_padding_differs,
-    read_is_writable, written_is_read, written_list_is_read,
+    read_is_writable, what_avps_are_written_as, what_flags_and_lengths_say,
+    what_one_avp_more_gives, which_avps_are_too_long, which_avps_octets_spell,
+    which_fault_octets_have, which_numbers_values_are, written_is_read, written_list_is_read,
 };
 pub use number::{i32_of, i64_of, u32_of, u64_of};
 pub use octets::Octets;
 pub use plain::PlainWire;
 pub use wire::{DEPTH_LIMIT, Wire};
 pub use writer::{with_avp, write_avp};
-
-#[cfg(test)]
-mod tests;

@@ -1,10 +1,13 @@
 //! Laws of identities, codes and limits. Each is the contract of a function without a body.
 
-ghost use Rattle.std.specs.Prelude.{◌≡◌, ◌↔◌, ◌∷◌, ℕ, List, [], None, IsTrue};
+ghost use Rattle.std.specs.Prelude.{◌≡◌, ◌↔◌, ◌∷◌, ℕ, List, [], Some, None, true, false, IsTrue, is_none, map, filter, replicate, codes};
+ghost use Rattle.std.specs.List.{range_with_len};
+ghost use Rattle.std.specs.declared.cmp.Ordering.TheVariants.{Less, Equal, Greater};
 ghost use Rattle.dia_base.specs.Codes.{credit_control_command, credit_control_application, auth_application_id, session_id, origin_host, result_code, product_name, failed_avp, route_record, destination_realm, proxy_info, destination_host, origin_realm, cc_request_number, cc_request_type, cc_service_specific_units, cc_session_failover, cc_time, cc_total_octets, check_balance_result, cost_information, currency_code, exponent, final_unit_indication, granted_service_unit, rating_group, requested_action, requested_service_unit, service_identifier, subscription_id, subscription_id_data, unit_value, used_service_unit, value_digits, validity_time, final_unit_action, subscription_id_type, multiple_services, service_context_id};
 ghost use Rattle.dia_base.specs.Limits.{message_limit, queue_limit, worker_limit, service_limit, history_limit, pending_limit, schedule_limit, step_limit};
-ghost use Rattle.dia_base.specs.Folding.{folded_of, same_folded};
+ghost use Rattle.dia_base.specs.Folding.{folded_of, same_folded, folded_cmp};
 ghost use Rattle.dia_base.specs.Identity.{fault_of, IsIdentity};
+ghost use Rattle.dia_base.specs.declared.identity.IdentityFault.TheVariants.{Empty, TooLong, BadOctet};
 
 use crate::codes::{
     AUTH_APPLICATION_ID, CC_REQUEST_NUMBER, CC_REQUEST_TYPE, CC_SERVICE_SPECIFIC_UNITS,
@@ -29,6 +32,25 @@ pub fn identities()
 /// Identities are equal where their octets are, each letter in lower case.
 pub fn equal_without_case()
     ensures { (a b : List ℕ) → IsTrue (same_folded a b) ↔ (folded_of a ≡ folded_of b) }
+{}
+
+/// Worked examples: which octets are an identity. Of octets that are too long nothing else is told.
+pub fn which_octets_are_identities()
+    ensures good { map fault_of (codes "a" ∷ codes "f1.example" ∷ codes "!~" ∷ replicate 255 97 ∷ []) ≡ None ∷ None ∷ None ∷ None ∷ [] }
+    ensures size { map fault_of ([] ∷ replicate 256 97 ∷ replicate 256 32 ∷ []) ≡ Some Empty ∷ Some TooLong ∷ Some TooLong ∷ [] }
+    ensures visible { filter (λ octet. is_none (fault_of (octet ∷ []))) (range_with_len 0 256) ≡ range_with_len 33 94 }
+    ensures octet { map fault_of (codes "a b" ∷ (127 ∷ 32 ∷ []) ∷ codes "c1.example\n" ∷ (195 ∷ 169 ∷ []) ∷ []) ≡ Some (BadOctet 1) ∷ Some (BadOctet 0) ∷ Some (BadOctet 10) ∷ Some (BadOctet 0) ∷ [] }
+{}
+
+/// Worked examples: which identities are equal to `C1.Example`, and which come before it or behind it.
+pub fn which_identities_are_equal()
+    ensures equal { map (same_folded (codes "C1.Example")) (codes "c1.example" ∷ codes "c1_example" ∷ codes "c1.example." ∷ codes "c1" ∷ []) ≡ true ∷ false ∷ false ∷ false ∷ [] }
+    ensures order { map (folded_cmp (codes "C1.Example")) (codes "c1.example" ∷ codes "c1_example" ∷ codes "c1.example." ∷ codes "c1" ∷ codes "B1.EXAMPLE" ∷ []) ≡ Equal ∷ Less ∷ Less ∷ Greater ∷ Greater ∷ [] }
+    // What is hashed: all that are equal have one hash.
+    ensures folded { map folded_of (codes "C1.Example" ∷ codes "c1.example" ∷ []) ≡ codes "c1.example" ∷ codes "c1.example" ∷ [] }
+    // Only letters have a case, and a letter comes behind `_`.
+    ensures letters { map folded_of (codes "@AZ[" ∷ codes "`az{" ∷ []) ≡ codes "@az[" ∷ codes "`az{" ∷ [] }
+    ensures behind { map (folded_cmp (codes "_")) (codes "A" ∷ codes "a" ∷ []) ≡ Less ∷ Less ∷ [] }
 {}
 
 /// The constants of [`crate::codes`] are the numbers that definitions name.

@@ -14,7 +14,8 @@
 //! for the crates above: how many elements pass a test, and which is the first.
 //!
 //! The functions of `laws` have no body: their contracts are laws of these definitions, for the proofs
-//! of the crates above.
+//! of the crates above. [`which_octets_are_identities`] and [`which_identities_are_equal`] are worked
+//! examples.
 //!
 //! ```
 //! use dia_base::{Identity, IdentityFault, Listing, codes::ROUTE_RECORD};
@@ -39,7 +40,10 @@ mod node;
 mod number;
 
 pub use identity::{IDENTITY_LIMIT, Identity, IdentityFault};
-pub use laws::{codes_are_defined, equal_without_case, identities, limits_are_defined};
+pub use laws::{
+    codes_are_defined, equal_without_case, identities, limits_are_defined,
+    which_identities_are_equal, which_octets_are_identities,
+};
 pub use limit::{
     HISTORY_LIMIT, MESSAGE_LIMIT, PENDING_LIMIT, QUEUE_LIMIT, SCHEDULE_LIMIT, SERVICE_LIMIT,
     STEP_LIMIT, WORKER_LIMIT,
@@ -47,6 +51,3 @@ pub use limit::{
 pub use listing::Listing;
 pub use node::NodeKind;
 pub use number::{Code, ConnId, Moment, NodeNo};
-
-#[cfg(test)]
-mod tests;

@@ -6,7 +6,7 @@ pub mod Only
 pub mod HeaderBack
 pub mod Spelled
 pub mod OneStream
-pub mod Examples
+pub mod Longest
 pub mod Same
 pub mod Pieces
 pub mod Writable

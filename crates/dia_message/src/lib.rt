@@ -10,11 +10,13 @@
 //! `specs/Header` says where the fields stand, `specs/Spelling` which octets spell which message,
 //! `specs/Stream` what the messages of a stream are, as a relation and as a function, and
 //! `specs/Feeding` what a reader of pieces answers and keeps. `specs/Traffic` is the type of messages
-//! on their way. Worked examples are computed in `proofs/Examples`.
+//! on their way.
 //!
 //! The functions of `laws` have no body: their contracts are laws of these definitions. Headers and
 //! messages are read back ([`one_header`], [`one_spelling`]), octets are one stream ([`one_stream`],
-//! [`first_message`]), and no cut into pieces matters ([`no_cut`]).
+//! [`first_message`]), and no cut into pieces matters ([`no_cut`]). Worked examples are laws too
+//! ([`what_a_header_spells`], [`which_message_octets_are`], [`what_a_stream_gives`],
+//! [`which_fault_a_stream_has`], [`which_message_is_too_long`]).
 //!
 //! ```
 //! use dia_message::{FrameFault, Frames, Out};
@@ -37,7 +39,11 @@ mod message;
 
 pub use frames::{FrameFault, Frames, whole_message};
 pub use header::{HEADER_LEN, Header, ReadHeader, read_header, write_header};
-pub use laws::{first_message, no_cut, one_header, one_spelling, one_stream};
+pub use laws::{
+    first_message, no_cut, one_header, one_spelling, one_stream, what_a_header_spells,
+    what_a_stream_gives, which_fault_a_stream_has, which_message_is_too_long,
+    which_message_octets_are,
+};
 pub use message::{Message, Out, spell_message};
 
 #[cfg(test)]
