@@ -1,7 +1,7 @@
 -- What is among the items of a list, of its parts and of its map, and of what passes a test.
 use Rattle.std.proofs.Common.{◌≡◌, ℕ, zero, suc, Bool, true, false, cond, List, [], ◌∷◌, ◌++◌, map, Some, inl, inr, refl, sym, subst, ap, ◌∙◌}
 use Rattle.std.specs.Prelude.{◌⊎◌, Contains, slice_get, filter, All, slice_set}
-use Rattle.std.proofs.lemmas.List.Elements.{Contains-append_left, Contains-append_right, Contains-push, All-cons, All-nil}
+use Rattle.std.proofs.lemmas.List.Elements.{Contains-append_left, Contains-append_right, Contains-push, All-cons, All-nil, All-contains}
 use Rattle.farm_law.specs.Lists.{Has, here, there}
 
 -- ---- in parts
@@ -76,3 +76,6 @@ Contains-has {x} (there {y} {xs} h) = Contains-append_right (y ∷ []) xs x (Con
 pub all_of : {A : Type 0} (P : A → Type 0) (xs : List A) → ((x : A) → Has x xs → P x) → All P xs
 all_of P [] f = All-nil P
 all_of P (x ∷ xs) f = All-cons P x xs (f x here) (all_of P xs (λ y h. f y (there h)))
+
+pub Has-contained : {A : Type 0} {x : A} {xs : List A} → Contains xs x → Has x xs
+Has-contained {x} {xs} c = All-contains (λ y. Has y xs) xs x (all_of (λ y. Has y xs) xs (λ y h. h)) c

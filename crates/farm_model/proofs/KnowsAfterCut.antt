@@ -23,7 +23,7 @@ use Rattle.farm_model.proofs.WorldLemmas.{direction_nodes, direction_between}
 
 -- ---- a cut
 
-found_on : {site : Site} {ends : Ends} {w : WorldState} → IsWired site ends w → (a b : NodeNo) (conn : ConnId) → conn_between w.directions a b ≡ Some conn → Joins ends conn a b
+pub found_on : {site : Site} {ends : Ends} {w : WorldState} → IsWired site ends w → (a b : NodeNo) (conn : ConnId) → conn_between w.directions a b ≡ Some conn → Joins ends conn a b
 found_on {ends = ends} {w = w} wired a b conn e =
     let found = direction_between w.directions a b conn e in
     let direction = found.0 in

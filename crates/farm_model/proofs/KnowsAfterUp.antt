@@ -29,7 +29,7 @@ use Rattle.farm_model.proofs.Wired.{IsWired}
 abbrev two_directions : ConnId → NodeNo → NodeNo → List Direction
 two_directions conn a b = empty_direction conn a b ∷ empty_direction conn b a ∷ []
 
-sides_of_new : (directions : List Direction) (conn : ConnId) (a b : NodeNo) (side : Side) → Has side (sides (directions ++ two_directions conn a b)) → Has side (sides directions) ⊎ (((conn, a, b) ≡ side) ⊎ ((conn, b, a) ≡ side))
+pub sides_of_new : (directions : List Direction) (conn : ConnId) (a b : NodeNo) (side : Side) → Has side (sides (directions ++ two_directions conn a b)) → Has side (sides directions) ⊎ (((conn, a, b) ≡ side) ⊎ ((conn, b, a) ≡ side))
 sides_of_new directions conn a b side h =
     let found = Has-unmap side_of (directions ++ two_directions conn a b) h in
     elim (Has-parts directions found.1) [

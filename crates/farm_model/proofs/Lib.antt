@@ -1,5 +1,7 @@
 pub mod Among
 pub mod AnswerStands
+pub mod Apart
+pub mod ApartAfterStep
 pub mod AsFarm
 pub mod ClientSteps
 pub mod Connecting
@@ -8,6 +10,7 @@ pub mod Deliveries
 pub mod Ending
 pub mod FailingOver
 pub mod Finding
+pub mod FlightLemmas
 pub mod FrontArrival
 pub mod FrontCharge
 pub mod FrontEmit
@@ -17,6 +20,7 @@ pub mod FrontSteps
 pub mod Hearing
 pub mod HearingSteps
 pub mod Joined
+pub mod KeepingTraffic
 pub mod KindsAgree
 pub mod KnowsAfterCut
 pub mod KnowsAfterLoss
@@ -54,10 +58,14 @@ pub mod Running
 pub mod SamePeers
 pub mod Sending
 pub mod Sides
+pub mod StandingOn
 pub mod Starting
 pub mod StepGoes
 pub mod Sweeping
 pub mod Taken
+pub mod TrafficAtEnds
+pub mod TrafficOfMessages
+pub mod TrafficOfSteps
 pub mod Turning
 pub mod Wired
 pub mod WiredLemmas

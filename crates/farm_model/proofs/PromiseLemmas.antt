@@ -27,6 +27,7 @@ use Rattle.farm_law.specs.Invariant.{IsOwed, IsTaken}
 use Rattle.farm_law.specs.Lists.{Has, here, there}
 use Rattle.farm_model.specs.declared.site.Node.{Node}
 use Rattle.farm_model.specs.declared.site.Site.{Site}
+use Rattle.farm_model.specs.InFlight.{KeepsTraffic}
 use Rattle.farm_model.specs.Nodes.{is_node, is_client, is_front, kind_in, means_front, means_relay}
 use Rattle.farm_model.specs.Promise.{Journal, IsEndOf, IsNamed, IsFrontNamed, AnswersOn, itself, over_relay, HasOneClient, IsRefusedThere, IsRightAnswer, IsOfRun, HasOneContent, IsMachineReply, RefusesLoop, RefusesWhatComesBack, KeepsPromise}
 use Rattle.farm_model.specs.Run.{Past, front_site, trace_of}
@@ -210,4 +211,5 @@ module _ (site : Site) (past : Past) (w : WorldState) (h : RunHolds site w.ends 
     terms = h.heard.terms;
     loops = all_of (RefusesLoop site) past h.loops;
     come_back = all_of (RefusesWhatComesBack site) past h.come_back;
+    traffic = all_of (KeepsTraffic site) past h.traffic;
   }

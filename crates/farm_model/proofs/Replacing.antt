@@ -4,8 +4,9 @@ use Rattle.std.specs.List.{find}
 use Rattle.std.specs.Prelude.{◌⊎◌, count_by}
 use Rattle.dia_base.proofs.Counting.{one, count-cons}
 use Rattle.farm_law.specs.Lists.{Has, here, there}
+use Rattle.farm_law.proofs.Lists.{Has-append}
 use Rattle.farm_model.specs.Lists.{replace_first}
-use Rattle.farm_model.proofs.Among.{Has-cons}
+use Rattle.farm_model.proofs.Among.{Has-cons, Has-parts, Has-right}
 
 pub record Parted {A : Type 0} (test : A → Bool) (xs : List A) (x : A) : Type 0 where
   pub before : List A
@@ -56,3 +57,16 @@ map_replaced {A} {B} f test x y (z ∷ zs) e same = go (test z) (map_replaced f 
     go : (b : Bool) → (find test zs ≡ Some x → f y ≡ f x → map f (replace_first test y zs) ≡ map f zs) → cond b (Some z) (find test zs) ≡ Some x → map f (cond b (y ∷ zs) (z ∷ replace_first test y zs)) ≡ map f (z ∷ zs)
     go true more k = let is : z ≡ x = cc in ap (λ (v : B). v ∷ map f zs) (same ∙ ap f (sym is))
     go false more k = ap (λ (rest : List B). f z ∷ rest) (more k same)
+
+-- the other stands then in its place, and all else as before
+pub Has-replacement : {A : Type 0} (test : A → Bool) (x y : A) (xs : List A) → find test xs ≡ Some x → Has y (replace_first test y xs)
+Has-replacement test x y xs e = let p = parted test xs x e in subst (Has y) (sym (p.change y)) (Has-right p.before here)
+
+pub Has-beside : {A : Type 0} (test : A → Bool) (x y : A) (xs : List A) → find test xs ≡ Some x → {z : A} → Has z xs → (z ≡ x) ⊎ Has z (replace_first test y xs)
+Has-beside {A} test x y xs e {z} h =
+    let p = parted test xs x e in
+    let there_still : Has z (p.before ++ p.after) → Has z (replace_first test y xs) = λ g. subst (Has z) (sym (p.change y)) (elim (Has-parts p.before g) [ inl b ↦ Has-append (y ∷ p.after) b | inr a ↦ Has-right p.before (there a) ]) in
+    elim (Has-parts p.before (subst (Has z) p.whole h)) [
+      | inl b ↦ inr (there_still (Has-append p.after b))
+      | inr k ↦ elim (Has-cons k) [ inl is ↦ inl is | inr a ↦ inr (there_still (Has-right p.before a)) ]
+    ]

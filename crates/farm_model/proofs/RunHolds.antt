@@ -7,14 +7,17 @@ use Rattle.farm_law.specs.Invariant.{IsKept}
 use Rattle.farm_law.specs.Lists.{Has}
 use Rattle.farm_model.specs.declared.site.Site.{Site}
 use Rattle.farm_model.specs.Cause.{HasCause}
+use Rattle.farm_model.specs.InFlight.{KeepsTraffic}
 use Rattle.farm_model.specs.Nodes.{is_front, is_relay}
 use Rattle.farm_model.specs.Promise.{RefusesLoop, RefusesWhatComesBack}
 use Rattle.farm_model.specs.Run.{Past, Transition, steps_in}
 use Rattle.farm_model.specs.World.{Ends, WorldState}
+use Rattle.farm_model.proofs.Apart.{AreApart}
 use Rattle.farm_model.proofs.AsFarm.{parties, farm_of}
 use Rattle.farm_model.proofs.FrontRequests.{QueuesHoldRequests}
 use Rattle.farm_model.proofs.Hearing.{HeardIn}
 use Rattle.farm_model.proofs.KnowsPeers.{KnowsPeers}
+use Rattle.farm_model.proofs.Sides.{sides}
 use Rattle.farm_model.proofs.Wired.{IsWired}
 
 -- a node of the site that answers requests
@@ -36,5 +39,7 @@ pub record RunHolds (site : Site) (all : Ends) (past : Past) (w : WorldState) : 
   pub requests : QueuesHoldRequests w.fronts
   pub knows : KnowsPeers site w
   pub heard : HeardIn site all (steps_in past) w
+  pub apart : AreApart (sides w.directions)
   pub loops : (t : Transition) → Has t past → RefusesLoop site t
   pub come_back : (t : Transition) → Has t past → RefusesWhatComesBack site t
+  pub traffic : (t : Transition) → Has t past → KeepsTraffic site t

@@ -1,5 +1,5 @@
 -- What holds between two steps holds as the run goes on, so that each run keeps the promise.
-use Rattle.std.proofs.Common.{◌≡◌, ℕ, List, [], ◌∷◌, ◌++◌, Option, Some, None, inl, inr, refl, sym, subst, ap, ◌∙◌, append_assoc, append-nil}
+use Rattle.std.proofs.Common.{◌≡◌, ℕ, List, [], ◌∷◌, ◌++◌, Option, Some, None, inl, inr, refl, sym, subst, ap, ◌∙◌, append_assoc, append-nil, arith}
 use Rattle.std.specs.Prelude.{slice_get}
 use Rattle.dia_base.specs.declared.number.NodeNo.{NodeNo}
 use Rattle.dia_avp.specs.AvpList.{HasSpelling}
@@ -19,6 +19,7 @@ use Rattle.farm_model.specs.Arrival.{AtRelay}
 use Rattle.farm_model.specs.Cause.{at_relay}
 use Rattle.farm_model.specs.CheckedSite.{IsChecked}
 use Rattle.farm_model.specs.FarmStep.{FarmStep, Flight, flight_at, can_restart}
+use Rattle.farm_model.specs.InFlight.{KeepsTraffic}
 use Rattle.farm_model.specs.Promise.{IsNamed, RefusesLoop, RefusesWhatComesBack, KeepsPromise}
 use Rattle.farm_model.specs.Run.{Past, Transition, Run, start, empty_book, steps_in, skipped_in, IsTrace}
 use Rattle.farm_model.specs.World.{Ends, WorldState, conn_between, relay_at}
@@ -35,6 +36,7 @@ use Rattle.farm_model.proofs.FrontRequests.{fronts_from_hold, QueuesHoldRequests
 use Rattle.farm_model.proofs.FrontSteps.{pick_goes, refuse_goes}
 use Rattle.farm_model.proofs.Hearing.{heard_on}
 use Rattle.farm_model.proofs.HearingSteps.{MoreEnds, step_ends, step_heard}
+use Rattle.farm_model.proofs.KeepingTraffic.{step_keeps_traffic}
 use Rattle.farm_model.proofs.KnowsAfterStep.{step_knows}
 use Rattle.farm_model.proofs.KnowsAtStart.{knows_at_start}
 use Rattle.farm_model.proofs.LinkSteps.{StepShows, shown, up_shows, cut_shows, restart_shows}
@@ -110,6 +112,7 @@ module _ (premises : Premises) (site : Site) (all : Ends) (checked : IsChecked s
   one_more : (past : Past) (t : Transition) → FarmStep site t.before t.step t.applied t.losses t.after → RunHolds site all past t.before → MoreEnds t.after.ends all → RunHolds site all (past ++ t ∷ []) t.after
   one_more past t s h more =
       let g = step_shows t h.refused t.step refl s h.kept.legal h.wired h.requests more in
+      let traffic = step_keeps_traffic checked t h.wired s h.apart in
       let answered = loop_refused premises.loops checked t h.wired h.knows s in
       let loop : RefusesLoop site t = λ from node place conn message directions name step flight flag relay named is. (
         answer_goes t.before h.knows from node place (record { conn = conn; message = message; directions = directions }) relay flight,
@@ -126,8 +129,10 @@ module _ (premises : Premises) (site : Site) (all : Ends) (checked : IsChecked s
         requests = g.requests;
         knows = step_knows checked t.before t.after t.step t.applied t.losses h.wired s h.knows;
         heard = step_heard site all (steps_in (past ++ t ∷ [])) checked t.before t.after t.step t.applied t.losses s (Has-map (λ (passed : Transition). passed.step) (Has-right past here)) h.wired (heard_on t.before (step_passed past t) h.heard);
+        apart = traffic.1;
         loops = all-end (RefusesLoop site) past t h.loops loop;
         come_back = all-end (RefusesWhatComesBack site) past t h.come_back (comes_back t loop);
+        traffic = all-end (KeepsTraffic site) past t h.traffic traffic.0;
       }
 
   -- the connections of a state are among those of the run's end
@@ -152,8 +157,10 @@ module _ (premises : Premises) (site : Site) (all : Ends) (checked : IsChecked s
     requests = fronts_from_hold site 0 site.nodes;
     knows = knows_at_start site;
     heard = start_heard site all;
+    apart = record { once = λ from to. omega arith; back = λ conn a b h. elim h [ ] };
     loops = λ t h. elim h [ ];
     come_back = λ t h. elim h [ ];
+    traffic = λ t h. elim h [ ];
   }
 
 -- ---- the promise
