@@ -1,5 +1,5 @@
 //! Laws of what relays pass on: what a server reads in a request, and what it is answered, does not depend
-//! on the relays on its way (RFC 6733, section 6.1.9).
+//! on the relays on its way (RFC 6733, section 6.1.9); and of their runs.
 
 ghost use Rattle.std.specs.Prelude.{◌≡◌, ◌+◌, ℕ, List, length, false, Ok};
 ghost use Rattle.dia_base.specs.declared.number.ConnId.{ConnId};
@@ -7,6 +7,7 @@ ghost use Rattle.dia_avp.specs.declared.avp.RawAvp.{RawAvp};
 ghost use Rattle.dia_avp.specs.AvpList.{HasSpelling};
 ghost use Rattle.dia_avp.specs.AvpReading.{split_of};
 ghost use Rattle.dia_message.specs.declared.message.Message.{Message};
+ghost use Rattle.dia_message.specs.declared.message.Out.{Out};
 ghost use Rattle.dia_message.specs.Traffic.{Traffic};
 ghost use Rattle.cc_view.specs.Answer.{answer_to, refusal_of};
 ghost use Rattle.cc_view.specs.FirstDebit.{debit_message};
@@ -18,11 +19,16 @@ ghost use Rattle.cc_view.specs.declared.refusal.Refusal.{Refusal};
 ghost use Rattle.cc_view.specs.declared.reply.CcReply.{CcReply};
 ghost use Rattle.cc_view.specs.declared.request.CcRequest.{CcRequest};
 ghost use Rattle.relay_routes.specs.Routing.{record_of, loops, IsLoop};
+ghost use Rattle.relay_core.specs.Connecting.{new_relay};
 ghost use Rattle.relay_core.specs.FirstForwarding.{client_name, forwarded_debit};
 ghost use Rattle.relay_core.specs.Forwarding.{with_record, Descends};
+ghost use Rattle.relay_core.specs.Promise.{KeepsPromise};
+ghost use Rattle.relay_core.specs.RelayRun.{IsRun, RelayStep};
 ghost use Rattle.relay_core.specs.RelayState.{RelayState};
 ghost use Rattle.relay_core.specs.RelayStep.{OnRequest, refusal_to};
 ghost use Rattle.relay_core.specs.Verdict.{decision};
+ghost use Rattle.relay_core.specs.declared.node.RelaySite.{RelaySite};
+ghost use Rattle.relay_core.specs.declared.run.RelayEvent.{RelayEvent};
 
 use cc_view::{forwarded_requests, view_without_identifiers};
 use dia_avp::one_avp_more;
@@ -72,6 +78,12 @@ pub fn what_comes_back_loops()
     names_with_more();
     what_loops();
 }
+
+/// Every run of a relay keeps the promise, over any list of events, whichever identifiers it gives among those
+/// that are not in use.
+pub fn relays_keep_their_promise()
+    ensures { (site : RelaySite) (events : List RelayEvent) (outs : List Out) (past : List RelayStep) (last : RelayState) → IsRun (new_relay site) events outs past last → KeepsPromise site.name site.realm past }
+{}
 
 /// The worked example: the first debit, as a relay forwards it that has it from `c1.example`, has the
 /// Route-Record of that client behind its AVPs, and 268 octets.

@@ -6,7 +6,8 @@
 //! - [`RelaySite`]: what it is set up with; [`RelayNode`]: the same with the peers that are up.
 //! - [`FailoverChoice`], [`PlannedFailover`]: what is prepared before a connection is given up.
 //! - [`descending_goes_on`], [`what_descends_reads_alike`], [`loops_are_not_forwarded`],
-//!   [`loops_are_refused`], [`what_comes_back_loops`]: laws, functions without a body.
+//!   [`loops_are_refused`], [`what_comes_back_loops`], [`relays_keep_their_promise`]: laws, functions without a
+//!   body.
 //!
 //! The thirteen rules stand in `specs/Verdict`, with `specs/NextHop`; what may change in a request in
 //! `specs/Forwarding`; a message that comes in `specs/RelayStep`; a lost connection in `specs/Failover`, with
@@ -45,7 +46,7 @@ pub use error::RelayError;
 pub use failover::{FailoverChoice, PlannedFailover};
 pub use laws::{
     descending_goes_on, first_forwarding, loops_are_not_forwarded, loops_are_refused,
-    what_comes_back_loops, what_descends_reads_alike,
+    relays_keep_their_promise, what_comes_back_loops, what_descends_reads_alike,
 };
 pub use node::{RelayNode, RelaySite};
 pub use relay::Relay;
