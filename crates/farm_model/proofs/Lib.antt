@@ -8,6 +8,7 @@ pub mod Connecting
 pub mod Deciding
 pub mod Deliveries
 pub mod Ending
+pub mod EventsAtEnds
 pub mod FailingOver
 pub mod Finding
 pub mod FlightLemmas
@@ -48,6 +49,8 @@ pub mod PromiseLemmas
 pub mod Receiving
 pub mod RelayPeers
 pub mod RelayPlaces
+pub mod RelayTurns
+pub mod RelaysRun
 pub mod Replacing
 pub mod Restarting
 pub mod RowSiteLemmas

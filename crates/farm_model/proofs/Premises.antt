@@ -20,7 +20,7 @@ use Rattle.farm_law.specs.Invariant.{IsKept, new_farm}
 use Rattle.farm_law.specs.Moves.{Moves}
 use Rattle.farm_law.specs.Parties.{Parties}
 use Rattle.farm_model.proofs.LoopRefused.{LoopsAreRefused}
-use Rattle.farm_model.proofs.PromiseLemmas.{RepliesAreOfEntries}
+use Rattle.farm_model.proofs.PromiseLemmas.{RepliesAreOfEntries, RelaysKeepPromise}
 
 pub record Premises : Type 0 where
   -- of a front
@@ -31,6 +31,7 @@ pub record Premises : Type 0 where
   -- of relays
   pub loops : LoopsAreRefused
   pub comes_back : (node : List ℕ) (request last : Message) (avps : List RawAvp) → HasSpelling (record_of node) → split_of request.body ≡ Ok avps → Descends (with_record node request) last → IsLoop node last.body
+  pub relays_keep : RelaysKeepPromise
   -- of the book
   pub of_entries : RepliesAreOfEntries
   -- of moves

@@ -9,6 +9,7 @@ use Rattle.dia_base.specs.declared.number.ConnId.{ConnId}
 use Rattle.dia_base.specs.declared.number.NodeNo.{NodeNo}
 use Rattle.dia_base.proofs.Counting.{count-cons, one}
 use Rattle.dia_message.specs.declared.message.Message.{Message}
+use Rattle.dia_message.specs.declared.message.Out.{Out}
 use Rattle.dia_message.specs.Traffic.{Traffic}
 use Rattle.cc_view.specs.declared.reply.CcReply.{CcReply}
 use Rattle.cc_view.specs.declared.request.CcRequest.{CcRequest}
@@ -20,7 +21,12 @@ use Rattle.cc_book.specs.AccountMachine.{kept_reply, reply_to}
 use Rattle.cc_book.specs.Laws.{RepliesToEntry}
 use Rattle.front_core.specs.Answered.{IsAnswered}
 use Rattle.front_core.specs.Counts.{is_with, requests_with, answers_with}
+use Rattle.relay_core.specs.declared.node.RelaySite.{RelaySite}
+use Rattle.relay_core.specs.declared.run.RelayEvent.{RelayEvent}
+use Rattle.relay_core.specs.Connecting.{new_relay}
 use Rattle.relay_core.specs.Forwarding.{Descends}
+use Rattle.relay_core.specs.RelayRun.{IsRun, RelayStep}
+use Rattle.relay_core.specs.RelayState.{RelayState}
 use Rattle.farm_law.specs.Answers.{Answers, of_front, of_refusal, TellsAnswer, TellsRefusal}
 use Rattle.farm_law.specs.Farm.{Refused}
 use Rattle.farm_law.specs.Invariant.{IsOwed, IsTaken}
@@ -28,10 +34,11 @@ use Rattle.farm_law.specs.Lists.{Has, here, there}
 use Rattle.farm_model.specs.declared.site.Node.{Node}
 use Rattle.farm_model.specs.declared.site.Site.{Site}
 use Rattle.farm_model.specs.InFlight.{KeepsTraffic}
-use Rattle.farm_model.specs.Nodes.{is_node, is_client, is_front, kind_in, means_front, means_relay}
+use Rattle.farm_model.specs.Nodes.{is_node, is_client, is_front, is_relay, kind_in, means_front, means_relay}
 use Rattle.farm_model.specs.Promise.{Journal, IsEndOf, IsNamed, IsFrontNamed, AnswersOn, itself, over_relay, HasOneClient, IsRefusedThere, IsRightAnswer, IsOfRun, HasOneContent, IsMachineReply, RefusesLoop, RefusesWhatComesBack, KeepsPromise}
-use Rattle.farm_model.specs.Run.{Past, front_site, trace_of}
-use Rattle.farm_model.specs.World.{Ends, WorldState}
+use Rattle.farm_model.specs.RelayRuns.{events_in, RunsAsRelay}
+use Rattle.farm_model.specs.Run.{Past, front_site, relay_site, trace_of}
+use Rattle.farm_model.specs.World.{Ends, WorldState, relay_at}
 use Rattle.farm_model.proofs.Among.{Has-right, Contains-has, all_of}
 use Rattle.farm_model.proofs.AsFarm.{parties, ends_of, client_in, server_in, name_in, name_at}
 use Rattle.farm_model.proofs.Joined.{nodes_are}
@@ -93,6 +100,9 @@ refusal_flag name realm message answer code e = ap (λ (m : Message). m.header.e
 
 abbrev pub RepliesAreOfEntries : Type 0
 RepliesAreOfEntries = (terms : Terms) (history : List Entry) (request : CcRequest) (reply : CcReply) → kept_reply terms history request ≡ Some reply → RepliesToEntry terms history request reply
+
+abbrev pub RelaysKeepPromise : Type 0
+RelaysKeepPromise = (site : RelaySite) (events : List RelayEvent) (outs : List Out) (past : List RelayStep) (last : RelayState) → IsRun (new_relay site) events outs past last → Rattle.relay_core.specs.Promise.KeepsPromise site.name site.realm past
 
 module _ (site : Site) (past : Past) (w : WorldState) (h : RunHolds site w.ends past w) where
   abbrev journal : Journal
@@ -198,8 +208,22 @@ module _ (site : Site) (past : Past) (w : WorldState) (h : RunHolds site w.ends 
       go true is = let all = h.kept.clients conn hop end is in omega (arith, all)
       go false none = let zero_of = none_on conn hop end w.received h.heard.receivers none in omega (arith, zero_of)
 
-  pub promise_of : RepliesAreOfEntries → (skipped : ℕ) → KeepsPromise site past (trace_of skipped w)
-  promise_of of_entries skipped = record {
+  -- ---- relays
+
+  runs_as_relay : RelaysKeepPromise → (node : NodeNo) (name : List ℕ) → is_relay site node ≡ true → IsNamed site node name → RunsAsRelay site past node name
+  runs_as_relay keep node name is named =
+      let has = h.relays node is in
+      subst (RunsAsRelay site past node) (ap name_in named.at_place ∙ named.called) (record {
+        outs = has.outs;
+        steps = has.steps;
+        last = has.last;
+        run = has.run;
+        stands = ap (λ (v : WorldState). relay_at node v.relays) h.last ∙ has.at;
+        promise = keep (relay_site site node (name_at site node)) (events_in site node past) has.outs has.steps has.last has.run;
+      })
+
+  pub promise_of : RepliesAreOfEntries → RelaysKeepPromise → (skipped : ℕ) → KeepsPromise site past (trace_of skipped w)
+  promise_of of_entries relays_keep skipped = record {
     senders = all_of (λ (item : ConnId × Message). HasOneClient site w.ends item.0) w.sent h.heard.senders;
     receivers = all_of (λ (item : ConnId × Message). HasOneClient site w.ends item.0) w.received h.heard.receivers;
     received = all_of (λ (item : ConnId × Message). IsRightAnswer site journal item.0 item.1) w.received (received_right of_entries);
@@ -212,4 +236,5 @@ module _ (site : Site) (past : Past) (w : WorldState) (h : RunHolds site w.ends 
     loops = all_of (RefusesLoop site) past h.loops;
     come_back = all_of (RefusesWhatComesBack site) past h.come_back;
     traffic = all_of (KeepsTraffic site) past h.traffic;
+    relays = runs_as_relay relays_keep;
   }

@@ -10,13 +10,15 @@ use Rattle.farm_model.specs.Cause.{HasCause}
 use Rattle.farm_model.specs.InFlight.{KeepsTraffic}
 use Rattle.farm_model.specs.Nodes.{is_front, is_relay}
 use Rattle.farm_model.specs.Promise.{RefusesLoop, RefusesWhatComesBack}
-use Rattle.farm_model.specs.Run.{Past, Transition, steps_in}
+use Rattle.farm_model.specs.RelayRuns.{events_in, last_of}
+use Rattle.farm_model.specs.Run.{Past, Transition, start, steps_in}
 use Rattle.farm_model.specs.World.{Ends, WorldState}
 use Rattle.farm_model.proofs.Apart.{AreApart}
 use Rattle.farm_model.proofs.AsFarm.{parties, farm_of}
 use Rattle.farm_model.proofs.FrontRequests.{QueuesHoldRequests}
 use Rattle.farm_model.proofs.Hearing.{HeardIn}
 use Rattle.farm_model.proofs.KnowsPeers.{KnowsPeers}
+use Rattle.farm_model.proofs.RelaysRun.{HasRun}
 use Rattle.farm_model.proofs.Sides.{sides}
 use Rattle.farm_model.proofs.Wired.{IsWired}
 
@@ -43,3 +45,5 @@ pub record RunHolds (site : Site) (all : Ends) (past : Past) (w : WorldState) : 
   pub loops : (t : Transition) → Has t past → RefusesLoop site t
   pub come_back : (t : Transition) → Has t past → RefusesWhatComesBack site t
   pub traffic : (t : Transition) → Has t past → KeepsTraffic site t
+  pub last : last_of (start site) past ≡ w
+  pub relays : (node : NodeNo) → is_relay site node ≡ true → HasRun site node (events_in site node past) w

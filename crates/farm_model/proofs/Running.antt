@@ -47,6 +47,7 @@ use Rattle.farm_model.proofs.Placing.{Left-without}
 use Rattle.farm_model.proofs.Premises.{Premises}
 use Rattle.farm_model.proofs.PromiseLemmas.{promise_of}
 use Rattle.farm_model.proofs.Receiving.{relay_receives}
+use Rattle.farm_model.proofs.RelaysRun.{last_of-push, relay_runs_on, relay_begins}
 use Rattle.farm_model.proofs.RunHolds.{RunHolds}
 use Rattle.farm_model.proofs.RunLemmas.{steps_in-push}
 use Rattle.farm_model.proofs.Starting.{start_wired, start_heard, start_moves}
@@ -133,6 +134,8 @@ module _ (premises : Premises) (site : Site) (all : Ends) (checked : IsChecked s
         loops = all-end (RefusesLoop site) past t h.loops loop;
         come_back = all-end (RefusesWhatComesBack site) past t h.come_back (comes_back t loop);
         traffic = all-end (KeepsTraffic site) past t h.traffic traffic.0;
+        last = last_of-push (start site) past t;
+        relays = λ node relay_is. relay_runs_on past t h.wired h.apart s node relay_is (h.relays node relay_is);
       }
 
   -- the connections of a state are among those of the run's end
@@ -161,6 +164,8 @@ module _ (premises : Premises) (site : Site) (all : Ends) (checked : IsChecked s
     loops = λ t h. elim h [ ];
     come_back = λ t h. elim h [ ];
     traffic = λ t h. elim h [ ];
+    last = refl;
+    relays = relay_begins site;
   }
 
 -- ---- the promise
@@ -169,4 +174,4 @@ pub promise_kept : Premises → (site : Site) (past : Past) (trace : Trace) → 
 promise_kept premises site past trace checked t =
     let w = t.end in
     let h = run_holds premises site w.ends checked [] (start site) past w (start_holds premises site w.ends checked) t.run (λ place nodes e. e) in
-    subst (KeepsPromise site past) (sym t.trace_is) (promise_of site past w h premises.of_entries (skipped_in past))
+    subst (KeepsPromise site past) (sym t.trace_is) (promise_of site past w h premises.of_entries premises.relays_keep (skipped_in past))

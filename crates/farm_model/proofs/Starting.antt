@@ -8,7 +8,7 @@ use Rattle.dia_base.specs.declared.node.NodeKind.{NodeKind}
 use Rattle.dia_base.specs.declared.node.NodeKind.TheVariants.{Relay, Front, Client}
 use Rattle.dia_base.specs.declared.number.NodeNo.{NodeNo}
 use Rattle.dia_base.proofs.Counting.{one}
-use Rattle.relay_core.specs.Connecting.{new_node}
+use Rattle.relay_core.specs.Connecting.{new_node, new_relay}
 use Rattle.farm_law.specs.Farm.{Item, Pending}
 use Rattle.farm_law.specs.Invariant.{new_farm}
 use Rattle.farm_law.specs.Lists.{Has}
@@ -21,7 +21,7 @@ use Rattle.farm_model.specs.Nodes.{is_node, kind_in, means_front, means_relay}
 use Rattle.farm_model.specs.Run.{front_site, front_if, fronts_from, relay_if, relays_from, empty_book, start, relay_site}
 use Rattle.farm_model.specs.World.{Ends, is_relay_at}
 use Rattle.farm_model.proofs.Among.{Has-parts, Has-cons}
-use Rattle.farm_model.proofs.AsFarm.{parties, items_at, rows_at, has_ended_in, name_in, farm_of}
+use Rattle.farm_model.proofs.AsFarm.{parties, items_at, rows_at, has_ended_in, name_in, name_at, farm_of}
 use Rattle.farm_model.proofs.Hearing.{HeardIn}
 use Rattle.farm_model.proofs.ListLemmas.{slice_get-behind}
 use Rattle.farm_model.proofs.Restarting.{idle_hold}
@@ -93,6 +93,22 @@ module _ (site : Site) where
   relays_wired all before (node ∷ nodes) e at h = elim (Has-parts (relay_if site (length before) node node.kind) h) [
     | inl g ↦ relay_if_wired all before node nodes node.kind e refl at g
     | inr g ↦ relays_wired all (before ++ node ∷ []) nodes (one_on before node nodes e) at (subst (λ (n : ℕ). Has at (relays_from site n nodes)) (sym (place_on before node)) g)
+  ]
+
+  fresh_if : (before : List Node) (node : Node) (nodes : List Node) (kind : NodeKind) → site.nodes ≡ before ++ node ∷ nodes → (at : RelayAt) → Has at (relay_if site (length before) node kind) → at.relay ≡ new_relay (relay_site site at.node (name_at site at.node))
+  fresh_if before node nodes Front e at h = elim h [ ]
+  fresh_if before node nodes Client e at h = elim h [ ]
+  fresh_if before node nodes Relay e at h = elim (Has-cons h) [
+    | inl is ↦ subst (λ (a : RelayAt). a.relay ≡ new_relay (relay_site site a.node (name_at site a.node))) (sym is) (ap (λ (name : List ℕ). new_relay (relay_site site (record { 0 = length before }) name)) (sym (ap name_in (at_place before node nodes e))))
+    | inr none ↦ elim none [ ]
+  ]
+
+  -- each relay is new, with the name of its node
+  pub relays_fresh : (before nodes : List Node) → site.nodes ≡ before ++ nodes → (at : RelayAt) → Has at (relays_from site (length before) nodes) → at.relay ≡ new_relay (relay_site site at.node (name_at site at.node))
+  relays_fresh before [] e at h = elim h [ ]
+  relays_fresh before (node ∷ nodes) e at h = elim (Has-parts (relay_if site (length before) node node.kind) h) [
+    | inl g ↦ fresh_if before node nodes node.kind e at g
+    | inr g ↦ relays_fresh (before ++ node ∷ []) nodes (one_on before node nodes e) at (subst (λ (n : ℕ). Has at (relays_from site n nodes)) (sym (place_on before node)) g)
   ]
 
   no_rows_if : (all : Ends) (place : ℕ) (node : Node) (kind : NodeKind) → flat_map (rows_at all) (relay_if site place node kind) ≡ []

@@ -7,6 +7,7 @@ pub mod Lists
 pub mod Loss
 pub mod Nodes
 pub mod Promise
+pub mod RelayRuns
 pub mod RowSite
 pub mod Run
 pub mod World

@@ -10,7 +10,7 @@ ghost use Rattle.farm_model.specs.Run.{Past, IsTrace};
 use cc_book::kept_replies_are_of_entries;
 use farm_law::moves_keep_a_farm;
 use front_core::{a_charge_answers_or_refuses, charges_by_four_cases};
-use relay_core::{loops_are_refused, what_comes_back_loops};
+use relay_core::{loops_are_refused, relays_keep_their_promise, what_comes_back_loops};
 
 /// The trace of a run over a checked site keeps the promise, whatever its steps are and whatever graph its relays
 /// make. It stands on the laws that it calls, of moves, of the book, of fronts and of relays.
@@ -23,4 +23,5 @@ pub fn runs_keep_the_promise()
     a_charge_answers_or_refuses();
     loops_are_refused();
     what_comes_back_loops();
+    relays_keep_their_promise();
 }

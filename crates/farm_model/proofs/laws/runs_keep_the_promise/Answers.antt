@@ -7,6 +7,7 @@ returns c = promise_kept (record {
   answers = c.a_charge_answers_or_refuses.ensures;
   loops = c.loops_are_refused.ensures;
   comes_back = c.what_comes_back_loops.ensures;
+  relays_keep = c.relays_keep_their_promise.ensures;
   of_entries = c.kept_replies_are_of_entries.ensures;
   new_is_kept = c.moves_keep_a_farm.ensures.start;
   moves_keep = c.moves_keep_a_farm.ensures.moves;

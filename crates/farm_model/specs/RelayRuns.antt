@@ -1,0 +1,73 @@
+-- What happens to a relay in a run of the farm, event by event: said of each step by the farm before it. And what the
+-- relay does then.
+use Rattle.std.specs.Prelude.{◌≡◌, ℕ, ◌+◌, Bool, not, ◌&&◌, List, [], ◌∷◌, ◌++◌, length, map, filter, filter_map, flat_map, Some, if◌then◌else◌}
+use Rattle.std.specs.List.{list_any}
+use Rattle.dia_base.specs.declared.number.ConnId.{ConnId}
+use Rattle.dia_base.specs.declared.number.NodeNo.{NodeNo}
+use Rattle.dia_message.specs.declared.message.Out.{Out}
+use Rattle.relay_core.specs.declared.run.RelayEvent.{RelayEvent}
+use Rattle.relay_core.specs.declared.run.RelayEvent.TheVariants.{Received, Lost}
+use Rattle.relay_core.specs.Connecting.{new_relay}
+use Rattle.relay_core.specs.RelayRun.{IsRun, RelayStep}
+use Rattle.relay_core.specs.RelayState.{RelayState}
+use Rattle.farm_model.specs.declared.site.Site.{Site}
+use Rattle.farm_model.specs.declared.state.Direction.{Direction}
+use Rattle.farm_model.specs.declared.step.Step.{Step}
+use Rattle.farm_model.specs.declared.step.Step.TheVariants.{Up, Deliver, Cut, Restart}
+use Rattle.farm_model.specs.InFlight.{goes, ends_at, message_at}
+use Rattle.farm_model.specs.Nodes.{is_node, is_linked}
+use Rattle.farm_model.specs.Run.{Past, relay_site, start}
+use Rattle.farm_model.specs.World.{WorldState, relay_at}
+
+-- ---- at a step
+
+abbrev pub event_if : Bool → RelayEvent → List RelayEvent
+event_if happens event = if happens then event ∷ [] else []
+
+-- two nodes that the site links, and that have no connection, get one
+abbrev pub connects : Site → NodeNo → NodeNo → List Direction → Bool
+connects site a b directions = is_linked site a b && not (list_any (goes a b) directions)
+
+-- which each learns of the other, with its number: connections are numbered from 1 in the order in which they are made
+abbrev pub up_events : NodeNo → NodeNo → NodeNo → ConnId → List RelayEvent
+up_events node a b conn =
+    event_if (is_node a node) (Rattle.relay_core.specs.declared.run.RelayEvent.TheVariants.Up b conn)
+    ++ event_if (is_node b node) (Rattle.relay_core.specs.declared.run.RelayEvent.TheVariants.Up a conn)
+
+-- the message at this place comes to the other node
+abbrev pub received_events : NodeNo → NodeNo → ℕ → List Direction → List RelayEvent
+received_events from to place directions = map (λ item. Received item.0 item.1) (filter_map (message_at place) (filter (goes from to) directions))
+
+-- the connections of the node that end
+abbrev pub lost_events : Site → Step → NodeNo → List Direction → List RelayEvent
+lost_events site step node directions = map (λ direction. Lost direction.conn) (filter (λ direction. ends_at site step direction && is_node direction.to node) directions)
+
+-- What happens to the node: one thing or nothing.
+abbrev pub events_at : Site → NodeNo → Step → WorldState → List RelayEvent
+events_at site node (Up a b) w = if connects site a b w.directions then up_events node a b (record { 0 = length w.ends + 1 }) else []
+events_at site node (Deliver from to place) w = if is_node to node then received_events from to place w.directions else []
+events_at site node (Cut a b) w = lost_events site (Cut a b) node w.directions
+-- the node itself begins anew, or another one
+events_at site node (Restart other) w = if is_node other node then Rattle.relay_core.specs.declared.run.RelayEvent.TheVariants.Restart ∷ [] else lost_events site (Restart other) node w.directions
+events_at site node step w = []
+
+-- ---- in a run
+
+-- what happens to the node in these transitions, one after the other
+abbrev pub events_in : Site → NodeNo → Past → List RelayEvent
+events_in site node past = flat_map (λ t. events_at site node t.step t.before) past
+
+-- the farm that these transitions lead to
+abbrev pub last_of : WorldState → Past → WorldState
+last_of w [] = w
+last_of w (t ∷ past) = last_of t.after past
+
+-- From its first state to the one in which the transitions leave it, the relay has done at each thing that happened to
+-- it what a relay does, and nothing else has changed it. So it keeps a relay's promise.
+pub record RunsAsRelay (site : Site) (past : Past) (node : NodeNo) (name : List ℕ) : Type 0 where
+  pub outs : List Out
+  pub steps : List RelayStep
+  pub last : RelayState
+  pub run : IsRun (new_relay (relay_site site node name)) (events_in site node past) outs steps last
+  pub stands : relay_at node (last_of (start site) past).relays ≡ Some last
+  pub promise : Rattle.relay_core.specs.Promise.KeepsPromise name site.realm steps
