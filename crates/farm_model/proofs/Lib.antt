@@ -60,6 +60,7 @@ pub mod RunLemmas
 pub mod Running
 pub mod SamePeers
 pub mod Sending
+pub mod SentBehind
 pub mod Sides
 pub mod StandingOn
 pub mod Starting

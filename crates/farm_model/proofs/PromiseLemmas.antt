@@ -219,6 +219,7 @@ module _ (site : Site) (past : Past) (w : WorldState) (h : RunHolds site w.ends 
         last = has.last;
         run = has.run;
         stands = ap (λ (v : WorldState). relay_at node v.relays) h.last ∙ has.at;
+        sends = has.sends;
         promise = keep (relay_site site node (name_at site node)) (events_in site node past) has.outs has.steps has.last has.run;
       })
 

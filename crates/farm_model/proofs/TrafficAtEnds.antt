@@ -64,7 +64,7 @@ module _ (site : Site) (ends : Ends) (old new : WorldState) (applied : Bool) (lo
 
   module _ (conn : ConnId) (between : conn_between old.directions a b ≡ Some conn) where
     -- what is of the connection goes one of the ways
-    on_it : (direction : Direction) → Has direction old.directions → is_on conn direction ≡ true → ends_at site (Cut a b) direction ≡ true
+    pub on_it : (direction : Direction) → Has direction old.directions → is_on conn direction ≡ true → ends_at site (Cut a b) direction ≡ true
     on_it direction h on =
         let cut = found_on wired a b conn between in
         let joins = subst (λ (c : ConnId). Joins ends c direction.from direction.to) (same_conn direction.conn conn on) (wired.directions direction h).joins in

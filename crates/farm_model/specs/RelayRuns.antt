@@ -1,10 +1,12 @@
 -- What happens to a relay in a run of the farm, event by event: said of each step by the farm before it. And what the
 -- relay does then.
-use Rattle.std.specs.Prelude.{◌≡◌, ℕ, ◌+◌, Bool, not, ◌&&◌, List, [], ◌∷◌, ◌++◌, length, map, filter, filter_map, flat_map, Some, if◌then◌else◌}
+use Rattle.std.specs.Prelude.{◌≡◌, ℕ, ◌+◌, Bool, true, false, not, ◌&&◌, ◌==◌, List, [], ◌∷◌, ◌++◌, length, map, filter, filter_map, flat_map, Contains, Some, if◌then◌else◌}
 use Rattle.std.specs.List.{list_any}
 use Rattle.dia_base.specs.declared.number.ConnId.{ConnId}
 use Rattle.dia_base.specs.declared.number.NodeNo.{NodeNo}
+use Rattle.dia_message.specs.declared.message.Message.{Message}
 use Rattle.dia_message.specs.declared.message.Out.{Out}
+use Rattle.dia_message.specs.Traffic.{Traffic}
 use Rattle.relay_core.specs.declared.run.RelayEvent.{RelayEvent}
 use Rattle.relay_core.specs.declared.run.RelayEvent.TheVariants.{Received, Lost}
 use Rattle.relay_core.specs.Connecting.{new_relay}
@@ -14,9 +16,9 @@ use Rattle.farm_model.specs.declared.site.Site.{Site}
 use Rattle.farm_model.specs.declared.state.Direction.{Direction}
 use Rattle.farm_model.specs.declared.step.Step.{Step}
 use Rattle.farm_model.specs.declared.step.Step.TheVariants.{Up, Deliver, Cut, Restart}
-use Rattle.farm_model.specs.InFlight.{goes, ends_at, message_at}
+use Rattle.farm_model.specs.InFlight.{goes, ends_at, left_by, message_at}
 use Rattle.farm_model.specs.Nodes.{is_node, is_linked}
-use Rattle.farm_model.specs.Run.{Past, relay_site, start}
+use Rattle.farm_model.specs.Run.{Past, Transition, relay_site, start}
 use Rattle.farm_model.specs.World.{WorldState, relay_at}
 
 -- ---- at a step
@@ -62,12 +64,34 @@ abbrev pub last_of : WorldState → Past → WorldState
 last_of w [] = w
 last_of w (t ∷ past) = last_of t.after past
 
+-- ---- what it sends
+
+-- what is sent on the connection, of messages with their connections
+abbrev pub messages_on : ConnId → Traffic → List Message
+messages_on conn items = map (λ item. item.1) (filter (λ item. conn.0 == item.0.0) items)
+
+abbrev pub sent_on : ConnId → List Out → List Message
+sent_on conn outs = flat_map (λ out. messages_on conn out.items) outs
+
+-- On each connection of the node that stands on, this is put in flight behind what the step leaves there, and nothing
+-- else.
+abbrev pub PutsInFlight : Site → NodeNo → Transition → List Out → Type 0
+PutsInFlight site node t outs = (direction : Direction) → Contains t.before.directions direction → is_node direction.from node ≡ true → ends_at site t.step direction ≡ false →
+    Contains t.after.directions (record direction { messages = left_by t.step direction ++ sent_on direction.conn outs })
+
+-- so it is with what is sent at the events of each transition, one after the other
+abbrev pub PutsAllInFlight : Site → NodeNo → Past → List Out → Type 0
+PutsAllInFlight site node [] outs = outs ≡ []
+PutsAllInFlight site node (t ∷ past) outs = (now : List Out) × (later : List Out) × (outs ≡ now ++ later) × (length now ≡ length (events_at site node t.step t.before)) × PutsInFlight site node t now × PutsAllInFlight site node past later
+
 -- From its first state to the one in which the transitions leave it, the relay has done at each thing that happened to
--- it what a relay does, and nothing else has changed it. So it keeps a relay's promise.
+-- it what a relay does, and nothing else has changed it. What it sent then is what was put in flight on its connections.
+-- So it keeps a relay's promise.
 pub record RunsAsRelay (site : Site) (past : Past) (node : NodeNo) (name : List ℕ) : Type 0 where
   pub outs : List Out
   pub steps : List RelayStep
   pub last : RelayState
   pub run : IsRun (new_relay (relay_site site node name)) (events_in site node past) outs steps last
   pub stands : relay_at node (last_of (start site) past).relays ≡ Some last
+  pub sends : PutsAllInFlight site node past outs
   pub promise : Rattle.relay_core.specs.Promise.KeepsPromise name site.realm steps
