@@ -15,12 +15,14 @@ pub mod FlightLemmas
 pub mod FrontArrival
 pub mod FrontCharge
 pub mod FrontEmit
+pub mod FrontEvents
 pub mod FrontItems
 pub mod FrontRequests
 pub mod FrontSteps
 pub mod Hearing
 pub mod HearingSteps
 pub mod Joined
+pub mod KeepingFronts
 pub mod KeepingTraffic
 pub mod KindsAgree
 pub mod KnowsAfterCut

@@ -33,6 +33,7 @@ use Rattle.farm_law.specs.Invariant.{IsOwed, IsTaken}
 use Rattle.farm_law.specs.Lists.{Has, here, there}
 use Rattle.farm_model.specs.declared.site.Node.{Node}
 use Rattle.farm_model.specs.declared.site.Site.{Site}
+use Rattle.farm_model.specs.FrontTurns.{KeepsFronts}
 use Rattle.farm_model.specs.InFlight.{KeepsTraffic}
 use Rattle.farm_model.specs.Nodes.{is_node, is_client, is_front, is_relay, kind_in, means_front, means_relay}
 use Rattle.farm_model.specs.Promise.{Journal, IsEndOf, IsNamed, IsFrontNamed, AnswersOn, itself, over_relay, HasOneClient, IsRefusedThere, IsRightAnswer, IsOfRun, HasOneContent, IsMachineReply, RefusesLoop, RefusesWhatComesBack, KeepsPromise}
@@ -237,5 +238,6 @@ module _ (site : Site) (past : Past) (w : WorldState) (h : RunHolds site w.ends 
     loops = all_of (RefusesLoop site) past h.loops;
     come_back = all_of (RefusesWhatComesBack site) past h.come_back;
     traffic = all_of (KeepsTraffic site) past h.traffic;
+    fronts = all_of (KeepsFronts site) past h.fronts;
     relays = runs_as_relay relays_keep;
   }

@@ -197,7 +197,7 @@ loss_turns k old new loss kinds single (Some front) at same = go (is_node loss.n
     go true is = λ relay here_is. absurd (not_both kinds loss.node front relay at (ap (λ (n : NodeNo). relay_at n old.relays) (same_node loss.node k is) ∙ here_is))
     go false is = same_relay k old new (ap (λ (w : WorldState). relay_at k w.relays) same) (all_untouched k old.directions new.directions (ap (λ (w : WorldState). w.directions) same))
 
-loss_one_out : (old new : WorldState) (loss : Loss) (front : Option FrontState) → LearnsLoss old loss front new → OneOut old.directions → OneOut new.directions
+pub loss_one_out : (old new : WorldState) (loss : Loss) (front : Option FrontState) → LearnsLoss old loss front new → OneOut old.directions → OneOut new.directions
 loss_one_out old new loss (Some front) same single = subst (λ (w : WorldState). OneOut w.directions) (sym same) single
 loss_one_out old new loss None turn single = go (relay_at loss.node old.relays) turn
   where

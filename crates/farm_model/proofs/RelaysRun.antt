@@ -65,7 +65,7 @@ abbrev pub StepTurned : Site → Step → NodeNo → WorldState → WorldState �
 StepTurned site step node old new = (relay : RelayState) → relay_at node old.relays ≡ Some relay → StepReaches site step node relay old new
 
 -- the directions that the step leaves, with what it leaves of them
-abbrev Leaves : Site → Step → List Direction → List Direction → Type 0
+abbrev pub Leaves : Site → Step → List Direction → List Direction → Type 0
 Leaves site step old mid = (direction : Direction) → Has direction old → ends_at site step direction ≡ false → Has (record direction { messages = left_by step direction }) mid
 
 -- first messages or connections go, and then nodes do something
@@ -132,6 +132,15 @@ module _ (site : Site) (old : WorldState) (kinds : KindsAgree site old) (k : Nod
           (refl, untouched_by k (goes client to) message old.directions (λ d e. ap (λ (n : NodeNo). is_node n k) (direction_nodes client to d e).0 ∙ apart is) (Some direction) f)
       go false is found f = tt
 
+-- where a message is taken there is still one direction from each node on a connection
+pub flight_one_out : (directions : List Direction) → AreApart (sides directions) → OneOut directions → (from to : NodeNo) (place : ℕ) (flight : Option Flight) → flight_at directions from to place ≡ flight → OneOut (directions_after directions flight)
+flight_one_out directions apart single from to place flight flies node conn =
+    let same = count-map (λ (s : Side). is_node s.1 node && (s.0.0 == conn.0)) side_of directions in
+    let then = count-map (λ (s : Side). is_node s.1 node && (s.0.0 == conn.0)) side_of (directions_after directions flight) in
+    let is = ap (count_by (λ (s : Side). is_node s.1 node && (s.0.0 == conn.0))) (flight_sides directions from to place apart flight flies) in
+    let most = single node conn in
+    omega (arith, same, then, is, most)
+
 -- ---- any step
 
 module _ (site : Site) (ends : Ends) (old new : WorldState) (applied : Bool) (losses : List LossAt) (wired : IsWired site ends old) (apart : AreApart (sides old.directions)) (k : NodeNo) (relay_is : is_relay site k ≡ true) where
@@ -183,17 +192,9 @@ module _ (site : Site) (ends : Ends) (old new : WorldState) (applied : Bool) (lo
   abbrev without : Option Flight → WorldState
   without flight = record old { directions = directions_after old.directions flight }
 
-  flight_one_out : (from to : NodeNo) (place : ℕ) (flight : Option Flight) → flight_at old.directions from to place ≡ flight → OneOut (directions_after old.directions flight)
-  flight_one_out from to place flight flies node conn =
-      let same = count-map (λ (s : Side). is_node s.1 node && (s.0.0 == conn.0)) side_of old.directions in
-      let then = count-map (λ (s : Side). is_node s.1 node && (s.0.0 == conn.0)) side_of (directions_after old.directions flight) in
-      let is = ap (count_by (λ (s : Side). is_node s.1 node && (s.0.0 == conn.0))) (flight_sides old.directions from to place apart flight flies) in
-      let most = single node conn in
-      omega (arith, same, then, is, most)
-
   delivered_turns : (from to : NodeNo) (place : ℕ) (flight : Option Flight) → flight_at old.directions from to place ≡ flight → Delivers site old to flight applied new → Turned k (events_at site k (Deliver from to place) old) (without flight) new
   delivered_turns from to place flight flies made =
-      subst (λ (items : Traffic). Turned k (cond (is_node to k) (map (λ item. Received item.0 item.1) items) []) (without flight) new) (sym (flight_item old.directions from to place apart flight flies)) (go flight (flight_one_out from to place flight flies) made)
+      subst (λ (items : Traffic). Turned k (cond (is_node to k) (map (λ item. Received item.0 item.1) items) []) (without flight) new) (sym (flight_item old.directions from to place apart flight flies)) (go flight (flight_one_out old.directions apart single from to place flight flies) made)
     where
       nobody : (b : Bool) → cond b (map (λ (item : ConnId × Message). Received item.0 item.1) []) [] ≡ []
       nobody true = refl

@@ -19,6 +19,7 @@ use Rattle.farm_model.specs.Arrival.{AtRelay}
 use Rattle.farm_model.specs.Cause.{at_relay}
 use Rattle.farm_model.specs.CheckedSite.{IsChecked}
 use Rattle.farm_model.specs.FarmStep.{FarmStep, Flight, flight_at, can_restart}
+use Rattle.farm_model.specs.FrontTurns.{KeepsFronts}
 use Rattle.farm_model.specs.InFlight.{KeepsTraffic}
 use Rattle.farm_model.specs.Promise.{IsNamed, RefusesLoop, RefusesWhatComesBack, KeepsPromise}
 use Rattle.farm_model.specs.Run.{Past, Transition, Run, start, empty_book, steps_in, skipped_in, IsTrace}
@@ -33,6 +34,7 @@ use Rattle.farm_model.proofs.FailingOver.{relay_loses}
 use Rattle.farm_model.proofs.FrontCharge.{charge_goes}
 use Rattle.farm_model.proofs.FrontEmit.{emit_goes}
 use Rattle.farm_model.proofs.FrontRequests.{fronts_from_hold, QueuesHoldRequests}
+use Rattle.farm_model.proofs.KeepingFronts.{step_keeps_fronts}
 use Rattle.farm_model.proofs.FrontSteps.{pick_goes, refuse_goes}
 use Rattle.farm_model.proofs.Hearing.{heard_on}
 use Rattle.farm_model.proofs.HearingSteps.{MoreEnds, step_ends, step_heard}
@@ -134,6 +136,7 @@ module _ (premises : Premises) (site : Site) (all : Ends) (checked : IsChecked s
         loops = all-end (RefusesLoop site) past t h.loops loop;
         come_back = all-end (RefusesWhatComesBack site) past t h.come_back (comes_back t loop);
         traffic = all-end (KeepsTraffic site) past t h.traffic traffic.0;
+        fronts = all-end (KeepsFronts site) past t h.fronts (step_keeps_fronts t h.wired h.apart s);
         last = last_of-push (start site) past t;
         relays = λ node relay_is. relay_runs_on past t h.wired h.apart s node relay_is (h.relays node relay_is);
       }
@@ -164,6 +167,7 @@ module _ (premises : Premises) (site : Site) (all : Ends) (checked : IsChecked s
     loops = λ t h. elim h [ ];
     come_back = λ t h. elim h [ ];
     traffic = λ t h. elim h [ ];
+    fronts = λ t h. elim h [ ];
     last = refl;
     relays = relay_begins site;
   }

@@ -2,6 +2,7 @@ pub mod Arrival
 pub mod Cause
 pub mod CheckedSite
 pub mod FarmStep
+pub mod FrontTurns
 pub mod InFlight
 pub mod Lists
 pub mod Loss

@@ -34,6 +34,7 @@ use Rattle.farm_model.specs.declared.step.Step.{Step}
 use Rattle.farm_model.specs.declared.step.Step.TheVariants.{Charge, Deliver}
 use Rattle.farm_model.specs.Cause.{HasCause}
 use Rattle.farm_model.specs.FarmStep.{flight_at}
+use Rattle.farm_model.specs.FrontTurns.{KeepsFronts}
 use Rattle.farm_model.specs.InFlight.{KeepsTraffic}
 use Rattle.farm_model.specs.Nodes.{is_node, is_client, is_relay}
 use Rattle.farm_model.specs.RelayRuns.{RunsAsRelay}
@@ -213,6 +214,7 @@ pub record KeepsPromise (site : Site) (past : Past) (trace : Trace) : Type 0 whe
   pub loops : All (RefusesLoop site) past
   pub come_back : All (RefusesWhatComesBack site) past
   pub traffic : All (KeepsTraffic site) past
+  pub fronts : All (KeepsFronts site) past
   pub relays : (node : NodeNo) (name : List ℕ) → is_relay site node ≡ true → IsNamed site node name → RunsAsRelay site past node name
 
 -- the trace of a run of these steps, one after the other, which keeps the promise
