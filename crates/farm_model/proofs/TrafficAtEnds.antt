@@ -11,10 +11,10 @@ use Rattle.farm_model.specs.declared.state.Direction.{Direction}
 use Rattle.farm_model.specs.declared.step.Step.TheVariants.{Cut, Restart}
 use Rattle.farm_model.specs.FarmStep.{Cuts, can_restart}
 use Rattle.farm_model.specs.InFlight.{goes, ends_at}
-use Rattle.farm_model.specs.Loss.{LossAt, LearnLosses, touches, after_cut, after_restart, losses_of_restart}
+use Rattle.farm_model.specs.Loss.{Loss, LossAt, LearnLosses, touches, after_cut, losses_of_cut, after_restart, losses_of_restart}
 use Rattle.farm_model.specs.Nodes.{is_node}
 use Rattle.farm_model.specs.World.{Ends, WorldState, is_on, conn_between}
-use Rattle.farm_model.proofs.Among.{Has-kept, Has-map}
+use Rattle.farm_model.proofs.Among.{Has-cons, Has-kept, Has-map}
 use Rattle.farm_model.proofs.Apart.{the_one, AreApart, goes_once}
 use Rattle.farm_model.proofs.ApartAfterStep.{apart_without}
 use Rattle.farm_model.proofs.Ending.{touches_it}
@@ -23,20 +23,30 @@ use Rattle.farm_model.proofs.Joined.{Joins-turned, Joins-same, is_one_end}
 use Rattle.farm_model.proofs.KnowsAfterCut.{found_on}
 use Rattle.farm_model.proofs.Numbering.{same_node, same_conn, is_same_node}
 use Rattle.farm_model.proofs.Sides.{Side, side_of, sides, direction_of, side_was}
-use Rattle.farm_model.proofs.StandingOn.{StandOn, GoesOn, same_goes_on, losses_go_on}
-use Rattle.farm_model.proofs.TrafficOfSteps.{Carries, nothing_more}
+use Rattle.farm_model.proofs.StandingOn.{StandOn, MaySend, GoesOn, same_goes_on, losses_go_on}
+use Rattle.farm_model.proofs.TrafficOfSteps.{IsOfNone, Carries, stood, none_begun, nothing_more}
 use Rattle.farm_model.proofs.Wired.{Joins, IsWired}
 use Rattle.farm_model.proofs.WorldLemmas.{direction_between}
 
 -- a direction that stands in the end was left
-was_left : (keep : Direction → Bool) (old new : List Direction) → StandOn (filter keep old) new → (other : Direction) → Has other new → (direction : Direction) × Has direction old × (keep direction ≡ true) × (side_of direction ≡ side_of other)
-was_left keep old new on other h =
+was_left : (grows : Side → Bool) (keep : Direction → Bool) (old new : List Direction) → StandOn grows (filter keep old) new → (other : Direction) → Has other new → (direction : Direction) × Has direction old × (keep direction ≡ true) × (side_of direction ≡ side_of other)
+was_left grows keep old new on other h =
     let was = side_was keep old (side_of other) (subst (Has (side_of other)) on.same (Has-map side_of h)) in
     (was.0.direction, was.0.among, was.1, was.0.side_is)
+
+-- none of them has come up
+none_more : {A : Type 0} (grows : Side → Bool) (keep : Direction → Bool) (old new : List Direction) → StandOn grows (filter keep old) new → (direction : Direction) → Has direction new → IsOfNone old direction → A
+none_more grows keep old new on direction h none =
+    let was = was_left grows keep old new on direction h in
+    absurd (stood old direction (subst (λ (s : Side). Has s (sides old)) was.3 (Has-map side_of was.1)) none)
 
 -- ---- a cut
 
 module _ (site : Site) (ends : Ends) (old new : WorldState) (applied : Bool) (losses : List LossAt) (wired : IsWired site ends old) (apart : AreApart (sides old.directions)) (a b : NodeNo) where
+  -- its nodes learn it, and send
+  abbrev grows : Side → Bool
+  grows side = is_node side.1 a || is_node side.1 b
+
   -- where the connection goes one of the ways, a direction of it goes from the first node to the second
   first_way : (direction : Direction) → Has direction old.directions → ends_at site (Cut a b) direction ≡ true → (first : Direction) × Has first old.directions × (goes a b first ≡ true) × (first.conn ≡ direction.conn)
   first_way direction h e = elim (or_cases (goes a b direction) (goes b a direction) e) [
@@ -51,9 +61,10 @@ module _ (site : Site) (ends : Ends) (old new : WorldState) (applied : Bool) (lo
 
   no_cut : conn_between old.directions a b ≡ None → new ≡ old → Carries site (Cut a b) old new
   no_cut none same =
-      let on = same_goes_on old new same in
+      let on = same_goes_on grows old new same in
       record {
         in_flight = λ direction h e. on.directions.stands direction h;
+        begun = λ direction h none. none_begun on.directions.same direction h none;
         ended = λ direction other h e k.
             let first = first_way direction h e in
             absurd (both_ways (goes a b first.0) (not_found (goes a b) (none_mapped (λ (d : Direction). d.conn) (goes a b) old.directions none) first.1) first.2);
@@ -87,13 +98,14 @@ module _ (site : Site) (ends : Ends) (old new : WorldState) (applied : Bool) (lo
     abbrev is_left : Direction → Bool
     is_left direction = not (is_on conn direction)
 
-    was_cut : GoesOn (after_cut old conn) new → Carries site (Cut a b) old new
+    was_cut : GoesOn grows (after_cut old conn) new → Carries site (Cut a b) old new
     was_cut on = record {
       in_flight = λ direction h e.
           let off = false_from_ne_true (is_on conn direction) (λ is. both_ways (ends_at site (Cut a b) direction) e (on_it direction h is)) in
           on.directions.stands direction (Has-kept is_left h (ap not off));
+      begun = λ direction h none. none_more grows is_left old.directions new.directions on.directions direction h none;
       ended = λ direction other h e k.
-          let was = was_left is_left old.directions new.directions on.directions other k in
+          let was = was_left grows is_left old.directions new.directions on.directions other k in
           ap (λ (c : ConnId). other.conn.0 == c.0) (is_of_it direction h e) ∙ sym (ap (λ (s : Side). s.0.0 == conn.0) was.3) ∙ not-true (is_on conn was.0) was.2;
       apart = subst AreApart (sym on.directions.same) (apart_without (λ side. not (side.0.0 == conn.0)) (λ c x y. refl) old.directions apart);
       sent = nothing_more on.sent;
@@ -102,19 +114,30 @@ module _ (site : Site) (ends : Ends) (old new : WorldState) (applied : Bool) (lo
 
   pub cut_carries : (conn : Option ConnId) → conn_between old.directions a b ≡ conn → Cuts old a b conn applied losses new → Carries site (Cut a b) old new
   cut_carries None between made = no_cut between made.2
-  cut_carries (Some conn) between made = was_cut conn between (losses_go_on made.1)
+  cut_carries (Some conn) between made = was_cut conn between (losses_go_on grows may_send made.1)
+    where
+      may_send : (loss : Loss) → Has loss (losses_of_cut a b conn) → MaySend grows loss.node
+      may_send loss h side e = elim (Has-cons h) [
+        | inl first ↦ or_left (is_node side.1 a) (is_node side.1 b) (ap (λ (l : Loss). is_node side.1 l.node) (sym first) ∙ e)
+        | inr more ↦ elim (Has-cons more) [ inl second ↦ or_right (is_node side.1 a) (is_node side.1 b) (ap (λ (l : Loss). is_node side.1 l.node) (sym second) ∙ e) | inr none_there ↦ elim none_there [ ] ]
+      ]
 
 -- ---- a restart
 
 module _ (site : Site) (ends : Ends) (old new : WorldState) (applied : Bool) (losses : List LossAt) (wired : IsWired site ends old) (apart : AreApart (sides old.directions)) (node : NodeNo) where
+  -- any node may be one that learns it
+  abbrev always : Side → Bool
+  always side = true
+
   abbrev stays : Direction → Bool
   stays direction = not (touches node direction)
 
   no_restart : can_restart site node ≡ false → new ≡ old → Carries site (Restart node) old new
   no_restart cannot same =
-      let on = same_goes_on old new same in
+      let on = same_goes_on always old new same in
       record {
         in_flight = λ direction h e. on.directions.stands direction h;
+        begun = λ direction h none. none_begun on.directions.same direction h none;
         ended = λ direction other h e k. absurd (both_ways (can_restart site node) cannot (and_parts (can_restart site node) (touches node direction) e).0);
         apart = subst AreApart (sym on.directions.same) apart;
         sent = nothing_more on.sent;
@@ -130,11 +153,12 @@ module _ (site : Site) (ends : Ends) (old new : WorldState) (applied : Bool) (lo
         | inr to_is ↦ touches_it other direction.conn (Joins-turned (subst (λ (n : NodeNo). Joins ends direction.conn direction.from n) (same_node direction.to node to_is) joins)) (wired.directions other k) on
       ]
 
-  was_restarted : can_restart site node ≡ true → GoesOn (after_restart old node) new → Carries site (Restart node) old new
+  was_restarted : can_restart site node ≡ true → GoesOn always (after_restart old node) new → Carries site (Restart node) old new
   was_restarted can on = record {
     in_flight = λ direction h e. on.directions.stands direction (Has-kept stays h (ap not (sym (ap (λ (c : Bool). c && touches node direction) can) ∙ e)));
+    begun = λ direction h none. none_more always stays old.directions new.directions on.directions direction h none;
     ended = λ direction other h e k.
-        let was = was_left stays old.directions new.directions on.directions other k in
+        let was = was_left always stays old.directions new.directions on.directions other k in
         let touching = (and_parts (can_restart site node) (touches node direction) e).1 in
         sym (ap (λ (s : Side). s.0.0 == direction.conn.0) was.3) ∙ false_from_ne_true (is_on direction.conn was.0) (λ is. both_ways (touches node was.0) (not-true (touches node was.0) was.2) (touched direction h touching was.0 was.1 is));
     apart = subst AreApart (sym on.directions.same) (apart_without (λ side. not (is_node side.1 node || is_node side.2 node)) (λ c x y. ap not (or_comm (is_node y node) (is_node x node))) old.directions apart);
@@ -143,5 +167,5 @@ module _ (site : Site) (ends : Ends) (old new : WorldState) (applied : Bool) (lo
   }
 
   pub restart_carries : (b : Bool) → can_restart site node ≡ b → MatchBool b ((applied ≡ true) × LearnLosses (losses_of_restart node old.directions) (after_restart old node) losses new) ((applied ≡ false) × (losses ≡ []) × (new ≡ old)) → Carries site (Restart node) old new
-  restart_carries true can made = was_restarted can (losses_go_on made.1)
+  restart_carries true can made = was_restarted can (losses_go_on always (λ loss h side e. refl) made.1)
   restart_carries false can made = no_restart can made.2

@@ -8,7 +8,7 @@ use Rattle.dia_message.specs.Traffic.{Traffic}
 use Rattle.farm_model.specs.declared.site.Site.{Site}
 use Rattle.farm_model.specs.declared.state.Direction.{Direction}
 use Rattle.farm_model.specs.declared.step.Step.{Step}
-use Rattle.farm_model.specs.declared.step.Step.TheVariants.{Send, Deliver, Lose, Cut, Restart}
+use Rattle.farm_model.specs.declared.step.Step.TheVariants.{Send, Deliver, Lose, Cut, Restart, Emit}
 use Rattle.farm_model.specs.Nodes.{is_node, is_client, is_front, is_relay}
 use Rattle.farm_model.specs.Run.{Transition}
 
@@ -31,6 +31,16 @@ left_by (Deliver from to place) direction = if goes from to direction then remov
 left_by (Lose from to place) direction = if goes from to direction then remove direction.messages place else direction.messages
 left_by step direction = direction.messages
 
+-- A node may send in it at the step: a client that is told to, the node that a message is delivered to, a front that
+-- emits, or, where connections end, one that learns it.
+abbrev pub grows_at : Step → Direction → Bool
+grows_at (Send client to message) direction = goes client to direction
+grows_at (Deliver from to place) direction = is_node direction.from to
+grows_at (Emit front worker) direction = is_node direction.from front
+grows_at (Cut a b) direction = is_node direction.from a || is_node direction.from b
+grows_at (Restart node) direction = true
+grows_at step direction = false
+
 -- its message at this place
 abbrev pub message_at : ℕ → Direction → Option (ConnId × Message)
 message_at place direction = option_map (λ message. (direction.conn, message)) (slice_get direction.messages place)
@@ -51,9 +61,12 @@ received_at site step directions = []
 
 -- What is promised of each step.
 pub record KeepsTraffic (site : Site) (t : Transition) : Type 0 where
-  -- What is in flight stays so, in its order, until it is delivered or lost, or its connection ends. What nodes send
-  -- comes behind it.
-  pub in_flight : (direction : Direction) → Contains t.before.directions direction → ends_at site t.step direction ≡ false → (more : List Message) × Contains t.after.directions (record direction { messages = left_by t.step direction ++ more })
+  -- What is in flight stays so, in its order, until it is delivered or lost, or its connection ends. Others come behind
+  -- it only where a node may send.
+  pub in_flight : (direction : Direction) → Contains t.before.directions direction → ends_at site t.step direction ≡ false →
+      (more : List Message) × (grows_at t.step direction ≡ false → more ≡ []) × Contains t.after.directions (record direction { messages = left_by t.step direction ++ more })
+  -- On a connection that comes up nothing is in flight.
+  pub begun : (direction : Direction) → Contains t.after.directions direction → ((other : Direction) → Contains t.before.directions other → (other.conn.0 == direction.conn.0) ≡ false) → direction.messages ≡ []
   -- Of a connection that ends nothing is left.
   pub ended : (direction other : Direction) → Contains t.before.directions direction → ends_at site t.step direction ≡ true → Contains t.after.directions other → (other.conn.0 == direction.conn.0) ≡ false
   -- Two nodes have one connection at most.
