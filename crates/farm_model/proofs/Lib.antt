@@ -64,6 +64,7 @@ pub mod SamePeers
 pub mod Sending
 pub mod SentBehind
 pub mod Sides
+pub mod Skipping
 pub mod StandingOn
 pub mod Starting
 pub mod StepGoes

@@ -36,7 +36,7 @@ use Rattle.farm_model.specs.declared.site.Site.{Site}
 use Rattle.farm_model.specs.FrontTurns.{KeepsFronts}
 use Rattle.farm_model.specs.InFlight.{KeepsTraffic}
 use Rattle.farm_model.specs.Nodes.{is_node, is_client, is_front, is_relay, kind_in, means_front, means_relay}
-use Rattle.farm_model.specs.Promise.{Journal, IsEndOf, IsNamed, IsFrontNamed, AnswersOn, itself, over_relay, HasOneClient, IsRefusedThere, IsRightAnswer, IsOfRun, HasOneContent, IsMachineReply, RefusesLoop, RefusesWhatComesBack, KeepsPromise}
+use Rattle.farm_model.specs.Promise.{Journal, IsEndOf, IsNamed, IsFrontNamed, AnswersOn, itself, over_relay, HasOneClient, IsRefusedThere, IsRightAnswer, IsOfRun, HasOneContent, IsMachineReply, RefusesLoop, RefusesWhatComesBack, AppliedOrChangedNothing, KeepsPromise}
 use Rattle.farm_model.specs.RelayRuns.{events_in, RunsAsRelay}
 use Rattle.farm_model.specs.Run.{Past, front_site, relay_site, trace_of}
 use Rattle.farm_model.specs.World.{Ends, WorldState, relay_at}
@@ -238,6 +238,7 @@ module _ (site : Site) (past : Past) (w : WorldState) (h : RunHolds site w.ends 
     loops = all_of (RefusesLoop site) past h.loops;
     come_back = all_of (RefusesWhatComesBack site) past h.come_back;
     traffic = all_of (KeepsTraffic site) past h.traffic;
+    skipped = all_of AppliedOrChangedNothing past h.skipped;
     fronts = all_of (KeepsFronts site) past h.fronts;
     relays = runs_as_relay relays_keep;
   }

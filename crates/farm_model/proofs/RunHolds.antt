@@ -10,7 +10,7 @@ use Rattle.farm_model.specs.Cause.{HasCause}
 use Rattle.farm_model.specs.FrontTurns.{KeepsFronts}
 use Rattle.farm_model.specs.InFlight.{KeepsTraffic}
 use Rattle.farm_model.specs.Nodes.{is_front, is_relay}
-use Rattle.farm_model.specs.Promise.{RefusesLoop, RefusesWhatComesBack}
+use Rattle.farm_model.specs.Promise.{RefusesLoop, RefusesWhatComesBack, AppliedOrChangedNothing}
 use Rattle.farm_model.specs.RelayRuns.{last_of}
 use Rattle.farm_model.specs.Run.{Past, Transition, start, steps_in}
 use Rattle.farm_model.specs.World.{Ends, WorldState}
@@ -46,6 +46,7 @@ pub record RunHolds (site : Site) (all : Ends) (past : Past) (w : WorldState) : 
   pub loops : (t : Transition) → Has t past → RefusesLoop site t
   pub come_back : (t : Transition) → Has t past → RefusesWhatComesBack site t
   pub traffic : (t : Transition) → Has t past → KeepsTraffic site t
+  pub skipped : (t : Transition) → Has t past → AppliedOrChangedNothing t
   pub fronts : (t : Transition) → Has t past → KeepsFronts site t
   pub last : last_of (start site) past ≡ w
   pub relays : (node : NodeNo) → is_relay site node ≡ true → HasRun site node past w

@@ -21,7 +21,7 @@ use Rattle.farm_model.specs.CheckedSite.{IsChecked}
 use Rattle.farm_model.specs.FarmStep.{FarmStep, Flight, flight_at, can_restart}
 use Rattle.farm_model.specs.FrontTurns.{KeepsFronts}
 use Rattle.farm_model.specs.InFlight.{KeepsTraffic}
-use Rattle.farm_model.specs.Promise.{IsNamed, RefusesLoop, RefusesWhatComesBack, KeepsPromise}
+use Rattle.farm_model.specs.Promise.{IsNamed, RefusesLoop, RefusesWhatComesBack, AppliedOrChangedNothing, KeepsPromise}
 use Rattle.farm_model.specs.Run.{Past, Transition, Run, start, empty_book, steps_in, skipped_in, IsTrace}
 use Rattle.farm_model.specs.World.{Ends, WorldState, conn_between, relay_at}
 use Rattle.farm_model.proofs.Among.{Has-map, Has-right}
@@ -52,6 +52,7 @@ use Rattle.farm_model.proofs.Receiving.{relay_receives}
 use Rattle.farm_model.proofs.RelaysRun.{last_of-push, relay_runs_on, relay_begins}
 use Rattle.farm_model.proofs.RunHolds.{RunHolds}
 use Rattle.farm_model.proofs.RunLemmas.{steps_in-push}
+use Rattle.farm_model.proofs.Skipping.{step_skips}
 use Rattle.farm_model.proofs.Starting.{start_wired, start_heard, start_moves}
 use Rattle.farm_model.proofs.StepGoes.{Goes, Reason}
 use Rattle.farm_model.proofs.Sweeping.{sweep_goes}
@@ -136,6 +137,7 @@ module _ (premises : Premises) (site : Site) (all : Ends) (checked : IsChecked s
         loops = all-end (RefusesLoop site) past t h.loops loop;
         come_back = all-end (RefusesWhatComesBack site) past t h.come_back (comes_back t loop);
         traffic = all-end (KeepsTraffic site) past t h.traffic traffic.0;
+        skipped = all-end AppliedOrChangedNothing past t h.skipped (λ skipped. step_skips site t.before t.after t.applied t.losses skipped t.step s);
         fronts = all-end (KeepsFronts site) past t h.fronts (step_keeps_fronts t h.wired h.apart s);
         last = last_of-push (start site) past t;
         relays = λ node relay_is. relay_runs_on past t h.wired h.apart s node relay_is (h.relays node relay_is);
@@ -167,6 +169,7 @@ module _ (premises : Premises) (site : Site) (all : Ends) (checked : IsChecked s
     loops = λ t h. elim h [ ];
     come_back = λ t h. elim h [ ];
     traffic = λ t h. elim h [ ];
+    skipped = λ t h. elim h [ ];
     fronts = λ t h. elim h [ ];
     last = refl;
     relays = relay_begins site;

@@ -191,6 +191,12 @@ pub record HasComeBack (name : List ℕ) (message : Message) : Type 0 where
 abbrev pub RefusesWhatComesBack : Site → Transition → Type 0
 RefusesWhatComesBack site t = RefusesAsLoop HasComeBack site t
 
+-- ---- steps that do not apply
+
+-- the step applied, or has changed nothing
+abbrev pub AppliedOrChangedNothing : Transition → Type 0
+AppliedOrChangedNothing t = t.applied ≡ false → t.after ≡ t.before
+
 -- ---- what the book is opened with
 
 -- the site's accounts with their opening amounts, its prices, its validity and its money
@@ -214,6 +220,7 @@ pub record KeepsPromise (site : Site) (past : Past) (trace : Trace) : Type 0 whe
   pub loops : All (RefusesLoop site) past
   pub come_back : All (RefusesWhatComesBack site) past
   pub traffic : All (KeepsTraffic site) past
+  pub skipped : All AppliedOrChangedNothing past
   pub fronts : All (KeepsFronts site) past
   pub relays : (node : NodeNo) (name : List ℕ) → is_relay site node ≡ true → IsNamed site node name → RunsAsRelay site past node name
 
