@@ -1,9 +1,9 @@
 -- Why nothing is read: of a key, of an entry, of a text.
-use Rattle.std.proofs.Common.{◌≡◌, ℕ, zero, suc, ◌<◌, Bool, true, false, ◌&&◌, List, [], ◌∷◌, length, map, get_or, Option, Some, None, Result, Ok, Err, ℤ, refl, sym, subst, ap, ◌∙◌, inr, arith}
+use Rattle.std.proofs.Common.{Bor, ◌≡◌, ℕ, zero, suc, ◌<◌, Bool, true, false, ◌&&◌, List, [], ◌∷◌, ◌++◌, length, map, take, drop, drop-cons, take-append-drop, get_or, Option, Some, None, Result, Ok, Err, ℤ, refl, sym, subst, ap, ◌∙◌, inr, arith}
 use Rattle.std.specs.Prelude.{IfErr, IsErrAnd, IsSome, is_some, option_map}
-use Rattle.std.specs.List.{Contains, list_any}
+use Rattle.std.specs.List.{AllZip, Contains, list_any}
 use Rattle.std.proofs.lemmas.Bool.{lt-ltb}
-use Rattle.std.proofs.lemmas.List.{get_or-map, length-map}
+use Rattle.std.proofs.lemmas.List.{get_or-map, length-map, map-append}
 use Rattle.std.proofs.lemmas.List.Elements.{Contains-get_or}
 use Rattle.toml.specs.Data.{Data, Items, Members, array, integer, as_array, as_integer}
 use Rattle.toml.specs.Parse.{parse_document}
@@ -11,13 +11,17 @@ use Rattle.toml.specs.View.{items_of, items_view, table_view, view}
 use Rattle.toml.specs.declared.value.Value.{Value}
 use Rattle.cc_rating.specs.Tariffs.{rates}
 use Rattle.cc_rating.specs.declared.tariff.Tariff.{Tariff}
+use Rattle.dia_base.specs.declared.number.NodeNo.{NodeNo}
+use Rattle.farm_model.specs.declared.site.Node.{Node}
 use Rattle.farm_model.specs.declared.site.Site.{Site}
 use Rattle.farm_site.specs.declared.entry.Entry.{Entry}
 use Rattle.farm_site.specs.declared.fault.SiteFault.{SiteFault}
 use Rattle.farm_site.specs.declared.fault.SiteFault.TheVariants.{NotToml, Missing, WrongType, OutOfRange, Twice, UnknownName, BadIdentity, TooMany, BadLink, OutOfMemory}
 use Rattle.farm_site.specs.declared.key.Key.{Key}
-use Rattle.farm_site.specs.Faults.{AreWhyOctets, Form, IsFaultIn, IsFaultOf, IsWhyText, of_entry, of_file, all_in, all_items, form_of, has_more_than, has_type, is_in_range, items_len, on_integer}
-use Rattle.farm_site.specs.Spelling.{number, tables, tables_of, value_at, value_or}
+use Rattle.farm_site.specs.declared.key.Key.TheVariants as keys
+use Rattle.farm_site.specs.Faults.{AreWhyOctets, IsAccountFault, IsFaultIn, IsFaultOf, IsLinkFault, IsNodeFault, IsRouteFault, IsTableFault, IsTariffFault, IsUnknownAmong, IsWhyText, NamesNone, of_accounts, of_entry, of_file, of_links, of_nodes, of_routes, of_table, of_tariffs}
+use Rattle.farm_site.specs.Forms.{Form, all_in, all_items, form_of, has_more_than, has_type, is_in_range, items_len, on_integer}
+use Rattle.farm_site.specs.Spelling.{SpellsAccount, SpellsLink, SpellsNode, SpellsRoute, SpellsTariff, number, tables, tables_of, texts, value_at, value_or}
 
 and_false : (a b : Bool) → b ≡ false → (a && b) ≡ false
 and_false true b e = e
@@ -84,28 +88,50 @@ pub number_stands : (value : Option Data) (read : Option ℕ) → value ≡ opti
 number_stands value None is some = absurd cc
 number_stands value (Some n) is some = subst (λ (v : Option Data). IsSome v) (sym is) refl
 
+-- ---- names
+
+-- one of the names of an array
+pub unknown_among : (nodes : List Node) (may_stand : NodeNo → Bool) (key : Key) (entry : Members) (names : List (Bor (List ℕ))) (i : ℕ) (d : Bor (List ℕ)) → value_at key entry ≡ Some (texts (map (λ name. name.now) names)) → i < length names → NamesNone nodes may_stand (get_or names i d).now → IsUnknownAmong nodes may_stand key entry
+unknown_among nodes may_stand key entry names i d stand h none =
+    let len : length (map (λ (name : Bor (List ℕ)). name.now) names) ≡ length names = simp length-map in
+    let found : get_or (map (λ (name : Bor (List ℕ)). name.now) names) i (get_or names i d).now ≡ (get_or names i d).now = get_or-map (λ (name : Bor (List ℕ)). name.now) names i d (get_or names i d).now h in
+    record {
+      names = map (λ name. name.now) names;
+      name = (get_or names i d).now;
+      stand = stand;
+      among = subst (λ (name : List ℕ). Contains (map (λ (name : Bor (List ℕ)). name.now) names) name) found (Contains-get_or (map (λ (name : Bor (List ℕ)). name.now) names) i (get_or names i d).now (omega arith));
+      none = none;
+    }
+
 -- ---- entries, and the file
 
--- a fault of an entry of a table
-pub told_in : (key : Key) (file : Members) (seen entries : List Entry) (i : ℕ) (entry : Entry) (fault : SiteFault) → seen ≡ entries → value_or (tables []) key file ≡ tables (tables_of entries) → i < length seen → entry ≡ get_or seen i entry → IsFaultOf (table_view entry.table.now) fault → IsFaultIn file fault
-told_in key file seen entries i entry fault same stand h is told =
-    let here : i < length entries = subst (λ (es : List Entry). i < length es) same h in
-    let len : length (tables_of entries) ≡ length entries = simp length-map in
-    let found : get_or (tables_of entries) i (table_view entry.table.now) ≡ table_view entry.table.now =
-    get_or-map (λ (e : Entry). table_view e.table.now) entries i entry (table_view entry.table.now) here ∙ ap (λ (e : Entry). table_view e.table.now) (sym (is ∙ ap (λ (es : List Entry). get_or es i entry) same)) in
-    let among : Contains (tables_of entries) (table_view entry.table.now) = subst (λ (m : Members). Contains (tables_of entries) m) found (Contains-get_or (tables_of entries) i (table_view entry.table.now) (omega arith)) in
-    of_entry key (tables_of entries) (table_view entry.table.now) stand among told
+-- a fault of an entry of a table, where those before it are read
+pub told_in : {A : Type 0} (spells : Members → A → Type 0) (IsFault : List A → Members → SiteFault → Type 0) (key : Key) (file : Members) (seen entries : List Entry) (i : ℕ) (entry : Entry) (items : List A) (fault : SiteFault) → seen ≡ entries → value_or (tables []) key file ≡ tables (tables_of entries) → i < length seen → entry ≡ get_or seen i entry → AllZip spells (tables_of (take i seen)) items → IsFault items (table_view entry.table.now) fault → IsTableFault spells IsFault key file fault
+told_in spells IsFault key file seen entries i entry items fault same stand h is before told =
+    let parts : take i seen ++ entry ∷ drop (suc i) seen ≡ seen =
+    ap (λ (e : Entry). take i seen ++ e ∷ drop (suc i) seen) is ∙ ap (λ (es : List Entry). take i seen ++ es) (sym (drop-cons seen i entry h)) ∙ take-append-drop i seen in
+    let split : tables_of seen ≡ tables_of (take i seen) ++ table_view entry.table.now ∷ tables_of (drop (suc i) seen) =
+    ap tables_of (sym parts) ∙ map-append (λ (e : Entry). table_view e.table.now) (take i seen) (entry ∷ drop (suc i) seen) in
+    of_entry (tables_of (take i seen)) (tables_of (drop (suc i) seen)) (table_view entry.table.now) items (stand ∙ ap (λ (es : List Entry). tables (tables_of es)) (sym same) ∙ ap tables split) before told
 
 -- the same, as `?` hands it on
-pub handed_on : {A : Type 0} (file : Members) (result : Result A SiteFault) (fault : SiteFault) → IsErrAnd result (λ given. given ≡ fault) → IsFaultIn file fault → IfErr result (IsFaultIn file)
-handed_on file (Ok x) fault is told = tt
-handed_on file (Err given) fault is told = subst (λ (f : SiteFault). IsFaultIn file f) (sym is) told
+pub handed_on : {A : Type 0} (IsTold : SiteFault → Type 0) (result : Result A SiteFault) (fault : SiteFault) → IsErrAnd result (λ given. given ≡ fault) → IsTold fault → IfErr result IsTold
+handed_on IsTold (Ok x) fault is told = tt
+handed_on IsTold (Err given) fault is told = subst (λ (f : SiteFault). IsTold f) (sym is) told
 
 -- ---- texts
 
+never_of_table : {A : Type 0} (spells : Members → A → Type 0) (IsFault : List A → Members → SiteFault → Type 0) (key : Key) (file : Members) → ((items : List A) (entry : Members) → IsFault items entry NotToml → ⊥) → IsTableFault spells IsFault key file NotToml → ⊥
+never_of_table spells IsFault key file never (of_table told) = told
+never_of_table spells IsFault key file never (of_entry before after entry items stand in_order told) = never items entry told
+
 never_told : (file : Members) → IsFaultIn file NotToml → ⊥
 never_told file (of_file told) = told
-never_told file (of_entry key entries entry stand among told) = told
+never_told file (of_nodes told) = never_of_table SpellsNode IsNodeFault keys.Node file (λ items entry told. told) told
+never_told file (of_links nodes are_nodes told) = never_of_table (SpellsLink nodes) (IsLinkFault nodes) keys.Link file (λ items entry told. told) told
+never_told file (of_routes nodes links are_nodes are_links told) = never_of_table (SpellsRoute nodes) (IsRouteFault nodes links) keys.Route file (λ items entry told. told) told
+never_told file (of_tariffs told) = never_of_table SpellsTariff IsTariffFault keys.Tariff file (λ items entry told. told) told
+never_told file (of_accounts told) = never_of_table SpellsAccount IsAccountFault keys.Account file (λ items entry told. told) told
 
 told_of_text : (text : List ℕ) (file : Members) (fault : SiteFault) → parse_document text ≡ Some file → IsFaultIn file fault → IsWhyText text fault
 told_of_text text file NotToml at told = absurd (never_told file told)

@@ -1,4 +1,5 @@
 pub mod Faults
+pub mod Forms
 pub mod Growing
 pub mod Graph
 pub mod Keys

@@ -3,7 +3,7 @@
 ghost use Rattle.std.specs.Prelude.{◌≡◌, ◌≤◌, IfErr, IfOk, vec_len, true, nat_le, length, ◌&&◌};
 ghost use Rattle.std.specs.List.{list_all, list_any};
 ghost use Rattle.farm_model.specs.CheckedSite.{is_sound_account, is_visible, is_within, same_account, size_of};
-ghost use Rattle.farm_site.specs.Faults.{IsFaultIn, IsFaultOf};
+ghost use Rattle.farm_site.specs.Faults.{IsAccountFault, IsFaultOf, IsTableFault};
 ghost use Rattle.farm_site.specs.Growing.{AreSound};
 ghost use Rattle.farm_site.specs.Spelling.{SpellsAccount, SpellsTable, number, value_at};
 ghost use Rattle.toml.specs.Data.{string, integer};
@@ -41,7 +41,7 @@ pub fn accounts_of(alloc: Global, file: Entry) -> Result<Vec<Account>, SiteFault
     ensures count { IfOk result (λ accounts. vec_len accounts ≤ 65536) }
     ensures sound { IfOk result (λ accounts. AreSound is_sound_account same_account accounts.items) }
     ensures spelled { IfOk result (λ accounts. SpellsTable SpellsAccount Key.Account (table_view file.entry.table.now) accounts.items) }
-    ensures fault { IfErr result (IsFaultIn (table_view file.entry.table.now)) }
+    ensures fault { IfErr result (IsTableFault SpellsAccount IsAccountFault Key.Account (table_view file.entry.table.now)) }
 {
     let entries = file.entries(alloc, Key::Account, ACCOUNT_LIMIT)?;
     let mut owners = BTreeSet::new(alloc);

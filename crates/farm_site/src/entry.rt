@@ -3,7 +3,8 @@
 ghost use Rattle.std.specs.Prelude.{◌≡◌, ◌≤◌, ◌⊎◌, [], ◌∷◌, IfErr, IfOk, None, true, false, length, vec_len, nat_le, map, option_map, pos};
 ghost use Rattle.dia_base.specs.Identity.{fault_of};
 ghost use Rattle.farm_model.specs.CheckedSite.{is_within, size_of};
-ghost use Rattle.farm_site.specs.Faults.{IsFaultOf, all_items, covers, form_of, has_more_than, integer_of_size, is_for_text, is_from_to, is_integer, is_number, is_string, is_table, list_of_numbers, list_of_tables, list_of_texts};
+ghost use Rattle.farm_site.specs.Faults.{IsFaultOf};
+ghost use Rattle.farm_site.specs.Forms.{all_items, covers, form_of, has_more_than, integer_of_size, is_for_text, is_from_to, is_integer, is_number, is_string, is_table, list_of_numbers, list_of_tables, list_of_texts};
 ghost use Rattle.farm_site.specs.Spelling.{value_at, value_or, number, numbers, texts, tables, tables_of};
 ghost use Rattle.toml.specs.Data.{string, integer, array, table, as_array};
 ghost use Rattle.toml.specs.View.{table_view, view, items_view};

@@ -1,6 +1,6 @@
 //! The nodes and links of a site, as far as they are read.
 
-ghost use Rattle.std.specs.Prelude.{◌≡◌, ◌<◌, IfSome, true, length, position};
+ghost use Rattle.std.specs.Prelude.{◌≡◌, ◌<◌, ◌≤◌, IfNone, IfSome, None, true, length, position};
 ghost use Rattle.farm_model.specs.Nodes.{joins, is_linked, is_client, is_front, is_relay, kind_at};
 ghost use Rattle.farm_model.specs.CheckedSite.{is_known};
 ghost use Rattle.farm_site.specs.Graph.{drawn};
@@ -21,6 +21,7 @@ impl Graph<'_> {
     pub fn find(self, name: &str) -> Option<NodeNo>
         ensures known { IfSome result (λ node. is_known (drawn self.entry) node ≡ true) }
         ensures named { IfSome result (Names self.entry.nodes.now name.now) }
+        ensures none { length self.entry.nodes.now ≤ 64 → IfNone result (position (is_named name.now) self.entry.nodes.now ≡ None) }
     {
         let place = place_of(self.nodes, name.as_bytes())?;
         u32::try_from(place).ok().map(NodeNo)

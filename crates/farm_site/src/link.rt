@@ -1,10 +1,11 @@
 //! The links of a site file.
 
-ghost use Rattle.std.specs.Prelude.{◌≡◌, ◌≤◌, IfErr, IfOk, vec_len, true, [], not, ◌&&◌};
+ghost use Rattle.std.specs.Prelude.{◌≡◌, ◌≤◌, ◌⊎◌, IfErr, IfOk, length, vec_len, true, [], not, ◌&&◌};
 ghost use Rattle.std.specs.List.{list_any};
 ghost use Rattle.farm_model.specs.Nodes.{is_client, is_front, is_node};
 ghost use Rattle.farm_model.specs.CheckedSite.{is_sound_link, is_known, joins_two_of, same_pair};
-ghost use Rattle.farm_site.specs.Faults.{IsFaultIn, IsFaultOf, form_of, is_for_text};
+ghost use Rattle.farm_site.specs.Faults.{IsFaultOf, IsLinkFault, IsTableFault, IsUnknownAt};
+ghost use Rattle.farm_site.specs.Forms.{form_of, is_for_text};
 ghost use Rattle.farm_site.specs.Graph.{drawn, site_over};
 ghost use Rattle.farm_site.specs.Growing.{AreSound, MayFollow};
 ghost use Rattle.farm_site.specs.Spelling.{NamesAt, SpellsLink, SpellsTable};
@@ -26,7 +27,7 @@ pub fn links_of(alloc: Global, file: Entry, nodes: &[Node]) -> Result<Vec<Link>,
     ensures count { IfOk result (λ links. vec_len links ≤ 256) }
     ensures sound { IfOk result (λ links. AreSound (is_sound_link (site_over nodes.now [])) same_pair links.items) }
     ensures spelled { IfOk result (λ links. SpellsTable (SpellsLink nodes.now) Key.Link (table_view file.entry.table.now) links.items) }
-    ensures fault { IfErr result (IsFaultIn (table_view file.entry.table.now)) }
+    ensures fault { length nodes.now ≤ 64 → IfErr result (IsTableFault (SpellsLink nodes.now) (IsLinkFault nodes.now) Key.Link (table_view file.entry.table.now)) }
 {
     let entries = file.entries(alloc, Key::Link, LINK_LIMIT)?;
     let mut links = Vec::new(alloc);
@@ -46,7 +47,7 @@ pub fn links_of(alloc: Global, file: Entry, nodes: &[Node]) -> Result<Vec<Link>,
 fn link_of(entry: Entry, before: Graph) -> Result<Link, SiteFault>
     ensures follows { IfOk result (MayFollow (is_sound_link (drawn before.entry)) same_pair before.entry.links.now) }
     ensures spelled { IfOk result (SpellsLink before.entry.nodes.now (table_view entry.entry.table.now)) }
-    ensures fault { IfErr result (IsFaultOf (table_view entry.entry.table.now)) }
+    ensures fault { length before.entry.nodes.now ≤ 64 → IfErr result (IsLinkFault before.entry.nodes.now before.entry.links.now (table_view entry.entry.table.now)) }
 {
     let link = Link {
         from: end_of(entry, Key::From, before)?,
@@ -63,7 +64,7 @@ fn link_of(entry: Entry, before: Graph) -> Result<Link, SiteFault>
 fn end_of(entry: Entry, key: Key, graph: Graph) -> Result<NodeNo, SiteFault>
     ensures known { IfOk result (λ node. is_known (drawn graph.entry) node ≡ true) }
     ensures named { IfOk result (NamesAt graph.entry.nodes.now key (table_view entry.entry.table.now)) }
-    ensures fault { is_for_text (form_of key) ≡ true → IfErr result (IsFaultOf (table_view entry.entry.table.now)) }
+    ensures fault { length graph.entry.nodes.now ≤ 64 → is_for_text (form_of key) ≡ true → IfErr result (λ fault. IsFaultOf (table_view entry.entry.table.now) fault ⊎ ((fault ≡ SiteFault.UnknownName key) × IsUnknownAt graph.entry.nodes.now (is_known (drawn graph.entry)) key (table_view entry.entry.table.now))) }
 {
     match graph.find(entry.text(key)?) {
         Some(node) => Ok(node),

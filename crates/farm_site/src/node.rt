@@ -4,7 +4,7 @@ ghost use Rattle.std.specs.Prelude.{◌≡◌, ◌≤◌, IfErr, IfOk, vec_len, 
 ghost use Rattle.std.specs.List.{list_any};
 ghost use Rattle.dia_base.specs.Folding.{same_folded};
 ghost use Rattle.farm_model.specs.CheckedSite.{is_sound_name, same_name};
-ghost use Rattle.farm_site.specs.Faults.{IsFaultIn, IsFaultOf};
+ghost use Rattle.farm_site.specs.Faults.{IsFaultOf, IsNodeFault, IsTableFault};
 ghost use Rattle.farm_site.specs.Growing.{AreSound, MayFollow};
 ghost use Rattle.farm_site.specs.Spelling.{SpellsNode, SpellsTable, value_at, node_word};
 ghost use Rattle.toml.specs.Data.{string};
@@ -27,7 +27,7 @@ pub fn nodes_of(alloc: Global, file: Entry) -> Result<Vec<Node>, SiteFault>
     ensures count { IfOk result (λ nodes. vec_len nodes ≤ 64) }
     ensures sound { IfOk result (λ nodes. AreSound is_sound_name same_name nodes.items) }
     ensures spelled { IfOk result (λ nodes. SpellsTable SpellsNode Key.Node (table_view file.entry.table.now) nodes.items) }
-    ensures fault { IfErr result (IsFaultIn (table_view file.entry.table.now)) }
+    ensures fault { IfErr result (IsTableFault SpellsNode IsNodeFault Key.Node (table_view file.entry.table.now)) }
 {
     let entries = file.entries(alloc, Key::Node, NODE_LIMIT)?;
     let mut nodes = Vec::new(alloc);
@@ -42,7 +42,7 @@ pub fn nodes_of(alloc: Global, file: Entry) -> Result<Vec<Node>, SiteFault>
 fn node_of(alloc: Global, entry: Entry, before: &[Node]) -> Result<Node, SiteFault>
     ensures follows { IfOk result (MayFollow is_sound_name same_name before.now) }
     ensures spelled { IfOk result (SpellsNode (table_view entry.entry.table.now)) }
-    ensures fault { IfErr result (IsFaultOf (table_view entry.entry.table.now)) }
+    ensures fault { IfErr result (IsNodeFault before.now (table_view entry.entry.table.now)) }
 {
     let name = entry.identity(alloc, Key::Name)?;
     if is_named(before, &name) {

@@ -1,11 +1,11 @@
 //! The routes of a site file.
 
-ghost use Rattle.std.specs.Prelude.{◌≡◌, ◌≤◌, IfErr, IfOk, vec_len, true, ◌&&◌, ◌==◌};
+ghost use Rattle.std.specs.Prelude.{◌≡◌, ◌≤◌, ◌⊎◌, IfErr, IfOk, length, vec_len, true, ◌&&◌, ◌==◌};
 ghost use Rattle.std.specs.List.{list_all, list_any};
 ghost use Rattle.dia_base.specs.Folding.{same_folded};
 ghost use Rattle.farm_model.specs.CheckedSite.{is_candidate, is_sound_route, same_route};
 ghost use Rattle.farm_model.specs.Nodes.{is_node, is_relay};
-ghost use Rattle.farm_site.specs.Faults.{IsFaultIn, IsFaultOf};
+ghost use Rattle.farm_site.specs.Faults.{IsFaultOf, IsRouteFault, IsTableFault, IsUnknownAmong, IsUnknownAt, NamesNone};
 ghost use Rattle.farm_site.specs.Graph.{drawn};
 ghost use Rattle.farm_site.specs.Growing.{AreSound, MayFollow};
 ghost use Rattle.farm_site.specs.Spelling.{Names, NamesAt, NamesAllAt, SpellsRoute, SpellsTable};
@@ -30,7 +30,7 @@ pub fn routes_of(alloc: Global, file: Entry, graph: Graph) -> Result<Vec<Route>,
     ensures count { IfOk result (λ routes. vec_len routes ≤ 256) }
     ensures sound { IfOk result (λ routes. AreSound (is_sound_route (drawn graph.entry)) same_route routes.items) }
     ensures spelled { IfOk result (λ routes. SpellsTable (SpellsRoute graph.entry.nodes.now) Key.Route (table_view file.entry.table.now) routes.items) }
-    ensures fault { IfErr result (IsFaultIn (table_view file.entry.table.now)) }
+    ensures fault { length graph.entry.nodes.now ≤ 64 → IfErr result (IsTableFault (SpellsRoute graph.entry.nodes.now) (IsRouteFault graph.entry.nodes.now graph.entry.links.now) Key.Route (table_view file.entry.table.now)) }
 {
     let entries = file.entries(alloc, Key::Route, ROUTE_LIMIT)?;
     let mut routes = Vec::new(alloc);
@@ -46,7 +46,7 @@ pub fn routes_of(alloc: Global, file: Entry, graph: Graph) -> Result<Vec<Route>,
 fn route_of(alloc: Global, entry: Entry, graph: Graph, before: &[Route]) -> Result<Route, SiteFault>
     ensures follows { IfOk result (MayFollow (is_sound_route (drawn graph.entry)) same_route before.now) }
     ensures spelled { IfOk result (SpellsRoute graph.entry.nodes.now (table_view entry.entry.table.now)) }
-    ensures fault { IfErr result (IsFaultOf (table_view entry.entry.table.now)) }
+    ensures fault { length graph.entry.nodes.now ≤ 64 → IfErr result (IsRouteFault graph.entry.nodes.now graph.entry.links.now before.now (table_view entry.entry.table.now)) }
 {
     let at = relay_of(entry, graph)?;
     let realm = entry.identity(alloc, Key::Realm)?;
@@ -66,7 +66,7 @@ fn route_of(alloc: Global, entry: Entry, graph: Graph, before: &[Route]) -> Resu
 fn relay_of(entry: Entry, graph: Graph) -> Result<NodeNo, SiteFault>
     ensures relay { IfOk result (λ relay. is_relay (drawn graph.entry) relay ≡ true) }
     ensures named { IfOk result (NamesAt graph.entry.nodes.now Key.At (table_view entry.entry.table.now)) }
-    ensures fault { IfErr result (IsFaultOf (table_view entry.entry.table.now)) }
+    ensures fault { length graph.entry.nodes.now ≤ 64 → IfErr result (λ fault. IsFaultOf (table_view entry.entry.table.now) fault ⊎ ((fault ≡ SiteFault.UnknownName Key.At) × IsUnknownAt graph.entry.nodes.now (is_relay (drawn graph.entry)) Key.At (table_view entry.entry.table.now))) }
 {
     match graph.find(entry.text(Key::At)?) {
         Some(relay) if graph.is_relay(relay) => Ok(relay),
@@ -92,7 +92,7 @@ fn peers_of(
     ensures count { IfOk result (λ peers. vec_len peers ≤ 16) }
     ensures candidates { IfOk result (λ peers. list_all (is_candidate (drawn graph.entry) relay) peers.items ≡ true) }
     ensures named { IfOk result (λ peers. NamesAllAt graph.entry.nodes.now Key.Peers (table_view entry.entry.table.now) peers.items) }
-    ensures fault { IfErr result (IsFaultOf (table_view entry.entry.table.now)) }
+    ensures fault { length graph.entry.nodes.now ≤ 64 → IfErr result (λ fault. IsFaultOf (table_view entry.entry.table.now) fault ⊎ ((fault ≡ SiteFault.UnknownName Key.Peers) × IsUnknownAmong graph.entry.nodes.now (is_candidate (drawn graph.entry) relay) Key.Peers (table_view entry.entry.table.now))) }
 {
     let names = entry.texts(alloc, Key::Peers, PEER_LIMIT)?;
     let mut peers = Vec::new(alloc);
@@ -107,7 +107,7 @@ fn peers_of(
 fn peer_of(name: &str, graph: Graph, relay: NodeNo) -> Result<NodeNo, SiteFault>
     ensures candidate { IfOk result (λ peer. is_candidate (drawn graph.entry) relay peer ≡ true) }
     ensures named { IfOk result (Names graph.entry.nodes.now name.now) }
-    ensures fault { IfErr result (λ fault. fault ≡ SiteFault.UnknownName Key.Peers) }
+    ensures fault { length graph.entry.nodes.now ≤ 64 → IfErr result (λ fault. (fault ≡ SiteFault.UnknownName Key.Peers) × NamesNone graph.entry.nodes.now (is_candidate (drawn graph.entry) relay) name.now) }
 {
     match graph.find(name) {
         Some(peer) if is_candidate(graph, relay, peer) => Ok(peer),

@@ -3,7 +3,7 @@
 ghost use Rattle.std.specs.Prelude.{◌≡◌, ◌≤◌, IfErr, IfOk, vec_len, true, false, is_some, ◌||◌, ◌&&◌, None, option_map};
 ghost use Rattle.std.specs.List.{list_any};
 ghost use Rattle.cc_rating.specs.Tariffs.{fault_of, fault_after, rates, from_one, units_limit};
-ghost use Rattle.farm_site.specs.Faults.{IsFaultIn, IsFaultOf};
+ghost use Rattle.farm_site.specs.Faults.{IsTableFault, IsTariffFault};
 ghost use Rattle.farm_site.specs.Spelling.{SpellsTable, SpellsTariff, number, unit_word, value_at};
 ghost use Rattle.toml.specs.View.{table_view};
 
@@ -22,7 +22,7 @@ pub fn tariffs_of(alloc: Global, file: Entry) -> Result<Vec<Tariff>, SiteFault>
     ensures count { IfOk result (λ tariffs. vec_len tariffs ≤ 1024) }
     ensures sound { IfOk result (λ tariffs. fault_of tariffs.items ≡ None) }
     ensures spelled { IfOk result (λ tariffs. SpellsTable SpellsTariff Key.Tariff (table_view file.entry.table.now) tariffs.items) }
-    ensures fault { IfErr result (IsFaultIn (table_view file.entry.table.now)) }
+    ensures fault { IfErr result (IsTableFault SpellsTariff IsTariffFault Key.Tariff (table_view file.entry.table.now)) }
 {
     let entries = file.entries(alloc, Key::Tariff, TARIFF_LIMIT)?;
     let mut tariffs = Vec::new(alloc);
@@ -38,7 +38,7 @@ pub fn tariffs_of(alloc: Global, file: Entry) -> Result<Vec<Tariff>, SiteFault>
 fn tariff_of(entry: Entry, before: &[Tariff]) -> Result<Tariff, SiteFault>
     ensures sound { IfOk result (λ tariff. fault_after before.now tariff ≡ None) }
     ensures spelled { IfOk result (SpellsTariff (table_view entry.entry.table.now)) }
-    ensures fault { IfErr result (IsFaultOf (table_view entry.entry.table.now)) }
+    ensures fault { IfErr result (IsTariffFault before.now (table_view entry.entry.table.now)) }
 {
     let (group, ident) = rated_by(entry, before)?;
     let kind = kind_of(entry.text(Key::Kind)?)?;
@@ -61,7 +61,7 @@ fn rated_by(entry: Entry, before: &[Tariff]) -> Result<(Option<u32>, Option<u32>
     ensures new { IfOk result (λ key. list_any (rates key.0 key.1) before.now ≡ false) }
     ensures group { IfOk result (λ key. value_at Key.Group (table_view entry.entry.table.now) ≡ option_map number key.0) }
     ensures ident { IfOk result (λ key. value_at Key.Ident (table_view entry.entry.table.now) ≡ option_map number key.1) }
-    ensures fault { IfErr result (IsFaultOf (table_view entry.entry.table.now)) }
+    ensures fault { IfErr result (IsTariffFault before.now (table_view entry.entry.table.now)) }
 {
     let group = entry.optional_unsigned32(Key::Group)?;
     if is_rated(before, group, None) {

@@ -15,11 +15,13 @@ use Rattle.farm_model.specs.declared.site.Site.{Site}
 use Rattle.toml.specs.Data.{Members, integer}
 use Rattle.toml.specs.View.{table_view}
 use Rattle.farm_site.specs.declared.key.Key.TheVariants as keys
+use Rattle.farm_site.specs.Faults.{IsFaultIn, IsLinkFault, IsRouteFault, IsTableFault, of_accounts, of_links, of_nodes, of_routes, of_tariffs}
 use Rattle.farm_site.specs.Graph.{site_over}
 use Rattle.farm_site.specs.Growing.{AreSound}
 use Rattle.farm_site.specs.Spelling.{SpellsAccount, SpellsLink, SpellsNode, SpellsRoute, SpellsTable, SpellsTariff, numbers}
 use Rattle.farm_site.proofs.Checking.{links_of_site, routes_of_site}
 use Rattle.farm_site.proofs.Pushing.{and_right}
+use Rattle.farm_site.proofs.Refusing.{handed_on}
 use Rattle.farm_site.proofs.Spelled.{spelled_between}
 use Rattle.farm_site.proofs.site_in.Goals as goal
 
@@ -97,3 +99,40 @@ returns-clause-spelled c =
       tariffs = subst (λ (xs : List Tariff). SpellsTable SpellsTariff keys.Tariff file xs) (sym c.from_vec-5.ensures) c.in_ok-tariffs.ensures.spelled;
       accounts = subst (λ (xs : List Account). SpellsTable SpellsAccount keys.Account file xs) (sym c.from_vec-6.ensures) c.in_ok-accounts.ensures.spelled;
     }
+
+pub returns-in_err-nodes-clause-fault : goal.returns-in_err-nodes-clause-fault
+returns-in_err-nodes-clause-fault c =
+    let file : Members = table_view c.args.file.table.now in
+    handed_on (IsFaultIn file) c.from_residual-in_err-nodes.result c.in_err-nodes.field-0.0 c.from_residual-in_err-nodes.ensures.1 (of_nodes c.in_err-nodes.ensures.fault)
+
+pub returns-in_err-links-clause-fault : goal.returns-in_err-links-clause-fault
+returns-in_err-links-clause-fault c =
+    let file : Members = table_view c.args.file.table.now in
+    let nodes : List Node = c.in_ok-nodes.nodes.items in
+    let few : length c.deref.result.now ≤ 64 = subst (λ (xs : List Node). length xs ≤ 64) (sym c.deref.ensures.value) (omega (arith, c.in_ok-nodes.ensures.count, c.in_ok-nodes.nodes.ok.0)) in
+    let told : IsTableFault (SpellsLink nodes) (IsLinkFault nodes) keys.Link file c.in_err-links.field-0.0 =
+    subst (λ (ns : List Node). IsTableFault (SpellsLink ns) (IsLinkFault ns) keys.Link file c.in_err-links.field-0.0) c.deref.ensures.value (c.in_err-links.ensures.fault few) in
+    handed_on (IsFaultIn file) c.from_residual-in_err-links.result c.in_err-links.field-0.0 c.from_residual-in_err-links.ensures.1 (of_links c.in_ok-nodes.nodes.items c.in_ok-nodes.ensures.spelled told)
+
+pub returns-in_err-routes-clause-fault : goal.returns-in_err-routes-clause-fault
+returns-in_err-routes-clause-fault c =
+    let file : Members = table_view c.args.file.table.now in
+    let nodes : List Node = c.in_ok-nodes.nodes.items in
+    let links : List Link = c.in_ok-links.links.items in
+    let few : length c.deref-2.result.now ≤ 64 = subst (λ (xs : List Node). length xs ≤ 64) (sym c.deref-2.ensures.value) (omega (arith, c.in_ok-nodes.ensures.count, c.in_ok-nodes.nodes.ok.0)) in
+    let are_links : SpellsTable (SpellsLink nodes) keys.Link file links =
+    subst (λ (ns : List Node). SpellsTable (SpellsLink ns) keys.Link file links) c.deref.ensures.value c.in_ok-links.ensures.spelled in
+    let told : IsTableFault (SpellsRoute nodes) (IsRouteFault nodes links) keys.Route file c.in_err-routes.field-0.0 =
+    subst (λ (ls : List Link). IsTableFault (SpellsRoute nodes) (IsRouteFault nodes ls) keys.Route file c.in_err-routes.field-0.0) c.deref-3.ensures.value
+    (subst (λ (ns : List Node). IsTableFault (SpellsRoute ns) (IsRouteFault ns c.deref-3.result.now) keys.Route file c.in_err-routes.field-0.0) c.deref-2.ensures.value (c.in_err-routes.ensures.fault few)) in
+    handed_on (IsFaultIn file) c.from_residual-in_err-routes.result c.in_err-routes.field-0.0 c.from_residual-in_err-routes.ensures.1 (of_routes nodes links c.in_ok-nodes.ensures.spelled are_links told)
+
+pub returns-in_err-tariffs-clause-fault : goal.returns-in_err-tariffs-clause-fault
+returns-in_err-tariffs-clause-fault c =
+    let file : Members = table_view c.args.file.table.now in
+    handed_on (IsFaultIn file) c.from_residual-in_err-tariffs.result c.in_err-tariffs.field-0.0 c.from_residual-in_err-tariffs.ensures.1 (of_tariffs c.in_err-tariffs.ensures.fault)
+
+pub returns-in_err-accounts-clause-fault : goal.returns-in_err-accounts-clause-fault
+returns-in_err-accounts-clause-fault c =
+    let file : Members = table_view c.args.file.table.now in
+    handed_on (IsFaultIn file) c.from_residual-in_err-accounts.result c.in_err-accounts.field-0.0 c.from_residual-in_err-accounts.ensures.1 (of_accounts c.in_err-accounts.ensures.fault)

@@ -7,6 +7,7 @@ use Rattle.farm_model.specs.CheckedSite.{is_sound_account, same_account}
 use Rattle.toml.specs.Data.{Data}
 use Rattle.toml.specs.View.{table_view}
 use Rattle.farm_site.specs.declared.fault.SiteFault.TheVariants.{Twice}
+use Rattle.farm_site.specs.Faults.{IsAccountFault, IsTableFault}
 use Rattle.farm_site.specs.Spelling.{SpellsAccount, value_at}
 use Rattle.farm_site.proofs.Owning.{AreOwners, account_may_follow, is_owned_by, owner_cmp, owners_push, spelled_by, was_absent}
 use Rattle.farm_site.proofs.Pushing.{grown}
@@ -35,15 +36,19 @@ returns-clause-spelled c = table_all SpellsAccount _ _ c.deref-entry-items.resul
 
 pub returns-in_err-owner-clause-fault : goal.returns-in_err-owner-clause-fault
 returns-in_err-owner-clause-fault c =
-    let told = told_in keys.Account (table_view c.args.file.table.now) c.deref-entry-items.result.now c.in_ok-entries.entries.items c.loop-entry.entry-index c.entry-item.result c.in_err-owner.field-0.0 c.deref-entry-items.ensures.value c.in_ok-entries.ensures.value c.loop-entry-test.true c.entry-item.is c.in_err-owner.ensures.fault in
-    handed_on (table_view c.args.file.table.now) c.from_residual-in_err-owner.result c.in_err-owner.field-0.0 c.from_residual-in_err-owner.ensures.1 told
+    let file = table_view c.args.file.table.now in
+    let fault = c.in_err-owner.field-0.0 in
+    let of_table = told_in SpellsAccount IsAccountFault keys.Account file c.deref-entry-items.result.now c.in_ok-entries.entries.items c.loop-entry.entry-index c.entry-item.result c.loop-entry.accounts.items fault c.deref-entry-items.ensures.value c.in_ok-entries.ensures.value c.loop-entry-test.true c.entry-item.is c.loop-entry.invariant.spelled c.in_err-owner.ensures.fault in
+    handed_on (IsTableFault SpellsAccount IsAccountFault keys.Account file) c.from_residual-in_err-owner.result fault c.from_residual-in_err-owner.ensures.1 of_table
 
 pub returns-in_err-account-clause-fault : goal.returns-in_err-account-clause-fault
 returns-in_err-account-clause-fault c =
-    let told = told_in keys.Account (table_view c.args.file.table.now) c.deref-entry-items.result.now c.in_ok-entries.entries.items c.loop-entry.entry-index c.entry-item.result c.in_err-account.field-0.0 c.deref-entry-items.ensures.value c.in_ok-entries.ensures.value c.loop-entry-test.true c.entry-item.is c.in_err-account.ensures.fault in
-    handed_on (table_view c.args.file.table.now) c.from_residual-in_err-account.result c.in_err-account.field-0.0 c.from_residual-in_err-account.ensures.1 told
+    let file = table_view c.args.file.table.now in
+    let fault = c.in_err-account.field-0.0 in
+    let of_table = told_in SpellsAccount IsAccountFault keys.Account file c.deref-entry-items.result.now c.in_ok-entries.entries.items c.loop-entry.entry-index c.entry-item.result c.loop-entry.accounts.items fault c.deref-entry-items.ensures.value c.in_ok-entries.ensures.value c.loop-entry-test.true c.entry-item.is c.loop-entry.invariant.spelled c.in_err-account.ensures.fault in
+    handed_on (IsTableFault SpellsAccount IsAccountFault keys.Account file) c.from_residual-in_err-account.result fault c.from_residual-in_err-account.ensures.1 of_table
 
 pub returns-then-not-is_new-clause-fault : goal.returns-then-not-is_new-clause-fault
 returns-then-not-is_new-clause-fault c =
     let there : IsSome (value_at keys.Id (table_view c.entry-item.result.table.now)) = subst (λ (value : Option Data). IsSome value) (sym c.in_ok-owner.ensures.id_spelled) refl in
-    told_in keys.Account (table_view c.args.file.table.now) c.deref-entry-items.result.now c.in_ok-entries.entries.items c.loop-entry.entry-index c.entry-item.result (Twice keys.Id) c.deref-entry-items.ensures.value c.in_ok-entries.ensures.value c.loop-entry-test.true c.entry-item.is there
+    told_in SpellsAccount IsAccountFault keys.Account (table_view c.args.file.table.now) c.deref-entry-items.result.now c.in_ok-entries.entries.items c.loop-entry.entry-index c.entry-item.result c.loop-entry.accounts.items (Twice keys.Id) c.deref-entry-items.ensures.value c.in_ok-entries.ensures.value c.loop-entry-test.true c.entry-item.is c.loop-entry.invariant.spelled there

@@ -1,7 +1,7 @@
 use Rattle.std.proofs.Common.{◌≡◌, true, refl, sym, subst, inr, arith}
 use Rattle.toml.specs.Data.{Data, array, as_array}
 use Rattle.toml.specs.View.{items_view}
-use Rattle.farm_site.specs.Faults.{has_more_than}
+use Rattle.farm_site.specs.Forms.{has_more_than}
 use Rattle.farm_site.proofs.Refusing.{has_more}
 use Rattle.farm_site.proofs.entry.array_within.Goals as goal
 

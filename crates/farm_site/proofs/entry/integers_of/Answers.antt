@@ -1,7 +1,7 @@
 use Rattle.std.proofs.Common.{◌≡◌, false, arith}
 use Rattle.std.proofs.lemmas.Grind.{common_steps}
 use Rattle.toml.specs.View.{items_view}
-use Rattle.farm_site.specs.Faults.{all_items, is_integer}
+use Rattle.farm_site.specs.Forms.{all_items, is_integer}
 use Rattle.farm_site.proofs.Refusing.{value_fails}
 use Rattle.farm_site.proofs.entry.integers_of.Goals as goal
 

@@ -1,5 +1,6 @@
-use Rattle.std.proofs.Common.{arith}
+use Rattle.std.proofs.Common.{List, subst, arith}
 use Rattle.farm_model.specs.CheckedSite.{is_sound_name, same_name}
+use Rattle.farm_site.specs.Faults.{IsNodeFault, IsTableFault}
 use Rattle.farm_site.specs.Spelling.{SpellsNode}
 use Rattle.farm_site.proofs.Pushing.{grown}
 use Rattle.toml.specs.View.{table_view}
@@ -20,5 +21,9 @@ returns-clause-spelled c = table_all SpellsNode _ _ c.deref-entry-items.result.n
 
 pub returns-in_err-node-clause-fault : goal.returns-in_err-node-clause-fault
 returns-in_err-node-clause-fault c =
-    let told = told_in keys.Node (table_view c.args.file.table.now) c.deref-entry-items.result.now c.in_ok-entries.entries.items c.loop-entry.entry-index c.entry-item.result c.in_err-node.field-0.0 c.deref-entry-items.ensures.value c.in_ok-entries.ensures.value c.loop-entry-test.true c.entry-item.is c.in_err-node.ensures.fault in
-    handed_on (table_view c.args.file.table.now) c.from_residual-in_err-node.result c.in_err-node.field-0.0 c.from_residual-in_err-node.ensures.1 told
+    let file = table_view c.args.file.table.now in
+    let entry = table_view c.entry-item.result.table.now in
+    let fault = c.in_err-node.field-0.0 in
+    let told : IsNodeFault c.loop-entry.nodes.items entry fault = subst (λ (items : List _). IsNodeFault items entry fault) c.deref.ensures.value (c.in_err-node.ensures.fault) in
+    let of_table = told_in SpellsNode IsNodeFault keys.Node file c.deref-entry-items.result.now c.in_ok-entries.entries.items c.loop-entry.entry-index c.entry-item.result c.loop-entry.nodes.items fault c.deref-entry-items.ensures.value c.in_ok-entries.ensures.value c.loop-entry-test.true c.entry-item.is c.loop-entry.invariant.spelled told in
+    handed_on (IsTableFault SpellsNode IsNodeFault keys.Node file) c.from_residual-in_err-node.result fault c.from_residual-in_err-node.ensures.1 of_table

@@ -1,9 +1,14 @@
-use Rattle.std.proofs.Common.{◌≡◌, List, ℕ, Bor, map, true, Some, ap, ◌∙◌, sym, subst, arith}
+use Rattle.std.proofs.Common.{◌≡◌, ◌⊎◌, inr, List, ℕ, Bor, map, true, Some, ap, ◌∙◌, sym, subst, arith}
 use Rattle.std.specs.List.{list_all}
 use Rattle.dia_base.specs.declared.number.NodeNo.{NodeNo}
 use Rattle.farm_model.specs.CheckedSite.{is_candidate}
+use Rattle.toml.specs.View.{table_view}
+use Rattle.farm_site.specs.declared.fault.SiteFault.TheVariants.{UnknownName}
+use Rattle.farm_site.specs.declared.key.Key.TheVariants as keys
+use Rattle.farm_site.specs.Faults.{IsFaultOf, IsUnknownAmong}
 use Rattle.farm_site.specs.Graph.{drawn}
-use Rattle.farm_site.specs.Spelling.{Names, texts}
+use Rattle.farm_site.specs.Spelling.{Names, texts, value_at}
+use Rattle.farm_site.proofs.Refusing.{handed_on, unknown_among}
 use Rattle.farm_site.proofs.Pushing.{all_push}
 use Rattle.farm_site.proofs.Spelled.{zip_all, zip_more}
 use Rattle.farm_site.proofs.route.peers_of.Goals as goal
@@ -24,3 +29,15 @@ returns-clause-named c = record {
   stand = c.in_ok-names.ensures.value ∙ ap (λ (seen : List (Bor (List ℕ))). Some (texts (map (λ (name : Bor (List ℕ)). name.now) seen))) (sym c.deref-name-items.ensures.value);
   in_order = zip_all (Names c.args.graph.nodes.now) (λ (name : Bor (List ℕ)). name.now) c.deref-name-items.result.now c.loop-name.name-index c.loop-name.peers.items c.loop-name-test.false c.loop-name.invariant.named;
 }
+
+pub returns-in_err-peer-clause-fault : goal.returns-in_err-peer-clause-fault
+returns-in_err-peer-clause-fault c = λ few.
+    let nodes = c.args.graph.nodes.now in
+    let entry = table_view c.args.entry.table.now in
+    let fault = c.in_err-peer.field-0.0 in
+    let told = c.in_err-peer.ensures.fault few in
+    let stand : value_at keys.Peers entry ≡ Some (texts (map (λ (name : Bor (List ℕ)). name.now) c.deref-name-items.result.now)) =
+    c.in_ok-names.ensures.value ∙ ap (λ (seen : List (Bor (List ℕ))). Some (texts (map (λ (name : Bor (List ℕ)). name.now) seen))) (sym c.deref-name-items.ensures.value) in
+    let among : IsUnknownAmong nodes (is_candidate (drawn c.args.graph) c.args.relay) keys.Peers entry =
+    unknown_among nodes (is_candidate (drawn c.args.graph) c.args.relay) keys.Peers entry c.deref-name-items.result.now c.loop-name.name-index _ stand c.loop-name-test.true told.1 in
+    handed_on (λ fault. IsFaultOf entry fault ⊎ ((fault ≡ UnknownName keys.Peers) × IsUnknownAmong nodes (is_candidate (drawn c.args.graph) c.args.relay) keys.Peers entry)) c.from_residual-in_err-peer.result fault c.from_residual-in_err-peer.ensures.1 (inr (told.0, among))

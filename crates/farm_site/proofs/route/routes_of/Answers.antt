@@ -1,6 +1,7 @@
-use Rattle.std.proofs.Common.{arith}
+use Rattle.std.proofs.Common.{List, subst, arith}
 use Rattle.farm_model.specs.CheckedSite.{is_sound_route, same_route}
 use Rattle.farm_site.specs.Graph.{drawn}
+use Rattle.farm_site.specs.Faults.{IsRouteFault, IsTableFault}
 use Rattle.farm_site.specs.Spelling.{SpellsRoute}
 use Rattle.farm_site.proofs.Pushing.{grown}
 use Rattle.toml.specs.View.{table_view}
@@ -20,6 +21,10 @@ pub returns-clause-spelled : goal.returns-clause-spelled
 returns-clause-spelled c = table_all (SpellsRoute c.args.graph.nodes.now) _ _ c.deref-entry-items.result.now c.in_ok-entries.entries.items c.loop-entry.entry-index c.loop-entry.routes.items c.deref-entry-items.ensures.value c.in_ok-entries.ensures.value c.loop-entry-test.false c.loop-entry.invariant.spelled
 
 pub returns-in_err-route-clause-fault : goal.returns-in_err-route-clause-fault
-returns-in_err-route-clause-fault c =
-    let told = told_in keys.Route (table_view c.args.file.table.now) c.deref-entry-items.result.now c.in_ok-entries.entries.items c.loop-entry.entry-index c.entry-item.result c.in_err-route.field-0.0 c.deref-entry-items.ensures.value c.in_ok-entries.ensures.value c.loop-entry-test.true c.entry-item.is c.in_err-route.ensures.fault in
-    handed_on (table_view c.args.file.table.now) c.from_residual-in_err-route.result c.in_err-route.field-0.0 c.from_residual-in_err-route.ensures.1 told
+returns-in_err-route-clause-fault c = λ few.
+    let file = table_view c.args.file.table.now in
+    let entry = table_view c.entry-item.result.table.now in
+    let fault = c.in_err-route.field-0.0 in
+    let told : IsRouteFault c.args.graph.nodes.now c.args.graph.links.now c.loop-entry.routes.items entry fault = subst (λ (items : List _). IsRouteFault c.args.graph.nodes.now c.args.graph.links.now items entry fault) c.deref.ensures.value (c.in_err-route.ensures.fault few) in
+    let of_table = told_in (SpellsRoute c.args.graph.nodes.now) (IsRouteFault c.args.graph.nodes.now c.args.graph.links.now) keys.Route file c.deref-entry-items.result.now c.in_ok-entries.entries.items c.loop-entry.entry-index c.entry-item.result c.loop-entry.routes.items fault c.deref-entry-items.ensures.value c.in_ok-entries.ensures.value c.loop-entry-test.true c.entry-item.is c.loop-entry.invariant.spelled told in
+    handed_on (IsTableFault (SpellsRoute c.args.graph.nodes.now) (IsRouteFault c.args.graph.nodes.now c.args.graph.links.now) keys.Route file) c.from_residual-in_err-route.result fault c.from_residual-in_err-route.ensures.1 of_table

@@ -1,6 +1,7 @@
 use Rattle.std.proofs.Common.{◌≡◌, List, None, sym, subst, arith}
 use Rattle.cc_rating.specs.declared.tariff.Tariff.{Tariff}
 use Rattle.cc_rating.specs.Tariffs.{fault_after, fault_of}
+use Rattle.farm_site.specs.Faults.{IsTariffFault, IsTableFault}
 use Rattle.farm_site.specs.Spelling.{SpellsTariff}
 use Rattle.farm_site.proofs.Pushing.{faultless_push}
 use Rattle.toml.specs.View.{table_view}
@@ -25,5 +26,9 @@ returns-clause-spelled c = table_all SpellsTariff _ _ c.deref-entry-items.result
 
 pub returns-in_err-tariff-clause-fault : goal.returns-in_err-tariff-clause-fault
 returns-in_err-tariff-clause-fault c =
-    let told = told_in keys.Tariff (table_view c.args.file.table.now) c.deref-entry-items.result.now c.in_ok-entries.entries.items c.loop-entry.entry-index c.entry-item.result c.in_err-tariff.field-0.0 c.deref-entry-items.ensures.value c.in_ok-entries.ensures.value c.loop-entry-test.true c.entry-item.is c.in_err-tariff.ensures.fault in
-    handed_on (table_view c.args.file.table.now) c.from_residual-in_err-tariff.result c.in_err-tariff.field-0.0 c.from_residual-in_err-tariff.ensures.1 told
+    let file = table_view c.args.file.table.now in
+    let entry = table_view c.entry-item.result.table.now in
+    let fault = c.in_err-tariff.field-0.0 in
+    let told : IsTariffFault c.loop-entry.tariffs.items entry fault = subst (λ (items : List _). IsTariffFault items entry fault) c.deref.ensures.value (c.in_err-tariff.ensures.fault) in
+    let of_table = told_in SpellsTariff IsTariffFault keys.Tariff file c.deref-entry-items.result.now c.in_ok-entries.entries.items c.loop-entry.entry-index c.entry-item.result c.loop-entry.tariffs.items fault c.deref-entry-items.ensures.value c.in_ok-entries.ensures.value c.loop-entry-test.true c.entry-item.is c.loop-entry.invariant.spelled told in
+    handed_on (IsTableFault SpellsTariff IsTariffFault keys.Tariff file) c.from_residual-in_err-tariff.result fault c.from_residual-in_err-tariff.ensures.1 of_table

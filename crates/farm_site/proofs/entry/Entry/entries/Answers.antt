@@ -2,7 +2,7 @@ use Rattle.std.proofs.Common.{rules, ◌≡◌, false, Some, arith}
 use Rattle.std.proofs.lemmas.Grind.{common_steps}
 use Rattle.toml.specs.Data.{as_array}
 use Rattle.toml.specs.View.{items_view, table_view, view}
-use Rattle.farm_site.specs.Faults.{all_in, list_of_tables, is_table}
+use Rattle.farm_site.specs.Forms.{all_in, list_of_tables, is_table}
 use Rattle.farm_site.specs.Spelling.{value_at}
 use Rattle.farm_site.proofs.Refusing.{array_fails, value_fails, wrong_type}
 use Rattle.farm_site.proofs.entry.Entry.entries.Goals as goal

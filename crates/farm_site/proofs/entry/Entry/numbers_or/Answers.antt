@@ -2,7 +2,7 @@ use Rattle.std.proofs.Common.{rules, ◌≡◌, ◌<◌, false, List, length, ge
 use Rattle.std.proofs.lemmas.Grind.{common_steps}
 use Rattle.toml.specs.Data.{as_array}
 use Rattle.toml.specs.View.{table_view, view}
-use Rattle.farm_site.specs.Faults.{all_in, is_from_to, is_number, list_of_numbers}
+use Rattle.farm_site.specs.Forms.{all_in, is_from_to, is_number, list_of_numbers}
 use Rattle.farm_site.specs.Spelling.{value_at}
 use Rattle.farm_site.proofs.Refusing.{array_fails, integer_fails, out_of_range}
 use Rattle.farm_site.proofs.entry.Entry.numbers_or.Goals as goal

@@ -2,7 +2,7 @@ use Rattle.std.proofs.Common.{◌≡◌, false, arith}
 use Rattle.std.proofs.lemmas.Grind.{common_steps}
 use Rattle.toml.specs.Data.{as_array}
 use Rattle.toml.specs.View.{items_view, table_view, view}
-use Rattle.farm_site.specs.Faults.{all_in, list_of_texts, is_string}
+use Rattle.farm_site.specs.Forms.{all_in, list_of_texts, is_string}
 use Rattle.farm_site.proofs.Refusing.{array_fails, value_fails, wrong_type}
 use Rattle.farm_site.proofs.entry.Entry.texts.Goals as goal
 
