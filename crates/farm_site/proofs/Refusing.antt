@@ -1,5 +1,5 @@
 -- Why nothing is read: of a key, of an entry, of a text.
-use Rattle.std.proofs.Common.{Bor, ◌≡◌, ℕ, zero, suc, ◌<◌, Bool, true, false, ◌&&◌, List, [], ◌∷◌, ◌++◌, length, map, take, drop, drop-cons, take-append-drop, get_or, Option, Some, None, Result, Ok, Err, ℤ, refl, sym, subst, ap, ◌∙◌, inr, arith}
+use Rattle.std.proofs.Common.{Bor, ◌≡◌, ℕ, zero, suc, ◌<◌, Bool, true, false, not, ◌&&◌, ◌||◌, List, [], ◌∷◌, ◌++◌, length, map, take, drop, drop-cons, take-append-drop, get_or, Option, Some, None, Result, Ok, Err, ℤ, refl, sym, subst, ap, ◌∙◌, inr, arith}
 use Rattle.std.specs.Prelude.{IfErr, IsErrAnd, IsSome, is_some, option_map}
 use Rattle.std.specs.List.{AllZip, Contains, list_any}
 use Rattle.std.proofs.lemmas.Bool.{lt-ltb}
@@ -102,6 +102,20 @@ unknown_among nodes may_stand key entry names i d stand h none =
       among = subst (λ (name : List ℕ). Contains (map (λ (name : Bor (List ℕ)). name.now) names) name) found (Contains-get_or (map (λ (name : Bor (List ℕ)). name.now) names) i (get_or names i d).now (omega arith));
       none = none;
     }
+
+-- ---- links
+
+pub bad_by_ends : (itself clients fronts there : Bool) → (not itself && not clients && not fronts) ≡ false → (itself || clients || fronts || there) ≡ true
+bad_by_ends true clients fronts there e = refl
+bad_by_ends false true fronts there e = refl
+bad_by_ends false false true there e = refl
+bad_by_ends false false false there e = absurd cc
+
+pub bad_by_pair : (itself clients fronts there : Bool) → there ≡ true → (itself || clients || fronts || there) ≡ true
+bad_by_pair true clients fronts there e = refl
+bad_by_pair false true fronts there e = refl
+bad_by_pair false false true there e = refl
+bad_by_pair false false false there e = e
 
 -- ---- entries, and the file
 

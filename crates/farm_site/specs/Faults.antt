@@ -1,6 +1,6 @@
 -- What a fault of a site file says of the file.
-use Rattle.std.specs.Prelude.{◌≡◌, ◌≢◌, ◌⊎◌, ◌<◌, ℕ, Bool, true, false, List, [], ◌∷◌, ◌++◌, length, Some, None, IsSome}
-use Rattle.std.specs.List.{AllZip, Contains}
+use Rattle.std.specs.Prelude.{◌≡◌, ◌≢◌, ◌⊎◌, ◌<◌, ℕ, Bool, true, false, ◌||◌, List, [], ◌∷◌, ◌++◌, length, Some, None, IsSome}
+use Rattle.std.specs.List.{AllZip, Contains, list_any}
 use Rattle.std.specs.Str.{IsUtf8}
 use Rattle.toml.specs.Data.{Data, string, Members}
 use Rattle.toml.specs.Parse.{parse_document}
@@ -8,8 +8,8 @@ use Rattle.cc_book.specs.declared.account.Account.{Account}
 use Rattle.cc_rating.specs.declared.tariff.Tariff.{Tariff}
 use Rattle.dia_base.specs.Identity.{fault_of}
 use Rattle.dia_base.specs.declared.number.NodeNo.{NodeNo}
-use Rattle.farm_model.specs.CheckedSite.{is_candidate, is_known}
-use Rattle.farm_model.specs.Nodes.{is_relay}
+use Rattle.farm_model.specs.CheckedSite.{is_candidate, is_known, joins_two_of, same_pair}
+use Rattle.farm_model.specs.Nodes.{is_client, is_front, is_node, is_relay}
 use Rattle.farm_model.specs.declared.site.Link.{Link}
 use Rattle.farm_model.specs.declared.site.Node.{Node}
 use Rattle.farm_model.specs.declared.site.Route.{Route}
@@ -33,7 +33,7 @@ told_by keys.Route = keys.At
 told_by key = key
 
 -- What a fault says of one table of keys: the file, or an entry. Which other entry has the same is not said; that a name
--- is unknown is said below, beside the nodes of the file.
+-- is unknown, and a link bad, is said below, beside the nodes of the file.
 abbrev pub IsFaultOf : Members → SiteFault → Type 0
 IsFaultOf entry NotToml = ⊥
 IsFaultOf entry (Missing key) = value_at key entry ≡ None
@@ -43,7 +43,7 @@ IsFaultOf entry (Twice key) = IsSome (value_at (told_by key) entry)
 IsFaultOf entry (UnknownName key) = ⊥
 IsFaultOf entry (BadIdentity key) = StandsAt key entry (λ value. (name : List ℕ) × (value ≡ string name) × (fault_of name ≢ None))
 IsFaultOf entry (TooMany key) = StandsAt key entry (λ value. has_too_many (form_of key) value ≡ true)
-IsFaultOf entry BadLink = IsSome (value_at keys.From entry) × IsSome (value_at keys.To entry)
+IsFaultOf entry BadLink = ⊥
 IsFaultOf entry OutOfMemory = Unit {0}
 
 -- ---- names
@@ -78,6 +78,23 @@ IsUnknownInRoute nodes links entry keys.At = IsUnknownAt nodes (is_relay (site_o
 IsUnknownInRoute nodes links entry keys.Peers = (relay : NodeNo) × NamesAt nodes keys.At entry relay × IsUnknownAmong nodes (is_candidate (site_over nodes links) relay) keys.Peers entry
 IsUnknownInRoute nodes links entry key = ⊥
 
+-- ---- links
+
+-- of a node with itself, of two clients, of two fronts, or of two nodes between which there is one before it, in either
+-- direction
+abbrev pub is_bad_link : List Node → List Link → Link → Bool
+is_bad_link nodes before link =
+    is_node link.from link.to
+    || joins_two_of (is_client (site_over nodes before)) link
+    || joins_two_of (is_front (site_over nodes before)) link
+    || list_any (λ other. same_pair other link) before
+
+-- the entry spells a bad link
+pub record SpellsBadLink (nodes : List Node) (before : List Link) (entry : Members) : Type 0 where
+  pub link : Link
+  pub spelled : SpellsLink nodes entry link
+  pub bad : is_bad_link nodes before link ≡ true
+
 -- ---- entries, behind those that spell these items
 
 abbrev pub IsNodeFault : List Node → Members → SiteFault → Type 0
@@ -85,6 +102,7 @@ IsNodeFault before entry fault = IsFaultOf entry fault
 
 abbrev pub IsLinkFault : List Node → List Link → Members → SiteFault → Type 0
 IsLinkFault nodes before entry (UnknownName key) = IsUnknownInLink nodes entry key
+IsLinkFault nodes before entry BadLink = SpellsBadLink nodes before entry
 IsLinkFault nodes before entry fault = IsFaultOf entry fault
 
 abbrev pub IsRouteFault : List Node → List Link → List Route → Members → SiteFault → Type 0
