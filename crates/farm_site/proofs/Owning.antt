@@ -96,3 +96,8 @@ spelled_by entry account owner kind id kind_stands id_stands opening = record {
 pub was_absent : (added there : Bool) → added ≡ not there → added ≡ true → there ≡ false
 was_absent added true e h = absurd cc
 was_absent added false e h = refl
+
+-- what was not added was there
+pub was_there : (added there : Bool) → added ≡ not there → added ≡ false → there ≡ true
+was_there added true e h = refl
+was_there added false e h = absurd cc

@@ -1,5 +1,5 @@
 -- Why nothing is read: of a key, of an entry, of a text.
-use Rattle.std.proofs.Common.{Bor, ◌≡◌, ℕ, zero, suc, ◌<◌, Bool, true, false, not, ◌&&◌, ◌||◌, List, [], ◌∷◌, ◌++◌, length, map, take, drop, drop-cons, take-append-drop, get_or, Option, Some, None, Result, Ok, Err, ℤ, refl, sym, subst, ap, ◌∙◌, inr, arith}
+use Rattle.std.proofs.Common.{Bor, ◌≡◌, ℕ, zero, suc, ◌<◌, Bool, true, false, not, ◌&&◌, ◌||◌, List, [], ◌∷◌, ◌++◌, length, map, take, drop, drop-cons, take-append-drop, get_or, Option, Some, None, Result, Ok, Err, ℤ, refl, sym, subst, ap, ◌∙◌, inl, inr, arith}
 use Rattle.std.specs.Prelude.{IfErr, IsErrAnd, IsSome, is_some, option_map}
 use Rattle.std.specs.List.{AllZip, Contains, list_any}
 use Rattle.std.proofs.lemmas.Bool.{lt-ltb}
@@ -9,6 +9,7 @@ use Rattle.toml.specs.Data.{Data, Items, Members, array, integer, as_array, as_i
 use Rattle.toml.specs.Parse.{parse_document}
 use Rattle.toml.specs.View.{items_of, items_view, table_view, view}
 use Rattle.toml.specs.declared.value.Value.{Value}
+use Rattle.cc_book.specs.declared.account.Account.{Account}
 use Rattle.cc_rating.specs.Tariffs.{rates}
 use Rattle.cc_rating.specs.declared.tariff.Tariff.{Tariff}
 use Rattle.dia_base.specs.declared.number.NodeNo.{NodeNo}
@@ -19,7 +20,7 @@ use Rattle.farm_site.specs.declared.fault.SiteFault.{SiteFault}
 use Rattle.farm_site.specs.declared.fault.SiteFault.TheVariants.{NotToml, Missing, WrongType, OutOfRange, Twice, UnknownName, BadIdentity, TooMany, BadLink, OutOfMemory}
 use Rattle.farm_site.specs.declared.key.Key.{Key}
 use Rattle.farm_site.specs.declared.key.Key.TheVariants as keys
-use Rattle.farm_site.specs.Faults.{AreWhyOctets, IsAccountFault, IsFaultIn, IsFaultOf, IsLinkFault, IsNodeFault, IsRouteFault, IsTableFault, IsTariffFault, IsUnknownAmong, IsWhyText, NamesNone, of_accounts, of_entry, of_file, of_links, of_nodes, of_routes, of_table, of_tariffs}
+use Rattle.farm_site.specs.Faults.{AreWhyOctets, IsAccountFault, IsFaultIn, IsFaultOf, IsGroupTwice, IsIdentTwice, IsLinkFault, IsNodeFault, IsRouteFault, IsTableFault, IsTariffFault, IsUnknownAmong, IsWhyText, NamesNone, of_accounts, of_entry, of_file, of_links, of_nodes, of_routes, of_table, of_tariffs}
 use Rattle.farm_site.specs.Forms.{Form, all_in, all_items, form_of, has_more_than, has_type, is_in_range, items_len, on_integer}
 use Rattle.farm_site.specs.Spelling.{SpellsAccount, SpellsLink, SpellsNode, SpellsRoute, SpellsTariff, number, tables, tables_of, texts, value_at, value_or}
 
@@ -75,18 +76,36 @@ nothing_rated : (before : List Tariff) → list_any (rates None None) before ≡
 nothing_rated [] = refl
 nothing_rated (tariff ∷ before) = nothing_rated before
 
--- what is rated already stands in the entry
-pub group_rated : (group : Option ℕ) (before : List Tariff) → list_any (rates group None) before ≡ true → is_some group ≡ true
-group_rated None before e = absurd (let none = nothing_rated before in cc)
-group_rated (Some group) before e = refl
-
-pub ident_rated : (ident : Option ℕ) (before : List Tariff) → list_any (rates None ident) before ≡ true → is_some ident ≡ true
-ident_rated None before e = absurd (let none = nothing_rated before in cc)
-ident_rated (Some ident) before e = refl
-
-pub number_stands : (value : Option Data) (read : Option ℕ) → value ≡ option_map number read → is_some read ≡ true → IsSome value
+number_stands : (value : Option Data) (read : Option ℕ) → value ≡ option_map number read → is_some read ≡ true → IsSome value
 number_stands value None is some = absurd cc
 number_stands value (Some n) is some = subst (λ (v : Option Data). IsSome v) (sym is) refl
+
+-- what is rated already stands in the entry
+pub group_twice : (before : List Tariff) (entry : Members) (group : Option ℕ) → value_at keys.Group entry ≡ option_map number group → list_any (rates group None) before ≡ true → IsGroupTwice before entry
+group_twice before entry None stands there = absurd (let none = nothing_rated before in cc)
+group_twice before entry (Some group) stands there = record { group = group; stands = stands; there = there }
+
+pub ident_twice : (before : List Tariff) (entry : Members) (ident : Option ℕ) → value_at keys.Ident entry ≡ option_map number ident → list_any (rates None ident) before ≡ true → IsIdentTwice before entry
+ident_twice before entry None stands there = absurd (let none = nothing_rated before in cc)
+ident_twice before entry (Some ident) stands there = record { ident = ident; stands = stands; there = inr there }
+
+pub ident_beside_group : (before : List Tariff) (entry : Members) (group ident : Option ℕ) → value_at keys.Group entry ≡ option_map number group → value_at keys.Ident entry ≡ option_map number ident → is_some group ≡ true → is_some ident ≡ true → IsIdentTwice before entry
+ident_beside_group before entry group None group_stands stands some_group some = absurd cc
+ident_beside_group before entry group (Some ident) group_stands stands some_group some = record { ident = ident; stands = stands; there = inl (number_stands (value_at keys.Group entry) group group_stands some_group) }
+
+-- ---- accounts
+
+pub account_told : (before : List Account) (entry : Members) (fault : SiteFault) → IsFaultOf entry fault → IsAccountFault before entry fault
+account_told before entry NotToml told = told
+account_told before entry (Missing key) told = told
+account_told before entry (WrongType key) told = told
+account_told before entry (OutOfRange key) told = told
+account_told before entry (Twice key) told = absurd told
+account_told before entry (UnknownName key) told = told
+account_told before entry (BadIdentity key) told = told
+account_told before entry (TooMany key) told = told
+account_told before entry BadLink told = told
+account_told before entry OutOfMemory told = told
 
 -- ---- names
 

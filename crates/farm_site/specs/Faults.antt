@@ -1,14 +1,16 @@
 -- What a fault of a site file says of the file.
-use Rattle.std.specs.Prelude.{◌≡◌, ◌≢◌, ◌⊎◌, ◌<◌, ℕ, Bool, true, false, ◌||◌, List, [], ◌∷◌, ◌++◌, length, Some, None, IsSome}
+use Rattle.std.specs.Prelude.{◌≡◌, ◌≢◌, ◌⊎◌, ◌<◌, ℕ, Bool, true, false, ◌&&◌, ◌||◌, ◌==◌, List, [], ◌∷◌, ◌++◌, length, Some, None, IsSome}
 use Rattle.std.specs.List.{AllZip, Contains, list_any}
 use Rattle.std.specs.Str.{IsUtf8}
 use Rattle.toml.specs.Data.{Data, string, Members}
 use Rattle.toml.specs.Parse.{parse_document}
 use Rattle.cc_book.specs.declared.account.Account.{Account}
 use Rattle.cc_rating.specs.declared.tariff.Tariff.{Tariff}
+use Rattle.cc_rating.specs.Tariffs.{rates}
+use Rattle.dia_base.specs.Folding.{same_folded}
 use Rattle.dia_base.specs.Identity.{fault_of}
 use Rattle.dia_base.specs.declared.number.NodeNo.{NodeNo}
-use Rattle.farm_model.specs.CheckedSite.{is_candidate, is_known, joins_two_of, same_pair}
+use Rattle.farm_model.specs.CheckedSite.{is_candidate, is_known, joins_two_of, same_octets, same_pair}
 use Rattle.farm_model.specs.Nodes.{is_client, is_front, is_node, is_relay}
 use Rattle.farm_model.specs.declared.site.Link.{Link}
 use Rattle.farm_model.specs.declared.site.Node.{Node}
@@ -19,7 +21,7 @@ use Rattle.farm_site.specs.declared.key.Key.{Key}
 use Rattle.farm_site.specs.declared.key.Key.TheVariants as keys
 use Rattle.farm_site.specs.Forms.{form_of, has_type, is_in_range, has_too_many}
 use Rattle.farm_site.specs.Graph.{site_over}
-use Rattle.farm_site.specs.Spelling.{Names, NamesAt, SpellsAccount, SpellsLink, SpellsNode, SpellsRoute, SpellsTable, SpellsTariff, tables, texts, value_at, value_or}
+use Rattle.farm_site.specs.Spelling.{Names, NamesAt, SpellsAccount, SpellsLink, SpellsNode, SpellsRoute, SpellsTable, SpellsTariff, is_named, number, tables, texts, value_at, value_or}
 
 -- ---- what stands at one key
 
@@ -27,19 +29,13 @@ use Rattle.farm_site.specs.Spelling.{Names, NamesAt, SpellsAccount, SpellsLink, 
 abbrev pub StandsAt : Key → Members → (Data → Type 0) → Type 0
 StandsAt key entry Holds = (value : Data) × (value_at key entry ≡ Some value) × Holds value
 
--- the key of an entry by which it is told that what the key names stands twice
-abbrev pub told_by : Key → Key
-told_by keys.Route = keys.At
-told_by key = key
-
--- What a fault says of one table of keys: the file, or an entry. Which other entry has the same is not said; that a name
--- is unknown, and a link bad, is said below, beside the nodes of the file.
+-- What a fault says of one table of keys: the file, or an entry. What other entries decide is said below.
 abbrev pub IsFaultOf : Members → SiteFault → Type 0
 IsFaultOf entry NotToml = ⊥
 IsFaultOf entry (Missing key) = value_at key entry ≡ None
 IsFaultOf entry (WrongType key) = StandsAt key entry (λ value. has_type (form_of key) value ≡ false)
 IsFaultOf entry (OutOfRange key) = StandsAt key entry (λ value. is_in_range (form_of key) value ≡ false)
-IsFaultOf entry (Twice key) = IsSome (value_at (told_by key) entry)
+IsFaultOf entry (Twice key) = ⊥
 IsFaultOf entry (UnknownName key) = ⊥
 IsFaultOf entry (BadIdentity key) = StandsAt key entry (λ value. (name : List ℕ) × (value ≡ string name) × (fault_of name ≢ None))
 IsFaultOf entry (TooMany key) = StandsAt key entry (λ value. has_too_many (form_of key) value ≡ true)
@@ -95,9 +91,48 @@ pub record SpellsBadLink (nodes : List Node) (before : List Link) (entry : Membe
   pub spelled : SpellsLink nodes entry link
   pub bad : is_bad_link nodes before link ≡ true
 
+-- ---- what stands twice: in the entry, and in an item before it
+
+-- the name of a node, without ASCII case
+pub record IsNameTwice (before : List Node) (entry : Members) : Type 0 where
+  pub name : List ℕ
+  pub stands : value_at keys.Name entry ≡ Some (string name)
+  pub there : list_any (is_named name) before ≡ true
+
+-- relay, realm and application of a route
+pub record IsRouteTwice (nodes : List Node) (before : List Route) (entry : Members) : Type 0 where
+  pub relay : NodeNo
+  pub realm : List ℕ
+  pub app : ℕ
+  pub at : NamesAt nodes keys.At entry relay
+  pub of_realm : value_at keys.Realm entry ≡ Some (string realm)
+  pub of_app : value_at keys.App entry ≡ Some (number app)
+  pub there : list_any (λ route. is_node route.at relay && same_folded route.realm realm && (route.app == app)) before ≡ true
+
+-- the group of a tariff
+pub record IsGroupTwice (before : List Tariff) (entry : Members) : Type 0 where
+  pub group : ℕ
+  pub stands : value_at keys.Group entry ≡ Some (number group)
+  pub there : list_any (rates (Some group) None) before ≡ true
+
+-- the identifier of a tariff, or a group beside it
+pub record IsIdentTwice (before : List Tariff) (entry : Members) : Type 0 where
+  pub ident : ℕ
+  pub stands : value_at keys.Ident entry ≡ Some (number ident)
+  pub there : IsSome (value_at keys.Group entry) ⊎ (list_any (rates None (Some ident)) before ≡ true)
+
+-- type and text of an account
+pub record IsIdTwice (before : List Account) (entry : Members) : Type 0 where
+  pub id_kind : ℕ
+  pub id : List ℕ
+  pub of_kind : value_at keys.IdKind entry ≡ Some (number id_kind)
+  pub of_id : value_at keys.Id entry ≡ Some (string id)
+  pub there : list_any (λ account. (account.id_kind == id_kind) && same_octets account.id id) before ≡ true
+
 -- ---- entries, behind those that spell these items
 
 abbrev pub IsNodeFault : List Node → Members → SiteFault → Type 0
+IsNodeFault before entry (Twice keys.Name) = IsNameTwice before entry
 IsNodeFault before entry fault = IsFaultOf entry fault
 
 abbrev pub IsLinkFault : List Node → List Link → Members → SiteFault → Type 0
@@ -107,12 +142,16 @@ IsLinkFault nodes before entry fault = IsFaultOf entry fault
 
 abbrev pub IsRouteFault : List Node → List Link → List Route → Members → SiteFault → Type 0
 IsRouteFault nodes links before entry (UnknownName key) = IsUnknownInRoute nodes links entry key
+IsRouteFault nodes links before entry (Twice keys.Route) = IsRouteTwice nodes before entry
 IsRouteFault nodes links before entry fault = IsFaultOf entry fault
 
 abbrev pub IsTariffFault : List Tariff → Members → SiteFault → Type 0
+IsTariffFault before entry (Twice keys.Group) = IsGroupTwice before entry
+IsTariffFault before entry (Twice keys.Ident) = IsIdentTwice before entry
 IsTariffFault before entry fault = IsFaultOf entry fault
 
 abbrev pub IsAccountFault : List Account → Members → SiteFault → Type 0
+IsAccountFault before entry (Twice keys.Id) = IsIdTwice before entry
 IsAccountFault before entry fault = IsFaultOf entry fault
 
 -- ---- tables, and the file
