@@ -1,3 +1,4 @@
+pub mod FaultExample
 pub mod Faults
 pub mod Forms
 pub mod Growing

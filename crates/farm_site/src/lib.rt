@@ -50,6 +50,8 @@
 //!   (`specs/Spelling`), and that a fault is one that the text has (`specs/Faults`) is proved; that a
 //!   text without fault is read, and which of several faults is told, is not.
 //! - [`SiteFault`] with its [`Key`]: why a text is no site, with the words that are printed.
+//! - [`which_links_are_bad`], [`which_ends_are_unknown`], [`which_names_stand_twice`]: worked examples of faults that
+//!   other entries decide.
 //!
 //! Inside, `entry` reads a key of a table, `graph` finds nodes and links by name, and `node`, `link`,
 //! `route`, `tariff` and `account` each read a table of the file.
@@ -80,6 +82,7 @@ mod entry;
 mod fault;
 mod graph;
 mod key;
+mod laws;
 mod link;
 mod node;
 mod route;
@@ -92,6 +95,7 @@ use farm_model::Site;
 pub use fault::SiteFault;
 use graph::Graph;
 pub use key::Key;
+pub use laws::{which_ends_are_unknown, which_links_are_bad, which_names_stand_twice};
 use link::links_of;
 use node::nodes_of;
 use route::routes_of;
