@@ -20,8 +20,8 @@ use Rattle.farm_site.specs.declared.fault.SiteFault.{SiteFault}
 use Rattle.farm_site.specs.declared.fault.SiteFault.TheVariants.{NotToml, Missing, WrongType, OutOfRange, Twice, UnknownName, BadIdentity, TooMany, BadLink, OutOfMemory}
 use Rattle.farm_site.specs.declared.key.Key.{Key}
 use Rattle.farm_site.specs.declared.key.Key.TheVariants as keys
-use Rattle.farm_site.specs.Faults.{AreWhyOctets, IsAccountFault, IsFaultIn, IsFaultOf, IsGroupTwice, IsIdentTwice, IsLinkFault, IsNodeFault, IsRouteFault, IsTableFault, IsTariffFault, IsUnknownAmong, IsWhyText, NamesNone, of_accounts, of_entry, of_file, of_links, of_nodes, of_routes, of_table, of_tariffs}
-use Rattle.farm_site.specs.Forms.{Form, all_in, all_items, form_of, has_more_than, has_type, is_in_range, items_len, on_integer}
+use Rattle.farm_site.specs.Faults.{AreWhyOctets, IsAccountFault, IsFaultIn, IsFaultOf, IsGroupTwice, IsIdentTwice, IsLinkFault, IsOfKeys, IsNodeFault, IsRouteFault, IsTableFault, IsTariffFault, IsUnknownAmong, IsWhyText, NamesNone, of_accounts, of_entry, of_file, of_links, of_nodes, of_routes, of_table, of_tariffs}
+use Rattle.farm_site.specs.Forms.{Form, all_in, all_items, form_of, has_more_than, has_type, is_in_range, items_len, need_of_account, on_integer}
 use Rattle.farm_site.specs.Spelling.{SpellsAccount, SpellsLink, SpellsNode, SpellsRoute, SpellsTariff, number, tables, tables_of, texts, value_at, value_or}
 
 and_false : (a b : Bool) → b ≡ false → (a && b) ≡ false
@@ -95,17 +95,17 @@ ident_beside_group before entry group (Some ident) group_stands stands some_grou
 
 -- ---- accounts
 
-pub account_told : (before : List Account) (entry : Members) (fault : SiteFault) → IsFaultOf entry fault → IsAccountFault before entry fault
-account_told before entry NotToml told = told
-account_told before entry (Missing key) told = told
-account_told before entry (WrongType key) told = told
-account_told before entry (OutOfRange key) told = told
-account_told before entry (Twice key) told = absurd told
-account_told before entry (UnknownName key) told = told
-account_told before entry (BadIdentity key) told = told
-account_told before entry (TooMany key) told = told
-account_told before entry BadLink told = told
-account_told before entry OutOfMemory told = told
+pub account_told : (before : List Account) (entry : Members) (fault : SiteFault) → IsFaultOf entry fault → IsOfKeys need_of_account fault → IsAccountFault before entry fault
+account_told before entry NotToml told of = (told, of)
+account_told before entry (Missing key) told of = (told, of)
+account_told before entry (WrongType key) told of = (told, of)
+account_told before entry (OutOfRange key) told of = (told, of)
+account_told before entry (Twice key) told of = absurd told
+account_told before entry (UnknownName key) told of = (told, of)
+account_told before entry (BadIdentity key) told of = (told, of)
+account_told before entry (TooMany key) told of = (told, of)
+account_told before entry BadLink told of = (told, of)
+account_told before entry OutOfMemory told of = (told, of)
 
 -- ---- names
 
@@ -155,16 +155,16 @@ handed_on IsTold (Err given) fault is told = subst (λ (f : SiteFault). IsTold f
 -- ---- texts
 
 never_of_table : {A : Type 0} (spells : Members → A → Type 0) (IsFault : List A → Members → SiteFault → Type 0) (key : Key) (file : Members) → ((items : List A) (entry : Members) → IsFault items entry NotToml → ⊥) → IsTableFault spells IsFault key file NotToml → ⊥
-never_of_table spells IsFault key file never (of_table told) = told
+never_of_table spells IsFault key file never (of_table told of) = told
 never_of_table spells IsFault key file never (of_entry before after entry items stand in_order told) = never items entry told
 
 never_told : (file : Members) → IsFaultIn file NotToml → ⊥
-never_told file (of_file told) = told
-never_told file (of_nodes told) = never_of_table SpellsNode IsNodeFault keys.Node file (λ items entry told. told) told
-never_told file (of_links nodes are_nodes told) = never_of_table (SpellsLink nodes) (IsLinkFault nodes) keys.Link file (λ items entry told. told) told
-never_told file (of_routes nodes links are_nodes are_links told) = never_of_table (SpellsRoute nodes) (IsRouteFault nodes links) keys.Route file (λ items entry told. told) told
-never_told file (of_tariffs told) = never_of_table SpellsTariff IsTariffFault keys.Tariff file (λ items entry told. told) told
-never_told file (of_accounts told) = never_of_table SpellsAccount IsAccountFault keys.Account file (λ items entry told. told) told
+never_told file (of_file told of) = told
+never_told file (of_nodes told) = never_of_table SpellsNode IsNodeFault keys.Node file (λ items entry told. told.0) told
+never_told file (of_links nodes are_nodes told) = never_of_table (SpellsLink nodes) (IsLinkFault nodes) keys.Link file (λ items entry told. told.0) told
+never_told file (of_routes nodes links are_nodes are_links told) = never_of_table (SpellsRoute nodes) (IsRouteFault nodes links) keys.Route file (λ items entry told. told.0) told
+never_told file (of_tariffs told) = never_of_table SpellsTariff IsTariffFault keys.Tariff file (λ items entry told. told.0) told
+never_told file (of_accounts told) = never_of_table SpellsAccount IsAccountFault keys.Account file (λ items entry told. told.0) told
 
 told_of_text : (text : List ℕ) (file : Members) (fault : SiteFault) → parse_document text ≡ Some file → IsFaultIn file fault → IsWhyText text fault
 told_of_text text file NotToml at told = absurd (never_told file told)

@@ -19,7 +19,7 @@ use Rattle.farm_site.specs.declared.fault.SiteFault.{SiteFault}
 use Rattle.farm_site.specs.declared.fault.SiteFault.TheVariants.{NotToml, Missing, WrongType, OutOfRange, Twice, UnknownName, BadIdentity, TooMany, BadLink, OutOfMemory}
 use Rattle.farm_site.specs.declared.key.Key.{Key}
 use Rattle.farm_site.specs.declared.key.Key.TheVariants as keys
-use Rattle.farm_site.specs.Forms.{form_of, has_type, is_in_range, has_too_many}
+use Rattle.farm_site.specs.Forms.{Need, form_of, has_type, is_in_range, has_too_many, is_key, need_of_account, need_of_file, need_of_link, need_of_node, need_of_route, need_of_tariff, required}
 use Rattle.farm_site.specs.Graph.{site_over}
 use Rattle.farm_site.specs.Spelling.{Names, NamesAt, SpellsAccount, SpellsLink, SpellsNode, SpellsRoute, SpellsTable, SpellsTariff, is_named, number, tables, texts, value_at, value_or}
 
@@ -41,6 +41,31 @@ IsFaultOf entry (BadIdentity key) = StandsAt key entry (λ value. (name : List �
 IsFaultOf entry (TooMany key) = StandsAt key entry (λ value. has_too_many (form_of key) value ≡ true)
 IsFaultOf entry BadLink = ⊥
 IsFaultOf entry OutOfMemory = Unit {0}
+
+-- ---- keys
+
+-- a fault of what stands at one key names this key
+abbrev pub IsOfKey : Key → SiteFault → Type 0
+IsOfKey key (Missing told) = told ≡ key
+IsOfKey key (WrongType told) = told ≡ key
+IsOfKey key (OutOfRange told) = told ≡ key
+IsOfKey key (BadIdentity told) = told ≡ key
+IsOfKey key (TooMany told) = told ≡ key
+IsOfKey key fault = Unit {0}
+
+-- the same, where the key may be left out
+abbrev pub IsOfOptionalKey : Key → SiteFault → Type 0
+IsOfOptionalKey key (Missing told) = ⊥
+IsOfOptionalKey key fault = IsOfKey key fault
+
+-- it names a key that a table has; one that is missing is required
+abbrev pub IsOfKeys : (Key → Need) → SiteFault → Type 0
+IsOfKeys need (Missing key) = need key ≡ required
+IsOfKeys need (WrongType key) = is_key (need key) ≡ true
+IsOfKeys need (OutOfRange key) = is_key (need key) ≡ true
+IsOfKeys need (BadIdentity key) = is_key (need key) ≡ true
+IsOfKeys need (TooMany key) = is_key (need key) ≡ true
+IsOfKeys need fault = Unit {0}
 
 -- ---- names
 
@@ -133,37 +158,38 @@ pub record IsIdTwice (before : List Account) (entry : Members) : Type 0 where
 
 abbrev pub IsNodeFault : List Node → Members → SiteFault → Type 0
 IsNodeFault before entry (Twice keys.Name) = IsNameTwice before entry
-IsNodeFault before entry fault = IsFaultOf entry fault
+IsNodeFault before entry fault = IsFaultOf entry fault × IsOfKeys need_of_node fault
 
 abbrev pub IsLinkFault : List Node → List Link → Members → SiteFault → Type 0
 IsLinkFault nodes before entry (UnknownName key) = IsUnknownInLink nodes entry key
 IsLinkFault nodes before entry BadLink = SpellsBadLink nodes before entry
-IsLinkFault nodes before entry fault = IsFaultOf entry fault
+IsLinkFault nodes before entry fault = IsFaultOf entry fault × IsOfKeys need_of_link fault
 
 abbrev pub IsRouteFault : List Node → List Link → List Route → Members → SiteFault → Type 0
 IsRouteFault nodes links before entry (UnknownName key) = IsUnknownInRoute nodes links entry key
 IsRouteFault nodes links before entry (Twice keys.Route) = IsRouteTwice nodes before entry
-IsRouteFault nodes links before entry fault = IsFaultOf entry fault
+IsRouteFault nodes links before entry fault = IsFaultOf entry fault × IsOfKeys need_of_route fault
 
 abbrev pub IsTariffFault : List Tariff → Members → SiteFault → Type 0
 IsTariffFault before entry (Twice keys.Group) = IsGroupTwice before entry
 IsTariffFault before entry (Twice keys.Ident) = IsIdentTwice before entry
-IsTariffFault before entry fault = IsFaultOf entry fault
+IsTariffFault before entry (Missing keys.Group) = (value_at keys.Group entry ≡ None) × (value_at keys.Ident entry ≡ None)
+IsTariffFault before entry fault = IsFaultOf entry fault × IsOfKeys need_of_tariff fault
 
 abbrev pub IsAccountFault : List Account → Members → SiteFault → Type 0
 IsAccountFault before entry (Twice keys.Id) = IsIdTwice before entry
-IsAccountFault before entry fault = IsFaultOf entry fault
+IsAccountFault before entry fault = IsFaultOf entry fault × IsOfKeys need_of_account fault
 
 -- ---- tables, and the file
 
 -- of what stands at the key of a table, or of an entry of it, where those before it spell these items
 pub data IsTableFault {A : Type 0} (spells : Members → A → Type 0) (IsFault : List A → Members → SiteFault → Type 0) (key : Key) (file : Members) (fault : SiteFault) : Type 0 where
-  of_table : IsFaultOf file fault → IsTableFault spells IsFault key file fault
+  of_table : IsFaultOf file fault → IsOfOptionalKey key fault → IsTableFault spells IsFault key file fault
   of_entry : (before after : List Members) (entry : Members) (items : List A) → value_or (tables []) key file ≡ tables (before ++ entry ∷ after) → AllZip spells before items → IsFault items entry fault → IsTableFault spells IsFault key file fault
 
 -- of the file as a whole, or of one of its tables: of links between the nodes of the file, of routes over its links
 pub data IsFaultIn (file : Members) (fault : SiteFault) : Type 0 where
-  of_file : IsFaultOf file fault → IsFaultIn file fault
+  of_file : IsFaultOf file fault → IsOfKeys need_of_file fault → IsFaultIn file fault
   of_nodes : IsTableFault SpellsNode IsNodeFault keys.Node file fault → IsFaultIn file fault
   of_links : (nodes : List Node) → SpellsTable SpellsNode keys.Node file nodes → IsTableFault (SpellsLink nodes) (IsLinkFault nodes) keys.Link file fault → IsFaultIn file fault
   of_routes : (nodes : List Node) (links : List Link) → SpellsTable SpellsNode keys.Node file nodes → SpellsTable (SpellsLink nodes) keys.Link file links → IsTableFault (SpellsRoute nodes) (IsRouteFault nodes links) keys.Route file fault → IsFaultIn file fault

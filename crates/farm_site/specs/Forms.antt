@@ -54,6 +54,74 @@ form_of IdKind = number_within 0 4
 form_of Id = account_id
 form_of Opening = integer_of_size 4611686018427387904
 
+-- ---- which keys a table has
+
+-- a key that must be there, one that may be left out, and one that a table does not have
+pub data Need : Type 0 where
+  required : Need
+  optional : Need
+  no_key : Need
+
+abbrev pub is_key : Need → Bool
+is_key required = true
+is_key optional = true
+is_key no_key = false
+
+-- the arrays of tables may be left out, too
+abbrev pub need_of_file : Key → Need
+need_of_file Realm = required
+need_of_file Validity = required
+need_of_file Limit = optional
+need_of_file Workers = optional
+need_of_file Queue = optional
+need_of_file Vendors = optional
+need_of_file Currency = required
+need_of_file Exponent = required
+need_of_file Watchdog = optional
+need_of_file Node = optional
+need_of_file Link = optional
+need_of_file Route = optional
+need_of_file Tariff = optional
+need_of_file Account = optional
+need_of_file key = no_key
+
+abbrev pub need_of_node : Key → Need
+need_of_node Name = required
+need_of_node Kind = required
+need_of_node Address = optional
+need_of_node key = no_key
+
+abbrev pub need_of_link : Key → Need
+need_of_link From = required
+need_of_link To = required
+need_of_link key = no_key
+
+abbrev pub need_of_route : Key → Need
+need_of_route At = required
+need_of_route Realm = required
+need_of_route App = required
+need_of_route Peers = required
+need_of_route key = no_key
+
+-- one of group and identifier
+abbrev pub need_of_tariff : Key → Need
+need_of_tariff Group = optional
+need_of_tariff Ident = optional
+need_of_tariff Kind = required
+need_of_tariff Block = required
+need_of_tariff Price = required
+need_of_tariff Quantum = required
+need_of_tariff Greatest = required
+need_of_tariff key = no_key
+
+abbrev pub need_of_account : Key → Need
+need_of_account IdKind = required
+need_of_account Id = required
+need_of_account Opening = required
+need_of_account key = no_key
+
+-- ---- numbers and texts
+
 abbrev pub is_for_text : Form → Bool
 is_for_text any_text = true
 is_for_text known_word = true

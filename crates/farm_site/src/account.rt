@@ -3,7 +3,8 @@
 ghost use Rattle.std.specs.Prelude.{◌≡◌, ◌≤◌, IfErr, IfOk, vec_len, true, nat_le, length, ◌&&◌};
 ghost use Rattle.std.specs.List.{list_all, list_any};
 ghost use Rattle.farm_model.specs.CheckedSite.{is_sound_account, is_visible, is_within, same_account, size_of};
-ghost use Rattle.farm_site.specs.Faults.{IsAccountFault, IsFaultOf, IsTableFault};
+ghost use Rattle.farm_site.specs.Faults.{IsAccountFault, IsFaultOf, IsOfKeys, IsTableFault};
+ghost use Rattle.farm_site.specs.Forms.{need_of_account};
 ghost use Rattle.farm_site.specs.Growing.{AreSound};
 ghost use Rattle.farm_site.specs.Spelling.{SpellsAccount, SpellsTable, number, value_at};
 ghost use Rattle.toml.specs.Data.{string, integer};
@@ -65,6 +66,7 @@ fn owner_of(entry: Entry<'_>) -> Result<Owner<'_>, SiteFault>
     ensures kind_spelled { IfOk result (λ owner. value_at Key.IdKind (table_view entry.entry.table.now) ≡ Some (number owner.id_kind)) }
     ensures id_spelled { IfOk result (λ owner. value_at Key.Id (table_view entry.entry.table.now) ≡ Some (string owner.id.now)) }
     ensures fault { IfErr result (IsFaultOf (table_view entry.entry.table.now)) }
+    ensures told { IfErr result (IsOfKeys need_of_account) }
 {
     let id_kind = entry.unsigned32(Key::IdKind, 0, ID_KIND_LIMIT)?;
     let id = entry.text(Key::Id)?.as_bytes();
@@ -95,6 +97,7 @@ fn account_of(alloc: Global, entry: Entry, owner: Owner) -> Result<Account, Site
     ensures opening { IfOk result (λ account. nat_le (size_of account.opening) 4611686018427387904 ≡ true) }
     ensures opening_spelled { IfOk result (λ account. value_at Key.Opening (table_view entry.entry.table.now) ≡ Some (integer account.opening)) }
     ensures fault { IfErr result (IsFaultOf (table_view entry.entry.table.now)) }
+    ensures told { IfErr result (IsOfKeys need_of_account) }
 {
     Ok(Account {
         id_kind: owner.id_kind,

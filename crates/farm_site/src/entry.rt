@@ -3,7 +3,7 @@
 ghost use Rattle.std.specs.Prelude.{◌≡◌, ◌≤◌, ◌⊎◌, [], ◌∷◌, IfErr, IfOk, None, true, false, length, vec_len, nat_le, map, option_map, pos};
 ghost use Rattle.dia_base.specs.Identity.{fault_of};
 ghost use Rattle.farm_model.specs.CheckedSite.{is_within, size_of};
-ghost use Rattle.farm_site.specs.Faults.{IsFaultOf};
+ghost use Rattle.farm_site.specs.Faults.{IsFaultOf, IsOfKey, IsOfOptionalKey};
 ghost use Rattle.farm_site.specs.Forms.{all_items, covers, form_of, has_more_than, integer_of_size, is_for_text, is_from_to, is_integer, is_number, is_string, is_table, list_of_numbers, list_of_tables, list_of_texts};
 ghost use Rattle.farm_site.specs.Spelling.{value_at, value_or, number, numbers, texts, tables, tables_of};
 ghost use Rattle.toml.specs.Data.{string, integer, array, table, as_array};
@@ -40,6 +40,7 @@ impl<'a> Entry<'a> {
     fn value(self, key: Key) -> Result<&'a Value, SiteFault>
         ensures value { IfOk result (λ value. value_at key (table_view self.entry.table.now) ≡ Some (view value.now)) }
         ensures fault { IfErr result (IsFaultOf (table_view self.entry.table.now)) }
+        ensures told { IfErr result (IsOfKey key) }
     {
         self.find(key).ok_or(SiteFault::Missing { key })
     }
@@ -48,6 +49,7 @@ impl<'a> Entry<'a> {
     pub fn text(self, key: Key) -> Result<&'a str, SiteFault>
         ensures value { IfOk result (λ text. value_at key (table_view self.entry.table.now) ≡ Some (string text.now)) }
         ensures fault { is_for_text (form_of key) ≡ true → IfErr result (IsFaultOf (table_view self.entry.table.now)) }
+        ensures told { IfErr result (IsOfKey key) }
     {
         text_of(key, self.value(key)?)
     }
@@ -56,6 +58,7 @@ impl<'a> Entry<'a> {
     pub fn optional_text(self, key: Key) -> Result<Option<&'a str>, SiteFault>
         ensures value { IfOk result (λ text. value_at key (table_view self.entry.table.now) ≡ option_map (λ some_text. string some_text.now) text) }
         ensures fault { is_for_text (form_of key) ≡ true → IfErr result (IsFaultOf (table_view self.entry.table.now)) }
+        ensures told { IfErr result (IsOfOptionalKey key) }
     {
         match self.find(key) {
             None => Ok(None),
@@ -68,6 +71,7 @@ impl<'a> Entry<'a> {
         ensures sound { IfOk result (λ identity. fault_of identity ≡ None) }
         ensures value { IfOk result (λ identity. value_at key (table_view self.entry.table.now) ≡ Some (string identity)) }
         ensures fault { is_for_text (form_of key) ≡ true → IfErr result (IsFaultOf (table_view self.entry.table.now)) }
+        ensures told { IfErr result (IsOfKey key) }
     {
         match Identity::read(alloc, self.text(key)?.as_bytes()) {
             Ok(identity) => Ok(identity),
@@ -82,6 +86,7 @@ impl<'a> Entry<'a> {
         ensures size { IfOk result (λ n. nat_le (size_of n) size ≡ true) }
         ensures value { IfOk result (λ n. value_at key (table_view self.entry.table.now) ≡ Some (integer n)) }
         ensures fault { form_of key ≡ integer_of_size size → IfErr result (IsFaultOf (table_view self.entry.table.now)) }
+        ensures told { IfErr result (IsOfKey key) }
     {
         let number = integer_of(key, self.value(key)?)?;
         if number.unsigned_abs() <= size {
@@ -96,6 +101,7 @@ impl<'a> Entry<'a> {
         ensures range { IfOk result (λ n. is_within least most n ≡ true) }
         ensures value { IfOk result (λ n. value_at key (table_view self.entry.table.now) ≡ Some (number n)) }
         ensures fault { covers least most (form_of key) ≡ true → IfErr result (IsFaultOf (table_view self.entry.table.now)) }
+        ensures told { IfErr result (IsOfKey key) }
     {
         unsigned_of(key, self.value(key)?, least, most)
     }
@@ -112,6 +118,7 @@ impl<'a> Entry<'a> {
         ensures range { IfOk result (λ n. is_within least most n ≡ true) }
         ensures value { IfOk result (λ n. value_or (number absent) key (table_view self.entry.table.now) ≡ number n) }
         ensures fault { covers least most (form_of key) ≡ true → IfErr result (IsFaultOf (table_view self.entry.table.now)) }
+        ensures told { IfErr result (IsOfOptionalKey key) }
     {
         match self.find(key) {
             None => Ok(absent),
@@ -124,6 +131,7 @@ impl<'a> Entry<'a> {
         ensures range { IfOk result (λ n. is_within least most n ≡ true) }
         ensures value { IfOk result (λ n. value_at key (table_view self.entry.table.now) ≡ Some (number n)) }
         ensures fault { covers least most (form_of key) ≡ true → IfErr result (IsFaultOf (table_view self.entry.table.now)) }
+        ensures told { IfErr result (IsOfKey key) }
     {
         let number = self.unsigned64(key, u64::from(least), u64::from(most))?;
         Ok(number as u32)
@@ -141,6 +149,7 @@ impl<'a> Entry<'a> {
         ensures range { IfOk result (λ n. is_within least most n ≡ true) }
         ensures value { IfOk result (λ n. value_or (number absent) key (table_view self.entry.table.now) ≡ number n) }
         ensures fault { covers least most (form_of key) ≡ true → IfErr result (IsFaultOf (table_view self.entry.table.now)) }
+        ensures told { IfErr result (IsOfOptionalKey key) }
     {
         let (least, most) = (u64::from(least), u64::from(most));
         let number = self.unsigned64_or(key, least, most, u64::from(absent))?;
@@ -151,10 +160,14 @@ impl<'a> Entry<'a> {
     pub fn optional_unsigned32(self, key: Key) -> Result<Option<u32>, SiteFault>
         ensures value { IfOk result (λ n. value_at key (table_view self.entry.table.now) ≡ option_map number n) }
         ensures fault { covers 0 4294967295 (form_of key) ≡ true → IfErr result (IsFaultOf (table_view self.entry.table.now)) }
+        ensures told { IfErr result (IsOfOptionalKey key) }
     {
         match self.find(key) {
             None => Ok(None),
-            Some(_) => Ok(Some(self.unsigned32(key, 0, u32::MAX)?)),
+            Some(value) => {
+                let number = unsigned_of(key, value, 0, u64::from(u32::MAX))?;
+                Ok(Some(number as u32))
+            }
         }
     }
 
@@ -162,6 +175,7 @@ impl<'a> Entry<'a> {
     pub fn numbers_or(self, alloc: Global, key: Key, absent: u32) -> Result<Vec<u32>, SiteFault>
         ensures value { IfOk result (λ read. value_or (numbers (absent ∷ [])) key (table_view self.entry.table.now) ≡ numbers read.items) }
         ensures fault { form_of key ≡ list_of_numbers → IfErr result (IsFaultOf (table_view self.entry.table.now)) }
+        ensures told { IfErr result (IsOfOptionalKey key) }
     {
         let Some(value) = self.find(key) else {
             return Ok(vec![in alloc; absent]?);
@@ -179,6 +193,7 @@ impl<'a> Entry<'a> {
         ensures count { IfOk result (λ read. vec_len read ≤ most) }
         ensures value { IfOk result (λ read. value_at key (table_view self.entry.table.now) ≡ Some (texts (map (λ text. text.now) read.items))) }
         ensures fault { form_of key ≡ list_of_texts most → IfErr result (IsFaultOf (table_view self.entry.table.now)) }
+        ensures told { IfErr result (IsOfKey key) }
     {
         let values = array_within(key, self.value(key)?, most)?;
         let mut texts = Vec::new(alloc);
@@ -194,6 +209,7 @@ impl<'a> Entry<'a> {
         ensures count { IfOk result (λ entries. vec_len entries ≤ most) }
         ensures value { IfOk result (λ entries. value_or (tables []) key (table_view self.entry.table.now) ≡ tables (tables_of entries.items)) }
         ensures fault { form_of key ≡ list_of_tables most → IfErr result (IsFaultOf (table_view self.entry.table.now)) }
+        ensures told { IfErr result (IsOfOptionalKey key) }
     {
         let mut entries = Vec::new(alloc);
         let Some(value) = self.find(key) else {

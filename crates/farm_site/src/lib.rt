@@ -71,7 +71,7 @@
 ghost use Rattle.std.specs.Prelude.{◌≡◌, ◌<◌, ◌⊎◌, Err, IfErr, IfOk, None, Some, length, nat_le, true};
 ghost use Rattle.std.specs.Str.{IsUtf8};
 ghost use Rattle.farm_model.specs.CheckedSite.{IsChecked, size_of};
-ghost use Rattle.farm_site.specs.Faults.{AreWhyOctets, IsFaultIn, IsFaultOf, IsNoFile, IsWhyText};
+ghost use Rattle.farm_site.specs.Faults.{AreWhyOctets, IsFaultIn, IsFaultOf, IsNoFile, IsOfKey, IsWhyText};
 ghost use Rattle.farm_site.specs.Spelling.{Spells, SpellsSite, value_at};
 ghost use Rattle.toml.specs.Data.{integer};
 ghost use Rattle.toml.specs.Parse.{parse_document};
@@ -206,6 +206,7 @@ fn exponent_of(file: Entry) -> Result<i32, SiteFault>
     ensures size { IfOk result (λ exponent. nat_le (size_of exponent) 9 ≡ true) }
     ensures value { IfOk result (λ exponent. value_at Key.Exponent (table_view file.entry.table.now) ≡ Some (integer exponent)) }
     ensures fault { IfErr result (IsFaultOf (table_view file.entry.table.now)) }
+    ensures told { IfErr result (IsOfKey Key.Exponent) }
 {
     let exponent = file.integer(Key::Exponent, 9)?;
     i32::try_from(exponent).map_err(|_| SiteFault::OutOfRange { key: Key::Exponent })

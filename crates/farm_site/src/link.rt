@@ -4,7 +4,7 @@ ghost use Rattle.std.specs.Prelude.{◌≡◌, ◌≤◌, ◌⊎◌, IfErr, IfOk
 ghost use Rattle.std.specs.List.{list_any};
 ghost use Rattle.farm_model.specs.Nodes.{is_client, is_front, is_node};
 ghost use Rattle.farm_model.specs.CheckedSite.{is_sound_link, is_known, joins_two_of, same_pair};
-ghost use Rattle.farm_site.specs.Faults.{IsFaultOf, IsLinkFault, IsTableFault, IsUnknownAt};
+ghost use Rattle.farm_site.specs.Faults.{IsFaultOf, IsLinkFault, IsOfKey, IsTableFault, IsUnknownAt};
 ghost use Rattle.farm_site.specs.Forms.{form_of, is_for_text};
 ghost use Rattle.farm_site.specs.Graph.{drawn, site_over};
 ghost use Rattle.farm_site.specs.Growing.{AreSound, MayFollow};
@@ -65,6 +65,7 @@ fn end_of(entry: Entry, key: Key, graph: Graph) -> Result<NodeNo, SiteFault>
     ensures known { IfOk result (λ node. is_known (drawn graph.entry) node ≡ true) }
     ensures named { IfOk result (NamesAt graph.entry.nodes.now key (table_view entry.entry.table.now)) }
     ensures fault { length graph.entry.nodes.now ≤ 64 → is_for_text (form_of key) ≡ true → IfErr result (λ fault. IsFaultOf (table_view entry.entry.table.now) fault ⊎ ((fault ≡ SiteFault.UnknownName key) × IsUnknownAt graph.entry.nodes.now (is_known (drawn graph.entry)) key (table_view entry.entry.table.now))) }
+    ensures told { IfErr result (IsOfKey key) }
 {
     match graph.find(entry.text(key)?) {
         Some(node) => Ok(node),

@@ -4,7 +4,7 @@ ghost use Rattle.std.specs.Prelude.{◌≡◌, ◌≤◌, IfErr, IfOk, vec_len, 
 ghost use Rattle.std.specs.List.{list_any};
 ghost use Rattle.dia_base.specs.Folding.{same_folded};
 ghost use Rattle.farm_model.specs.CheckedSite.{is_sound_name, same_name};
-ghost use Rattle.farm_site.specs.Faults.{IsFaultOf, IsNodeFault, IsTableFault};
+ghost use Rattle.farm_site.specs.Faults.{IsFaultOf, IsNodeFault, IsOfOptionalKey, IsTableFault};
 ghost use Rattle.farm_site.specs.Growing.{AreSound, MayFollow};
 ghost use Rattle.farm_site.specs.Spelling.{SpellsNode, SpellsTable, value_at, node_word};
 ghost use Rattle.toml.specs.Data.{string};
@@ -78,6 +78,7 @@ fn kind_of(word: &str) -> Result<NodeKind, SiteFault>
 fn address_of(alloc: Global, entry: Entry) -> Result<Option<Octets>, SiteFault>
     ensures value { IfOk result (λ address. value_at Key.Address (table_view entry.entry.table.now) ≡ option_map string address) }
     ensures fault { IfErr result (IsFaultOf (table_view entry.entry.table.now)) }
+    ensures told { IfErr result (IsOfOptionalKey Key.Address) }
 {
     let Some(written) = entry.optional_text(Key::Address)? else {
         return Ok(None);

@@ -5,7 +5,7 @@ ghost use Rattle.std.specs.List.{list_all, list_any};
 ghost use Rattle.dia_base.specs.Folding.{same_folded};
 ghost use Rattle.farm_model.specs.CheckedSite.{is_candidate, is_sound_route, same_route};
 ghost use Rattle.farm_model.specs.Nodes.{is_node, is_relay};
-ghost use Rattle.farm_site.specs.Faults.{IsFaultOf, IsRouteFault, IsTableFault, IsUnknownAmong, IsUnknownAt, NamesNone};
+ghost use Rattle.farm_site.specs.Faults.{IsFaultOf, IsOfKey, IsRouteFault, IsTableFault, IsUnknownAmong, IsUnknownAt, NamesNone};
 ghost use Rattle.farm_site.specs.Graph.{drawn};
 ghost use Rattle.farm_site.specs.Growing.{AreSound, MayFollow};
 ghost use Rattle.farm_site.specs.Spelling.{Names, NamesAt, NamesAllAt, SpellsRoute, SpellsTable};
@@ -67,6 +67,7 @@ fn relay_of(entry: Entry, graph: Graph) -> Result<NodeNo, SiteFault>
     ensures relay { IfOk result (λ relay. is_relay (drawn graph.entry) relay ≡ true) }
     ensures named { IfOk result (NamesAt graph.entry.nodes.now Key.At (table_view entry.entry.table.now)) }
     ensures fault { length graph.entry.nodes.now ≤ 64 → IfErr result (λ fault. IsFaultOf (table_view entry.entry.table.now) fault ⊎ ((fault ≡ SiteFault.UnknownName Key.At) × IsUnknownAt graph.entry.nodes.now (is_relay (drawn graph.entry)) Key.At (table_view entry.entry.table.now))) }
+    ensures told { IfErr result (IsOfKey Key.At) }
 {
     match graph.find(entry.text(Key::At)?) {
         Some(relay) if graph.is_relay(relay) => Ok(relay),
@@ -93,6 +94,7 @@ fn peers_of(
     ensures candidates { IfOk result (λ peers. list_all (is_candidate (drawn graph.entry) relay) peers.items ≡ true) }
     ensures named { IfOk result (λ peers. NamesAllAt graph.entry.nodes.now Key.Peers (table_view entry.entry.table.now) peers.items) }
     ensures fault { length graph.entry.nodes.now ≤ 64 → IfErr result (λ fault. IsFaultOf (table_view entry.entry.table.now) fault ⊎ ((fault ≡ SiteFault.UnknownName Key.Peers) × IsUnknownAmong graph.entry.nodes.now (is_candidate (drawn graph.entry) relay) Key.Peers (table_view entry.entry.table.now))) }
+    ensures told { IfErr result (IsOfKey Key.Peers) }
 {
     let names = entry.texts(alloc, Key::Peers, PEER_LIMIT)?;
     let mut peers = Vec::new(alloc);
@@ -108,6 +110,7 @@ fn peer_of(name: &str, graph: Graph, relay: NodeNo) -> Result<NodeNo, SiteFault>
     ensures candidate { IfOk result (λ peer. is_candidate (drawn graph.entry) relay peer ≡ true) }
     ensures named { IfOk result (Names graph.entry.nodes.now name.now) }
     ensures fault { length graph.entry.nodes.now ≤ 64 → IfErr result (λ fault. (fault ≡ SiteFault.UnknownName Key.Peers) × NamesNone graph.entry.nodes.now (is_candidate (drawn graph.entry) relay) name.now) }
+    ensures told { IfErr result (IsOfKey Key.Peers) }
 {
     match graph.find(name) {
         Some(peer) if is_candidate(graph, relay, peer) => Ok(peer),

@@ -36,14 +36,14 @@ pub returns-in_err-owner-clause-fault : goal.returns-in_err-owner-clause-fault
 returns-in_err-owner-clause-fault c =
     let file = table_view c.args.file.table.now in
     let fault = c.in_err-owner.field-0.0 in
-    let of_table = told_in SpellsAccount IsAccountFault keys.Account file c.deref-entry-items.result.now c.in_ok-entries.entries.items c.loop-entry.entry-index c.entry-item.result c.loop-entry.accounts.items fault c.deref-entry-items.ensures.value c.in_ok-entries.ensures.value c.loop-entry-test.true c.entry-item.is c.loop-entry.invariant.spelled (account_told c.loop-entry.accounts.items (table_view c.entry-item.result.table.now) fault c.in_err-owner.ensures.fault) in
+    let of_table = told_in SpellsAccount IsAccountFault keys.Account file c.deref-entry-items.result.now c.in_ok-entries.entries.items c.loop-entry.entry-index c.entry-item.result c.loop-entry.accounts.items fault c.deref-entry-items.ensures.value c.in_ok-entries.ensures.value c.loop-entry-test.true c.entry-item.is c.loop-entry.invariant.spelled (account_told c.loop-entry.accounts.items (table_view c.entry-item.result.table.now) fault c.in_err-owner.ensures.fault c.in_err-owner.ensures.told) in
     handed_on (IsTableFault SpellsAccount IsAccountFault keys.Account file) c.from_residual-in_err-owner.result fault c.from_residual-in_err-owner.ensures.1 of_table
 
 pub returns-in_err-account-clause-fault : goal.returns-in_err-account-clause-fault
 returns-in_err-account-clause-fault c =
     let file = table_view c.args.file.table.now in
     let fault = c.in_err-account.field-0.0 in
-    let of_table = told_in SpellsAccount IsAccountFault keys.Account file c.deref-entry-items.result.now c.in_ok-entries.entries.items c.loop-entry.entry-index c.entry-item.result c.loop-entry.accounts.items fault c.deref-entry-items.ensures.value c.in_ok-entries.ensures.value c.loop-entry-test.true c.entry-item.is c.loop-entry.invariant.spelled (account_told c.loop-entry.accounts.items (table_view c.entry-item.result.table.now) fault c.in_err-account.ensures.fault) in
+    let of_table = told_in SpellsAccount IsAccountFault keys.Account file c.deref-entry-items.result.now c.in_ok-entries.entries.items c.loop-entry.entry-index c.entry-item.result c.loop-entry.accounts.items fault c.deref-entry-items.ensures.value c.in_ok-entries.ensures.value c.loop-entry-test.true c.entry-item.is c.loop-entry.invariant.spelled (account_told c.loop-entry.accounts.items (table_view c.entry-item.result.table.now) fault c.in_err-account.ensures.fault c.in_err-account.ensures.told) in
     handed_on (IsTableFault SpellsAccount IsAccountFault keys.Account file) c.from_residual-in_err-account.result fault c.from_residual-in_err-account.ensures.1 of_table
 
 pub returns-then-not-is_new-clause-fault : goal.returns-then-not-is_new-clause-fault
