@@ -22,6 +22,7 @@ pub mod FrontSteps
 pub mod Hearing
 pub mod HearingSteps
 pub mod Joined
+pub mod KeepingBookAndEnds
 pub mod KeepingFronts
 pub mod KeepingTraffic
 pub mod KindsAgree

@@ -33,6 +33,7 @@ use Rattle.farm_law.specs.Invariant.{IsOwed, IsTaken}
 use Rattle.farm_law.specs.Lists.{Has, here, there}
 use Rattle.farm_model.specs.declared.site.Node.{Node}
 use Rattle.farm_model.specs.declared.site.Site.{Site}
+use Rattle.farm_model.specs.BookAndEnds.{KeepsBookAndEnds}
 use Rattle.farm_model.specs.FrontTurns.{KeepsFronts}
 use Rattle.farm_model.specs.InFlight.{KeepsTraffic}
 use Rattle.farm_model.specs.Nodes.{is_node, is_client, is_front, is_relay, kind_in, means_front, means_relay}
@@ -239,6 +240,7 @@ module _ (site : Site) (past : Past) (w : WorldState) (h : RunHolds site w.ends 
     come_back = all_of (RefusesWhatComesBack site) past h.come_back;
     traffic = all_of (KeepsTraffic site) past h.traffic;
     skipped = all_of AppliedOrChangedNothing past h.skipped;
+    book_and_ends = all_of (KeepsBookAndEnds site) past h.book_and_ends;
     fronts = all_of (KeepsFronts site) past h.fronts;
     relays = runs_as_relay relays_keep;
   }

@@ -6,6 +6,7 @@ use Rattle.farm_law.specs.Farm.{Refused}
 use Rattle.farm_law.specs.Invariant.{IsKept}
 use Rattle.farm_law.specs.Lists.{Has}
 use Rattle.farm_model.specs.declared.site.Site.{Site}
+use Rattle.farm_model.specs.BookAndEnds.{KeepsBookAndEnds}
 use Rattle.farm_model.specs.Cause.{HasCause}
 use Rattle.farm_model.specs.FrontTurns.{KeepsFronts}
 use Rattle.farm_model.specs.InFlight.{KeepsTraffic}
@@ -47,6 +48,7 @@ pub record RunHolds (site : Site) (all : Ends) (past : Past) (w : WorldState) : 
   pub come_back : (t : Transition) → Has t past → RefusesWhatComesBack site t
   pub traffic : (t : Transition) → Has t past → KeepsTraffic site t
   pub skipped : (t : Transition) → Has t past → AppliedOrChangedNothing t
+  pub book_and_ends : (t : Transition) → Has t past → KeepsBookAndEnds site t
   pub fronts : (t : Transition) → Has t past → KeepsFronts site t
   pub last : last_of (start site) past ≡ w
   pub relays : (node : NodeNo) → is_relay site node ≡ true → HasRun site node past w

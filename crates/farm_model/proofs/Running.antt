@@ -16,6 +16,7 @@ use Rattle.farm_model.specs.declared.state.Trace.{Trace}
 use Rattle.farm_model.specs.declared.step.Step.{Step}
 use Rattle.farm_model.specs.declared.step.Step.TheVariants.{Up, Send, Deliver, Lose, Cut, Restart, Pick, Charge, Refuse, Emit, Sweep}
 use Rattle.farm_model.specs.Arrival.{AtRelay}
+use Rattle.farm_model.specs.BookAndEnds.{KeepsBookAndEnds}
 use Rattle.farm_model.specs.Cause.{at_relay}
 use Rattle.farm_model.specs.CheckedSite.{IsChecked}
 use Rattle.farm_model.specs.FarmStep.{FarmStep, Flight, flight_at, can_restart}
@@ -34,6 +35,7 @@ use Rattle.farm_model.proofs.FailingOver.{relay_loses}
 use Rattle.farm_model.proofs.FrontCharge.{charge_goes}
 use Rattle.farm_model.proofs.FrontEmit.{emit_goes}
 use Rattle.farm_model.proofs.FrontRequests.{fronts_from_hold, QueuesHoldRequests}
+use Rattle.farm_model.proofs.KeepingBookAndEnds.{step_keeps_book_and_ends}
 use Rattle.farm_model.proofs.KeepingFronts.{step_keeps_fronts}
 use Rattle.farm_model.proofs.FrontSteps.{pick_goes, refuse_goes}
 use Rattle.farm_model.proofs.Hearing.{heard_on}
@@ -138,6 +140,7 @@ module _ (premises : Premises) (site : Site) (all : Ends) (checked : IsChecked s
         come_back = all-end (RefusesWhatComesBack site) past t h.come_back (comes_back t loop);
         traffic = all-end (KeepsTraffic site) past t h.traffic traffic.0;
         skipped = all-end AppliedOrChangedNothing past t h.skipped (λ skipped. step_skips site t.before t.after t.applied t.losses skipped t.step s);
+        book_and_ends = all-end (KeepsBookAndEnds site) past t h.book_and_ends (step_keeps_book_and_ends t s);
         fronts = all-end (KeepsFronts site) past t h.fronts (step_keeps_fronts t h.wired h.apart s);
         last = last_of-push (start site) past t;
         relays = λ node relay_is. relay_runs_on past t h.wired h.apart s node relay_is (h.relays node relay_is);
@@ -170,6 +173,7 @@ module _ (premises : Premises) (site : Site) (all : Ends) (checked : IsChecked s
     come_back = λ t h. elim h [ ];
     traffic = λ t h. elim h [ ];
     skipped = λ t h. elim h [ ];
+    book_and_ends = λ t h. elim h [ ];
     fronts = λ t h. elim h [ ];
     last = refl;
     relays = relay_begins site;

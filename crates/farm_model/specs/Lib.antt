@@ -1,4 +1,5 @@
 pub mod Arrival
+pub mod BookAndEnds
 pub mod Cause
 pub mod CheckedSite
 pub mod FarmStep

@@ -32,6 +32,7 @@ use Rattle.farm_model.specs.declared.state.Direction.{Direction}
 use Rattle.farm_model.specs.declared.state.Trace.{Trace}
 use Rattle.farm_model.specs.declared.step.Step.{Step}
 use Rattle.farm_model.specs.declared.step.Step.TheVariants.{Charge, Deliver}
+use Rattle.farm_model.specs.BookAndEnds.{KeepsBookAndEnds}
 use Rattle.farm_model.specs.Cause.{HasCause}
 use Rattle.farm_model.specs.FarmStep.{flight_at}
 use Rattle.farm_model.specs.FrontTurns.{KeepsFronts}
@@ -221,6 +222,7 @@ pub record KeepsPromise (site : Site) (past : Past) (trace : Trace) : Type 0 whe
   pub come_back : All (RefusesWhatComesBack site) past
   pub traffic : All (KeepsTraffic site) past
   pub skipped : All AppliedOrChangedNothing past
+  pub book_and_ends : All (KeepsBookAndEnds site) past
   pub fronts : All (KeepsFronts site) past
   pub relays : (node : NodeNo) (name : List ℕ) → is_relay site node ≡ true → IsNamed site node name → RunsAsRelay site past node name
 

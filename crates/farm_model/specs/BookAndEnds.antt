@@ -1,0 +1,42 @@
+-- What a step does to the book and to the connections that were made: said of the farm before it.
+use Rattle.std.specs.Prelude.{◌≡◌, ℕ, ◌+◌, true, [], ◌∷◌, ◌++◌, length, Contains, Option, Some, None, if◌then◌else◌}
+use Rattle.dia_base.specs.declared.number.Moment.{Moment}
+use Rattle.dia_base.specs.declared.number.NodeNo.{NodeNo}
+use Rattle.cc_book.specs.Taking.{Ledger, after_sweep}
+use Rattle.front_core.specs.FrontRun.{after_event}
+use Rattle.front_core.specs.FrontState.{FrontState}
+use Rattle.farm_model.specs.declared.site.Site.{Site}
+use Rattle.farm_model.specs.declared.state.Direction.{Direction}
+use Rattle.farm_model.specs.declared.step.Step.{Step}
+use Rattle.farm_model.specs.declared.step.Step.TheVariants.{Up, Charge, Sweep}
+use Rattle.farm_model.specs.RelayRuns.{connects}
+use Rattle.farm_model.specs.Run.{Transition}
+use Rattle.farm_model.specs.World.{Ends, WorldState, front_at}
+
+-- the book after a charge by a worker of a front, if there is one
+abbrev pub charged_by : Option FrontState → Ledger → ℕ → Moment → Ledger
+charged_by None book worker moment = book
+charged_by (Some front) book worker moment = (after_event front book (Rattle.front_core.specs.declared.event.FrontEvent.TheVariants.Charge worker moment)).ledger
+
+abbrev pub book_at : Step → WorldState → Ledger
+book_at (Charge front worker moment) w = charged_by (front_at front w.fronts) w.book worker moment
+book_at (Sweep moment) w = after_sweep w.book moment
+book_at step w = w.book
+
+-- the nodes of the connection that is made
+abbrev pub ends_made : Site → Step → WorldState → Ends
+ends_made site (Up a b) w = if connects site a b w.directions then (a, b) ∷ [] else []
+ends_made site step w = []
+
+-- the one way of the next connection, with nothing in flight
+abbrev pub next_way : WorldState → NodeNo → NodeNo → Direction
+next_way w from to = record { conn = record { 0 = length w.ends + 1 }; from = from; to = to; messages = [] }
+
+-- What is promised of each step.
+pub record KeepsBookAndEnds (site : Site) (t : Transition) : Type 0 where
+  -- Charges and sweeps change the book as a front and the book itself do, and nothing else changes it.
+  pub book : t.after.book ≡ book_at t.step t.before
+  -- The connections that were made are told in their order, with their nodes.
+  pub ends : t.after.ends ≡ t.before.ends ++ ends_made site t.step t.before
+  -- A new connection stands both ways.
+  pub made : (a b : NodeNo) → t.step ≡ Up a b → connects site a b t.before.directions ≡ true → Contains t.after.directions (next_way t.before a b) × Contains t.after.directions (next_way t.before b a)
