@@ -24,8 +24,11 @@ use Rattle.farm_model.specs.Loss.{LossAt, LearnLosses, after_restart, losses_of_
 use Rattle.farm_model.specs.Nodes.{is_client}
 use Rattle.farm_model.specs.Run.{Transition}
 use Rattle.farm_model.specs.World.{WorldState, conn_between, front_at, relay_at}
-use Rattle.farm_model.proofs.Among.{Has-right, Contains-has}
+use Rattle.farm_model.proofs.Among.{Has-right, Contains-has, Has-contained}
+use Rattle.farm_model.proofs.Apart.{AreApart}
 use Rattle.farm_model.proofs.Hearing.{at_relay_tells, losses_tell}
+use Rattle.farm_model.proofs.KeepingStanding.{step_stands}
+use Rattle.farm_model.proofs.Sides.{sides}
 
 -- the book and the connections are the same
 abbrev Same : WorldState → WorldState → Type 0
@@ -142,8 +145,8 @@ module _ (site : Site) (old new : WorldState) (applied : Bool) (losses : List Lo
     subst (λ (w : WorldState). Has (next_way old b a) w.directions) (sym made.1) (Has-right old.directions (there here)),
   )
 
-pub step_keeps_book_and_ends : {site : Site} (t : Transition) → FarmStep site t.before t.step t.applied t.losses t.after → KeepsBookAndEnds site t
-step_keeps_book_and_ends {site} t made =
+pub step_keeps_book_and_ends : {site : Site} (t : Transition) → AreApart (sides t.before.directions) → FarmStep site t.before t.step t.applied t.losses t.after → KeepsBookAndEnds site t
+step_keeps_book_and_ends {site} t apart made =
     let m = step_makes site t.before t.after t.applied t.losses t.step made in
     record {
       book = m.0;
@@ -152,4 +155,5 @@ step_keeps_book_and_ends {site} t made =
           let up = subst (λ (s : Step). FarmStep site t.before s t.applied t.losses t.after) is made in
           let ways = connection_made site t.before t.after t.applied t.losses a b (can_connect site t.before a b) connecting up.0 in
           (Contains-has ways.0, Contains-has ways.1);
+      stands = λ direction h. step_stands t apart made direction (Has-contained h);
     }

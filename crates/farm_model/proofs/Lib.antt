@@ -24,6 +24,7 @@ pub mod HearingSteps
 pub mod Joined
 pub mod KeepingBookAndEnds
 pub mod KeepingFronts
+pub mod KeepingStanding
 pub mod KeepingTraffic
 pub mod KindsAgree
 pub mod KnowsAfterCut

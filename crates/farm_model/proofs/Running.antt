@@ -140,7 +140,7 @@ module _ (premises : Premises) (site : Site) (all : Ends) (checked : IsChecked s
         come_back = all-end (RefusesWhatComesBack site) past t h.come_back (comes_back t loop);
         traffic = all-end (KeepsTraffic site) past t h.traffic traffic.0;
         skipped = all-end AppliedOrChangedNothing past t h.skipped (λ skipped. step_skips site t.before t.after t.applied t.losses skipped t.step s);
-        book_and_ends = all-end (KeepsBookAndEnds site) past t h.book_and_ends (step_keeps_book_and_ends t s);
+        book_and_ends = all-end (KeepsBookAndEnds site) past t h.book_and_ends (step_keeps_book_and_ends t h.apart s);
         fronts = all-end (KeepsFronts site) past t h.fronts (step_keeps_fronts t h.wired h.apart s);
         last = last_of-push (start site) past t;
         relays = λ node relay_is. relay_runs_on past t h.wired h.apart s node relay_is (h.relays node relay_is);

@@ -32,6 +32,12 @@ ends_made site step w = []
 abbrev pub next_way : WorldState → NodeNo → NodeNo → Direction
 next_way w from to = record { conn = record { 0 = length w.ends + 1 }; from = from; to = to; messages = [] }
 
+-- Why a direction stands after the step: it stood before, or is of the connection that is made.
+pub data StandsAfter (site : Site) (t : Transition) (direction : Direction) : Type 0 where
+  stood : (before : Direction) → Contains t.before.directions before → before.conn ≡ direction.conn → before.from ≡ direction.from → before.to ≡ direction.to → StandsAfter site t direction
+  first_made : (a b : NodeNo) → t.step ≡ Up a b → connects site a b t.before.directions ≡ true → direction ≡ next_way t.before a b → StandsAfter site t direction
+  second_made : (a b : NodeNo) → t.step ≡ Up a b → connects site a b t.before.directions ≡ true → direction ≡ next_way t.before b a → StandsAfter site t direction
+
 -- What is promised of each step.
 pub record KeepsBookAndEnds (site : Site) (t : Transition) : Type 0 where
   -- Charges and sweeps change the book as a front and the book itself do, and nothing else changes it.
@@ -40,3 +46,5 @@ pub record KeepsBookAndEnds (site : Site) (t : Transition) : Type 0 where
   pub ends : t.after.ends ≡ t.before.ends ++ ends_made site t.step t.before
   -- A new connection stands both ways.
   pub made : (a b : NodeNo) → t.step ≡ Up a b → connects site a b t.before.directions ≡ true → Contains t.after.directions (next_way t.before a b) × Contains t.after.directions (next_way t.before b a)
+  -- No other comes to stand.
+  pub stands : (direction : Direction) → Contains t.after.directions direction → StandsAfter site t direction
