@@ -1,6 +1,11 @@
 pub mod Checking
+pub mod Faultless
+pub mod Fitting
 pub mod Following
+pub mod OneSite
 pub mod Owning
+pub mod Parting
 pub mod Pushing
+pub mod Reading
 pub mod Refusing
 pub mod Spelled

@@ -65,7 +65,7 @@ grown sound_item same old before more x sound same_list follows e =
 
 -- ---- tariffs
 
-none_both : {A : Type 0} (a b : Option A) → option_or a b ≡ None → (a ≡ None) × (b ≡ None)
+pub none_both : {A : Type 0} (a b : Option A) → option_or a b ≡ None → (a ≡ None) × (b ≡ None)
 none_both None b e = (refl, e)
 none_both (Some x) b e = absurd cc
 

@@ -1,12 +1,14 @@
 -- What a fault of a site file says of the file.
 use Rattle.std.specs.Prelude.{◌≡◌, ◌≢◌, ◌⊎◌, ◌<◌, ℕ, Bool, true, false, ◌&&◌, ◌||◌, ◌==◌, List, [], ◌∷◌, ◌++◌, length, Some, None, IsSome}
 use Rattle.std.specs.List.{AllZip, Contains, list_any}
+use Rattle.std.specs.Net.Grammar.{IsSocketText}
 use Rattle.std.specs.Str.{IsUtf8}
 use Rattle.toml.specs.Data.{Data, string, Members}
 use Rattle.toml.specs.Parse.{parse_document}
 use Rattle.cc_book.specs.declared.account.Account.{Account}
 use Rattle.cc_rating.specs.declared.tariff.Tariff.{Tariff}
-use Rattle.cc_rating.specs.Tariffs.{rates}
+use Rattle.cc_rating.specs.declared.tariff.UnitKind.{UnitKind}
+use Rattle.cc_rating.specs.Tariffs.{rates, units_limit}
 use Rattle.dia_base.specs.Folding.{same_folded}
 use Rattle.dia_base.specs.Identity.{fault_of}
 use Rattle.dia_base.specs.declared.number.NodeNo.{NodeNo}
@@ -19,9 +21,9 @@ use Rattle.farm_site.specs.declared.fault.SiteFault.{SiteFault}
 use Rattle.farm_site.specs.declared.fault.SiteFault.TheVariants.{NotToml, Missing, WrongType, OutOfRange, Twice, UnknownName, BadIdentity, TooMany, BadLink, OutOfMemory}
 use Rattle.farm_site.specs.declared.key.Key.{Key}
 use Rattle.farm_site.specs.declared.key.Key.TheVariants as keys
-use Rattle.farm_site.specs.Forms.{Need, form_of, has_type, is_in_range, has_too_many, is_key, need_of_account, need_of_file, need_of_link, need_of_node, need_of_route, need_of_tariff, required}
+use Rattle.farm_site.specs.Forms.{Need, form_of, has_type, identity_text, is_in_range, is_number, has_too_many, is_key, need_of_account, need_of_file, need_of_link, need_of_node, need_of_route, need_of_tariff, required}
 use Rattle.farm_site.specs.Graph.{site_over}
-use Rattle.farm_site.specs.Spelling.{Names, NamesAt, SpellsAccount, SpellsLink, SpellsNode, SpellsRoute, SpellsTable, SpellsTariff, is_named, number, tables, texts, value_at, value_or}
+use Rattle.farm_site.specs.Spelling.{Names, NamesAt, SpellsAccount, SpellsLink, SpellsNode, SpellsRoute, SpellsTable, SpellsTariff, is_named, node_word, number, tables, texts, unit_word, value_at, value_or}
 
 -- ---- what stands at one key
 
@@ -37,7 +39,7 @@ IsFaultOf entry (WrongType key) = StandsAt key entry (λ value. has_type (form_o
 IsFaultOf entry (OutOfRange key) = StandsAt key entry (λ value. is_in_range (form_of key) value ≡ false)
 IsFaultOf entry (Twice key) = ⊥
 IsFaultOf entry (UnknownName key) = ⊥
-IsFaultOf entry (BadIdentity key) = StandsAt key entry (λ value. (name : List ℕ) × (value ≡ string name) × (fault_of name ≢ None))
+IsFaultOf entry (BadIdentity key) = (form_of key ≡ identity_text) × StandsAt key entry (λ value. (name : List ℕ) × (value ≡ string name) × (fault_of name ≢ None))
 IsFaultOf entry (TooMany key) = StandsAt key entry (λ value. has_too_many (form_of key) value ≡ true)
 IsFaultOf entry BadLink = ⊥
 IsFaultOf entry OutOfMemory = Unit {0}
@@ -154,10 +156,26 @@ pub record IsIdTwice (before : List Account) (entry : Members) : Type 0 where
   pub of_id : value_at keys.Id entry ≡ Some (string id)
   pub there : list_any (λ account. (account.id_kind == id_kind) && same_octets account.id id) before ≡ true
 
+-- ---- what its entry says not to be in range
+
+-- the text that stands at the key means nothing
+pub record IsUnknownWord {A : Type 0} (Means : List ℕ → A → Type 0) (key : Key) (entry : Members) : Type 0 where
+  pub word : List ℕ
+  pub stands : value_at key entry ≡ Some (string word)
+  pub none : (meant : A) → ¬ (Means word meant)
+
+-- a number that a quantum, or a grant, of the tariff's kind does not have
+pub record IsNoGrant (key : Key) (entry : Members) : Type 0 where
+  pub kind : UnitKind
+  pub of_kind : value_at keys.Kind entry ≡ Some (string (unit_word kind))
+  pub outside : StandsAt key entry (λ value. is_number 1 (units_limit kind) value ≡ false)
+
 -- ---- entries, behind those that spell these items
 
 abbrev pub IsNodeFault : List Node → Members → SiteFault → Type 0
 IsNodeFault before entry (Twice keys.Name) = IsNameTwice before entry
+IsNodeFault before entry (OutOfRange keys.Kind) = IsUnknownWord (λ word kind. word ≡ node_word kind) keys.Kind entry
+IsNodeFault before entry (OutOfRange keys.Address) = IsUnknownWord IsSocketText keys.Address entry
 IsNodeFault before entry fault = IsFaultOf entry fault × IsOfKeys need_of_node fault
 
 abbrev pub IsLinkFault : List Node → List Link → Members → SiteFault → Type 0
@@ -173,6 +191,9 @@ IsRouteFault nodes links before entry fault = IsFaultOf entry fault × IsOfKeys 
 abbrev pub IsTariffFault : List Tariff → Members → SiteFault → Type 0
 IsTariffFault before entry (Twice keys.Group) = IsGroupTwice before entry
 IsTariffFault before entry (Twice keys.Ident) = IsIdentTwice before entry
+IsTariffFault before entry (OutOfRange keys.Kind) = IsUnknownWord (λ word kind. word ≡ unit_word kind) keys.Kind entry
+IsTariffFault before entry (OutOfRange keys.Quantum) = IsNoGrant keys.Quantum entry
+IsTariffFault before entry (OutOfRange keys.Greatest) = IsNoGrant keys.Greatest entry
 IsTariffFault before entry (Missing keys.Group) = (value_at keys.Group entry ≡ None) × (value_at keys.Ident entry ≡ None)
 IsTariffFault before entry fault = IsFaultOf entry fault × IsOfKeys need_of_tariff fault
 

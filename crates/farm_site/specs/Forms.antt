@@ -8,11 +8,14 @@ use Rattle.farm_site.specs.declared.key.Key.TheVariants.{Realm, Validity, Limit,
 
 -- ---- forms
 
--- A text, or one of which only some are in range; the text of an account; a number from the least to the most; an
--- integer of at most a size; an array of numbers of 32 bits; an array of at most so many texts, or tables.
+-- A text; an identity; a text, or a number, of which the entry says which are in range; the text of an account; a number
+-- from the least to the most; an integer of at most a size; an array of numbers of 32 bits; an array of at most so many
+-- texts, or tables.
 pub data Form : Type 0 where
   any_text : Form
+  identity_text : Form
   known_word : Form
+  units_number : Form
   account_id : Form
   number_within : ℕ → ℕ → Form
   integer_of_size : ℕ → Form
@@ -20,9 +23,8 @@ pub data Form : Type 0 where
   list_of_texts : ℕ → Form
   list_of_tables : ℕ → Form
 
--- of a tariff of octets or units more is in range as quantum and as greatest
 abbrev pub form_of : Key → Form
-form_of Realm = any_text
+form_of Realm = identity_text
 form_of Validity = number_within 1 86400
 form_of Limit = number_within 1 1048576
 form_of Workers = number_within 1 16
@@ -36,7 +38,7 @@ form_of Link = list_of_tables 256
 form_of Route = list_of_tables 256
 form_of Tariff = list_of_tables 1024
 form_of Account = list_of_tables 65536
-form_of Name = any_text
+form_of Name = identity_text
 form_of Kind = known_word
 form_of Address = known_word
 form_of From = any_text
@@ -48,8 +50,8 @@ form_of Group = number_within 0 4294967295
 form_of Ident = number_within 0 4294967295
 form_of Block = number_within 1 4294967296
 form_of Price = number_within 0 1048576
-form_of Quantum = number_within 1 4294967295
-form_of Greatest = number_within 1 4294967295
+form_of Quantum = units_number
+form_of Greatest = units_number
 form_of IdKind = number_within 0 4
 form_of Id = account_id
 form_of Opening = integer_of_size 4611686018427387904
@@ -124,7 +126,9 @@ need_of_account key = no_key
 
 abbrev pub is_for_text : Form → Bool
 is_for_text any_text = true
+is_for_text identity_text = true
 is_for_text known_word = true
+is_for_text units_number = false
 is_for_text account_id = true
 is_for_text (number_within least most) = false
 is_for_text (integer_of_size size) = false
@@ -132,10 +136,24 @@ is_for_text list_of_numbers = false
 is_for_text (list_of_texts most) = false
 is_for_text (list_of_tables most) = false
 
+abbrev pub is_for_units : Form → Bool
+is_for_units any_text = false
+is_for_units identity_text = false
+is_for_units known_word = false
+is_for_units units_number = true
+is_for_units account_id = false
+is_for_units (number_within least most) = false
+is_for_units (integer_of_size size) = false
+is_for_units list_of_numbers = false
+is_for_units (list_of_texts most) = false
+is_for_units (list_of_tables most) = false
+
 -- the numbers from the least to the most are at least those of the form
 abbrev pub covers : ℕ → ℕ → Form → Bool
 covers least most any_text = false
+covers least most identity_text = false
 covers least most known_word = false
+covers least most units_number = false
 covers least most account_id = false
 covers least most (number_within from to) = nat_le least from && nat_le to most
 covers least most (integer_of_size size) = false
@@ -165,7 +183,9 @@ all_in test (Some items) = all_items test items
 
 abbrev pub has_type : Form → Data → Bool
 has_type any_text value = is_string value
+has_type identity_text value = is_string value
 has_type known_word value = is_string value
+has_type units_number value = is_integer value
 has_type account_id value = is_string value
 has_type (number_within least most) value = is_integer value
 has_type (integer_of_size size) value = is_integer value
@@ -194,10 +214,12 @@ abbrev pub is_account_text : Option (List ℕ) → Bool
 is_account_text None = false
 is_account_text (Some id) = is_within 1 64 (length id) && list_all is_visible id
 
--- of a word it is not said which are
+-- of a word, and of a number of units, its entry says which are
 abbrev pub is_in_range : Form → Data → Bool
 is_in_range any_text value = true
-is_in_range known_word value = false
+is_in_range identity_text value = true
+is_in_range known_word value = true
+is_in_range units_number value = true
 is_in_range account_id value = is_account_text (as_str value)
 is_in_range (number_within least most) value = is_number least most value
 is_in_range (integer_of_size size) value = is_sized size value
@@ -217,7 +239,9 @@ has_more_than most (Some items) = nat_lt most (items_len items)
 
 abbrev pub has_too_many : Form → Data → Bool
 has_too_many any_text value = false
+has_too_many identity_text value = false
 has_too_many known_word value = false
+has_too_many units_number value = false
 has_too_many account_id value = false
 has_too_many (number_within least most) value = false
 has_too_many (integer_of_size size) value = false

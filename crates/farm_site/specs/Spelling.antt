@@ -1,6 +1,8 @@
 -- What the file of a site spells: each value of the site is the one that stands at its key, in the entry of its place.
-use Rattle.std.specs.Prelude.{◌≡◌, ℕ, pos, Bool, List, [], ◌∷◌, map, codes, Option, Some, option_map, unwrap_or, position}
-use Rattle.std.specs.List.{AllZip}
+use Rattle.std.specs.Prelude.{◌≡◌, ◌≤◌, ℕ, pos, Bool, true, not, ◌&&◌, List, [], ◌∷◌, length, map, codes, IfSome, Option, None, Some, is_some, option_map, unwrap_or, position}
+use Rattle.std.specs.List.{AllZip, list_all}
+use Rattle.std.specs.Net.Grammar.{IsSocketText}
+use Rattle.std.specs.declared.net.socket_addr.SocketAddr.{SocketAddr}
 use Rattle.toml.specs.Data.{Data, string, integer, array, table, Members, get_member}
 use Rattle.toml.specs.Parse.{parse_document}
 use Rattle.toml.specs.View.{items_of, table_view}
@@ -9,9 +11,11 @@ use Rattle.cc_rating.specs.declared.tariff.Tariff.{Tariff}
 use Rattle.cc_rating.specs.declared.tariff.UnitKind.{UnitKind}
 use Rattle.cc_rating.specs.declared.tariff.UnitKind.TheVariants.{Time, Octets, Units}
 use Rattle.dia_base.specs.Folding.{same_folded}
+use Rattle.dia_base.specs.Identity.{fault_of}
 use Rattle.dia_base.specs.declared.node.NodeKind.{NodeKind}
 use Rattle.dia_base.specs.declared.node.NodeKind.TheVariants.{Relay, Front, Client}
 use Rattle.dia_base.specs.declared.number.NodeNo.{NodeNo}
+use Rattle.farm_model.specs.CheckedSite.{IsChecked, is_within}
 use Rattle.farm_model.specs.declared.site.Link.{Link}
 use Rattle.farm_model.specs.declared.site.Node.{Node}
 use Rattle.farm_model.specs.declared.site.Route.{Route}
@@ -69,10 +73,15 @@ tables_of entries = map (λ entry. table_view entry.table.now) entries
 
 -- ---- nodes, and where they are named: without ASCII case
 
+-- the text writes an IPv4 address, or an IPv6 address in brackets, and a port
+abbrev pub WritesAddress : List ℕ → Type 0
+WritesAddress text = (address : SocketAddr) × IsSocketText text address
+
 pub record SpellsNode (entry : Members) (node : Node) : Type 0 where
   pub name : value_at keys.Name entry ≡ Some (string node.name)
   pub kind : value_at keys.Kind entry ≡ Some (string (node_word node.kind))
   pub address : value_at keys.Address entry ≡ option_map string node.address
+  pub written : IfSome node.address WritesAddress
 
 abbrev pub is_named : List ℕ → Node → Bool
 is_named name node = same_folded node.name name
@@ -142,3 +151,33 @@ pub record Spells (text : List ℕ) (site : Site) : Type 0 where
   pub file : Members
   pub document : parse_document text ≡ Some file
   pub values : SpellsSite file site
+
+-- ---- what the types of a site hold: identities, and numbers of 32 bits
+
+abbrev pub has_32_bits : ℕ → Bool
+has_32_bits n = is_within 0 4294967295 n
+
+abbrev pub may_have_32_bits : Option ℕ → Bool
+may_have_32_bits None = true
+may_have_32_bits (Some n) = has_32_bits n
+
+abbrev pub is_typed_route : Route → Bool
+is_typed_route route = not (is_some (fault_of route.realm)) && has_32_bits route.app
+
+abbrev pub is_typed_tariff : Tariff → Bool
+is_typed_tariff tariff = may_have_32_bits tariff.group && may_have_32_bits tariff.ident
+
+pub record IsTyped (site : Site) : Type 0 where
+  pub realm : fault_of site.realm ≡ None
+  pub vendors : list_all has_32_bits site.vendors ≡ true
+  pub routes : list_all is_typed_route site.routes ≡ true
+  pub tariffs : list_all is_typed_tariff site.tariffs ≡ true
+
+-- ---- site files
+
+-- the text spells the site, which is checked, and is not too long
+pub record IsSiteFile (text : List ℕ) (site : Site) : Type 0 where
+  pub spelled : Spells text site
+  pub checked : IsChecked site
+  pub typed : IsTyped site
+  pub short : length text ≤ 16777216

@@ -1,11 +1,12 @@
 //! The keys of one table, read one by one.
 
 ghost use Rattle.std.specs.Prelude.{◌≡◌, ◌≤◌, ◌⊎◌, [], ◌∷◌, IfErr, IfOk, None, true, false, length, vec_len, nat_le, map, option_map, pos};
+ghost use Rattle.std.specs.List.{list_all};
 ghost use Rattle.dia_base.specs.Identity.{fault_of};
 ghost use Rattle.farm_model.specs.CheckedSite.{is_within, size_of};
-ghost use Rattle.farm_site.specs.Faults.{IsFaultOf, IsOfKey, IsOfOptionalKey};
-ghost use Rattle.farm_site.specs.Forms.{all_items, covers, form_of, has_more_than, integer_of_size, is_for_text, is_from_to, is_integer, is_number, is_string, is_table, list_of_numbers, list_of_tables, list_of_texts};
-ghost use Rattle.farm_site.specs.Spelling.{value_at, value_or, number, numbers, texts, tables, tables_of};
+ghost use Rattle.farm_site.specs.Faults.{IsFaultOf, IsOfKey, IsOfOptionalKey, StandsAt};
+ghost use Rattle.farm_site.specs.Forms.{all_items, covers, form_of, has_more_than, identity_text, integer_of_size, is_for_text, is_for_units, is_from_to, is_integer, is_number, is_string, is_table, list_of_numbers, list_of_tables, list_of_texts};
+ghost use Rattle.farm_site.specs.Spelling.{has_32_bits, may_have_32_bits, value_at, value_or, number, numbers, texts, tables, tables_of};
 ghost use Rattle.toml.specs.Data.{string, integer, array, table, as_array};
 ghost use Rattle.toml.specs.View.{table_view, view, items_view};
 
@@ -70,7 +71,7 @@ impl<'a> Entry<'a> {
     pub fn identity(self, alloc: Global, key: Key) -> Result<Identity, SiteFault>
         ensures sound { IfOk result (λ identity. fault_of identity ≡ None) }
         ensures value { IfOk result (λ identity. value_at key (table_view self.entry.table.now) ≡ Some (string identity)) }
-        ensures fault { is_for_text (form_of key) ≡ true → IfErr result (IsFaultOf (table_view self.entry.table.now)) }
+        ensures fault { form_of key ≡ identity_text → IfErr result (IsFaultOf (table_view self.entry.table.now)) }
         ensures told { IfErr result (IsOfKey key) }
     {
         match Identity::read(alloc, self.text(key)?.as_bytes()) {
@@ -101,6 +102,7 @@ impl<'a> Entry<'a> {
         ensures range { IfOk result (λ n. is_within least most n ≡ true) }
         ensures value { IfOk result (λ n. value_at key (table_view self.entry.table.now) ≡ Some (number n)) }
         ensures fault { covers least most (form_of key) ≡ true → IfErr result (IsFaultOf (table_view self.entry.table.now)) }
+        ensures units { is_for_units (form_of key) ≡ true → IfErr result (λ fault. IsFaultOf (table_view self.entry.table.now) fault ⊎ ((fault ≡ SiteFault.OutOfRange key) × StandsAt key (table_view self.entry.table.now) (λ value. is_number least most value ≡ false))) }
         ensures told { IfErr result (IsOfKey key) }
     {
         unsigned_of(key, self.value(key)?, least, most)
@@ -158,6 +160,7 @@ impl<'a> Entry<'a> {
 
     /// The number at a key that may be absent.
     pub fn optional_unsigned32(self, key: Key) -> Result<Option<u32>, SiteFault>
+        ensures small { IfOk result (λ n. may_have_32_bits n ≡ true) }
         ensures value { IfOk result (λ n. value_at key (table_view self.entry.table.now) ≡ option_map number n) }
         ensures fault { covers 0 4294967295 (form_of key) ≡ true → IfErr result (IsFaultOf (table_view self.entry.table.now)) }
         ensures told { IfErr result (IsOfOptionalKey key) }
@@ -172,7 +175,9 @@ impl<'a> Entry<'a> {
     }
 
     /// The numbers of the array at a key, or this one alone where the key is absent.
+    #[tactic(auto, using(crate::proofs::Pushing::all_push))]
     pub fn numbers_or(self, alloc: Global, key: Key, absent: u32) -> Result<Vec<u32>, SiteFault>
+        ensures small { IfOk result (λ read. list_all has_32_bits read.items ≡ true) }
         ensures value { IfOk result (λ read. value_or (numbers (absent ∷ [])) key (table_view self.entry.table.now) ≡ numbers read.items) }
         ensures fault { form_of key ≡ list_of_numbers → IfErr result (IsFaultOf (table_view self.entry.table.now)) }
         ensures told { IfErr result (IsOfOptionalKey key) }
@@ -260,6 +265,7 @@ fn unsigned_of(key: Key, value: &Value, least: u64, most: u64) -> Result<u64, Si
 
 /// The integer, where it is from 0 to 4294967295.
 fn small_of(key: Key, integer: i64) -> Result<u32, SiteFault>
+    ensures small { IfOk result (λ n. has_32_bits n ≡ true) }
     ensures value { IfOk result (λ n. integer ≡ pos n) }
     ensures fault { IfErr result (λ fault. (fault ≡ SiteFault.OutOfRange key) × (is_from_to 0 4294967295 integer ≡ false)) }
 {

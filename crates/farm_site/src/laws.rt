@@ -1,10 +1,26 @@
-//! Worked examples: whose names are unknown, which links no site may have, and what stands twice.
+//! What a text spells, and has no fault where it spells a site; worked examples: whose names are unknown, which links no
+//! site may have, and what stands twice.
 
-ghost use Rattle.std.specs.Prelude.{◌≡◌, List, [], ◌∷◌, codes, map, true, false};
+ghost use Rattle.std.specs.Prelude.{◌≡◌, ℕ, List, [], ◌∷◌, codes, map, true, false};
+ghost use Rattle.std.specs.Str.{IsUtf8};
+ghost use Rattle.farm_model.specs.declared.site.Site.{Site};
 ghost use Rattle.farm_site.specs.FaultExample.{entry_of_link, entry_of_node, five_nodes, link, one_link};
-ghost use Rattle.farm_site.specs.Faults.{IsLinkFault, IsNodeFault, is_bad_link};
-ghost use Rattle.farm_site.specs.declared.fault.SiteFault.TheVariants.{Twice, UnknownName};
+ghost use Rattle.farm_site.specs.Faults.{AreWhyOctets, IsLinkFault, IsNodeFault, IsWhyText, is_bad_link};
+ghost use Rattle.farm_site.specs.Spelling.{IsSiteFile, Spells};
+ghost use Rattle.farm_site.specs.declared.fault.SiteFault.{SiteFault};
+ghost use Rattle.farm_site.specs.declared.fault.SiteFault.TheVariants.{OutOfMemory, Twice, UnknownName};
 ghost use Rattle.farm_site.specs.declared.key.Key.TheVariants.{From, Name, To};
+
+/// A text spells one site at most.
+pub fn one_site()
+    ensures { (text : List ℕ) (a b : Site) → Spells text a → Spells text b → a ≡ b }
+{}
+
+/// Of a site file no fault could be told but want of memory.
+pub fn site_files_have_no_fault()
+    ensures text { (text : List ℕ) (site : Site) (fault : SiteFault) → IsSiteFile text site → IsWhyText text fault → fault ≡ OutOfMemory }
+    ensures octets { (octets : List ℕ) (site : Site) (fault : SiteFault) → IsUtf8 octets → IsSiteFile octets site → AreWhyOctets octets fault → fault ≡ OutOfMemory }
+{}
 
 /// A link of a node with itself is bad, of two clients, of two fronts, and of two nodes that are linked already, in
 /// either direction; one of two relays, of a relay and a front, or of a client and either is not.

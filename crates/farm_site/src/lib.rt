@@ -46,10 +46,12 @@
 //! type and one text.
 //!
 //! - [`site_of`], [`site_of_octets`]: the site that a text spells, or the first fault of it.
-//!   That the site is checked, that each value of it is the one that the text has at its place
-//!   (`specs/Spelling`), and that a fault is one that the text has (`specs/Faults`) is proved; that a
-//!   text without fault is read, and which of several faults is told, is not.
+//!   A text is read, unless memory runs out, exactly where it spells a checked site (`specs/Spelling`),
+//!   and then as this site; a fault is one that the text has (`specs/Faults`). Which of several faults is
+//!   told is not proved.
 //! - [`SiteFault`] with its [`Key`]: why a text is no site, with the words that are printed.
+//! - [`one_site`], [`site_files_have_no_fault`]: a text spells one site at most, and where it does, no fault could be told
+//!   of it.
 //! - [`which_links_are_bad`], [`which_ends_are_unknown`], [`which_names_stand_twice`]: worked examples of faults that
 //!   other entries decide.
 //!
@@ -68,11 +70,11 @@
 //! ```
 #![tactic(auto)]
 
-ghost use Rattle.std.specs.Prelude.{◌≡◌, ◌<◌, ◌⊎◌, Err, IfErr, IfOk, None, Some, length, nat_le, true};
+ghost use Rattle.std.specs.Prelude.{◌≡◌, ◌<◌, ◌⊎◌, Err, Ok, IfErr, IfOk, None, Some, length, nat_le, true};
 ghost use Rattle.std.specs.Str.{IsUtf8};
 ghost use Rattle.farm_model.specs.CheckedSite.{IsChecked, size_of};
 ghost use Rattle.farm_site.specs.Faults.{AreWhyOctets, IsFaultIn, IsFaultOf, IsNoFile, IsOfKey, IsWhyText};
-ghost use Rattle.farm_site.specs.Spelling.{Spells, SpellsSite, value_at};
+ghost use Rattle.farm_site.specs.Spelling.{IsSiteFile, IsTyped, Spells, SpellsSite, value_at};
 ghost use Rattle.toml.specs.Data.{integer};
 ghost use Rattle.toml.specs.Parse.{parse_document};
 ghost use Rattle.toml.specs.View.{table_view};
@@ -95,7 +97,10 @@ use farm_model::Site;
 pub use fault::SiteFault;
 use graph::Graph;
 pub use key::Key;
-pub use laws::{which_ends_are_unknown, which_links_are_bad, which_names_stand_twice};
+pub use laws::{
+    one_site, site_files_have_no_fault, which_ends_are_unknown, which_links_are_bad,
+    which_names_stand_twice,
+};
 use link::links_of;
 use node::nodes_of;
 use route::routes_of;
@@ -111,10 +116,12 @@ pub const SITE_LIMIT: usize = 16_777_216;
 pub fn site_of_octets(alloc: Global, octets: &[u8]) -> Result<Site, SiteFault>
     ensures checked { IfOk result IsChecked }
     ensures spelled { IfOk result (Spells octets.now) }
+    ensures file { IfOk result (IsSiteFile octets.now) }
     ensures no_text { ¬ (IsUtf8 octets.now) → result ≡ Err SiteFault.NotToml }
     ensures long { 16777216 < length octets.now → result ≡ Err SiteFault.NotToml }
     ensures no_toml { parse_document octets.now ≡ None → (result ≡ Err SiteFault.NotToml) ⊎ (result ≡ Err SiteFault.OutOfMemory) }
     ensures fault { IfErr result (AreWhyOctets octets.now) }
+    ensures read { (site : Site) → IsUtf8 octets.now → IsSiteFile octets.now site → (result ≡ Ok site) ⊎ (result ≡ Err SiteFault.OutOfMemory) }
 {
     match str::from_utf8(octets) {
         Ok(text) => site_of(alloc, text),
@@ -135,9 +142,11 @@ pub fn site_of_octets(alloc: Global, octets: &[u8]) -> Result<Site, SiteFault>
 pub fn site_of(alloc: Global, text: &str) -> Result<Site, SiteFault>
     ensures checked { IfOk result IsChecked }
     ensures spelled { IfOk result (Spells text.now) }
+    ensures file { IfOk result (IsSiteFile text.now) }
     ensures long { 16777216 < length text.now → result ≡ Err SiteFault.NotToml }
     ensures no_toml { parse_document text.now ≡ None → (result ≡ Err SiteFault.NotToml) ⊎ (result ≡ Err SiteFault.OutOfMemory) }
     ensures fault { IfErr result (IsWhyText text.now) }
+    ensures read { (site : Site) → IsSiteFile text.now site → (result ≡ Ok site) ⊎ (result ≡ Err SiteFault.OutOfMemory) }
 {
     let table = table_of(alloc, text)?;
     site_in(alloc, Entry::new(&table))
@@ -163,6 +172,7 @@ fn table_of(alloc: Global, text: &str) -> Result<Table, SiteFault>
 fn site_in(alloc: Global, file: Entry) -> Result<Site, SiteFault>
     ensures checked { IfOk result IsChecked }
     ensures spelled { IfOk result (SpellsSite (table_view file.entry.table.now)) }
+    ensures typed { IfOk result IsTyped }
     ensures fault { IfErr result (IsFaultIn (table_view file.entry.table.now)) }
 {
     let realm = file.identity(alloc, Key::Realm)?;

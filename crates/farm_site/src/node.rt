@@ -1,12 +1,13 @@
 //! The nodes of a site file.
 
-ghost use Rattle.std.specs.Prelude.{◌≡◌, ◌≤◌, IfErr, IfOk, vec_len, option_map};
+ghost use Rattle.std.specs.Prelude.{◌≡◌, ◌≤◌, ◌⊎◌, IfErr, IfOk, IfSome, vec_len, option_map};
 ghost use Rattle.std.specs.List.{list_any};
+ghost use Rattle.std.specs.Net.Grammar.{IsSocketText};
 ghost use Rattle.dia_base.specs.Folding.{same_folded};
 ghost use Rattle.farm_model.specs.CheckedSite.{is_sound_name, same_name};
-ghost use Rattle.farm_site.specs.Faults.{IsFaultOf, IsNodeFault, IsOfOptionalKey, IsTableFault};
+ghost use Rattle.farm_site.specs.Faults.{IsFaultOf, IsNodeFault, IsOfOptionalKey, IsTableFault, IsUnknownWord};
 ghost use Rattle.farm_site.specs.Growing.{AreSound, MayFollow};
-ghost use Rattle.farm_site.specs.Spelling.{SpellsNode, SpellsTable, value_at, node_word};
+ghost use Rattle.farm_site.specs.Spelling.{SpellsNode, SpellsTable, WritesAddress, value_at, node_word};
 ghost use Rattle.toml.specs.Data.{string};
 ghost use Rattle.toml.specs.View.{table_view};
 
@@ -64,7 +65,7 @@ fn is_named(nodes: &[Node], name: &Identity) -> bool
 
 fn kind_of(word: &str) -> Result<NodeKind, SiteFault>
     ensures value { IfOk result (λ kind. word.now ≡ node_word kind) }
-    ensures fault { IfErr result (λ fault. fault ≡ SiteFault.OutOfRange Key.Kind) }
+    ensures fault { IfErr result (λ fault. (fault ≡ SiteFault.OutOfRange Key.Kind) × ((kind : NodeKind) → ¬ (word.now ≡ node_word kind))) }
 {
     match word {
         "relay" => Ok(NodeKind::Relay),
@@ -77,7 +78,8 @@ fn kind_of(word: &str) -> Result<NodeKind, SiteFault>
 /// The address of an entry, as it is written: an IPv4 address, or an IPv6 address in brackets, and a port.
 fn address_of(alloc: Global, entry: Entry) -> Result<Option<Octets>, SiteFault>
     ensures value { IfOk result (λ address. value_at Key.Address (table_view entry.entry.table.now) ≡ option_map string address) }
-    ensures fault { IfErr result (IsFaultOf (table_view entry.entry.table.now)) }
+    ensures written { IfOk result (λ address. IfSome address WritesAddress) }
+    ensures fault { IfErr result (λ fault. IsFaultOf (table_view entry.entry.table.now) fault ⊎ ((fault ≡ SiteFault.OutOfRange Key.Address) × IsUnknownWord IsSocketText Key.Address (table_view entry.entry.table.now))) }
     ensures told { IfErr result (IsOfOptionalKey Key.Address) }
 {
     let Some(written) = entry.optional_text(Key::Address)? else {

@@ -8,7 +8,7 @@ ghost use Rattle.farm_model.specs.Nodes.{is_node, is_relay};
 ghost use Rattle.farm_site.specs.Faults.{IsFaultOf, IsOfKey, IsRouteFault, IsTableFault, IsUnknownAmong, IsUnknownAt, NamesNone};
 ghost use Rattle.farm_site.specs.Graph.{drawn};
 ghost use Rattle.farm_site.specs.Growing.{AreSound, MayFollow};
-ghost use Rattle.farm_site.specs.Spelling.{Names, NamesAt, NamesAllAt, SpellsRoute, SpellsTable};
+ghost use Rattle.farm_site.specs.Spelling.{Names, NamesAt, NamesAllAt, SpellsRoute, SpellsTable, is_typed_route};
 ghost use Rattle.toml.specs.View.{table_view};
 
 use crate::entry::Entry;
@@ -29,6 +29,7 @@ const PEER_LIMIT: usize = 16;
 pub fn routes_of(alloc: Global, file: Entry, graph: Graph) -> Result<Vec<Route>, SiteFault>
     ensures count { IfOk result (λ routes. vec_len routes ≤ 256) }
     ensures sound { IfOk result (λ routes. AreSound (is_sound_route (drawn graph.entry)) same_route routes.items) }
+    ensures typed { IfOk result (λ routes. list_all is_typed_route routes.items ≡ true) }
     ensures spelled { IfOk result (λ routes. SpellsTable (SpellsRoute graph.entry.nodes.now) Key.Route (table_view file.entry.table.now) routes.items) }
     ensures fault { length graph.entry.nodes.now ≤ 64 → IfErr result (IsTableFault (SpellsRoute graph.entry.nodes.now) (IsRouteFault graph.entry.nodes.now graph.entry.links.now) Key.Route (table_view file.entry.table.now)) }
 {
@@ -45,6 +46,7 @@ pub fn routes_of(alloc: Global, file: Entry, graph: Graph) -> Result<Vec<Route>,
 #[tactic(auto, using(crate::proofs::Following::route_may_follow))]
 fn route_of(alloc: Global, entry: Entry, graph: Graph, before: &[Route]) -> Result<Route, SiteFault>
     ensures follows { IfOk result (MayFollow (is_sound_route (drawn graph.entry)) same_route before.now) }
+    ensures typed { IfOk result (λ route. is_typed_route route ≡ true) }
     ensures spelled { IfOk result (SpellsRoute graph.entry.nodes.now (table_view entry.entry.table.now)) }
     ensures fault { length graph.entry.nodes.now ≤ 64 → IfErr result (IsRouteFault graph.entry.nodes.now graph.entry.links.now before.now (table_view entry.entry.table.now)) }
 {

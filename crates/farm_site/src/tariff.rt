@@ -1,10 +1,10 @@
 //! The tariffs of a site file.
 
 ghost use Rattle.std.specs.Prelude.{◌≡◌, ◌≤◌, IfErr, IfOk, vec_len, true, false, is_some, ◌||◌, ◌&&◌, None, option_map};
-ghost use Rattle.std.specs.List.{list_any};
+ghost use Rattle.std.specs.List.{list_all, list_any};
 ghost use Rattle.cc_rating.specs.Tariffs.{fault_of, fault_after, rates, from_one, units_limit};
 ghost use Rattle.farm_site.specs.Faults.{IsTableFault, IsTariffFault};
-ghost use Rattle.farm_site.specs.Spelling.{SpellsTable, SpellsTariff, number, unit_word, value_at};
+ghost use Rattle.farm_site.specs.Spelling.{SpellsTable, SpellsTariff, is_typed_tariff, may_have_32_bits, number, unit_word, value_at};
 ghost use Rattle.toml.specs.View.{table_view};
 
 use crate::entry::Entry;
@@ -21,6 +21,7 @@ const TARIFF_LIMIT: usize = 1_024;
 pub fn tariffs_of(alloc: Global, file: Entry) -> Result<Vec<Tariff>, SiteFault>
     ensures count { IfOk result (λ tariffs. vec_len tariffs ≤ 1024) }
     ensures sound { IfOk result (λ tariffs. fault_of tariffs.items ≡ None) }
+    ensures typed { IfOk result (λ tariffs. list_all is_typed_tariff tariffs.items ≡ true) }
     ensures spelled { IfOk result (λ tariffs. SpellsTable SpellsTariff Key.Tariff (table_view file.entry.table.now) tariffs.items) }
     ensures fault { IfErr result (IsTableFault SpellsTariff IsTariffFault Key.Tariff (table_view file.entry.table.now)) }
 {
@@ -37,6 +38,7 @@ pub fn tariffs_of(alloc: Global, file: Entry) -> Result<Vec<Tariff>, SiteFault>
 #[tactic(auto, using(crate::proofs::Following::tariff_may_follow))]
 fn tariff_of(entry: Entry, before: &[Tariff]) -> Result<Tariff, SiteFault>
     ensures sound { IfOk result (λ tariff. fault_after before.now tariff ≡ None) }
+    ensures typed { IfOk result (λ tariff. is_typed_tariff tariff ≡ true) }
     ensures spelled { IfOk result (SpellsTariff (table_view entry.entry.table.now)) }
     ensures fault { IfErr result (IsTariffFault before.now (table_view entry.entry.table.now)) }
 {
@@ -59,6 +61,7 @@ fn rated_by(entry: Entry, before: &[Tariff]) -> Result<(Option<u32>, Option<u32>
     ensures key { IfOk result (λ key. (is_some key.0 || is_some key.1) ≡ true) }
     ensures one { IfOk result (λ key. (is_some key.0 && is_some key.1) ≡ false) }
     ensures new { IfOk result (λ key. list_any (rates key.0 key.1) before.now ≡ false) }
+    ensures small { IfOk result (λ key. (may_have_32_bits key.0 && may_have_32_bits key.1) ≡ true) }
     ensures group { IfOk result (λ key. value_at Key.Group (table_view entry.entry.table.now) ≡ option_map number key.0) }
     ensures ident { IfOk result (λ key. value_at Key.Ident (table_view entry.entry.table.now) ≡ option_map number key.1) }
     ensures fault { IfErr result (IsTariffFault before.now (table_view entry.entry.table.now)) }
@@ -90,7 +93,7 @@ fn is_rated(tariffs: &[Tariff], group: Option<u32>, ident: Option<u32>) -> bool
 
 fn kind_of(word: &str) -> Result<UnitKind, SiteFault>
     ensures value { IfOk result (λ kind. word.now ≡ unit_word kind) }
-    ensures fault { IfErr result (λ fault. fault ≡ SiteFault.OutOfRange Key.Kind) }
+    ensures fault { IfErr result (λ fault. (fault ≡ SiteFault.OutOfRange Key.Kind) × ((kind : UnitKind) → ¬ (word.now ≡ unit_word kind))) }
 {
     match word {
         "time" => Ok(UnitKind::Time),

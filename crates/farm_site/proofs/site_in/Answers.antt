@@ -1,6 +1,7 @@
-use Rattle.std.proofs.Common.{◌≡◌, ◌≤◌, List, [], length, Some, None, ℤ, to_z, of_z, sym, subst, ap, ◌∙◌, arith}
+use Rattle.std.proofs.Common.{◌≡◌, ◌≤◌, ℕ, List, [], length, Some, None, ℤ, to_z, of_z, sym, subst, ap, ◌∙◌, arith}
 use Rattle.std.specs.Prelude.{nat_le}
 use Rattle.std.specs.Int.{w32}
+use Rattle.std.specs.List.{list_all}
 use Rattle.std.proofs.lemmas.Int.{to_z-of_z}
 use Rattle.farm_site.proofs.Following.{fits_small}
 use Rattle.std.proofs.lemmas.Bool.{le-leb}
@@ -18,7 +19,7 @@ use Rattle.farm_site.specs.declared.key.Key.TheVariants as keys
 use Rattle.farm_site.specs.Faults.{IsFaultIn, IsLinkFault, IsRouteFault, IsTableFault, of_accounts, of_links, of_nodes, of_routes, of_tariffs}
 use Rattle.farm_site.specs.Graph.{site_over}
 use Rattle.farm_site.specs.Growing.{AreSound}
-use Rattle.farm_site.specs.Spelling.{SpellsAccount, SpellsLink, SpellsNode, SpellsRoute, SpellsTable, SpellsTariff, numbers}
+use Rattle.farm_site.specs.Spelling.{SpellsAccount, SpellsLink, SpellsNode, SpellsRoute, SpellsTable, SpellsTariff, has_32_bits, is_typed_route, is_typed_tariff, numbers}
 use Rattle.farm_site.proofs.Checking.{links_of_site, routes_of_site}
 use Rattle.farm_site.proofs.Pushing.{and_right}
 use Rattle.farm_site.proofs.Refusing.{handed_on}
@@ -99,6 +100,14 @@ returns-clause-spelled c =
       tariffs = subst (λ (xs : List Tariff). SpellsTable SpellsTariff keys.Tariff file xs) (sym c.from_vec-5.ensures) c.in_ok-tariffs.ensures.spelled;
       accounts = subst (λ (xs : List Account). SpellsTable SpellsAccount keys.Account file xs) (sym c.from_vec-6.ensures) c.in_ok-accounts.ensures.spelled;
     }
+
+pub returns-clause-typed : goal.returns-clause-typed
+returns-clause-typed c = record {
+  realm = c.in_ok-realm.ensures.sound;
+  vendors = ap (λ (ns : List ℕ). list_all has_32_bits ns) c.from_vec.ensures ∙ c.in_ok-vendors.ensures.small;
+  routes = ap (λ (rs : List Route). list_all is_typed_route rs) c.from_vec-4.ensures ∙ c.in_ok-routes.ensures.typed;
+  tariffs = ap (λ (ts : List Tariff). list_all is_typed_tariff ts) c.from_vec-5.ensures ∙ c.in_ok-tariffs.ensures.typed;
+}
 
 pub returns-in_err-nodes-clause-fault : goal.returns-in_err-nodes-clause-fault
 returns-in_err-nodes-clause-fault c =

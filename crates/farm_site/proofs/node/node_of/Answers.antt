@@ -19,4 +19,5 @@ returns-clause-spelled c = record {
   name = c.in_ok-name.ensures.value ∙ ap (λ (xs : List ℕ). Some (string xs)) (sym c.name.view_is);
   kind = c.in_ok-text.ensures.value ∙ ap (λ (xs : List ℕ). Some (string xs)) c.in_ok-kind_of.ensures.value;
   address = c.in_ok-address_of.ensures.value;
+  written = c.in_ok-address_of.ensures.written;
 }

@@ -1,9 +1,11 @@
-use Rattle.std.proofs.Common.{List, subst, arith}
+use Rattle.std.proofs.Common.{◌≡◌, true, List, sym, subst, arith}
+use Rattle.std.specs.List.{list_all}
+use Rattle.farm_model.specs.declared.site.Route.{Route}
 use Rattle.farm_model.specs.CheckedSite.{is_sound_route, same_route}
 use Rattle.farm_site.specs.Graph.{drawn}
 use Rattle.farm_site.specs.Faults.{IsRouteFault, IsTableFault}
-use Rattle.farm_site.specs.Spelling.{SpellsRoute}
-use Rattle.farm_site.proofs.Pushing.{grown}
+use Rattle.farm_site.specs.Spelling.{SpellsRoute, is_typed_route}
+use Rattle.farm_site.proofs.Pushing.{all_push, grown}
 use Rattle.toml.specs.View.{table_view}
 use Rattle.farm_site.specs.declared.key.Key.TheVariants as keys
 use Rattle.farm_site.proofs.Refusing.{handed_on, told_in}
@@ -14,6 +16,7 @@ pub loop-entry-preserved : goal.loop-entry-preserved
 loop-entry-preserved c = record {
   counted = omega (arith, c.in_ok-push.ensures.len);
   sound = grown (is_sound_route (drawn c.args.graph)) same_route c.loop-entry.routes.items c.deref.result.now c.push.new.self.items c.in_ok-route.route c.loop-entry.invariant.sound c.deref.ensures.value c.in_ok-route.ensures.follows c.in_ok-push.ensures.items;
+  typed = subst (λ (rs : List Route). list_all is_typed_route rs ≡ true) (sym c.in_ok-push.ensures.items) (all_push is_typed_route c.loop-entry.routes.items c.in_ok-route.route c.loop-entry.invariant.typed c.in_ok-route.ensures.typed);
   spelled = table_more (SpellsRoute c.args.graph.nodes.now) c.deref-entry-items.result.now c.loop-entry.entry-index c.entry-item.result c.loop-entry.routes.items c.push.new.self.items c.in_ok-route.route c.loop-entry-test.true c.entry-item.is c.loop-entry.invariant.spelled c.in_ok-route.ensures.spelled c.in_ok-push.ensures.items;
 }
 

@@ -1,9 +1,10 @@
-use Rattle.std.proofs.Common.{◌≡◌, List, None, sym, subst, arith}
+use Rattle.std.proofs.Common.{◌≡◌, true, List, None, sym, subst, arith}
+use Rattle.std.specs.List.{list_all}
 use Rattle.cc_rating.specs.declared.tariff.Tariff.{Tariff}
 use Rattle.cc_rating.specs.Tariffs.{fault_after, fault_of}
 use Rattle.farm_site.specs.Faults.{IsTariffFault, IsTableFault}
-use Rattle.farm_site.specs.Spelling.{SpellsTariff}
-use Rattle.farm_site.proofs.Pushing.{faultless_push}
+use Rattle.farm_site.specs.Spelling.{SpellsTariff, is_typed_tariff}
+use Rattle.farm_site.proofs.Pushing.{all_push, faultless_push}
 use Rattle.toml.specs.View.{table_view}
 use Rattle.farm_site.specs.declared.key.Key.TheVariants as keys
 use Rattle.farm_site.proofs.Refusing.{handed_on, told_in}
@@ -18,6 +19,7 @@ loop-entry-preserved c =
     record {
       counted = omega (arith, c.in_ok-push.ensures.len);
       sound = subst (λ (ts : List Tariff). fault_of ts ≡ None) (sym c.in_ok-push.ensures.items) (faultless_push old tariff c.loop-entry.invariant.sound sound);
+      typed = subst (λ (ts : List Tariff). list_all is_typed_tariff ts ≡ true) (sym c.in_ok-push.ensures.items) (all_push is_typed_tariff old tariff c.loop-entry.invariant.typed c.in_ok-tariff.ensures.typed);
       spelled = table_more SpellsTariff c.deref-entry-items.result.now c.loop-entry.entry-index c.entry-item.result old c.push.new.self.items tariff c.loop-entry-test.true c.entry-item.is c.loop-entry.invariant.spelled c.in_ok-tariff.ensures.spelled c.in_ok-push.ensures.items;
     }
 
