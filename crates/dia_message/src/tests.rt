@@ -20,7 +20,7 @@ fn a_stream_is_read(rt: HostRuntime) -> Result<(), Fail> {
 }
 
 #[test]
-fn texts_of_faults(rt: HostRuntime) -> Result<(), Fail> {
+fn texts_of_frame_faults(rt: HostRuntime) -> Result<(), Fail> {
     let alloc = rt.alloc();
     for (fault, text) in [
         (
@@ -36,6 +36,12 @@ fn texts_of_faults(rt: HostRuntime) -> Result<(), Fail> {
     ] {
         assert_eq!(rt; fault.to_string(alloc)?.as_str(), text);
     }
+    Ok(())
+}
+
+#[test]
+fn texts_of_avp_faults(rt: HostRuntime) -> Result<(), Fail> {
+    let alloc = rt.alloc();
     for (fault, text) in [
         (
             AvpFault::ShortHeader { at: 12 },
@@ -55,6 +61,12 @@ fn texts_of_faults(rt: HostRuntime) -> Result<(), Fail> {
     ] {
         assert_eq!(rt; fault.to_string(alloc)?.as_str(), text);
     }
+    Ok(())
+}
+
+#[test]
+fn texts_of_identity_faults(rt: HostRuntime) -> Result<(), Fail> {
+    let alloc = rt.alloc();
     for (fault, text) in [
         (IdentityFault::Empty, "an identity has at least 1 octet"),
         (IdentityFault::TooLong, "an identity has at most 255 octets"),

@@ -2,6 +2,8 @@
 use Rattle.std.proofs.Common.{◌≡◌, ℕ, zero, suc, ◌≤◌, Bool, true, false, not, ◌&&◌, ◌||◌, ◌==◌, List, [], ◌∷◌, length, All, Option, Some, None, refl, sym, subst, ap, ◌∙◌, inl, inr, ◌⊎◌, arith}
 use Rattle.std.specs.Prelude.{IfSome, IsSome, is_some, nat_le, option_map}
 use Rattle.std.proofs.Common.{cond}
+use Rattle.std.proofs.lemmas.Option.{same_Some}
+use Rattle.std.proofs.lemmas.Slice.Zip.{AllZip-long}
 use Rattle.std.specs.List.{AllZip, Contains, list_all, list_any}
 use Rattle.std.proofs.lemmas.Bool.{leb-true, le-leb}
 use Rattle.toml.specs.Data.{Data, Members, integer, string}
@@ -21,17 +23,16 @@ use Rattle.farm_model.specs.declared.site.Node.{Node}
 use Rattle.farm_model.specs.declared.site.Route.{Route}
 use Rattle.farm_model.specs.declared.site.Site.{Site}
 use Rattle.farm_site.specs.Faults.{IsAccountFault, IsLinkFault, IsNoGrant, IsNodeFault, IsRouteFault, IsTariffFault, IsUnknownAt, NamesNone, is_bad_link}
-use Rattle.farm_site.specs.Forms.{Form, account_id, form_of, has_too_many, has_type, identity_text, is_in_range, is_key, is_number, need_of_account, need_of_link, need_of_node, need_of_route, need_of_tariff, required}
+use Rattle.farm_site.specs.Forms.{is_key, is_number, need_of_account, need_of_link, need_of_node, need_of_route, need_of_tariff, required}
 use Rattle.farm_site.specs.Graph.{site_over}
 use Rattle.farm_site.specs.Spelling.{Names, NamesAt, SpellsAccount, SpellsLink, SpellsNode, SpellsRoute, SpellsTariff, WritesAddress, has_32_bits, is_named, is_typed_route, is_typed_tariff, may_have_32_bits, node_word, number, texts, unit_word, value_at}
 use Rattle.farm_site.specs.declared.fault.SiteFault.{SiteFault}
 use Rattle.farm_site.specs.declared.fault.SiteFault.TheVariants.{Missing, OutOfRange, Twice, UnknownName, BadLink, OutOfMemory}
 use Rattle.farm_site.specs.declared.key.Key.{Key}
 use Rattle.farm_site.specs.declared.key.Key.TheVariants as keys
-use Rattle.farm_site.proofs.OneSite.{named_at, number_same, one_link, string_same, texts_same, unit_word_same}
+use Rattle.farm_site.proofs.OneSite.{named_at, number_at, one_link, string_same, text_at, texts_same, unit_word_same}
 use Rattle.farm_site.proofs.Pushing.{and_both, and_left, and_right, or_right}
-use Rattle.farm_site.proofs.Fitting.{Fits, FitsAt, at_known, identity_fits, is_there, known_fits, no_fault_of, number_fits, optional_fits, sized_fits, text_fits, texts_fit, units_fit, word_fits}
-use Rattle.farm_site.proofs.Parting.{zipped_len}
+use Rattle.farm_site.proofs.Fitting.{account_id_fits, at_known, FitsAt, identity_fits, is_there, known_fits, no_fault_of, number_fits, optional_fits, sized_fits, text_fits, texts_fit, units_fit, word_fits}
 
 -- ---- nodes
 
@@ -70,18 +71,12 @@ no_address (Some text) found word is at written =
     let same : text ≡ word = string_same text word (let both : Some (string text) ≡ Some (string word) = sym is ∙ at in cc) in
     subst WritesAddress same written
 
-count_at : (found : Option Data) (a b : ℕ) → found ≡ Some (number a) → found ≡ Some (number b) → a ≡ b
-count_at found a b p q = number_same a b (let both : Some (number a) ≡ Some (number b) = sym p ∙ q in cc)
-
-word_at : (found : Option Data) (a b : List ℕ) → found ≡ Some (string a) → found ≡ Some (string b) → a ≡ b
-word_at found a b p q = string_same a b (let both : Some (string a) ≡ Some (string b) = sym p ∙ q in cc)
-
 pub no_node_fault : (before : List Node) (entry : Members) (node : Node) (fault : SiteFault) → SpellsNode entry node → is_sound_name node ≡ true → list_any (λ other. same_name other node) before ≡ false → IsNodeFault before entry fault → fault ≡ OutOfMemory
 no_node_fault before entry node (Twice keys.Name) spelled sound new told =
-    let same : told.name ≡ node.name = word_at (value_at keys.Name entry) told.name node.name told.stands spelled.name in
+    let same : told.name ≡ node.name = text_at (value_at keys.Name entry) told.name node.name told.stands spelled.name in
     let there : list_any (is_named node.name) before ≡ true = subst (λ (name : List ℕ). list_any (is_named name) before ≡ true) same told.there in
     absurd (let none : list_any (is_named node.name) before ≡ false = new in cc)
-no_node_fault before entry node (OutOfRange keys.Kind) spelled sound new told = absurd (told.none node.kind (word_at (value_at keys.Kind entry) told.word (node_word node.kind) told.stands spelled.kind))
+no_node_fault before entry node (OutOfRange keys.Kind) spelled sound new told = absurd (told.none node.kind (text_at (value_at keys.Kind entry) told.word (node_word node.kind) told.stands spelled.kind))
 no_node_fault before entry node (OutOfRange keys.Address) spelled sound new told =
     let writes : WritesAddress told.word = no_address node.address (value_at keys.Address entry) told.word spelled.address told.stands spelled.written in
     absurd (told.none writes.0 writes.1)
@@ -92,7 +87,7 @@ no_node_fault before entry node fault spelled sound new told = no_fault_of need_
 -- who may stand at a key, and stands there, is known
 no_unknown_at : (nodes : List Node) (may_stand : NodeNo → Bool) (key : Key) (entry : Members) (node : NodeNo) → NamesAt nodes key entry node → may_stand node ≡ true → IsUnknownAt nodes may_stand key entry → ⊥
 no_unknown_at nodes may_stand key entry node named may told =
-    let same : named.name ≡ told.name = word_at (value_at key entry) named.name told.name named.stands told.stands in
+    let same : named.name ≡ told.name = text_at (value_at key entry) named.name told.name named.stands told.stands in
     let wrong : may_stand node ≡ false = told.none node (subst (λ (name : List ℕ). Names nodes name node) same named.means) in
     cc
 
@@ -169,7 +164,7 @@ route_key nodes entry route spelled few typed keys.At has = known_fits keys.At e
 route_key nodes entry route spelled few typed keys.Realm has = known_fits keys.Realm entry (string route.realm) spelled.realm (identity_fits keys.Realm route.realm refl (no_more (fault_of route.realm) (and_left (not (is_some (fault_of route.realm))) (has_32_bits route.app) typed)))
 route_key nodes entry route spelled few typed keys.App has = known_fits keys.App entry (number route.app) spelled.app (number_fits keys.App 0 4294967295 route.app refl (and_right (not (is_some (fault_of route.realm))) (has_32_bits route.app) typed))
 route_key nodes entry route spelled few typed keys.Peers has =
-    let len : length spelled.peers.names ≡ length route.peers = zipped_len (Names nodes) spelled.peers.names route.peers spelled.peers.in_order in
+    let len : length route.peers ≡ length spelled.peers.names = AllZip-long (Names nodes) spelled.peers.names route.peers spelled.peers.in_order in
     known_fits keys.Peers entry (texts spelled.peers.names) spelled.peers.stand (texts_fit keys.Peers 16 spelled.peers.names refl (omega arith))
 route_key nodes entry route spelled few typed key has = absurd cc
 
@@ -185,14 +180,14 @@ no_route_fault site before entry route (UnknownName keys.At) spelled sound typed
     absurd (no_unknown_at site.nodes (is_relay (site_over site.nodes site.links)) keys.At entry route.at spelled.at (route_ranges site route sound).relay told)
 no_route_fault site before entry route (UnknownName keys.Peers) spelled sound typed new (relay, named, among) =
     let same : relay ≡ route.at = named_at site.nodes keys.At entry relay route.at named spelled.at in
-    let names : spelled.peers.names ≡ among.names = texts_same spelled.peers.names among.names (let both : Some (texts spelled.peers.names) ≡ Some (texts among.names) = sym spelled.peers.stand ∙ among.stand in cc) in
+    let names : spelled.peers.names ≡ among.names = texts_same spelled.peers.names among.names (same_Some (texts spelled.peers.names) (texts among.names) (sym spelled.peers.stand ∙ among.stand)) in
     let there : Contains spelled.peers.names among.name = subst (λ (ns : List (List ℕ)). Contains ns among.name) (sym names) among.among in
     absurd (some_peer site.nodes (is_candidate (site_over site.nodes site.links) route.at) spelled.peers.names route.peers spelled.peers.in_order (route_ranges site route sound).peers among.name there (subst (λ (at : NodeNo). NamesNone site.nodes (is_candidate (site_over site.nodes site.links) at) among.name) same among.none))
 no_route_fault site before entry route (UnknownName key) spelled sound typed new told = absurd told
 no_route_fault site before entry route (Twice keys.Route) spelled sound typed new told =
     let at : told.relay ≡ route.at = named_at site.nodes keys.At entry told.relay route.at told.at spelled.at in
-    let realm : told.realm ≡ route.realm = word_at (value_at keys.Realm entry) told.realm route.realm told.of_realm spelled.realm in
-    let app : told.app ≡ route.app = count_at (value_at keys.App entry) told.app route.app told.of_app spelled.app in
+    let realm : told.realm ≡ route.realm = text_at (value_at keys.Realm entry) told.realm route.realm told.of_realm spelled.realm in
+    let app : told.app ≡ route.app = number_at (value_at keys.App entry) told.app route.app told.of_app spelled.app in
     let there : list_any (λ other. is_node other.at route.at && same_folded other.realm route.realm && (other.app == route.app)) before ≡ true =
     subst (λ (a : ℕ). list_any (λ (other : Route). is_node other.at route.at && same_folded other.realm route.realm && (other.app == a)) before ≡ true) app
     (subst (λ (r : List ℕ). list_any (λ (other : Route). is_node other.at route.at && same_folded other.realm r && (other.app == told.app)) before ≡ true) realm
@@ -254,14 +249,14 @@ tariff_stands entry tariff spelled key needed = absurd cc
 -- a quantum or a grant that stands there is one of its kind
 no_grant : (key : Key) (entry : Members) (tariff : Tariff) (n : ℕ) → SpellsTariff entry tariff → value_at key entry ≡ Some (number n) → is_within 1 (units_limit tariff.kind) n ≡ true → IsNoGrant key entry → ⊥
 no_grant key entry tariff n spelled stands within told =
-    let kind : told.kind ≡ tariff.kind = unit_word_same told.kind tariff.kind (word_at (value_at keys.Kind entry) (unit_word told.kind) (unit_word tariff.kind) told.of_kind spelled.kind) in
+    let kind : told.kind ≡ tariff.kind = unit_word_same told.kind tariff.kind (text_at (value_at keys.Kind entry) (unit_word told.kind) (unit_word tariff.kind) told.of_kind spelled.kind) in
     let outside : is_within 1 (units_limit told.kind) n ≡ false = at_known key entry (number n) (λ value. is_number 1 (units_limit told.kind) value ≡ false) stands told.outside in
     let wrong : is_within 1 (units_limit tariff.kind) n ≡ false = subst (λ (k : UnitKind). is_within 1 (units_limit k) n ≡ false) kind outside in
     cc
 
 optional_is : (found : Option Data) (o : Option ℕ) (n : ℕ) → found ≡ option_map number o → found ≡ Some (number n) → o ≡ Some n
 optional_is found None n is at = absurd cc
-optional_is found (Some m) n is at = ap (λ (k : ℕ). Some k) (count_at found m n is at)
+optional_is found (Some m) n is at = ap (λ (k : ℕ). Some k) (number_at found m n is at)
 
 optional_none : (found : Option Data) (o : Option ℕ) → found ≡ option_map number o → found ≡ None → is_some o ≡ false
 optional_none found None is at = refl
@@ -302,7 +297,7 @@ no_tariff_fault before entry tariff (Twice keys.Ident) spelled sound typed told 
       | inr rated ↦ inr rated
     ] in
     absurd (no_twice_ident before tariff.group tariff.ident told.ident (optional_is (value_at keys.Ident entry) tariff.ident told.ident spelled.ident told.stands) new there)
-no_tariff_fault before entry tariff (OutOfRange keys.Kind) spelled sound typed told = absurd (told.none tariff.kind (word_at (value_at keys.Kind entry) told.word (unit_word tariff.kind) told.stands spelled.kind))
+no_tariff_fault before entry tariff (OutOfRange keys.Kind) spelled sound typed told = absurd (told.none tariff.kind (text_at (value_at keys.Kind entry) told.word (unit_word tariff.kind) told.stands spelled.kind))
 no_tariff_fault before entry tariff (OutOfRange keys.Quantum) spelled sound typed told =
     absurd (no_grant keys.Quantum entry tariff tariff.quantum spelled spelled.quantum (tariff_ranges tariff (may_follow (in_range tariff) (is_twice before tariff) sound).0).quantum told)
 no_tariff_fault before entry tariff (OutOfRange keys.Greatest) spelled sound typed told =
@@ -333,14 +328,6 @@ account_ranges account sound =
     let parts = four_parts (nat_le account.id_kind 4) (is_within 1 64 (length account.id)) (list_all is_visible account.id) (nat_le (size_of account.opening) 4611686018427387904) sound in
     record { id_kind = parts.0; id = parts.1; opening = parts.2 }
 
-account_id_fits : (key : Key) (id : List ℕ) → form_of key ≡ account_id → (is_within 1 64 (length id) && list_all is_visible id) ≡ true → Fits key (string id)
-account_id_fits key id form sound = record {
-  type = ap (λ (f : Form). has_type f (string id)) form;
-  range = ap (λ (f : Form). is_in_range f (string id)) form ∙ sound;
-  count = ap (λ (f : Form). has_too_many f (string id)) form;
-  identity = λ other name is. absurd (let differ : account_id ≡ identity_text = sym form ∙ other in cc);
-}
-
 account_key : (entry : Members) (account : Account) → SpellsAccount entry account → AccountRanges account → (key : Key) → is_key (need_of_account key) ≡ true → FitsAt key entry
 account_key entry account spelled ranges keys.IdKind has = known_fits keys.IdKind entry (number account.id_kind) spelled.id_kind (number_fits keys.IdKind 0 4 account.id_kind refl (and_both (nat_le 0 account.id_kind) (nat_le account.id_kind 4) (le-leb 0 account.id_kind (omega arith)) ranges.id_kind))
 account_key entry account spelled ranges keys.Id has = known_fits keys.Id entry (string account.id) spelled.id (account_id_fits keys.Id account.id refl ranges.id)
@@ -355,8 +342,8 @@ account_stands entry account spelled key needed = absurd cc
 
 pub no_account_fault : (before : List Account) (entry : Members) (account : Account) (fault : SiteFault) → SpellsAccount entry account → is_sound_account account ≡ true → list_any (λ other. same_account other account) before ≡ false → IsAccountFault before entry fault → fault ≡ OutOfMemory
 no_account_fault before entry account (Twice keys.Id) spelled sound new told =
-    let kind : told.id_kind ≡ account.id_kind = count_at (value_at keys.IdKind entry) told.id_kind account.id_kind told.of_kind spelled.id_kind in
-    let id : told.id ≡ account.id = word_at (value_at keys.Id entry) told.id account.id told.of_id spelled.id in
+    let kind : told.id_kind ≡ account.id_kind = number_at (value_at keys.IdKind entry) told.id_kind account.id_kind told.of_kind spelled.id_kind in
+    let id : told.id ≡ account.id = text_at (value_at keys.Id entry) told.id account.id told.of_id spelled.id in
     let there : list_any (λ other. (other.id_kind == account.id_kind) && same_octets other.id account.id) before ≡ true =
     subst (λ (xs : List ℕ). list_any (λ (other : Account). (other.id_kind == account.id_kind) && same_octets other.id xs) before ≡ true) id
     (subst (λ (k : ℕ). list_any (λ (other : Account). (other.id_kind == k) && same_octets other.id told.id) before ≡ true) kind told.there) in

@@ -1,27 +1,29 @@
 -- What fits at the keys of a table has no fault.
-use Rattle.std.proofs.Common.{◌≡◌, ℕ, suc, ◌≤◌, true, false, List, [], ◌∷◌, ◌++◌, length, map, ℤ, Option, Some, None, refl, sym, subst, ap, ◌∙◌, arith}
+use Rattle.std.proofs.Common.{◌≡◌, ℕ, suc, ◌≤◌, Bool, true, false, ◌&&◌, List, [], ◌∷◌, ◌++◌, length, map, ℤ, Option, Some, None, refl, sym, subst, ap, ◌∙◌, arith}
 use Rattle.std.specs.Prelude.{IsSome, nat_le, option_map, unwrap_or}
 use Rattle.std.specs.List.{AllZip, list_all}
 use Rattle.std.proofs.lemmas.Bool.{le-ltb}
+use Rattle.std.proofs.lemmas.Option.{same_Some}
+use Rattle.std.proofs.lemmas.Slice.Zip.{AllZip-long}
 use Rattle.toml.specs.Data.{Data, Members, integer, string, table}
 use Rattle.toml.specs.View.{items_of}
 use Rattle.dia_base.specs.Identity.{fault_of}
-use Rattle.farm_model.specs.CheckedSite.{is_within, size_of}
+use Rattle.farm_model.specs.CheckedSite.{is_visible, is_within, size_of}
 use Rattle.farm_site.specs.Faults.{IsFaultOf, IsOfKeys, IsOfOptionalKey, IsTableFault, StandsAt, of_entry, of_table}
-use Rattle.farm_site.specs.Forms.{Form, Need, all_items, any_text, form_of, has_too_many, has_type, identity_text, integer_of_size, is_in_range, is_integer, is_key, is_number, is_string, is_table, items_len, known_word, list_of_numbers, list_of_tables, list_of_texts, number_within, units_number, required}
+use Rattle.farm_site.specs.Forms.{Form, Need, account_id, all_items, any_text, form_of, has_more_than, has_too_many, has_type, identity_text, integer_of_size, is_in_range, is_integer, is_key, is_number, is_string, is_table, items_len, known_word, list_of_numbers, list_of_tables, list_of_texts, number_within, units_number, required}
 use Rattle.farm_site.specs.Spelling.{SpellsTable, has_32_bits, number, numbers, tables, texts, value_at, value_or}
 use Rattle.farm_site.specs.declared.fault.SiteFault.{SiteFault}
 use Rattle.farm_site.specs.declared.fault.SiteFault.TheVariants.{NotToml, Missing, WrongType, OutOfRange, Twice, UnknownName, BadIdentity, TooMany, BadLink, OutOfMemory}
 use Rattle.farm_site.specs.declared.key.Key.{Key}
 use Rattle.farm_site.proofs.OneSite.{string_same, tables_same, zipped_same}
 use Rattle.farm_site.proofs.Pushing.{and_both, and_left, and_right}
-use Rattle.farm_site.proofs.Parting.{parted, zipped_len}
+use Rattle.farm_site.proofs.Parting.{parted}
 
 -- ---- what stands at a key
 
 -- what is said of what stands there holds of the value that is known to stand there
 pub at_known : (key : Key) (entry : Members) (known : Data) (Holds : Data → Type 0) → value_at key entry ≡ Some known → StandsAt key entry Holds → Holds known
-at_known key entry known Holds is (value, at, holds) = subst (λ (d : Data). Holds d) (let same : value ≡ known = (let found : Some value ≡ Some known = sym at ∙ is in cc) in same) holds
+at_known key entry known Holds is (value, at, holds) = subst (λ (d : Data). Holds d) (same_Some value known (sym at ∙ is)) holds
 
 -- a value as the key wants it: of its type, and an identity where it wants one
 pub record Fits (key : Key) (value : Data) : Type 0 where
@@ -40,9 +42,7 @@ pub record AreFit (need : Key → Need) (entry : Members) : Type 0 where
   pub stands : (key : Key) → need key ≡ required → IsSome (value_at key entry)
 
 pub known_fits : (key : Key) (entry : Members) (known : Data) → value_at key entry ≡ Some known → Fits key known → FitsAt key entry
-known_fits key entry known is fits = λ value at.
-    let same : known ≡ value = (let found : Some known ≡ Some value = sym is ∙ at in cc) in
-    subst (λ (d : Data). Fits key d) same fits
+known_fits key entry known is fits = λ value at. subst (λ (d : Data). Fits key d) (same_Some known value (sym is ∙ at)) fits
 
 pub default_fits : (key : Key) (entry : Members) (absent known : Data) → value_or absent key entry ≡ known → Fits key known → FitsAt key entry
 default_fits key entry absent known is fits = λ value at.
@@ -67,97 +67,68 @@ no_fault_of need entry OutOfMemory fit told of = refl
 
 -- ---- values that fit
 
-pub identity_fits : (key : Key) (name : List ℕ) → form_of key ≡ identity_text → fault_of name ≡ None → Fits key (string name)
-identity_fits key name form sound = record {
-  type = ap (λ (f : Form). has_type f (string name)) form;
-  range = ap (λ (f : Form). is_in_range f (string name)) form;
-  count = ap (λ (f : Form). has_too_many f (string name)) form;
-  identity = λ form other is. subst (λ (n : List ℕ). fault_of n ≡ None) (string_same name other is) sound;
+-- a value of the form that the key wants; identities are another form
+fits : (key : Key) (form : Form) (value : Data) → form_of key ≡ form → has_type form value ≡ true → is_in_range form value ≡ true → has_too_many form value ≡ false → (form ≡ identity_text → ⊥) → Fits key value
+fits key form value wants type range count other = record {
+  type = ap (λ (f : Form). has_type f value) wants ∙ type;
+  range = ap (λ (f : Form). is_in_range f value) wants ∙ range;
+  count = ap (λ (f : Form). has_too_many f value) wants ∙ count;
+  identity = λ is name same. absurd (other (sym wants ∙ is));
 }
 
-pub word_fits : (key : Key) (word : List ℕ) → form_of key ≡ known_word → Fits key (string word)
-word_fits key word form = record {
-  type = ap (λ (f : Form). has_type f (string word)) form;
-  range = ap (λ (f : Form). is_in_range f (string word)) form;
-  count = ap (λ (f : Form). has_too_many f (string word)) form;
-  identity = λ other name is. absurd (let differ : known_word ≡ identity_text = sym form ∙ other in cc);
+pub identity_fits : (key : Key) (name : List ℕ) → form_of key ≡ identity_text → fault_of name ≡ None → Fits key (string name)
+identity_fits key name wants sound = record {
+  type = ap (λ (f : Form). has_type f (string name)) wants;
+  range = ap (λ (f : Form). is_in_range f (string name)) wants;
+  count = ap (λ (f : Form). has_too_many f (string name)) wants;
+  identity = λ is other same. subst (λ (n : List ℕ). fault_of n ≡ None) (string_same name other same) sound;
 }
 
 pub text_fits : (key : Key) (text : List ℕ) → form_of key ≡ any_text → Fits key (string text)
-text_fits key text form = record {
-  type = ap (λ (f : Form). has_type f (string text)) form;
-  range = ap (λ (f : Form). is_in_range f (string text)) form;
-  count = ap (λ (f : Form). has_too_many f (string text)) form;
-  identity = λ other name is. absurd (let differ : any_text ≡ identity_text = sym form ∙ other in cc);
-}
+text_fits key text wants = fits key any_text (string text) wants refl refl refl (λ is. absurd cc)
+
+pub word_fits : (key : Key) (word : List ℕ) → form_of key ≡ known_word → Fits key (string word)
+word_fits key word wants = fits key known_word (string word) wants refl refl refl (λ is. absurd cc)
+
+pub account_id_fits : (key : Key) (id : List ℕ) → form_of key ≡ account_id → (is_within 1 64 (length id) && list_all is_visible id) ≡ true → Fits key (string id)
+account_id_fits key id wants sound = fits key account_id (string id) wants refl sound refl (λ is. absurd cc)
 
 pub units_fit : (key : Key) (n : ℕ) → form_of key ≡ units_number → Fits key (number n)
-units_fit key n form = record {
-  type = ap (λ (f : Form). has_type f (number n)) form;
-  range = ap (λ (f : Form). is_in_range f (number n)) form;
-  count = ap (λ (f : Form). has_too_many f (number n)) form;
-  identity = λ other name is. absurd (let differ : units_number ≡ identity_text = sym form ∙ other in cc);
-}
+units_fit key n wants = fits key units_number (number n) wants refl refl refl (λ is. absurd cc)
 
 pub number_fits : (key : Key) (least most n : ℕ) → form_of key ≡ number_within least most → is_within least most n ≡ true → Fits key (number n)
-number_fits key least most n form within = record {
-  type = ap (λ (f : Form). has_type f (number n)) form;
-  range = ap (λ (f : Form). is_in_range f (number n)) form ∙ within;
-  count = ap (λ (f : Form). has_too_many f (number n)) form;
-  identity = λ other name is. absurd (let differ : number_within least most ≡ identity_text = sym form ∙ other in cc);
-}
+number_fits key least most n wants within = fits key (number_within least most) (number n) wants refl within refl (λ is. absurd cc)
 
 pub sized_fits : (key : Key) (size : ℕ) (z : ℤ) → form_of key ≡ integer_of_size size → nat_le (size_of z) size ≡ true → Fits key (integer z)
-sized_fits key size z form small = record {
-  type = ap (λ (f : Form). has_type f (integer z)) form;
-  range = ap (λ (f : Form). is_in_range f (integer z)) form ∙ small;
-  count = ap (λ (f : Form). has_too_many f (integer z)) form;
-  identity = λ other name is. absurd (let differ : integer_of_size size ≡ identity_text = sym form ∙ other in cc);
-}
+sized_fits key size z wants small = fits key (integer_of_size size) (integer z) wants refl small refl (λ is. absurd cc)
 
-pub all_tables : (entries : List Members) → all_items is_table (items_of (map table entries)) ≡ true
-all_tables [] = refl
-all_tables (x ∷ xs) = all_tables xs
+-- ---- arrays that fit
 
-pub all_strings : (names : List (List ℕ)) → all_items is_string (items_of (map string names)) ≡ true
-all_strings [] = refl
-all_strings (x ∷ xs) = all_strings xs
+all_pass : {A : Type 0} (value : A → Data) (test : Data → Bool) → ((a : A) → test (value a) ≡ true) → (xs : List A) → all_items test (items_of (map value xs)) ≡ true
+all_pass value test pass [] = refl
+all_pass value test pass (x ∷ xs) = and_both (test (value x)) (all_items test (items_of (map value xs))) (pass x) (all_pass value test pass xs)
 
-pub all_integers : (numbers : List ℕ) → all_items is_integer (items_of (map number numbers)) ≡ true
-all_integers [] = refl
-all_integers (x ∷ xs) = all_integers xs
-
-pub all_in_range : (ns : List ℕ) → list_all has_32_bits ns ≡ true → all_items (is_number 0 4294967295) (items_of (map number ns)) ≡ true
+all_in_range : (ns : List ℕ) → list_all has_32_bits ns ≡ true → all_items (is_number 0 4294967295) (items_of (map number ns)) ≡ true
 all_in_range [] small = refl
 all_in_range (n ∷ ns) small = and_both (has_32_bits n) (all_items (is_number 0 4294967295) (items_of (map number ns))) (and_left (has_32_bits n) (list_all has_32_bits ns) small) (all_in_range ns (and_right (has_32_bits n) (list_all has_32_bits ns) small))
 
-pub mapped_len : {A : Type 0} (f : A → Data) (xs : List A) → items_len (items_of (map f xs)) ≡ length xs
-mapped_len f [] = refl
-mapped_len f (x ∷ xs) = ap suc (mapped_len f xs)
+mapped_len : {A : Type 0} (value : A → Data) (xs : List A) → items_len (items_of (map value xs)) ≡ length xs
+mapped_len value [] = refl
+mapped_len value (x ∷ xs) = ap suc (mapped_len value xs)
 
-pub tables_fit : (key : Key) (most : ℕ) (entries : List Members) → form_of key ≡ list_of_tables most → length entries ≤ most → Fits key (tables entries)
-tables_fit key most entries form few = record {
-  type = ap (λ (f : Form). has_type f (tables entries)) form ∙ all_tables entries;
-  range = ap (λ (f : Form). is_in_range f (tables entries)) form;
-  count = ap (λ (f : Form). has_too_many f (tables entries)) form ∙ (let len : items_len (items_of (map table entries)) ≡ length entries = mapped_len table entries in le-ltb most (items_len (items_of (map table entries))) (omega arith));
-  identity = λ other name is. absurd (let differ : list_of_tables most ≡ identity_text = sym form ∙ other in cc);
-}
+not_too_many : {A : Type 0} (value : A → Data) (xs : List A) (most : ℕ) → length xs ≤ most → has_more_than most (Some (items_of (map value xs))) ≡ false
+not_too_many value xs most few = let len : items_len (items_of (map value xs)) ≡ length xs = mapped_len value xs in le-ltb most (items_len (items_of (map value xs))) (omega arith)
+
+tables_fit : (key : Key) (most : ℕ) (entries : List Members) → form_of key ≡ list_of_tables most → length entries ≤ most → Fits key (tables entries)
+tables_fit key most entries wants few = fits key (list_of_tables most) (tables entries) wants (all_pass table is_table (λ entry. refl) entries) refl (not_too_many table entries most few) (λ is. absurd cc)
 
 pub texts_fit : (key : Key) (most : ℕ) (names : List (List ℕ)) → form_of key ≡ list_of_texts most → length names ≤ most → Fits key (texts names)
-texts_fit key most names form few = record {
-  type = ap (λ (f : Form). has_type f (texts names)) form ∙ all_strings names;
-  range = ap (λ (f : Form). is_in_range f (texts names)) form;
-  count = ap (λ (f : Form). has_too_many f (texts names)) form ∙ (let len : items_len (items_of (map string names)) ≡ length names = mapped_len string names in le-ltb most (items_len (items_of (map string names))) (omega arith));
-  identity = λ other name is. absurd (let differ : list_of_texts most ≡ identity_text = sym form ∙ other in cc);
-}
+texts_fit key most names wants few = fits key (list_of_texts most) (texts names) wants (all_pass string is_string (λ name. refl) names) refl (not_too_many string names most few) (λ is. absurd cc)
 
 pub vendors_fit : (key : Key) (ns : List ℕ) → form_of key ≡ list_of_numbers → list_all has_32_bits ns ≡ true → Fits key (numbers ns)
-vendors_fit key ns form small = record {
-  type = ap (λ (f : Form). has_type f (numbers ns)) form ∙ all_integers ns;
-  range = ap (λ (f : Form). is_in_range f (numbers ns)) form ∙ all_in_range ns small;
-  count = ap (λ (f : Form). has_too_many f (numbers ns)) form;
-  identity = λ other name is. absurd (let differ : list_of_numbers ≡ identity_text = sym form ∙ other in cc);
-}
+vendors_fit key ns wants small = fits key list_of_numbers (numbers ns) wants (all_pass number is_integer (λ n. refl) ns) (all_in_range ns small) refl (λ is. absurd cc)
+
+-- ---- keys that may be left out
 
 pub optional_fits : {A : Type 0} (value : A → Data) (key : Key) (entry : Members) (known : Option A) → value_at key entry ≡ option_map value known → ((a : A) → known ≡ Some a → Fits key (value a)) → FitsAt key entry
 optional_fits value key entry None is fits = λ found at. absurd cc
@@ -165,7 +136,7 @@ optional_fits value key entry (Some a) is fits = known_fits key entry (value a) 
 
 -- ---- tables
 
-pub no_fault_at : (key : Key) (file : Members) (fault : SiteFault) → FitsAt key file → IsFaultOf file fault → IsOfOptionalKey key fault → fault ≡ OutOfMemory
+no_fault_at : (key : Key) (file : Members) (fault : SiteFault) → FitsAt key file → IsFaultOf file fault → IsOfOptionalKey key fault → fault ≡ OutOfMemory
 no_fault_at key file NotToml fit told of = absurd told
 no_fault_at key file (Missing other) fit told of = absurd of
 no_fault_at key file (WrongType other) fit told of = absurd (let at : StandsAt key file (λ value. has_type (form_of key) value ≡ false) = subst (λ (k : Key). StandsAt k file (λ value. has_type (form_of k) value ≡ false)) of told in let fits : Fits key at.0 = fit at.0 at.1 in let right = fits.type in let wrong = at.2 in cc)
@@ -183,7 +154,7 @@ NoFaultBehind {A} spells IsFault items = (before rest : List A) (item : A) (entr
 
 pub table_fits : {A : Type 0} (spells : Members → A → Type 0) (key : Key) (most : ℕ) (file : Members) (items : List A) → form_of key ≡ list_of_tables most → length items ≤ most → SpellsTable spells key file items → FitsAt key file
 table_fits spells key most file items form few whole =
-    let len : length whole.entries ≡ length items = zipped_len spells whole.entries items whole.in_order in
+    let len : length items ≡ length whole.entries = AllZip-long spells whole.entries items whole.in_order in
     default_fits key file (tables []) (tables whole.entries) whole.stand (tables_fit key most whole.entries form (omega arith))
 
 pub no_table_fault : {A : Type 0} (spells : Members → A → Type 0) (IsFault : List A → Members → SiteFault → Type 0) → ((entry : Members) (a b : A) → spells entry a → spells entry b → a ≡ b) → (key : Key) (file : Members) (items : List A) (fault : SiteFault) → FitsAt key file → SpellsTable spells key file items → NoFaultBehind spells IsFault items → IsTableFault spells IsFault key file fault → fault ≡ OutOfMemory

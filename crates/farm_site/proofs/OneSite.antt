@@ -1,5 +1,6 @@
 -- A file spells one site at most.
 use Rattle.std.proofs.Common.{◌≡◌, ℕ, ℤ, List, [], ◌∷◌, get_or, map, Option, Some, None, refl, sym, subst, ap, ◌∙◌, arith}
+use Rattle.std.proofs.lemmas.Option.{same_Some}
 use Rattle.std.specs.Prelude.{option_map, position}
 use Rattle.std.specs.List.{AllZip}
 use Rattle.toml.specs.Data.{Data, Items, Members, array, integer, string, table}
@@ -27,7 +28,7 @@ string_same a b e = cc
 integer_same : (a b : ℤ) → integer a ≡ integer b → a ≡ b
 integer_same a b e = cc
 
-pub number_same : (a b : ℕ) → number a ≡ number b → a ≡ b
+number_same : (a b : ℕ) → number a ≡ number b → a ≡ b
 number_same a b e = cc
 
 table_same : (a b : Members) → table a ≡ table b → a ≡ b
@@ -35,9 +36,6 @@ table_same a b e = cc
 
 array_same : (a b : Items) → array a ≡ array b → a ≡ b
 array_same a b e = cc
-
-some_same : {A : Type 0} (a b : A) → Some a ≡ Some b → a ≡ b
-some_same a b e = cc
 
 items_same : (xs ys : List Data) → items_of xs ≡ items_of ys → xs ≡ ys
 items_same [] [] e = refl
@@ -105,14 +103,14 @@ unit_word_same Units Octets e = absurd (words_differ (unit_word Units) (unit_wor
 unit_word_same Units Units e = refl
 
 -- what stands at a key stands there alone
-text_at : (found : Option Data) (a b : List ℕ) → found ≡ Some (string a) → found ≡ Some (string b) → a ≡ b
-text_at found a b p q = string_same a b (some_same (string a) (string b) (sym p ∙ q))
+pub text_at : (found : Option Data) (a b : List ℕ) → found ≡ Some (string a) → found ≡ Some (string b) → a ≡ b
+text_at found a b p q = string_same a b (same_Some (string a) (string b) (sym p ∙ q))
 
-number_at : (found : Option Data) (a b : ℕ) → found ≡ Some (number a) → found ≡ Some (number b) → a ≡ b
-number_at found a b p q = number_same a b (some_same (number a) (number b) (sym p ∙ q))
+pub number_at : (found : Option Data) (a b : ℕ) → found ≡ Some (number a) → found ≡ Some (number b) → a ≡ b
+number_at found a b p q = number_same a b (same_Some (number a) (number b) (sym p ∙ q))
 
 integer_at : (found : Option Data) (a b : ℤ) → found ≡ Some (integer a) → found ≡ Some (integer b) → a ≡ b
-integer_at found a b p q = integer_same a b (some_same (integer a) (integer b) (sym p ∙ q))
+integer_at found a b p q = integer_same a b (same_Some (integer a) (integer b) (sym p ∙ q))
 
 number_or : (found : Data) (a b : ℕ) → found ≡ number a → found ≡ number b → a ≡ b
 number_or found a b p q = number_same a b (sym p ∙ q)
@@ -124,7 +122,7 @@ optional_at found x y p q = option_same number number_same x y (sym p ∙ q)
 
 pub name_means_one : (nodes : List Node) (name : List ℕ) (a b : NodeNo) → Names nodes name a → Names nodes name b → a ≡ b
 name_means_one nodes name a b p q =
-    let same : a.0 ≡ b.0 = some_same a.0 b.0 (sym p ∙ q) in
+    let same : a.0 ≡ b.0 = same_Some a.0 b.0 (sym p ∙ q) in
     λ i. record { 0 = same i }
 
 pub named_at : (nodes : List Node) (key : Key) (entry : Members) (a b : NodeNo) → NamesAt nodes key entry a → NamesAt nodes key entry b → a ≡ b
@@ -145,7 +143,7 @@ zipped_same R one (x ∷ xs) (y ∷ ys) (z ∷ zs) p q = λ i. one x y z p.0 q.0
 
 named_all_at : (nodes : List Node) (key : Key) (entry : Members) (a b : List NodeNo) → NamesAllAt nodes key entry a → NamesAllAt nodes key entry b → a ≡ b
 named_all_at nodes key entry a b p q =
-    let names : p.names ≡ q.names = texts_same p.names q.names (some_same (texts p.names) (texts q.names) (sym p.stand ∙ q.stand)) in
+    let names : p.names ≡ q.names = texts_same p.names q.names (same_Some (texts p.names) (texts q.names) (sym p.stand ∙ q.stand)) in
     let order : AllZip (Names nodes) p.names b = subst (λ (xs : List (List ℕ)). AllZip (Names nodes) xs b) (sym names) q.in_order in
     zipped_same (Names nodes) (λ name x y p q. name_means_one nodes name x y p q) p.names a b p.in_order order
 

@@ -1,11 +1,11 @@
 -- Parts of lists: what is said of the whole holds of an item, and of those before it.
-use Rattle.std.proofs.Common.{◌≡◌, suc, Bool, true, false, not, ◌||◌, List, [], ◌∷◌, ◌++◌, length, None, refl, sym, ap, ◌∙◌}
-use Rattle.std.proofs.Common.{append-nil, append_assoc}
+use Rattle.std.proofs.Common.{◌≡◌, Bool, true, false, not, List, [], ◌∷◌, ◌++◌, None, refl, sym, ap, ◌∙◌, append-nil, append_assoc}
+use Rattle.std.proofs.lemmas.Bool.{or_from}
 use Rattle.std.specs.List.{AllZip, list_all, list_any}
 use Rattle.cc_rating.specs.Tariffs.{fault_after, fault_from}
 use Rattle.cc_rating.specs.declared.tariff.Tariff.{Tariff}
 use Rattle.farm_model.specs.Lists.{are_distinct}
-use Rattle.farm_site.proofs.Pushing.{and_left, and_right, none_both, or_left, or_right}
+use Rattle.farm_site.proofs.Pushing.{and_left, and_right, none_both, not_true, or_left, or_right}
 
 pub all_at : {A : Type 0} (test : A → Bool) (before rest : List A) (x : A) → list_all test (before ++ x ∷ rest) ≡ true → test x ≡ true
 all_at test [] rest x all = and_left (test x) (list_all test rest) all
@@ -15,20 +15,12 @@ pub none_at : {A : Type 0} (test : A → Bool) (before rest : List A) (x : A) �
 none_at test [] rest x none = or_left (test x) (list_any test rest) none
 none_at test (y ∷ before) rest x none = none_at test before rest x (or_right (test y) (list_any test (before ++ x ∷ rest)) none)
 
-pub is_not : (a : Bool) → not a ≡ true → a ≡ false
-is_not true e = absurd cc
-is_not false e = refl
-
-pub neither : (a b : Bool) → a ≡ false → b ≡ false → (a || b) ≡ false
-neither true b p q = absurd cc
-neither false b p q = q
-
 -- none of those before is the same
 pub new_behind : {A : Type 0} (same : A → A → Bool) (before rest : List A) (x : A) → are_distinct same (before ++ x ∷ rest) ≡ true → list_any (λ other. same other x) before ≡ false
 new_behind same [] rest x distinct = refl
 new_behind same (y ∷ before) rest x distinct =
-    let none : list_any (same y) (before ++ x ∷ rest) ≡ false = is_not (list_any (same y) (before ++ x ∷ rest)) (and_left (not (list_any (same y) (before ++ x ∷ rest))) (are_distinct same (before ++ x ∷ rest)) distinct) in
-    neither (same y x) (list_any (λ other. same other x) before) (none_at (same y) before rest x none)
+    let none : list_any (same y) (before ++ x ∷ rest) ≡ false = not_true (list_any (same y) (before ++ x ∷ rest)) (and_left (not (list_any (same y) (before ++ x ∷ rest))) (are_distinct same (before ++ x ∷ rest)) distinct) in
+    or_from (same y x) (list_any (λ other. same other x) before) (none_at (same y) before rest x none)
     (new_behind same before rest x (and_right (not (list_any (same y) (before ++ x ∷ rest))) (are_distinct same (before ++ x ∷ rest)) distinct))
 
 -- two lists that belong together, parted at a place of the first
@@ -54,12 +46,6 @@ parted R (w ∷ xs) zs x (y ∷ ys) zip =
       together = (zip.0, behind.together);
       one = behind.one;
     }
-
-pub zipped_len : {A B : Type 0} (R : A → B → Type 0) (xs : List A) (ys : List B) → AllZip R xs ys → length xs ≡ length ys
-zipped_len R [] [] zip = refl
-zipped_len R [] (y ∷ ys) zip = absurd zip
-zipped_len R (x ∷ xs) [] zip = absurd zip
-zipped_len R (x ∷ xs) (y ∷ ys) zip = ap suc (zipped_len R xs ys zip.1)
 
 -- a tariff has no fault behind those before it
 pub faultless_at : (front before rest : List Tariff) (x : Tariff) → fault_from front (before ++ x ∷ rest) ≡ None → fault_after (front ++ before) x ≡ None

@@ -31,7 +31,7 @@ not_false : (a : Bool) → a ≡ false → not a ≡ true
 not_false true e = absurd cc
 not_false false e = refl
 
-not_true : (a : Bool) → not a ≡ true → a ≡ false
+pub not_true : (a : Bool) → not a ≡ true → a ≡ false
 not_true true e = absurd cc
 not_true false e = refl
 

@@ -1,5 +1,6 @@
 -- A text that spells a checked site is read as this site, or memory runs out.
 use Rattle.std.proofs.Common.{◌≡◌, ℕ, ◌<◌, ◌≤◌, Bool, true, false, List, [], ◌∷◌, length, Some, Result, Ok, Err, refl, sym, subst, ap, ◌∙◌, inl, inr, ◌⊎◌, arith}
+use Rattle.std.proofs.lemmas.Option.{same_Some}
 use Rattle.std.specs.List.{list_all}
 use Rattle.std.specs.Prelude.{IfErr, IfOk, IsSome, nat_le, nat_lt}
 use Rattle.std.proofs.lemmas.Bool.{leb-true, le-leb, ltb-false, ltb-true}
@@ -30,23 +31,20 @@ use Rattle.farm_site.proofs.Pushing.{and_both}
 
 -- ---- the keys of the file
 
-few : (n most : ℕ) → nat_le n most ≡ true → n ≤ most
-few n most h = leb-true n most h
-
 nodes_fit : (file : Members) (site : Site) → SpellsSite file site → IsChecked site → FitsAt keys.Node file
-nodes_fit file site spelled checked = table_fits SpellsNode keys.Node 64 file site.nodes refl (few (length site.nodes) 64 checked.nodes) spelled.nodes
+nodes_fit file site spelled checked = table_fits SpellsNode keys.Node 64 file site.nodes refl (leb-true (length site.nodes) 64 checked.nodes) spelled.nodes
 
 links_fit : (file : Members) (site : Site) → SpellsSite file site → IsChecked site → FitsAt keys.Link file
-links_fit file site spelled checked = table_fits (SpellsLink site.nodes) keys.Link 256 file site.links refl (few (length site.links) 256 checked.links) spelled.links
+links_fit file site spelled checked = table_fits (SpellsLink site.nodes) keys.Link 256 file site.links refl (leb-true (length site.links) 256 checked.links) spelled.links
 
 routes_fit : (file : Members) (site : Site) → SpellsSite file site → IsChecked site → FitsAt keys.Route file
-routes_fit file site spelled checked = table_fits (SpellsRoute site.nodes) keys.Route 256 file site.routes refl (few (length site.routes) 256 checked.routes) spelled.routes
+routes_fit file site spelled checked = table_fits (SpellsRoute site.nodes) keys.Route 256 file site.routes refl (leb-true (length site.routes) 256 checked.routes) spelled.routes
 
 tariffs_fit : (file : Members) (site : Site) → SpellsSite file site → IsChecked site → FitsAt keys.Tariff file
-tariffs_fit file site spelled checked = table_fits SpellsTariff keys.Tariff 1024 file site.tariffs refl (few (length site.tariffs) 1024 checked.tariff_count) spelled.tariffs
+tariffs_fit file site spelled checked = table_fits SpellsTariff keys.Tariff 1024 file site.tariffs refl (leb-true (length site.tariffs) 1024 checked.tariff_count) spelled.tariffs
 
 accounts_fit : (file : Members) (site : Site) → SpellsSite file site → IsChecked site → FitsAt keys.Account file
-accounts_fit file site spelled checked = table_fits SpellsAccount keys.Account 65536 file site.accounts refl (few (length site.accounts) 65536 checked.account_count) spelled.accounts
+accounts_fit file site spelled checked = table_fits SpellsAccount keys.Account 65536 file site.accounts refl (leb-true (length site.accounts) 65536 checked.account_count) spelled.accounts
 
 file_key : (file : Members) (site : Site) → SpellsSite file site → IsChecked site → IsTyped site → (key : Key) → is_key (need_of_file key) ≡ true → FitsAt key file
 file_key file site spelled checked typed keys.Realm has = known_fits keys.Realm file (string site.realm) spelled.realm (identity_fits keys.Realm site.realm refl typed.realm)
@@ -125,7 +123,7 @@ no_fault_in file site fault spelled checked typed (of_tariffs told) = no_table_f
 no_fault_in file site fault spelled checked typed (of_accounts told) = no_table_fault SpellsAccount IsAccountFault one_account keys.Account file site.accounts fault (accounts_fit file site spelled checked) spelled.accounts (no_accounts_fault site checked) told
 
 one_document : (text : List ℕ) (a b : Members) → parse_document text ≡ Some a → parse_document text ≡ Some b → a ≡ b
-one_document text a b p q = let both : Some a ≡ Some b = sym p ∙ q in cc
+one_document text a b p q = same_Some a b (sym p ∙ q)
 
 never_told_of : (text : List ℕ) (site : Site) (fault : SiteFault) → IsSiteFile text site → IsToldOf text fault → fault ≡ OutOfMemory
 never_told_of text site fault file (members, at, told) =

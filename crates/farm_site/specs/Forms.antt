@@ -136,18 +136,6 @@ is_for_text list_of_numbers = false
 is_for_text (list_of_texts most) = false
 is_for_text (list_of_tables most) = false
 
-abbrev pub is_for_units : Form → Bool
-is_for_units any_text = false
-is_for_units identity_text = false
-is_for_units known_word = false
-is_for_units units_number = true
-is_for_units account_id = false
-is_for_units (number_within least most) = false
-is_for_units (integer_of_size size) = false
-is_for_units list_of_numbers = false
-is_for_units (list_of_texts most) = false
-is_for_units (list_of_tables most) = false
-
 -- the numbers from the least to the most are at least those of the form
 abbrev pub covers : ℕ → ℕ → Form → Bool
 covers least most any_text = false

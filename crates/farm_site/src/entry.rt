@@ -5,7 +5,7 @@ ghost use Rattle.std.specs.List.{list_all};
 ghost use Rattle.dia_base.specs.Identity.{fault_of};
 ghost use Rattle.farm_model.specs.CheckedSite.{is_within, size_of};
 ghost use Rattle.farm_site.specs.Faults.{IsFaultOf, IsOfKey, IsOfOptionalKey, StandsAt};
-ghost use Rattle.farm_site.specs.Forms.{all_items, covers, form_of, has_more_than, identity_text, integer_of_size, is_for_text, is_for_units, is_from_to, is_integer, is_number, is_string, is_table, list_of_numbers, list_of_tables, list_of_texts};
+ghost use Rattle.farm_site.specs.Forms.{all_items, covers, form_of, has_more_than, identity_text, integer_of_size, is_for_text, is_from_to, is_integer, is_number, is_string, is_table, list_of_numbers, list_of_tables, list_of_texts, units_number};
 ghost use Rattle.farm_site.specs.Spelling.{has_32_bits, may_have_32_bits, value_at, value_or, number, numbers, texts, tables, tables_of};
 ghost use Rattle.toml.specs.Data.{string, integer, array, table, as_array};
 ghost use Rattle.toml.specs.View.{table_view, view, items_view};
@@ -102,7 +102,7 @@ impl<'a> Entry<'a> {
         ensures range { IfOk result (λ n. is_within least most n ≡ true) }
         ensures value { IfOk result (λ n. value_at key (table_view self.entry.table.now) ≡ Some (number n)) }
         ensures fault { covers least most (form_of key) ≡ true → IfErr result (IsFaultOf (table_view self.entry.table.now)) }
-        ensures units { is_for_units (form_of key) ≡ true → IfErr result (λ fault. IsFaultOf (table_view self.entry.table.now) fault ⊎ ((fault ≡ SiteFault.OutOfRange key) × StandsAt key (table_view self.entry.table.now) (λ value. is_number least most value ≡ false))) }
+        ensures units { form_of key ≡ units_number → IfErr result (λ fault. IsFaultOf (table_view self.entry.table.now) fault ⊎ ((fault ≡ SiteFault.OutOfRange key) × StandsAt key (table_view self.entry.table.now) (λ value. is_number least most value ≡ false))) }
         ensures told { IfErr result (IsOfKey key) }
     {
         unsigned_of(key, self.value(key)?, least, most)
