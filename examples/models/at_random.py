@@ -294,7 +294,8 @@ COMMENTS = {
               "# restarts, and sweeps that end some and not others, chosen at random by models/at_random.py.\n",
     "ring": "# Requests of three clients by a ring of relays, with losses, cuts, restarts and what is sent again,\n"
             "# chosen at random by models/at_random.py.\n"}
-STORED = {"relays-at-random": ("relays", 160), "skips-at-random": ("skips", 64), "sweeps-at-random": ("sweeps", 55)}
+STORED = {"random/relays-at-random": ("relays", 160), "random/skips-at-random": ("skips", 64),
+          "random/sweeps-at-random": ("sweeps", 55)}
 # Those that are stored beside a site file.
 STORED_BY_SITE = {"ring": {"at-random-1": ("ring", 46), "at-random-2": ("ring", 36), "at-random-3": ("ring", 37)}}
 

@@ -102,7 +102,7 @@ def wanted(path):
 
 def schedules_in(folder):
     """The stored schedules, each with its site: one that stands in a folder of sites/ has the site of that name."""
-    for path in sorted(folder.glob("*.schedule")):
+    for path in sorted(folder.glob("*/*.schedule")):
         yield path, ROW_SITE
     for path in sorted(folder.glob("sites/*/*.schedule")):
         yield path, site_named(path.parent.name)

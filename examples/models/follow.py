@@ -1,6 +1,6 @@
 #!/usr/bin/env python3
 """Follows what is sent: plays a schedule in the model, and prints each step, and below it each message that it puts in
-flight, as `FROM to TO, connection N`, with the octets in a line of their own, which ./words puts in words.
+flight, as `FROM to TO, connection N`, with the octets in a line of their own, which ./farm words puts in words.
 
     follow.py [--site FILE] < SCHEDULE
 

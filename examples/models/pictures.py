@@ -239,7 +239,7 @@ def differences(schedule, site):
 
 def schedules_in(folder):
     """The schedules, each with its site: one that stands in a folder of sites/ has the site of that name."""
-    for path in sorted(folder.glob("*.schedule")):
+    for path in sorted(folder.glob("*/*.schedule")):
         yield path, ROW_SITE
     for path in sorted(folder.glob("sites/*/*.schedule")):
         yield path, site_named(path.parent.name)

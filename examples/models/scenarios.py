@@ -283,13 +283,30 @@ def session_swept_from_under():
     return script.send(C1, R1, F2, message=of_session(later, "c1;1;2")).answer(F2, 4000).carry(F2, R1, C1)
 
 
-SCENARIOS = {"relayed-debit": relayed_debit, "lost-answer": lost_answer, "restarted-relay": restarted_relay,
-             "loop": loop, "loop-cut": loop_cut, "failover": failover, "failover-while-picked": failover_while_picked,
-             "failover-of-two": failover_of_two, "three-ways": three_ways, "by-two-relays": by_two_relays,
-             "host-gone": host_gone, "client-gone": client_gone, "old-connection": old_connection,
-             "nowhere-to-go": nowhere_to_go, "relay-refusals": relay_refusals, "no-room": no_room,
-             "front-refusals": front_refusals, "session-not-due": session_not_due,
-             "session-abandoned": session_abandoned, "session-kept-up": session_kept_up,
-             "session-with-an-early-update": session_with_an_early_update, "session-and-event": session_and_event,
-             "session-of-the-latest-moment": session_of_the_latest_moment,
-             "session-swept-from-under": session_swept_from_under}
+# Each by the folder that it stands in, and its name.
+SCENARIOS = {
+    "debits/relayed-debit": relayed_debit,
+    "failover/lost-answer": lost_answer,
+    "failover/restarted-relay": restarted_relay,
+    "refusals/loop": loop,
+    "refusals/loop-cut": loop_cut,
+    "failover/failover": failover,
+    "failover/failover-while-picked": failover_while_picked,
+    "failover/failover-of-two": failover_of_two,
+    "failover/three-ways": three_ways,
+    "failover/by-two-relays": by_two_relays,
+    "failover/host-gone": host_gone,
+    "failover/client-gone": client_gone,
+    "failover/old-connection": old_connection,
+    "failover/nowhere-to-go": nowhere_to_go,
+    "refusals/relay-refusals": relay_refusals,
+    "refusals/no-room": no_room,
+    "refusals/front-refusals": front_refusals,
+    "sessions/session-not-due": session_not_due,
+    "sessions/session-abandoned": session_abandoned,
+    "sessions/session-kept-up": session_kept_up,
+    "sessions/session-with-an-early-update": session_with_an_early_update,
+    "sessions/session-and-event": session_and_event,
+    "sessions/session-of-the-latest-moment": session_of_the_latest_moment,
+    "sessions/session-swept-from-under": session_swept_from_under,
+}

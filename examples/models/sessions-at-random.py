@@ -16,7 +16,7 @@ with units granted, used and reserved (5.1.2), the last units (5.6), the four on
   opens with 2001 alone.
 - The first request with a Session-Id and a CC-Request-Number settles what is answered to all later ones.
 
-It writes sessions-at-random.schedule and sessions-at-random.out into the folder that is given, examples/ itself in this
+It writes sessions-at-random.schedule and sessions-at-random.out into the folder that is given, examples/random/ in this
 repository, where they are stored.
 """
 import sys

@@ -3,7 +3,7 @@
 
 The model is written from the rules, and knows nothing of the program: a debit costs 5 for each 1000 octets that it
 begins, and is made where the account has as much; the first debit with a CC-Request-Number settles what is answered to
-all later ones. It writes two-at-a-time.schedule and two-at-a-time.out into the folder that is given, examples/ itself
+all later ones. It writes two-at-a-time.schedule and two-at-a-time.out into the folder that is given, examples/random/
 in this repository, where they are stored.
 """
 import sys
