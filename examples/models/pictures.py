@@ -169,9 +169,15 @@ class Picture:
                        it.text or "") for it in tag("text")]
         self.paths = [(it.get("class").split(), it.get("d")) for it in tag("path")]
         self.circles = [(it.get("class"), int(it.get("cx")), int(it.get("cy"))) for it in tag("circle")]
-        self.columns = {x: words for kind, anchor, x, _, words in self.texts if (kind, anchor) == ("name", "middle")}
+        self.columns = {x: self.whole(words) for kind, anchor, x, _, words in self.texts
+                        if (kind, anchor) == ("name", "middle")}
         numbers = [(y - 3, words) for _, anchor, _, y, words in self.texts if anchor == "end"]
         self.rows = {y: at for at, (y, _) in enumerate(numbers)}
+
+    def whole(self, shown):
+        """The name of a node; of a long one the beginning is shown."""
+        named = [name for name in self.site.nodes if name.startswith(shown.removesuffix(".."))]
+        return named[0] if shown.endswith("..") and len(named) == 1 else shown
 
     def row(self, y):
         """The last row above this height, or at it."""

@@ -9,7 +9,7 @@ from credit_control import (AUTH_APPLICATION_ID, CC_REQUEST_NUMBER, CC_REQUEST_T
                             SUBSCRIPTION_ID_TYPE, TERMINATION, UPDATE, USED_UNITS)
 from diameter import (DESTINATION_REALM, ORIGIN_HOST, ORIGIN_REALM, PROXIABLE, REQUEST, SESSION_ID, Message, group,
                       number, octets_of_kind, spelled, text)
-from messages import DEBIT, OPENING, again, of_session, to_realm
+from messages import DEBIT, OPENING, again, of_session, termination, to_realm, units
 from row_site import C1, F1, R1, R2, example
 from scenarios import Script
 from site_data import CREDIT_CONTROL_APPLICATION
@@ -242,12 +242,48 @@ def no_room_to_sweep():
     return script.up((C1, F1)).send(C1, F1, message=OPENING).answer(F1, 1000).carry(F1, C1).step("sweep", 1_201_000)
 
 
+def no_room_to_end():
+    script = Script("""The book of this site takes one request, the one that opens a session. Its TERMINATION finds no
+        room, and is refused, DIAMETER_TOO_BUSY: nothing of it is debited. The sweep at 1201000, at which the session is
+        due, finds none either. It is no skipped step, but ends nothing: the session stays open for good, with the 25
+        cents that it has reserved.""")
+    script.up((C1, F1)).send(C1, F1, message=OPENING).answer(F1, 1000).carry(F1, C1)
+    script.send(C1, F1, message=replace(termination(1, units(USED_UNITS, 3000)), hop=8)).answer(F1, 2000).carry(F1, C1)
+    return script.step("sweep", 1_201_000)
+
+
+def longest(name):
+    """A name of 255 octets, as many as an identity may have."""
+    return f"{name}.{'long-name.' * 26}"[:255]
+
+
+def longest_names():
+    gw, relay, first, second, realm = map(longest, "gw r1 f1 f2 realm".split())
+    script = Script("""Each name and each realm here has 255 octets, and each request of this session 32 services, as
+        many as there may be, each with a tariff of its own. The first request is charged at f1, whose answer is lost
+        with the connection; r1 sends it again to f2, which answers as f1 did: 32 grants of 5000 octets, for which 800
+        are reserved. Then 3200 octets of each are used, 640 are paid, and 5000 more granted. At the end 1000 more of
+        each were used, for 160.""")
+    asker, owner = Gateway(gw, realm, realm, "32251@3gpp.org"), (E164, "491700000001")
+    groups = range(1, 33)
+    script.up((gw, relay), (relay, first), (relay, second))
+    opening = asker.ask(1, owner, INITIAL, 0, *(rated(code, CC_TOTAL_OCTETS, asked=None) for code in groups))
+    script.send(gw, relay, first, message=opening).answer(first, 1000).step("cut", relay, first).carry(relay, second)
+    script.answer(second, 2000).carry(second, relay, gw)
+    update = asker.ask(1, owner, UPDATE, 1, *(rated(code, CC_TOTAL_OCTETS, asked=5000, used=3200) for code in groups))
+    script.send(gw, relay, second, message=update).answer(second, 3000).carry(second, relay, gw)
+    closing = asker.ask(1, owner, TERMINATION, 2, *(rated(code, CC_TOTAL_OCTETS, used=1000) for code in groups))
+    return script.send(gw, relay, second, message=closing).answer(second, 4000).carry(second, relay, gw)
+
+
 STORIES = {"small-operator": {"data-and-call": data_and_call, "messages": messages, "front-lost": front_lost,
                               "gateway-lost": gateway_lost},
            "chain": {"passed-along": passed_along, "not-served": not_served, "broken-chain": broken_chain},
            "ring": {"round-the-ring": round_the_ring, "round-the-loop": round_the_loop,
                     "back-to-the-first": back_to_the_first},
-           "full-book": {"one-entry": one_entry, "no-room-to-sweep": no_room_to_sweep}}
+           "longest": {"longest-names": longest_names},
+           "full-book": {"one-entry": one_entry, "no-room-to-sweep": no_room_to_sweep,
+                         "no-room-to-end": no_room_to_end}}
 
 
 def site_named(name):

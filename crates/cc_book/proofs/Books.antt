@@ -1,5 +1,5 @@
 -- What a book keeps beside its history.
-use Rattle.std.proofs.Common.{◌≡◌, ℕ, suc, ◌+◌, ◌<◌, ◌≤◌, ◌^◌, List, [], ◌∷◌, ◌++◌, length, map, take, drop, get_or, Option, Some, None, Ok, Err, Bool, true, false, cond, refl, sym, ap, subst, ◌∙◌, arith, length-append}
+use Rattle.std.proofs.Common.{◌≡◌, ℕ, suc, ◌&&◌, ◌+◌, ◌<◌, ◌≤◌, ◌^◌, List, [], ◌∷◌, ◌++◌, length, map, take, drop, get_or, Option, Some, None, Ok, Err, Bool, true, false, cond, refl, sym, ap, subst, ◌∙◌, arith, length-append}
 use Rattle.std.specs.Prelude.{ℤ, IfSome, IsErrAnd, IsOk, IsSome, MatchOption, Result, is_ok, nat_abs, negsuc, pos, ◌≤ℤ◌, find, unwrap_or, slice_get, slice_index_or}
 use Rattle.std.specs.List.{fold}
 use Rattle.std.proofs.Math.ListN.{get_or-append}
@@ -25,14 +25,17 @@ use Rattle.cc_book.specs.Duplicate.{Key, key_of}
 use Rattle.cc_book.specs.History.{IsKeptAt, IsNew}
 use Rattle.cc_book.specs.Posting.{Posting}
 use Rattle.cc_book.specs.Balance.{balance_of, open_sessions_of, reserved_of, spent_by}
-use Rattle.cc_book.specs.Standing.{IsOutcome, IsPlacedIn, IsSmall, Stands, after_change, after_debit, change_at, change_open, is_session, place_in, reserved_in}
-use Rattle.cc_book.specs.Session.{opens}
+use Rattle.cc_book.specs.Standing.{IsOutcome, IsPlacedIn, IsSmall, Stands, after_change, after_debit, change_at, change_of, change_open, is_session, next_sessions, place_in, reserved_in, sessions_after}
+use Rattle.cc_book.specs.Session.{open_count, opens, outlasts}
 use Rattle.cc_book.proofs.Sums.{all_placed, charged_account-within}
 use Rattle.cc_book.proofs.Stands.{open_count-stands, reserved-stands, small-stands}
 use Rattle.cc_book.specs.declared.book.Answered.{Answered}
 use Rattle.cc_book.specs.declared.book.BookRefusal.{BookRefusal}
 use Rattle.cc_book.specs.declared.book.BookRefusal.TheVariants.{OutOfMemory}
-use Rattle.cc_book.specs.Taking.{AnswersWith, IsBook, Ledger, answer_of}
+use Rattle.cc_book.specs.declared.plan.Plan.{Plan}
+use Rattle.cc_book.specs.declared.plan.Taken.{Taken}
+use Rattle.cc_book.specs.Planning.{IsTaking, PlansWith}
+use Rattle.cc_book.specs.Taking.{IsBook, Ledger, answer_of}
 use Rattle.cc_book.proofs.Sessions.{open_at_place}
 use Rattle.cc_book.proofs.Replies.{answer_of-fresh, answer_of-kept}
 use Rattle.cc_book.proofs.Outcomes.{take-stands}
@@ -101,11 +104,30 @@ kept-reply terms history replies key place taken kept at =
     ∙ ap (λ (n : ℕ). get_or (replies_in (postings_of terms (take place history ++ Take at.moment taken ∷ drop (suc place) history))) n None) (sym long)
     ∙ replies-at terms (take place history) (drop (suc place) history) (Take at.moment taken) None
 
+-- ---- the sessions that entries leave open
+
+pub sessions_after-push : (validity : ℕ) (before : List Posting) (posting : Posting)
+    → sessions_after validity (before ++ posting ∷ []) ≡ next_sessions validity (sessions_after validity before) posting
+unfolding sessions_after
+sessions_after-push validity before posting = fold-append (next_sessions validity) [] before (posting ∷ [])
+
+at_most_one : (b : Bool) → cond {A = ℕ} b 1 0 ≤ 1
+at_most_one true = omega arith
+at_most_one false = omega arith
+
+-- each was opened by an entry of its own
+open_count-within : (validity : ℕ) (before : List Posting) → open_count validity before ≤ length before
+open_count-within validity [] = omega arith
+open_count-within validity (posting ∷ after) =
+    let one = at_most_one (opens posting && outlasts validity posting.entry after) in
+    let more = open_count-within validity after in
+    omega arith
+
 -- ---- a book without entries, and with one more
 
 pub IsBook-empty : (terms : Terms) (limit : ℕ) (balances : List ℤ) → limit ≤ 2 ^ 20 → Stands terms [] balances [] → IsBook terms limit [] [] balances []
-unfolding postings_of
-IsBook-empty terms limit balances most stands = record { legal = IsLegal-empty terms; within = omega arith; most = most; replies_kept = refl; stands = stands }
+unfolding postings_of sessions_after
+IsBook-empty terms limit balances most stands = record { legal = IsLegal-empty terms; within = omega arith; most = most; replies_kept = refl; stands = stands; sessions_left = refl }
 
 pub IsBook-push : (terms : Terms) (limit : ℕ) (history : List Entry) (replies : List (Option CcReply)) (balances : List ℤ) (sessions : List OpenSession) (moment : Moment) (request : CcRequest) (outcome : Outcome)
     → IsBook terms limit history replies balances sessions → IsNew history (key_of request) → length history < limit → IsOutcome terms (postings_of terms history) sessions moment request outcome
@@ -122,6 +144,9 @@ IsBook-push terms limit history replies balances sessions moment request outcome
           ∙ ap (λ (r : CcReply). replies_in before ++ Some r ∷ []) does.reply
           ∙ sym (ap replies_in next ∙ map-append (λ (p : Posting). p.reply) before (posting_of terms before (Take moment request) ∷ []));
       stands = subst (λ (ps : List Posting). Stands terms ps (after_debit balances outcome.account outcome.debit) (after_change sessions outcome.change)) (sym next) (take-stands book.stands does);
+      sessions_left = ap (after_change sessions) does.change
+          ∙ ap (λ (ss : List OpenSession). after_change ss (change_of ss request moment (posting_of terms before (Take moment request)))) book.sessions_left
+          ∙ sym (ap (sessions_after terms.validity) next ∙ sessions_after-push terms.validity before (posting_of terms before (Take moment request)));
     }
 
 -- ---- what a book has is what its history has left
@@ -146,6 +171,16 @@ small-book {terms} {limit} {history} book =
     let most = book.most in
     small-stands book.stands (omega arith)
 
+pub sessions-within : {terms : Terms} {limit : ℕ} {history : List Entry} {replies : List (Option CcReply)} {balances : List ℤ} {sessions : List OpenSession} → IsBook terms limit history replies balances sessions → length sessions ≤ length history
+sessions-within {terms} {limit} {history} book =
+    let long = postings_of-length terms history in
+    let count = open_count-stands book.stands in
+    let few = open_count-within terms.validity (postings_of terms history) in
+    omega arith
+
+pub replies-long : {terms : Terms} {limit : ℕ} {history : List Entry} {replies : List (Option CcReply)} {balances : List ℤ} {sessions : List OpenSession} → IsBook terms limit history replies balances sessions → length replies ≡ length history
+replies-long {terms} {limit} {history} book = ap length book.replies_kept ∙ length-map (postings_of terms history) (λ (p : Posting). p.reply) ∙ postings_of-length terms history
+
 -- ---- what a book answers
 
 abbrev ledger_of : Terms → ℕ → List Entry → Ledger
@@ -160,9 +195,9 @@ pub new-answered : (terms : Terms) (limit : ℕ) (history : List Entry) (request
 new-answered terms limit history request new room =
     ap (λ (r : Result Answered BookRefusal). is_ok r) (answer_of-fresh (ledger_of terms limit history) request (length history) (reply_to terms history request) new refl room refl)
 
-pub no_memory : (expected result : Result Answered BookRefusal) → IsOk expected → IsErrAnd result (λ e. e ≡ OutOfMemory) → AnswersWith expected result
-no_memory expected (Ok answered) fine h = absurd h
-no_memory expected (Err e) fine h = let P : BookRefusal → Type 0 = λ f. AnswersWith expected (Err f) in subst P (sym h) fine
+pub no_memory : (expected : Result Answered BookRefusal) (result : Result Plan BookRefusal) → IsOk expected → IsErrAnd result (λ e. e ≡ OutOfMemory) → PlansWith expected result
+no_memory expected (Ok plan) fine h = absurd h
+no_memory expected (Err e) fine h = let P : BookRefusal → Type 0 = λ f. PlansWith expected (Err f) in subst P (sym h) fine
 
 some_if : {X : Type 0} (P : X → Type 0) (found : Option X) (x : X) → found ≡ Some x → IfSome found P → P x
 some_if {X = X} P found x is so = subst (λ (o : Option X). IfSome o P) is so
@@ -195,6 +230,16 @@ module _ {terms : Terms} {limit : ℕ} {history : List Entry} {replies : List (O
   unfolding reply_to
   answer-fresh moment request outcome new room does =
       answer_of-fresh (ledger_of terms limit history) request (length history) outcome.reply new refl room does.reply
+
+  -- what a plan does, it does to the sessions that the book has
+  pub taking-outcome : (taken : Taken) → IsTaking (ledger_of terms limit history) taken → IsOutcome terms (postings_of terms history) sessions taken.moment taken.request taken.outcome
+  taking-outcome taken taking =
+      subst (λ (ss : List OpenSession). IsOutcome terms (postings_of terms history) ss taken.moment taken.request taken.outcome) (sym book.sessions_left) taking.outcome
+
+  pub planned-outcome : (moment : Moment) (request : CcRequest) (outcome : Outcome) → IsOutcome terms (postings_of terms history) sessions moment request outcome
+      → IsOutcome terms (postings_of terms history) (sessions_after terms.validity (postings_of terms history)) moment request outcome
+  planned-outcome moment request outcome does =
+      subst (λ (ss : List OpenSession). IsOutcome terms (postings_of terms history) ss moment request outcome) book.sessions_left does
 
   -- the account that is debited is one of the book's, and the session that changes too
   pub account-within : (moment : Moment) (request : CcRequest) (outcome : Outcome) → IsOutcome terms (postings_of terms history) sessions moment request outcome → (place : ℕ) → outcome.account ≡ Some place → place < length balances

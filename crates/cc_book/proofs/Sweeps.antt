@@ -1,6 +1,6 @@
 -- What stands after a sweep, and what a book answers to it.
 use Rattle.std.proofs.Common.{◌≡◌, ◌≢◌, ℕ, zero, suc, ◌+◌, ◌<◌, ◌≤◌, Bool, true, false, cond, not, leb, List, [], ◌∷◌, ◌++◌, length, Option, Some, None, Result, Ok, Err, refl, sym, ap, subst, ◌∙◌, arith, rules, find, option_map, length-append, get_or}
-use Rattle.std.specs.Prelude.{ℤ, IsErrAnd, IsOkAnd, count_by}
+use Rattle.std.specs.Prelude.{ℤ, count_by}
 use Rattle.std.specs.List.{AllByRecursion}
 use Rattle.std.specs.Option.{option_and_then}
 use Rattle.std.proofs.lemmas.Int.{ints}
@@ -13,7 +13,7 @@ use Rattle.std.proofs.lemmas.Option.{slice_get-get_or}
 use Rattle.dia_base.specs.declared.number.Moment.{Moment}
 use Rattle.cc_view.specs.declared.reply.CcReply.{CcReply}
 use Rattle.cc_book.specs.declared.book.BookRefusal.{BookRefusal}
-use Rattle.cc_book.specs.declared.book.BookRefusal.TheVariants.{Full, OutOfMemory}
+use Rattle.cc_book.specs.declared.book.BookRefusal.TheVariants.{Full}
 use Rattle.cc_book.specs.declared.entry.Entry.{Entry}
 use Rattle.cc_book.specs.declared.entry.Entry.TheVariants.{Sweep}
 use Rattle.cc_book.specs.declared.session.Hold.{Hold}
@@ -24,10 +24,10 @@ use Rattle.cc_book.specs.Balance.{open_sessions_of}
 use Rattle.cc_book.specs.History.{ended_sessions}
 use Rattle.cc_book.specs.Posting.{Posting}
 use Rattle.cc_book.specs.Session.{Opened, next_session, open_count, session_of}
-use Rattle.cc_book.specs.Standing.{Stands, held_by_all, holds_weight, ids_weight, is_due, is_session, opened_as, sessions_weight, without_due}
-use Rattle.cc_book.specs.Taking.{IsBook, Ledger, SweepsWith, answer_to_sweep, sweep_answer}
+use Rattle.cc_book.specs.Standing.{Stands, held_by_all, holds_weight, ids_weight, is_due, is_session, opened_as, sessions_after, sessions_weight, without_due}
+use Rattle.cc_book.specs.Taking.{IsBook, Ledger, answer_to_sweep, sweep_answer}
 use Rattle.cc_book.proofs.Alive.{Weight}
-use Rattle.cc_book.proofs.Books.{open_sessions_of-is, replies_in}
+use Rattle.cc_book.proofs.Books.{open_sessions_of-is, replies_in, sessions_after-push}
 use Rattle.cc_book.proofs.Due.{States, alive_weight-swept, due_in, lasting, lasting_ids, open_weight-swept, swept}
 use Rattle.cc_book.proofs.Ending.{all_keep}
 use Rattle.cc_book.proofs.Keys.{IsLegal-sweep}
@@ -194,6 +194,8 @@ IsBook-sweep terms limit history replies balances sessions moment book room some
       most = book.most;
       replies_kept = ap (λ (rs : List (Option CcReply)). rs ++ None ∷ []) book.replies_kept ∙ sym (ap replies_in next ∙ map-append (λ (p : Posting). p.reply) before (swept moment ∷ []));
       stands = subst (λ (ps : List Posting). Stands terms ps balances (without_due terms.validity moment sessions)) (sym next) (sweep-stands history book.stands moment);
+      sessions_left = ap (without_due terms.validity moment) book.sessions_left
+          ∙ sym (ap (sessions_after terms.validity) next ∙ sessions_after-push terms.validity before (swept moment));
     }
 
 -- ---- what a book answers to a sweep
@@ -211,13 +213,6 @@ answer_full ledger (suc n) some full = ap (λ (b : Bool). cond {A = Result ℕ B
 answer_some : (ledger : Ledger) (n : ℕ) → length ledger.history < ledger.limit → answer_to_sweep ledger n ≡ Ok n
 answer_some ledger zero room = refl
 answer_some ledger (suc n) room = ap (λ (b : Bool). cond {A = Result ℕ BookRefusal} b (Err (Full ledger.limit)) (Ok (suc n))) (room_left ledger.limit (length ledger.history) room)
-
-pub no_memory : (expected result : Result ℕ BookRefusal) (n : ℕ) → 0 < n → expected ≡ Ok n → IsErrAnd result (λ e. e ≡ OutOfMemory) → SweepsWith expected result
-no_memory expected (Ok ended) n some is h = absurd h
-no_memory expected (Err e) n some is h =
-    let P : BookRefusal → Type 0 = λ f. SweepsWith expected (Err f) in
-    let Q : Result ℕ BookRefusal → Type 0 = λ r. IsOkAnd r (λ ended. 0 < ended) in
-    subst P (sym h) (subst Q (sym is) some)
 
 -- a sweep that is answered so ends sessions
 ends_by : (ledger : Ledger) (ended n : ℕ) → answer_to_sweep ledger ended ≡ Ok (suc n) → 0 < ended

@@ -1,7 +1,7 @@
 -- What a history has left: the balances of the accounts, and the sessions that are open with what they hold. It is
 -- all that the book looks at to answer a request.
 use Rattle.std.specs.Prelude.{◌≡◌, ◌≢◌, ℕ, ◌+◌, ◌*◌, ◌^◌, ◌<◌, ◌≤◌, List, [], ◌∷◌, ◌++◌, length, remove, slice_get, slice_index_or, slice_set, All, AllPairs, Bool, ◌&&◌, not, ◌==◌, nat_le, if◌then◌else◌, Option, Some, None, unwrap_or, find, ℤ, pos, negsuc, ◌-ℤ◌, ◌≤ℤ◌}
-use Rattle.std.specs.List.{filter, list_any, position}
+use Rattle.std.specs.List.{filter, fold, list_any, position}
 use Rattle.std.specs.Option.{option_map}
 use Rattle.dia_base.specs.declared.number.Moment.{Moment}
 use Rattle.cc_view.specs.declared.request.CcRequest.{CcRequest}
@@ -11,7 +11,8 @@ use Rattle.cc_view.specs.declared.request.Service.{Service}
 use Rattle.cc_book.specs.declared.outcome.Change.{Change}
 use Rattle.cc_book.specs.declared.outcome.Change.TheVariants.{Stays, Opens, GoesOn, Ends}
 use Rattle.cc_book.specs.declared.outcome.Outcome.{Outcome}
-use Rattle.cc_book.specs.declared.entry.Entry.TheVariants.{Take}
+use Rattle.cc_book.specs.declared.entry.Entry.{Entry}
+use Rattle.cc_book.specs.declared.entry.Entry.TheVariants.{Take, Sweep}
 use Rattle.cc_book.specs.declared.session.Hold.{Hold}
 use Rattle.cc_book.specs.declared.session.OpenSession.{OpenSession}
 use Rattle.cc_book.specs.declared.terms.Terms.{Terms}
@@ -106,6 +107,18 @@ is_due validity moment session = nat_le (deadline_at validity session.last.0) mo
 -- the sessions that go on after a look at the clock
 abbrev pub without_due : ℕ → Moment → List OpenSession → List OpenSession
 without_due validity moment sessions = filter (λ session. not (is_due validity moment session)) sessions
+
+-- the sessions that are open after an entry with this posting, where these were before it
+abbrev pub sessions_with : ℕ → List OpenSession → Posting → Entry → List OpenSession
+sessions_with validity sessions posting (Take moment request) = after_change sessions (change_of sessions request moment posting)
+sessions_with validity sessions posting (Sweep moment) = without_due validity moment sessions
+
+abbrev pub next_sessions : ℕ → List OpenSession → Posting → List OpenSession
+next_sessions validity sessions posting = sessions_with validity sessions posting posting.entry
+
+-- the sessions that postings have left open, in the order in which they opened
+unfoldable pub sessions_after : ℕ → List Posting → List OpenSession
+sessions_after validity postings = fold (next_sessions validity) [] postings
 
 -- the place of a change is that of one of so many sessions
 abbrev pub IsPlacedIn : Change → ℕ → Type 0

@@ -13,7 +13,7 @@ use Rattle.cc_book.specs.declared.terms.Terms.{Terms}
 use Rattle.cc_book.specs.AccountMachine.{reply_to, kept_reply, postings_of}
 use Rattle.cc_book.specs.Duplicate.{key_of}
 use Rattle.cc_book.specs.History.{IsLegal, ended_sessions, place_of}
-use Rattle.cc_book.specs.Standing.{Stands}
+use Rattle.cc_book.specs.Standing.{Stands, sessions_after}
 
 -- a book, as contracts see it
 pub record Ledger : Type 0 where
@@ -86,3 +86,10 @@ pub record IsBook (terms : Terms) (limit : ℕ) (history : List Entry) (replies 
   pub most : limit ≤ 2 ^ 20
   pub replies_kept : replies ≡ map (λ posting. posting.reply) (postings_of terms history)
   pub stands : Stands terms (postings_of terms history) balances sessions
+  pub sessions_left : sessions ≡ sessions_after terms.validity (postings_of terms history)
+
+-- A book has room for all that its limit lets it keep: entries, their replies, and the sessions that they open.
+pub record HasRoom (limit entries replies sessions : ℕ) : Type 0 where
+  pub for_entries : limit ≤ entries
+  pub for_replies : limit ≤ replies
+  pub for_sessions : limit ≤ sessions

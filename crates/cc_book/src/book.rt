@@ -1,14 +1,13 @@
 //! The account book: a history of requests and sweeps, from which every balance and reply is made.
 
-ghost use Rattle.std.specs.Prelude.{◌≡◌, ◌≤◌, ◌<◌, ◌^◌, [], length, nat_abs, IfNone, IfOk, IfSome, IsSome, OnOk, if◌then◌else◌, nat_lt, Some, None, false, pos, slice_index_or, vec_capacity, vec_len};
+ghost use Rattle.std.specs.Prelude.{◌≡◌, ◌≢◌, ◌≤◌, ◌<◌, ◌^◌, [], length, nat_abs, Err, IfNone, IfOk, IfSome, if◌then◌else◌, nat_lt, Some, None, pos};
 ghost use Rattle.cc_book.specs.declared.book.BookRefusal.TheVariants.{OutOfMemory};
 ghost use Rattle.cc_book.specs.Taking.{AnswersWith, answer_of};
 
+mod planning;
+
 use crate::account::{Account, Money};
-use crate::copy::{copy_of_reply, copy_of_request};
 use crate::entry::Entry;
-use crate::key::kept;
-use crate::session::OpenSession;
 use crate::standing::Standing;
 use crate::terms::Terms;
 use cc_rating::Tariffs;
@@ -66,13 +65,16 @@ pub struct Book {
 }
 
 impl Model for Book {
-    ghost use Rattle.cc_book.specs.Taking.{IsBook, Ledger};
+    ghost use Rattle.std.specs.Prelude.{vec_capacity};
+    ghost use Rattle.cc_book.specs.Taking.{HasRoom, IsBook, Ledger};
 
     ghost Value = { Ledger };
 
     ghost view = { λ b. record { terms = b.terms; limit = b.limit; history = b.history.items } };
 
-    ghost invariant = { λ b. IsBook b.terms b.limit b.history.items b.replies.items b.standing.balances.items b.standing.sessions.items };
+    ghost invariant = { λ b.
+        IsBook b.terms b.limit b.history.items b.replies.items b.standing.balances.items b.standing.sessions.items
+        × HasRoom b.limit (vec_capacity b.history) (vec_capacity b.replies) (vec_capacity b.standing.sessions) };
 }
 
 impl Book {
@@ -81,7 +83,8 @@ impl Book {
     ghost use Rattle.cc_book.specs.Taking.{Ledger, SweepsWith, is_fresh, sweep_answer, after_sweep_with, with_take};
 
     /// A book with no entry. It takes up to `limit` entries, which the caller keeps to [`HISTORY_LIMIT`] so that no
-    /// sum of amounts leaves 128 bits; `validity` is the Validity-Time of grants in seconds.
+    /// sum of amounts leaves 128 bits, and has room for them from the start, so that no entry is ever moved;
+    /// `validity` is the Validity-Time of grants in seconds.
     pub fn new(
         alloc: Global,
         accounts: Vec<Account>,
@@ -95,7 +98,8 @@ impl Book {
         ensures limit { IfOk result (λ book. book.limit ≡ limit) }
         ensures history { IfOk result (λ book. book.history ≡ []) }
     {
-        let standing = Standing::new(alloc, &accounts)?;
+        let room = limit as usize;
+        let standing = Standing::new(alloc, &accounts, room)?;
         Ok(Book {
             terms: Terms {
                 accounts: Listing::from_vec(accounts),
@@ -104,8 +108,8 @@ impl Book {
                 money,
             },
             limit,
-            history: Vec::new(alloc),
-            replies: Vec::new(alloc),
+            history: Vec::with_capacity(alloc, room)?,
+            replies: Vec::with_capacity(alloc, room)?,
             standing,
         })
     }
@@ -119,26 +123,14 @@ impl Book {
     ) -> Result<Answered, BookRefusal>
         ensures { AnswersWith (answer_of self.now request.now) result }
     {
-        if let Some((place, _)) = kept(&self.history, request) {
-            return Ok(kept_answer(alloc, &self.replies, place)?);
-        }
-        let Some(place) = free_place(&self.history, self.limit) else {
-            return Err(BookRefusal::Full { limit: self.limit });
-        };
-        let outcome = self
-            .terms
-            .outcome_of(alloc, &self.standing, moment, request)?;
-        let reply = outcome.reply;
-        Ok(Answered {
-            reply,
-            place,
-            fresh: true,
-        })
+        let plan = self.plan(alloc, moment, request)?;
+        Ok(plan.into_answered())
     }
 
     /// Takes a request (RFC 8506, section 6). One whose key is kept gets the kept reply and its place, and nothing
     /// changes, whatever else it holds. Another one is charged and appended, unless the history is at its limit: Full.
-    /// Memory is wanted only for what is not refused. After a refusal the book is unchanged.
+    /// Memory is wanted only for what is not refused. After a refusal the book is unchanged. It is a plan that is
+    /// committed at once.
     pub fn take(
         &mut self,
         alloc: Global,
@@ -148,40 +140,18 @@ impl Book {
         ensures answer { AnswersWith (answer_of self.old request.now) result }
         ensures after { self.new ≡ (if is_fresh result then with_take self.old moment request.now else self.old) }
     {
-        if let Some((place, _)) = kept(&self.history, request) {
-            return Ok(kept_answer(alloc, &self.replies, place)?);
-        }
-        let Some(place) = free_place(&self.history, self.limit) else {
-            return Err(BookRefusal::Full { limit: self.limit });
-        };
-        let outcome = self
-            .terms
-            .outcome_of(alloc, &self.standing, moment, request)?;
-        let reply = copy_of_reply(alloc, &outcome.reply)?;
-        let request = copy_of_request(alloc, request)?;
-        make_room(
-            &mut self.history,
-            &mut self.replies,
-            &mut self.standing.sessions,
-        )?;
-        self.history.push_reserved(Entry::Take { moment, request });
-        self.replies.push_reserved(Some(reply));
-        self.standing.debit(outcome.account, outcome.debit);
-        self.standing.change(outcome.change);
-        Ok(Answered {
-            reply: outcome.reply,
-            place,
-            fresh: true,
-        })
+        let plan = self.plan(alloc, moment, request)?;
+        Ok(self.commit(plan))
     }
 
     /// Ends each session whose deadline is at most the moment: a session lasts for twice its validity from its last
     /// request on that is no EVENT (RFC 8506, section 13), and what it had reserved is free again. It answers how many
-    /// ended, and appends an entry only where some did. Full where some would and the history is at its limit. Memory is
-    /// wanted only for that entry. After a refusal the book is unchanged. Moments need not rise from call to call.
+    /// ended, and appends an entry only where some did. Full where some would and the history is at its limit: the book is
+    /// unchanged then. It takes no memory. Moments need not rise from call to call.
     pub fn sweep(&mut self, moment: Moment) -> Result<u64, BookRefusal>
         ensures answer { SweepsWith (sweep_answer self.old moment) result }
         ensures after { self.new ≡ after_sweep_with self.old moment result }
+        ensures memory { result ≢ Err OutOfMemory }
     {
         let ended = self.standing.count_due(self.terms.validity, moment);
         if ended == 0 {
@@ -190,7 +160,6 @@ impl Book {
         let Some(_place) = free_place(&self.history, self.limit) else {
             return Err(BookRefusal::Full { limit: self.limit });
         };
-        make_room_for_entry(&mut self.history, &mut self.replies)?;
         self.history.push_reserved(Entry::Sweep { moment });
         self.replies.push_reserved(None);
         self.standing.sweep(self.terms.validity, moment);
@@ -244,25 +213,6 @@ impl Book {
     }
 }
 
-/// The answer to a repeat: the reply that is kept at this place.
-fn kept_answer(
-    alloc: Global,
-    replies: &[Option<CcReply>],
-    place: usize,
-) -> Result<Answered, AllocError>
-    requires { IsSome (slice_index_or replies.now place None) }
-    ensures { IfOk result (λ answered. IfSome (slice_index_or replies.now place None) (λ reply. answered ≡ record { reply = reply; place = place; fresh = false })) }
-{
-    match &replies[place] {
-        Some(reply) => Ok(Answered {
-            reply: copy_of_reply(alloc, reply)?,
-            place: place as u64,
-            fresh: false,
-        }),
-        None => unreachable!(),
-    }
-}
-
 /// The place of the next entry. None where the history is at its limit.
 fn free_place(history: &[Entry], limit: u64) -> Option<u64>
     ensures some { IfSome result (λ place. (place ≡ length history.now) × (length history.now < limit)) }
@@ -273,32 +223,4 @@ fn free_place(history: &[Entry], limit: u64) -> Option<u64>
         return None;
     }
     Some(place)
-}
-
-/// Makes room for one more entry and its reply. Whatever comes of it, they stay as they were.
-fn make_room_for_entry(
-    history: &mut Vec<Entry>,
-    replies: &mut Vec<Option<CcReply>>,
-) -> Result<(), AllocError>
-    ensures history { history.new.items ≡ history.old.items }
-    ensures replies { replies.new.items ≡ replies.old.items }
-    ensures room { OnOk result ((vec_len history.new < vec_capacity history.new) × (vec_len replies.new < vec_capacity replies.new)) }
-{
-    history.reserve(1)?;
-    replies.reserve(1)
-}
-
-/// Makes room for one more of each. Whatever comes of it, they stay as they were.
-fn make_room(
-    history: &mut Vec<Entry>,
-    replies: &mut Vec<Option<CcReply>>,
-    sessions: &mut Vec<OpenSession>,
-) -> Result<(), AllocError>
-    ensures history { history.new.items ≡ history.old.items }
-    ensures replies { replies.new.items ≡ replies.old.items }
-    ensures sessions { sessions.new.items ≡ sessions.old.items }
-    ensures room { OnOk result ((vec_len history.new < vec_capacity history.new) × (vec_len replies.new < vec_capacity replies.new) × (vec_len sessions.new < vec_capacity sessions.new)) }
-{
-    make_room_for_entry(history, replies)?;
-    sessions.reserve(1)
 }

@@ -154,9 +154,12 @@ fn action_debit(total: u128, code: ResultCode, action: Option<RequestedAction>) 
     ensures least { negsuc (2 ^ 90) ≤ℤ result }
     ensures most { result ≤ℤ pos (2 ^ 90) }
 {
-    match (code, action) {
-        (ResultCode::Success, Some(RequestedAction::DirectDebiting)) => total as i128,
-        (ResultCode::Success, Some(RequestedAction::RefundAccount)) => -(total as i128),
-        _ => 0,
+    if code != ResultCode::Success {
+        return 0;
+    }
+    match action {
+        Some(RequestedAction::DirectDebiting) => total as i128,
+        Some(RequestedAction::RefundAccount) => -(total as i128),
+        Some(RequestedAction::CheckBalance | RequestedAction::PriceEnquiry) | None => 0,
     }
 }

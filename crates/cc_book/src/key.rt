@@ -19,10 +19,13 @@ pub fn kept<'a>(history: &'a [Entry], request: &CcRequest) -> Option<(usize, &'a
     ensures { MatchOption result (IsNew history.now (key_of request.now)) (λ x. IsKeptAt history.now (key_of request.now) x.0 x.1.now) }
 {
     for (place, entry) in history.iter().enumerate() {
-        if let Entry::Take { request: taken, .. } = entry {
-            if same_key(taken, request) {
-                return Some((place, taken));
+        match entry {
+            Entry::Take { request: taken, .. } => {
+                if same_key(taken, request) {
+                    return Some((place, taken));
+                }
             }
+            Entry::Sweep { .. } => {}
         }
     }
     None

@@ -90,7 +90,7 @@ pub fn keys_are_distinct()
 {}
 
 /// Two requests have one key exactly where they have one Session-Id and one CC-Request-Number (RFC 8506, section 8.2).
-pub fn what_a_key_is()
+pub fn keys_are_session_and_number()
     ensures { (one other : CcRequest) →
         (same_key (key_of one) (key_of other) ≡ true) ↔ ((one.session ≡ other.session) × (one.number ≡ other.number)) }
 {}
@@ -206,7 +206,7 @@ pub fn sessions_and_services_stand_apart()
 {}
 
 /// The worked example: the four actions of an EVENT on 3200 octets, which cost 20 (RFC 8506, section 8.41).
-pub fn what_events_do()
+pub fn events_are_charged_by_their_action()
     ensures shown { reply_to row_terms [] (event_on (codes "491700000001") DirectDebiting) ≡ success (row_reply None Success (Some 3200) None false ∷ []) }
     ensures debited { balance_of row_terms (taken 1000 (event_on (codes "491700000001") DirectDebiting) ∷ []) 0 ≡ pos 980 }
     ensures refund { reply_to row_terms [] (event_on (codes "491700000001") RefundAccount) ≡ code_alone Success }
@@ -221,7 +221,7 @@ pub fn what_events_do()
 /// The worked example: whom a request charges. The first of its Subscription-Ids that is of an account counts, by type
 /// and text; an EVENT charges the account that it names, also under the Session-Id of another's session. An account may
 /// begin in debt.
-pub fn whom_requests_charge()
+pub fn first_known_subscription_is_charged()
     ensures first_known { account_of row_terms.accounts (subscription 0 (codes "499") ∷ subscription 0 (codes "491700000004") ∷ subscription 0 (codes "491700000002") ∷ []) ≡ Some 3 }
     ensures of_another_type { account_of row_terms.accounts (subscription 1 (codes "491700000001") ∷ []) ≡ None }
     ensures of_another_text { account_of row_terms.accounts (subscription 0 (codes "49170000000") ∷ []) ≡ None }
@@ -232,7 +232,7 @@ pub fn whom_requests_charge()
 
 /// The worked example: the units of each kind of tariff, among counts of seconds, of octets and of pieces (RFC 8506,
 /// sections 8.18 and 8.19): what is asked, what was used, and the code of the AVP in which they are told.
-pub fn which_units_count()
+pub fn tariff_kinds_choose_the_count()
     ensures seconds_asked { asked_of (tariff_in Time) counted_service ≡ Some 1 }
     ensures octets_asked { asked_of (tariff_in Octets) counted_service ≡ Some 2 }
     ensures pieces_asked { asked_of (tariff_in Units) counted_service ≡ Some 3 }
@@ -247,7 +247,7 @@ pub fn which_units_count()
 /// The worked example: what an INITIAL is granted where a block of 1000 octets costs 5, and what is then reserved. All
 /// that is asked is granted where it is free; else the whole blocks that are free, as the last grant; else nothing
 /// (RFC 8506, section 5.2).
-pub fn what_openings_grant()
+pub fn openings_grant_what_is_free()
     ensures full { reply_to row_terms [] (initial (codes "491700000001") any_units) ≡ success (granted_units None 5000 false ∷ []) }
     ensures full_held { reserved_of row_terms (opened_by (codes "491700000001")) 0 ≡ 25 }
     ensures cut_down { reply_to row_terms [] (initial (codes "491700000002") any_units) ≡ success (granted_units None 2000 true ∷ []) }
@@ -265,7 +265,7 @@ pub fn what_openings_grant()
 /// The worked example: an UPDATE ends the reservation of its service, debits what was used, though the balance falls
 /// below zero, and grants anew of what is free then. It charges the account that opened the session (RFC 8506,
 /// section 5.3).
-pub fn what_updates_settle()
+pub fn updates_debit_and_then_grant()
     ensures granted { reply_to row_terms (opened_by (codes "491700000001")) (update (codes "491700000001") 3000) ≡ success (granted_units None 5000 false ∷ []) }
     ensures debited { balance_of row_terms (updated_by (codes "491700000001") 3000) 0 ≡ pos 985 }
     ensures held { reserved_of row_terms (updated_by (codes "491700000001") 3000) 0 ≡ 25 }
@@ -282,7 +282,7 @@ pub fn what_updates_settle()
 /// The worked example: a TERMINATION debits what was used, ends the reservations of its session and the session. After
 /// it the session is unknown, until an INITIAL opens it anew. Nothing is granted to a TERMINATION (RFC 8506,
 /// section 5.4).
-pub fn what_terminations_end()
+pub fn terminations_debit_and_end()
     ensures answered { reply_to row_terms (opened_by (codes "491700000001")) (termination (codes "491700000001") 3000) ≡ success (no_units None Success ∷ []) }
     ensures debited { balance_of row_terms (ended_by (codes "491700000001") 3000) 0 ≡ pos 985 }
     ensures released { reserved_of row_terms (ended_by (codes "491700000001") 3000) 0 ≡ 0 }
@@ -300,7 +300,7 @@ pub fn what_terminations_end()
 
 /// The worked example: a sweep ends a session twice its validity after its last request, and what it held is free again
 /// (RFC 8506, section 13).
-pub fn what_sweeps_release()
+pub fn sweeps_release_what_was_held()
     ensures too_early { reserved_of row_terms (opened_by (codes "491700000001") ++ Sweep (record { 0 = 1200999 }) ∷ []) 0 ≡ 25 }
     ensures released { reserved_of row_terms (opened_by (codes "491700000001") ++ Sweep (record { 0 = 1201000 }) ∷ []) 0 ≡ 0 }
     ensures ended { ended_sessions row_terms (opened_by (codes "491700000001")) (record { 0 = 1201000 }) ≡ 1 }
@@ -311,7 +311,7 @@ pub fn what_sweeps_release()
 
 /// The worked example: how many sessions a sweep ends. An UPDATE moves the deadline, also back, and an EVENT does not. A
 /// deadline may lie beyond the last moment there is. Full is answered only where a session is due.
-pub fn what_sweeps_end()
+pub fn sweeps_end_sessions_at_their_deadline()
     ensures too_early { sweep_answer (row_book 10 (opened_by (codes "491700000001"))) (record { 0 = 1200999 }) ≡ Ok 0 }
     ensures due { sweep_answer (row_book 10 (opened_by (codes "491700000001"))) (record { 0 = 1201000 }) ≡ Ok 1 }
     ensures moved { sweep_answer (row_book 10 (opened_then 500000 (update (codes "491700000001") 0))) (record { 0 = 1699999 }) ≡ Ok 0 }
@@ -325,7 +325,7 @@ pub fn what_sweeps_end()
 
 /// The worked example: the services of a request are granted in order, each of what those before it leave free, and
 /// each has a Result-Code of its own (RFC 8506, section 5.1.2). One without a tariff has no units and is not charged.
-pub fn what_services_share()
+pub fn services_share_what_is_free()
     ensures opened { reply_to row_terms [] two_services_initial ≡ success (granted_units None 5000 false ∷ no_units (Some 1) CreditLimitReached ∷ []) }
     ensures opened_held { reserved_of row_terms (taken 1000 two_services_initial ∷ []) 3 ≡ 25 }
     ensures updated { reply_to row_terms (taken 1000 two_services_initial ∷ []) two_services_update ≡ success (granted_units None 4000 true ∷ no_units (Some 1) Success ∷ []) }
@@ -342,7 +342,7 @@ pub fn what_services_share()
 
 /// The worked example: where a request has a service of the command itself, its Result-Code is the command's. An
 /// INITIAL that is refused so opens no session and reserves nothing.
-pub fn what_bare_services_decide()
+pub fn bare_services_decide_the_result()
     ensures granted { reply_to bare_terms [] (bare_initial (codes "491700000001")) ≡ bare_reply Success (Some 5000) (Some 600) }
     ensures opened { open_sessions_of bare_terms (taken 1000 (bare_initial (codes "491700000001")) ∷ []) ≡ 1 }
     ensures refused { reply_to bare_terms [] (bare_initial (codes "491700000003")) ≡ bare_reply CreditLimitReached None None }
@@ -354,7 +354,7 @@ pub fn what_bare_services_decide()
 
 /// The worked example: an EVENT under the Session-Id of an open session is charged beside it. It leaves the session
 /// open and its reservation as it was, and what is reserved is not free for it (RFC 8506, section 6).
-pub fn what_events_leave_alone()
+pub fn events_leave_sessions_alone()
     ensures debited { balance_of row_terms (opened_by (codes "491700000001") ++ taken 2000 (event_between (codes "491700000001") DirectDebiting) ∷ []) 0 ≡ pos 980 }
     ensures held { reserved_of row_terms (opened_by (codes "491700000001") ++ taken 2000 (event_between (codes "491700000001") DirectDebiting) ∷ []) 0 ≡ 25 }
     ensures still_open { open_sessions_of row_terms (opened_by (codes "491700000001") ++ taken 2000 (event_between (codes "491700000001") DirectDebiting) ∷ []) ≡ 1 }

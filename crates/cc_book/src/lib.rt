@@ -3,6 +3,8 @@
 //! - [`Book`]: a history of entries, from which every balance and every reply is made. [`Book::take`] charges a
 //!   request and keeps it; a repeat gets the kept reply. [`Book::quote`] says what `take` would answer.
 //!   [`Book::sweep`] ends the sessions that sent no request for twice their validity.
+//! - [`Plan`]: what a request does, found out by [`Book::plan`], which alone may refuse or want memory, and done by
+//!   [`Book::commit`]. Between the two an answer can be spelled: a book is not charged for one that cannot be.
 //! - [`Account`], [`Money`], [`Entry`], [`Answered`], [`BookRefusal`]: what goes in and comes out.
 //!
 //! INITIAL, UPDATE and TERMINATION are answered with what a session is granted and holds of its account, EVENTs
@@ -11,7 +13,7 @@
 //! The reply to a request stands in `specs/AccountMachine`, what entries do to accounts in `specs/Posting` and
 //! `specs/Balance`, sessions and reservations in `specs/Session` and `specs/Reservation`, what services ask and used
 //! in `specs/ServiceRating`, the history in `specs/History` and `specs/Duplicate`, what it has left in
-//! `specs/Standing`, and a call in `specs/Taking`.
+//! `specs/Standing`, a call in `specs/Taking`, and its two halves in `specs/Planning`.
 //! `specs/RowExample` and `specs/SessionExample` are worked examples. The functions of `laws` have no body: their
 //! contracts are laws of these definitions.
 //!
@@ -22,6 +24,9 @@
 //!     Err(BookRefusal::Full { limit }) => refuse(limit), // the book is unchanged
 //!     Err(BookRefusal::OutOfMemory) => give_up(),        // and here
 //! }
+//! let plan = book.plan(alloc, Moment(2000), &request)?;  // the book is as it was
+//! let answer = spell(plan.answered())?;                  // and if this fails, it stays so
+//! let answered = book.commit(plan);                      // it has taken the request
 //! let ended = book.sweep(Moment(1_201_000))?;            // Full only where there is something to end
 //! let balance = book.balance(0);                         // of the first account
 //! ```
@@ -36,6 +41,7 @@ mod event;
 mod key;
 mod laws;
 mod outcome;
+mod plan;
 mod session;
 mod settling;
 mod standing;
@@ -45,17 +51,20 @@ pub use account::{Account, Money};
 pub use book::{Answered, Book, BookRefusal};
 pub use entry::Entry;
 pub use laws::{
-    balances_move_by_debits, books_with_one_history_answer_alike, checks_tell_what_is_free,
-    debits_pay_for_what_is_granted, ended_sessions_hold_nothing, grants_are_of_what_is_free,
-    grants_are_reserved, kept_replies_are_of_entries, kept_reply_is_the_first, kept_reply_stays,
-    keys_are_distinct, legal_histories_grow, new_keys_have_no_reply,
-    openings_less_debits_are_balances, other_requests_are_refused, refunds_are_debits_below_zero,
-    repeats_change_nothing, replies_fit, replies_grant_units, requests_leave_other_accounts_alone,
-    requests_leave_other_services_alone, requests_leave_other_sessions_alone,
-    services_are_held_once, sessions_and_services_stand_apart, sessions_last_twice_their_validity,
-    sessions_pay_for_what_is_used, sweeps_end_a_session_once, sweeps_end_what_is_due,
-    the_empty_history_is_legal, what_a_key_is, what_bare_services_decide, what_events_do,
-    what_events_leave_alone, what_openings_grant, what_services_share, what_sweeps_end,
-    what_sweeps_release, what_terminations_end, what_updates_settle, which_units_count,
-    whom_requests_charge,
+    balances_move_by_debits, bare_services_decide_the_result, books_with_one_history_answer_alike,
+    checks_tell_what_is_free, debits_pay_for_what_is_granted, ended_sessions_hold_nothing,
+    events_are_charged_by_their_action, events_leave_sessions_alone,
+    first_known_subscription_is_charged, grants_are_of_what_is_free, grants_are_reserved,
+    kept_replies_are_of_entries, kept_reply_is_the_first, kept_reply_stays, keys_are_distinct,
+    keys_are_session_and_number, legal_histories_grow, new_keys_have_no_reply,
+    openings_grant_what_is_free, openings_less_debits_are_balances, other_requests_are_refused,
+    refunds_are_debits_below_zero, repeats_change_nothing, replies_fit, replies_grant_units,
+    requests_leave_other_accounts_alone, requests_leave_other_services_alone,
+    requests_leave_other_sessions_alone, services_are_held_once, services_share_what_is_free,
+    sessions_and_services_stand_apart, sessions_last_twice_their_validity,
+    sessions_pay_for_what_is_used, sweeps_end_a_session_once,
+    sweeps_end_sessions_at_their_deadline, sweeps_end_what_is_due, sweeps_release_what_was_held,
+    tariff_kinds_choose_the_count, terminations_debit_and_end, the_empty_history_is_legal,
+    updates_debit_and_then_grant,
 };
+pub use plan::Plan;

@@ -137,7 +137,7 @@ fn made_grant(grant: Option<Grant>) -> Option<Grant>
 {
     match grant {
         Some(grant) if !(grant.last && grant.units == 0) => Some(grant),
-        _ => None,
+        Some(_) | None => None,
     }
 }
 
@@ -146,7 +146,7 @@ fn code_of_grant(grant: Option<Grant>) -> ResultCode
 {
     match grant {
         Some(grant) if grant.last && grant.units == 0 => ResultCode::CreditLimitReached,
-        _ => ResultCode::Success,
+        Some(_) | None => ResultCode::Success,
     }
 }
 

@@ -21,12 +21,13 @@ pub struct Standing {
 }
 
 impl Standing {
-    /// What stands before the first request.
-    pub fn new(alloc: Global, accounts: &[Account]) -> Result<Self, AllocError>
+    /// What stands before the first request, with room for so many sessions.
+    pub fn new(alloc: Global, accounts: &[Account], room: usize) -> Result<Self, AllocError>
         ensures balances { IfOk result (λ standing. standing.balances.items ≡ map (λ account. account.opening) accounts.now) }
         ensures least { IfOk result (λ standing. All (λ balance. negsuc (2 ^ 63) ≤ℤ balance) standing.balances.items) }
         ensures most { IfOk result (λ standing. All (λ balance. balance ≤ℤ pos (2 ^ 63)) standing.balances.items) }
         ensures sessions { IfOk result (λ standing. standing.sessions.items ≡ []) }
+        ensures room { IfOk result (λ standing. vec_capacity standing.sessions ≡ room) }
     {
         let mut balances = Vec::new(alloc);
         for account in accounts {
@@ -34,7 +35,7 @@ impl Standing {
         }
         Ok(Standing {
             balances,
-            sessions: Vec::new(alloc),
+            sessions: Vec::with_capacity(alloc, room)?,
         })
     }
 
@@ -124,6 +125,7 @@ impl Standing {
     /// Ends the sessions that have ended by a moment, with all that they hold.
     pub fn sweep(&mut self, validity: u32, moment: Moment)
         ensures sessions { self.new.sessions.items ≡ without_due validity moment self.old.sessions.items }
+        ensures room { vec_capacity self.new.sessions ≡ vec_capacity self.old.sessions }
         ensures balances { self.new.balances ≡ self.old.balances }
     {
         self.sessions
@@ -150,6 +152,7 @@ impl Standing {
         requires room { vec_len self.old.sessions < vec_capacity self.old.sessions }
         requires within { IsPlacedIn change (length self.old.sessions.items) }
         ensures sessions { self.new.sessions.items ≡ after_change self.old.sessions.items change }
+        ensures room { vec_capacity self.new.sessions ≡ vec_capacity self.old.sessions }
         ensures balances { self.new.balances ≡ self.old.balances }
     {
         match change {

@@ -38,18 +38,18 @@ pub fn last_grants_are_cut_down()
 
 /// Tariffs have no fault exactly where each is in its ranges and is for a group or for an identifier, and
 /// no service is rated by two of them.
-pub fn what_tariffs_are()
+pub fn sound_tariffs_have_no_fault()
     ensures { (tariffs : List Tariff) → (fault_of tariffs ≡ None) ↔ AreTariffs tariffs }
 {}
 
 /// Worked examples: each block that is begun costs its price.
-pub fn what_units_cost()
+pub fn begun_blocks_are_paid()
     ensures blocks { map (cost_of by_group) (0 ∷ 1 ∷ 1000 ∷ 1001 ∷ 3200 ∷ 5000 ∷ []) ≡ 0 ∷ 5 ∷ 5 ∷ 10 ∷ 20 ∷ 25 ∷ [] }
     ensures most { cost_of dear most_units ≡ 19342813113834066794250240 }
 {}
 
 /// Worked examples: what is granted of what is free. Five blocks cost 25, and 10,000 octets are granted at most.
-pub fn what_a_grant_holds()
+pub fn grants_hold_their_cost()
     ensures all_free { grant_of by_group (pos 1000) 5000 ≡ grant 5000 25 false }
     ensures just_free { grant_of by_group (pos 25) 5000 ≡ grant 5000 25 false }
     ensures begun_block { grant_of by_group (pos 27) 4500 ≡ grant 4500 25 false }
@@ -66,7 +66,7 @@ pub fn what_a_grant_holds()
 {}
 
 /// Worked examples: the fault of a tariff behind another one, which is for the Rating-Group 10.
-pub fn which_tariffs_are_refused()
+pub fn tariffs_are_refused_out_of_range_or_twice()
     ensures same_group { fault_behind by_group ≡ Some Twice }
     ensures both_keys { fault_behind by_both ≡ Some Twice }
     ensures other_key { fault_behind by_identifier ≡ None }
@@ -84,7 +84,7 @@ pub fn which_tariffs_are_refused()
 
 /// Worked examples: the tariff of a service is that of its Rating-Group, where it has one, and else that of its
 /// Service-Identifier.
-pub fn which_tariff_rates_a_service()
+pub fn rating_groups_come_before_identifiers()
     ensures group { find (rates (Some 10) (Some 7)) (by_group ∷ by_identifier ∷ []) ≡ Some by_group }
     ensures identifier { find (rates None (Some 7)) (by_group ∷ by_identifier ∷ []) ≡ Some by_identifier }
     ensures other_group { find (rates (Some 11) (Some 7)) (by_group ∷ by_identifier ∷ []) ≡ None }

@@ -7,8 +7,8 @@
 //!
 //! What units cost and what is granted stands in `specs/Rating`, which tariffs have a fault in
 //! `specs/Tariffs`, and what the laws speak of in `specs/Laws`. Amounts are whole minor units of money. Worked examples
-//! are laws too: [`what_units_cost`], [`what_a_grant_holds`], [`which_tariffs_are_refused`] and
-//! [`which_tariff_rates_a_service`].
+//! are laws too: [`begun_blocks_are_paid`], [`grants_hold_their_cost`], [`tariffs_are_refused_out_of_range_or_twice`] and
+//! [`rating_groups_come_before_identifiers`].
 //!
 //! ```text
 //! let tariff = Tariff {
@@ -28,9 +28,10 @@ mod tariff;
 mod tariffs;
 
 pub use laws::{
-    cost_is_of_fewest_blocks, grants_are_free, grants_are_the_most_that_is_free,
-    last_grants_are_cut_down, what_a_grant_holds, what_tariffs_are, what_units_cost,
-    which_tariff_rates_a_service, which_tariffs_are_refused,
+    begun_blocks_are_paid, cost_is_of_fewest_blocks, grants_are_free,
+    grants_are_the_most_that_is_free, grants_hold_their_cost, last_grants_are_cut_down,
+    rating_groups_come_before_identifiers, sound_tariffs_have_no_fault,
+    tariffs_are_refused_out_of_range_or_twice,
 };
 pub use tariff::{BLOCK_LIMIT, Grant, PRICE_LIMIT, SECONDS_LIMIT, Tariff, UNITS_LIMIT, UnitKind};
 pub use tariffs::{TariffFault, Tariffs};

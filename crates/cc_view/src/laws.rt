@@ -15,7 +15,9 @@ ghost use Rattle.cc_view.specs.Readdressing.{sent_again, with_identifiers};
 ghost use Rattle.cc_view.specs.Refusal.{avps_of};
 ghost use Rattle.cc_view.specs.Refusal.FaultyAvps.{IsFaultOf};
 ghost use Rattle.cc_view.specs.RefusalByCode.{refusal_by_code};
+ghost use Rattle.cc_view.specs.Request.Number.{action_number, kind_number};
 ghost use Rattle.cc_view.specs.RequestView.{view_of};
+ghost use Rattle.cc_view.specs.RequestView.Content.{action_by, kind_by};
 ghost use Rattle.cc_view.specs.RequestView.Readable.{IsReadable};
 ghost use Rattle.cc_view.specs.RequestView.UnreadAvps.{DifferUnread};
 ghost use Rattle.cc_view.specs.Answer.Writing.{octets_avp};
@@ -24,6 +26,8 @@ ghost use Rattle.cc_view.specs.declared.code.ResultCode.TheVariants.{InvalidAvpL
 ghost use Rattle.cc_view.specs.declared.refusal.Refusal.{Refusal};
 ghost use Rattle.cc_view.specs.declared.reply.CcReply.{CcReply};
 ghost use Rattle.cc_view.specs.declared.request.CcRequest.{CcRequest};
+ghost use Rattle.cc_view.specs.declared.request.RequestKind.{RequestKind};
+ghost use Rattle.cc_view.specs.declared.request.RequestedAction.{RequestedAction};
 
 /// The view reads neither identifier of the header, nor the flag T.
 pub fn view_without_identifiers()
@@ -131,4 +135,10 @@ pub fn failed_avps_are_of_the_request()
 pub fn first_debit()
     ensures viewed { view_of [] debit_message ≡ Ok debit_request }
     ensures answered { answer_to front_name realm_name debit_message debit_request debit_reply ≡ answer_message }
+{}
+
+/// Each CC-Request-Type and each Requested-Action is read by its number, and none as another one.
+pub fn kinds_and_actions_are_read_by_their_numbers()
+    ensures kind { (kind : RequestKind) → kind_by (kind_number kind) ≡ kind }
+    ensures action { (action : RequestedAction) → action_by (action_number action) ≡ action }
 {}

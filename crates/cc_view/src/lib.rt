@@ -43,9 +43,10 @@ pub use code::ResultCode;
 pub use laws::{
     answer_by_what_is_carried, answer_without_identifiers, answers_are_read_back,
     answers_read_as_their_kinds, failed_avps_are_of_the_request, failed_avps_are_short,
-    first_debit, forwarded_requests, refusal_by_what_is_carried, refusal_without_identifiers,
-    refusals_are_read_back, refusals_by_code, requests_are_readable, session_is_written,
-    view_without_identifiers, view_without_unread_avps,
+    first_debit, forwarded_requests, kinds_and_actions_are_read_by_their_numbers,
+    refusal_by_what_is_carried, refusal_without_identifiers, refusals_are_read_back,
+    refusals_by_code, requests_are_readable, session_is_written, view_without_identifiers,
+    view_without_unread_avps,
 };
 pub use refusal::{Refusal, refusal_bytes};
 pub use reply::{CcReply, Cost, ServiceReply};

@@ -61,7 +61,7 @@ pub fn read_is_writable()
 {}
 
 /// Worked examples: the AVPs that octets spell, which stand here in hexadecimal.
-pub fn which_avps_octets_spell()
+pub fn octets_spell_their_avps()
     ensures none { split_hex [] ≡ Ok [] }
     ensures one { map split_hex (session_text ∷ record_text ∷ []) ≡ Ok (session ∷ []) ∷ Ok (record_avp ∷ []) ∷ [] }
     ensures request { split_hex request_text ≡ Ok request }
@@ -74,14 +74,14 @@ pub fn which_avps_octets_spell()
 {}
 
 /// Worked examples: the first fault of octets, at its place.
-pub fn which_fault_octets_have()
+pub fn first_fault_of_octets_is_told()
     ensures short { map split_hex (codes "00000107400000" ∷ codes "0000010740000009630000000000011a" ∷ []) ≡ Err (ShortHeader 0) ∷ Err (ShortHeader 12) ∷ [] }
     ensures too_small { map split_hex (codes "0000010740000007" ∷ codes "00000107c000000b00000000" ∷ []) ≡ Err (LengthTooSmall 0 263) ∷ Err (LengthTooSmall 0 263) ∷ [] }
     ensures overrun { map split_hex (codes "000001074000000a63" ∷ codes "0000010740000009630000000000011a400000ff" ∷ []) ≡ Err (Overrun 0 263) ∷ Err (Overrun 12 282) ∷ [] }
 {}
 
 /// Worked examples: the octets that AVPs are written as.
-pub fn what_avps_are_written_as()
+pub fn avps_are_written_with_zero_padding()
     ensures one { map written (session ∷ record_avp ∷ []) ≡ from_hex session_text ∷ from_hex record_text ∷ [] }
     ensures request { written_list request ≡ from_hex request_text }
     ensures answer { written_list answer ≡ from_hex answer_text }
@@ -90,7 +90,7 @@ pub fn what_avps_are_written_as()
 {}
 
 /// Worked examples: a Route-Record behind no AVP and behind one, which gets the padding that it may lack.
-pub fn what_one_avp_more_gives()
+pub fn one_avp_more_pads_the_last()
     ensures whole { map (λ digits. with_avp (from_hex digits) record_avp) ([] ∷ session_text ∷ []) ≡ from_hex record_text ∷ from_hex (session_text ++ record_text) ∷ [] }
     ensures one_octet { with_avp (from_hex (codes "000001074000000e63313b313b3100")) record_avp ≡ from_hex (session_text ++ record_text) }
     ensures two_octets { with_avp (from_hex (codes "000001074000000e63313b313b31")) record_avp ≡ from_hex (session_text ++ record_text) }
@@ -98,7 +98,7 @@ pub fn what_one_avp_more_gives()
 {}
 
 /// Worked examples: the longest values, without and with a Vendor-ID, and those that are one octet too long.
-pub fn which_avps_are_too_long()
+pub fn avp_lengths_end_at_24_bits()
     ensures longest { (value : List ℕ) → length value ≡ 16777207 → length_of (avp 33 value) ≡ 2 ^ 24 - 1 }
     ensures longest_of_vendor { (value : List ℕ) → length value ≡ 16777203 → length_of (vendor_avp 33 value) ≡ 2 ^ 24 - 1 }
     ensures too_long { (value : List ℕ) → length value ≡ 16777208 → length_of (avp 33 value) ≡ 2 ^ 24 }
@@ -108,7 +108,7 @@ pub fn which_avps_are_too_long()
 {}
 
 /// Worked examples: what the flags say, the lengths of headers, and the padding behind the lengths 8 to 12.
-pub fn what_flags_and_lengths_say()
+pub fn flags_are_bits_and_lengths_leave_padding_out()
     ensures vendor { map has_vendor (0 ∷ 127 ∷ 128 ∷ 192 ∷ []) ≡ false ∷ false ∷ true ∷ true ∷ [] }
     ensures mandatory { map is_mandatory (0 ∷ 191 ∷ 64 ∷ 192 ∷ []) ≡ false ∷ false ∷ true ∷ true ∷ [] }
     ensures header { map header_len (64 ∷ 192 ∷ []) ≡ 8 ∷ 12 ∷ [] }
@@ -116,7 +116,7 @@ pub fn what_flags_and_lengths_say()
 {}
 
 /// Worked examples: the numbers of values of four and of eight octets.
-pub fn which_numbers_values_are()
+pub fn values_are_numbers_in_network_order()
     ensures unsigned32 { big_number 4 (from_hex (codes "ff000002")) ≡ 0xff000002 }
     ensures unsigned64 { big_number 8 (from_hex (codes "ff00000000000002")) ≡ 0xff00000000000002 }
     ensures integer32 { map (twos_complement 4) (0xff000002 ∷ 0 ∷ 0x7fffffff ∷ 0x80000000 ∷ 0xffffffff ∷ []) ≡ negsuc 0xfffffd ∷ pos 0 ∷ pos 2147483647 ∷ negsuc 2147483647 ∷ negsuc 0 ∷ [] }

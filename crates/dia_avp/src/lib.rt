@@ -19,9 +19,9 @@
 //! [`written_list_is_read`]) and what was read can be written ([`read_is_writable`]); spellings
 //! differ in their padding alone ([`only_padding_differs`]); and more AVPs may stand behind whole
 //! ones ([`more_avps`]), or behind any with the padding that the last one may lack ([`one_avp_more`]).
-//! Worked examples are laws too ([`which_avps_octets_spell`], [`which_fault_octets_have`],
-//! [`what_avps_are_written_as`], [`what_one_avp_more_gives`], [`which_avps_are_too_long`],
-//! [`what_flags_and_lengths_say`], [`which_numbers_values_are`]).
+//! Worked examples are laws too ([`octets_spell_their_avps`], [`first_fault_of_octets_is_told`],
+//! [`avps_are_written_with_zero_padding`], [`one_avp_more_pads_the_last`], [`avp_lengths_end_at_24_bits`],
+//! [`flags_are_bits_and_lengths_leave_padding_out`], [`values_are_numbers_in_network_order`]).
 //!
 //! ```
 //! use dia_avp::{Octets, PlainWire, Wire, u32_of, with_avp};
@@ -50,10 +50,10 @@ mod writer;
 pub use avp::RawAvp;
 pub use fault::AvpFault;
 pub use laws::{
-    more_avps, one_answer, one_avp_more, one_list, one_reading, only_padding_differs,
-    read_is_writable, what_avps_are_written_as, what_flags_and_lengths_say,
-    what_one_avp_more_gives, which_avps_are_too_long, which_avps_octets_spell,
-    which_fault_octets_have, which_numbers_values_are, written_is_read, written_list_is_read,
+    avp_lengths_end_at_24_bits, avps_are_written_with_zero_padding, first_fault_of_octets_is_told,
+    flags_are_bits_and_lengths_leave_padding_out, more_avps, octets_spell_their_avps, one_answer,
+    one_avp_more, one_avp_more_pads_the_last, one_list, one_reading, only_padding_differs,
+    read_is_writable, values_are_numbers_in_network_order, written_is_read, written_list_is_read,
 };
 pub use number::{i32_of, i64_of, u32_of, u64_of};
 pub use octets::Octets;

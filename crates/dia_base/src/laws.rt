@@ -35,7 +35,7 @@ pub fn equal_without_case()
 {}
 
 /// Worked examples: which octets are an identity. Of octets that are too long nothing else is told.
-pub fn which_octets_are_identities()
+pub fn identities_are_visible_octets()
     ensures good { map fault_of (codes "a" ∷ codes "f1.example" ∷ codes "!~" ∷ replicate 255 97 ∷ []) ≡ None ∷ None ∷ None ∷ None ∷ [] }
     ensures size { map fault_of ([] ∷ replicate 256 97 ∷ replicate 256 32 ∷ []) ≡ Some Empty ∷ Some TooLong ∷ Some TooLong ∷ [] }
     ensures visible { filter (λ octet. is_none (fault_of (octet ∷ []))) (range_with_len 0 256) ≡ range_with_len 33 94 }
@@ -43,7 +43,7 @@ pub fn which_octets_are_identities()
 {}
 
 /// Worked examples: which identities are equal to `C1.Example`, and which come before it or behind it.
-pub fn which_identities_are_equal()
+pub fn identities_are_equal_without_case()
     ensures equal { map (same_folded (codes "C1.Example")) (codes "c1.example" ∷ codes "c1_example" ∷ codes "c1.example." ∷ codes "c1" ∷ []) ≡ true ∷ false ∷ false ∷ false ∷ [] }
     ensures order { map (folded_cmp (codes "C1.Example")) (codes "c1.example" ∷ codes "c1_example" ∷ codes "c1.example." ∷ codes "c1" ∷ codes "B1.EXAMPLE" ∷ []) ≡ Equal ∷ Less ∷ Less ∷ Greater ∷ Greater ∷ [] }
     // What is hashed: all that are equal have one hash.

@@ -14,7 +14,7 @@
 //! for the crates above: how many elements pass a test, and which is the first.
 //!
 //! The functions of `laws` have no body: their contracts are laws of these definitions, for the proofs
-//! of the crates above. [`which_octets_are_identities`] and [`which_identities_are_equal`] are worked
+//! of the crates above. [`identities_are_visible_octets`] and [`identities_are_equal_without_case`] are worked
 //! examples.
 //!
 //! ```
@@ -41,8 +41,8 @@ mod number;
 
 pub use identity::{IDENTITY_LIMIT, Identity, IdentityFault};
 pub use laws::{
-    codes_are_defined, equal_without_case, identities, limits_are_defined,
-    which_identities_are_equal, which_octets_are_identities,
+    codes_are_defined, equal_without_case, identities, identities_are_equal_without_case,
+    identities_are_visible_octets, limits_are_defined,
 };
 pub use limit::{
     HISTORY_LIMIT, MESSAGE_LIMIT, PENDING_LIMIT, QUEUE_LIMIT, SCHEDULE_LIMIT, SERVICE_LIMIT,

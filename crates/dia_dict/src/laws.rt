@@ -35,7 +35,7 @@ pub fn codes_have_names()
 
 /// An AVP of each kind as it is written (RFC 6733, section 4.1). A number stands in network order, padding is zero, and
 /// each has the flag M but Product-Name. Numbers are octets.
-pub fn what_each_kind_is_written_as()
+pub fn each_kind_is_written_in_its_octets()
     ensures unsigned32 { spelling_of 415 (Unsigned32 7) ≡ Ok (0 ∷ 0 ∷ 1 ∷ 159 ∷ 64 ∷ 0 ∷ 0 ∷ 12 ∷ 0 ∷ 0 ∷ 0 ∷ 7 ∷ []) }
     ensures unsigned64 { spelling_of 421 (Unsigned64 3200) ≡ Ok (0 ∷ 0 ∷ 1 ∷ 165 ∷ 64 ∷ 0 ∷ 0 ∷ 16 ∷ 0 ∷ 0 ∷ 0 ∷ 0 ∷ 0 ∷ 0 ∷ 12 ∷ 128 ∷ []) }
     ensures integer32 { spelling_of 429 (Integer32 (negsuc 1)) ≡ Ok (0 ∷ 0 ∷ 1 ∷ 173 ∷ 64 ∷ 0 ∷ 0 ∷ 12 ∷ 255 ∷ 255 ∷ 255 ∷ 254 ∷ []) }
@@ -53,7 +53,7 @@ pub fn what_each_kind_is_written_as()
 
 /// What is not written: a value of another kind, an address of a length that its family has not, a number that is none
 /// of its enumeration, and a value for a code that has no row.
-pub fn what_is_not_written()
+pub fn other_kinds_are_not_written()
     ensures kind { spelling_of 415 (Unsigned64 7) ≡ Err (BadLength 415) }
     ensures address { spelling_of 257 (Address (0 ∷ 2 ∷ 127 ∷ 0 ∷ 0 ∷ 1 ∷ [])) ≡ Err (BadLength 257) }
     ensures enumeration { spelling_of 416 (Enumerated (negsuc 0)) ≡ Err (BadEnumerated 416) }
@@ -62,7 +62,7 @@ pub fn what_is_not_written()
 
 /// What has no row: the AVPs of vendors, the codes before the first one, between two and behind the last, and a name in
 /// another case.
-pub fn what_has_no_row()
+pub fn vendors_have_no_rows()
     ensures vendor { (code vendor : ℕ) → vendor ≢ 0 → row_of code vendor ≡ None }
     ensures code { map name_of (0 ∷ 440 ∷ 462 ∷ []) ≡ None ∷ None ∷ None ∷ [] }
     ensures name { map code_of_name (codes "Rating-Group" ∷ codes "rating-group" ∷ [] ∷ []) ≡ Some 432 ∷ None ∷ None ∷ [] }

@@ -12,9 +12,9 @@
 //!
 //! The functions of `laws` have no body: their contracts are laws of these definitions. Names and
 //! codes match one to one ([`names_and_codes`]), the codes that `dia_base` names are those of the rows
-//! under these names ([`codes_have_names`]), no AVP of a vendor has a row ([`what_has_no_row`]), and what
+//! under these names ([`codes_have_names`]), no AVP of a vendor has a row ([`vendors_have_no_rows`]), and what
 //! is written is read back ([`value_is_read`]). Worked examples say octets and faults
-//! ([`what_each_kind_is_written_as`], [`what_is_not_written`]).
+//! ([`each_kind_is_written_in_its_octets`], [`other_kinds_are_not_written`]).
 //!
 //! ```
 //! use dia_base::{Code, codes::RATING_GROUP};
@@ -42,8 +42,8 @@ mod value;
 
 pub use fault::DictFault;
 pub use laws::{
-    codes_have_names, names_and_codes, value_is_read, what_each_kind_is_written_as,
-    what_has_no_row, what_is_not_written,
+    codes_have_names, each_kind_is_written_in_its_octets, names_and_codes,
+    other_kinds_are_not_written, value_is_read, vendors_have_no_rows,
 };
 pub use row::{Kind, Row};
 pub use rows::{code_of_name, kind_of, name_of, reading_fault, row_of, spell_typed, typed};

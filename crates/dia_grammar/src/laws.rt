@@ -13,19 +13,19 @@ ghost use Rattle.dia_grammar.specs.RequestExample.{action, avp, context, destina
 /// AVPs have no fault exactly where they begin with a Session-Id, each of them that has the flag M is
 /// known, none of the single ones stands there twice, each required one is there, and an event has a
 /// Requested-Action.
-pub fn what_a_request_is()
+pub fn faultless_avps_are_a_request()
     ensures { (vendors : List ℕ) (avps : List RawAvp) → (grammar_fault vendors avps ≡ None) ↔ IsRequest vendors avps }
 {}
 
 /// What a fault says is so: what is missing is something that this request has to have and that is
 /// not there, and the AVP at its place is what it says, with none such before it.
-pub fn what_a_fault_is()
+pub fn told_faults_are_there()
     ensures { (vendors : List ℕ) (avps : List RawAvp) (fault : GrammarFault) → grammar_fault vendors avps ≡ Some fault → IsFaultOf vendors avps fault }
 {}
 
 /// No AVP is a second one of its code exactly where no code stands there twice, and the place of the
 /// first that is one is that of a second one, with no second one before it.
-pub fn what_a_second_one_is()
+pub fn second_ones_are_counted()
     ensures none { (codes : List ℕ) (avps : List RawAvp) → (second_of codes avps ≡ None) ↔ All (λ code. count_by (is_of code) avps ≤ 1) codes }
     ensures some { (codes : List ℕ) (avps : List RawAvp) (at : ℕ) → second_of codes avps ≡ Some at → IsSecondAt codes avps at }
 {}
@@ -48,13 +48,13 @@ pub fn values_do_not_count()
 
 /// Worked examples: what may stand behind the seven AVPs that a request begins with here. AVPs of a listed vendor and of
 /// the codes 1 to 461 are known; those of a vendor are no second ones.
-pub fn which_requests_are_whole()
+pub fn known_avps_may_stand_behind()
     ensures kinds { map fault_behind ((initial ∷ []) ∷ (event ∷ action ∷ []) ∷ (action ∷ event ∷ []) ∷ (short_event ∷ []) ∷ []) ≡ None ∷ None ∷ None ∷ None ∷ [] }
     ensures others { map fault_behind ((initial ∷ vendor_avp 10415 264 ∷ []) ∷ (initial ∷ avp 2 [] ∷ avp 1 [] ∷ []) ∷ []) ≡ None ∷ None ∷ [] }
 {}
 
 /// Worked examples: what is wrong with AVPs behind those seven. Places count from 0.
-pub fn which_fault_a_request_has()
+pub fn faults_are_told_in_their_order()
     ensures missing { map fault_behind ([] ∷ (event ∷ []) ∷ (vendor_avp 10415 416 ∷ []) ∷ []) ≡ Some (Missing 416) ∷ Some (Missing 436) ∷ Some (Missing 416) ∷ [] }
     ensures unknown { map fault_behind ((initial ∷ avp 0 [] ∷ []) ∷ (initial ∷ vendor_avp 10415 900 ∷ avp 462 [] ∷ []) ∷ [])
         ≡ Some (UnknownM 8) ∷ Some (UnknownM 9) ∷ [] }
@@ -68,7 +68,7 @@ pub fn which_fault_a_request_has()
 {}
 
 /// Worked examples: what is wrong with AVPs that do not begin as a request does, where no vendor is listed.
-pub fn which_fault_a_beginning_has()
+pub fn session_ids_come_first()
     ensures session { map (grammar_fault []) ([] ∷ (vendor_avp 10415 263 ∷ host ∷ []) ∷ (avp 462 [] ∷ session ∷ []) ∷ (session ∷ session ∷ []) ∷ [])
         ≡ Some (Missing 263) ∷ Some (Missing 263) ∷ Some FirstNotSessionId ∷ Some (Twice 1) ∷ [] }
     ensures required { map (grammar_fault []) ((session ∷ number ∷ context ∷ host ∷ []) ∷ (session ∷ event ∷ host ∷ realm ∷ destination ∷ []) ∷ [])
@@ -76,7 +76,7 @@ pub fn which_fault_a_beginning_has()
 {}
 
 /// Worked examples: what is asked of a group.
-pub fn what_a_group_lacks()
+pub fn groups_lack_what_is_missing()
     ensures unknown { map (λ vendors. unknown_of vendors group) ([] ∷ (10415 ∷ 7 ∷ []) ∷ []) ≡ Some 1 ∷ None ∷ [] }
     ensures second { map (λ codes. second_of codes group) ((444 ∷ 450 ∷ []) ∷ (444 ∷ 999 ∷ []) ∷ []) ≡ Some 2 ∷ None ∷ [] }
     ensures missing { map (λ codes. missing_of codes group) ((450 ∷ 444 ∷ 443 ∷ []) ∷ (450 ∷ []) ∷ []) ≡ Some 444 ∷ None ∷ [] }

@@ -10,11 +10,11 @@
 //!
 //! `specs/Grammar` says what is asked of the AVPs, case by case in the order in which the cases
 //! decide. The functions of `laws` have no body: their contracts are laws of these definitions. They
-//! say what a request is ([`what_a_request_is`]) and what a fault is ([`what_a_fault_is`],
-//! [`what_a_second_one_is`]), and what leaves the answer as it is ([`more_may_follow`],
+//! say what a request is ([`faultless_avps_are_a_request`]) and what a fault is ([`told_faults_are_there`],
+//! [`second_ones_are_counted`]), and what leaves the answer as it is ([`more_may_follow`],
 //! [`route_record_may_follow`], [`values_do_not_count`]). Worked examples are laws too
-//! ([`which_requests_are_whole`], [`which_fault_a_request_has`], [`which_fault_a_beginning_has`],
-//! [`what_a_group_lacks`]).
+//! ([`known_avps_may_stand_behind`], [`faults_are_told_in_their_order`], [`session_ids_come_first`],
+//! [`groups_lack_what_is_missing`]).
 //!
 //! ```
 //! use dia_base::codes::{SUBSCRIPTION_ID_DATA, SUBSCRIPTION_ID_TYPE};
@@ -39,8 +39,8 @@ mod request;
 pub use asking::{first_missing, first_repeated, first_unknown, is_among, is_known, is_of};
 pub use fault::GrammarFault;
 pub use laws::{
-    more_may_follow, route_record_may_follow, values_do_not_count, what_a_fault_is,
-    what_a_group_lacks, what_a_request_is, what_a_second_one_is, which_fault_a_beginning_has,
-    which_fault_a_request_has, which_requests_are_whole,
+    faultless_avps_are_a_request, faults_are_told_in_their_order, groups_lack_what_is_missing,
+    known_avps_may_stand_behind, more_may_follow, route_record_may_follow, second_ones_are_counted,
+    session_ids_come_first, told_faults_are_there, values_do_not_count,
 };
 pub use request::check;

@@ -49,7 +49,7 @@ pub fn no_cut()
 {}
 
 /// Worked examples: the header of a request, with other flags too.
-pub fn what_a_header_spells()
+pub fn headers_spell_twenty_octets()
     ensures read { read_in request_header_octets ≡ record { header = request_header; version = 1; length = 248 } }
     ensures written { header_octets request_header 248 ≡ request_header_octets }
     // The reserved flag bits are read as anything: 207 is R, P and these.
@@ -61,14 +61,14 @@ pub fn what_a_header_spells()
 
 /// Worked examples: octets that are one message, and octets that are none: one octet more, one less, two messages and a
 /// beginning, and no octets.
-pub fn which_message_octets_are()
+pub fn octets_are_one_whole_message()
     ensures one { map only_message (request_octets ∷ answer_octets ∷ []) ≡ Some request_message ∷ Some answer_message ∷ [] }
     ensures written { map octets_of (request_message ∷ answer_message ∷ []) ≡ request_octets ∷ answer_octets ∷ [] }
     ensures none { map only_message ((request_octets ++ 1 ∷ []) ∷ take 247 request_octets ∷ both ∷ [] ∷ []) ≡ None ∷ None ∷ None ∷ None ∷ [] }
 {}
 
 /// Worked examples: a stream of two messages and a fault.
-pub fn what_a_stream_gives()
+pub fn streams_give_their_whole_messages()
     ensures both { stream_of both ≡ record { messages = request_message ∷ answer_message ∷ []; rest = odd_beginning; fault = Some Length } }
     // In two pieces, wherever it is cut; and each octet alone.
     ensures cut { map (λ cut. given [] (take cut both ∷ drop cut both ∷ [])) (range_with_len 0 433) ≡ replicate 433 (request_message ∷ answer_message ∷ []) }
@@ -76,7 +76,7 @@ pub fn what_a_stream_gives()
 {}
 
 /// Worked examples: the fault of a stream without a whole message. Four octets show it, or one.
-pub fn which_fault_a_stream_has()
+pub fn stream_faults_are_seen_early()
     ensures version { map (λ octets. fault_alone (stream_of octets)) ((2 ∷ []) ∷ (0 ∷ []) ∷ (1 ∷ []) ∷ []) ≡ Some Version ∷ Some Version ∷ None ∷ [] }
     ensures length { map (λ octets. fault_alone (stream_of octets)) ((1 ∷ 0 ∷ 0 ∷ []) ∷ (1 ∷ 0 ∷ 0 ∷ 16 ∷ []) ∷ (1 ∷ 0 ∷ 0 ∷ 20 ∷ []) ∷ odd_beginning ∷ []) ≡ None ∷ Some Length ∷ None ∷ Some Length ∷ [] }
     // 65,536 octets and 65,540 of them.
@@ -84,7 +84,7 @@ pub fn which_fault_a_stream_has()
 {}
 
 /// A message of 65,536 octets is read back whole, and one of 65,540 octets is a fault.
-pub fn which_message_is_too_long()
+pub fn messages_end_at_their_limit()
     ensures longest { (body : List ℕ) → length body ≡ 65516 → only_message (octets_of (answer_with body)) ≡ Some (answer_with body) }
     ensures too_long { (body : List ℕ) → length body ≡ 65520 → fault_alone (stream_of (octets_of (answer_with body))) ≡ Some TooLong }
 {}

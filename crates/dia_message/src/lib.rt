@@ -15,8 +15,8 @@
 //! The functions of `laws` have no body: their contracts are laws of these definitions. Headers and
 //! messages are read back ([`one_header`], [`one_spelling`]), octets are one stream ([`one_stream`],
 //! [`first_message`]), and no cut into pieces matters ([`no_cut`]). Worked examples are laws too
-//! ([`what_a_header_spells`], [`which_message_octets_are`], [`what_a_stream_gives`],
-//! [`which_fault_a_stream_has`], [`which_message_is_too_long`]).
+//! ([`headers_spell_twenty_octets`], [`octets_are_one_whole_message`], [`streams_give_their_whole_messages`],
+//! [`stream_faults_are_seen_early`], [`messages_end_at_their_limit`]).
 //!
 //! ```
 //! use dia_message::{FrameFault, Frames, Out};
@@ -40,9 +40,9 @@ mod message;
 pub use frames::{FrameFault, Frames, whole_message};
 pub use header::{HEADER_LEN, Header, ReadHeader, read_header, write_header};
 pub use laws::{
-    first_message, no_cut, one_header, one_spelling, one_stream, what_a_header_spells,
-    what_a_stream_gives, which_fault_a_stream_has, which_message_is_too_long,
-    which_message_octets_are,
+    first_message, headers_spell_twenty_octets, messages_end_at_their_limit, no_cut,
+    octets_are_one_whole_message, one_header, one_spelling, one_stream,
+    stream_faults_are_seen_early, streams_give_their_whole_messages,
 };
 pub use message::{Message, Out, spell_message};
 

@@ -19,6 +19,32 @@ fn a_stream_is_read(rt: HostRuntime) -> Result<(), Fail> {
     Ok(())
 }
 
+// Some 200,000 octets: three of the longest messages, and 170 headers alone.
+#[test]
+fn a_long_stream_is_read(rt: HostRuntime) -> Result<(), Fail> {
+    let alloc = rt.alloc();
+    let mut stream = Vec::new(alloc);
+    for end in [65_536, 131_072, 196_608] {
+        stream.extend_from_slice(&[1, 1, 0, 0, 0x80, 0, 1, 24])?;
+        stream.resize(end, 0)?;
+    }
+    for _ in 0..170 {
+        stream.extend_from_slice(&[1, 0, 0, 20])?;
+        stream.extend_from_slice(&[0; 16])?;
+    }
+    let mut frames = Frames::new(alloc);
+    assert_eq!(rt; frames.feed(alloc, &stream)?.len(), 173);
+    for length in [1_usize, 7, 1_000, 65_537] {
+        let mut frames = Frames::new(alloc);
+        let mut read = 0_usize;
+        for piece in stream.chunks(length) {
+            read = read.saturating_add(frames.feed(alloc, piece)?.len());
+        }
+        assert_eq!(rt; read, 173);
+    }
+    Ok(())
+}
+
 #[test]
 fn texts_of_frame_faults(rt: HostRuntime) -> Result<(), Fail> {
     let alloc = rt.alloc();

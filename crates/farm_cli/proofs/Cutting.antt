@@ -7,10 +7,10 @@ use Rattle.std.proofs.lemmas.List.{take_all}
 use Rattle.farm_script.specs.declared.fault.LineFault.TheVariants.{UnknownWord, WrongCount, UnknownName, BadNumber, BadHex, BadMessage, TooManySteps, OutOfMemory}
 use Rattle.farm_script.specs.declared.fault.ScriptFault.{ScriptFault}
 use Rattle.farm_script.specs.declared.fault.ScriptFault.TheVariants.{Line, TooLong}
-use Rattle.farm_model.specs.declared.site.Site.{Site}
-use Rattle.farm_model.specs.declared.step.Step.{Step}
+use Rattle.farm_base.specs.declared.site.Site.{Site}
+use Rattle.farm_base.specs.declared.step.Step.{Step}
 use Rattle.farm_script.specs.Schedule.{steps_of, NoneBefore, all_of, readings_from}
-use Rattle.farm_cli.specs.declared.command.Action.{Action}
+use Rattle.farm_command.specs.declared.command.Action.{Action}
 use Rattle.farm_cli.specs.Replay.{Replays, IsRefused}
 
 abbrev Answer : Type 0

@@ -1,4 +1,2 @@
-mod CommandLines
 mod Cutting
 mod Printing
-mod Streams

@@ -1,6 +1,6 @@
 -- How the program ends: its exit status, and what it tells on which stream.
 use Rattle.std.specs.Prelude.{ℕ, Option, Some, None, Result, Ok, Err}
-use Rattle.farm_cli.specs.declared.command.CliFault.TheVariants.{Asked, Refused, NotUtf8, OutOfMemory as no_memory_for_words}
+use Rattle.farm_command.specs.declared.command.CliFault.TheVariants.{Asked, Refused, NotUtf8, OutOfMemory as no_memory_for_words}
 use Rattle.farm_cli.specs.declared.ending.Ending.{Ending}
 use Rattle.farm_cli.specs.declared.ending.Stream.{Stream}
 use Rattle.farm_cli.specs.declared.ending.Stream.TheVariants.{Output, Error}

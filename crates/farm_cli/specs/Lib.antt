@@ -1,6 +1,4 @@
-pub mod CommandLine
 pub mod Ending
 pub mod Output
 pub mod Replay
 pub mod Sites
-pub mod Writing

@@ -7,13 +7,13 @@ use Rattle.dia_base.specs.declared.number.ConnId.{ConnId}
 use Rattle.dia_base.specs.declared.number.NodeNo.{NodeNo}
 use Rattle.dia_message.specs.declared.message.Message.{Message}
 use Rattle.dia_message.specs.Spelling.{octets_of}
-use Rattle.farm_model.specs.declared.site.Site.{Site}
-use Rattle.farm_model.specs.declared.site.Node.{Node}
+use Rattle.farm_base.specs.declared.site.Site.{Site}
+use Rattle.farm_base.specs.declared.site.Node.{Node}
 use Rattle.farm_model.specs.declared.state.Trace.{Trace}
 use Rattle.farm_report.specs.Report.{line_feed, report_of}
-use Rattle.farm_model.specs.Nodes.{is_client}
-use Rattle.farm_cli.specs.declared.command.Action.{Action}
-use Rattle.farm_cli.specs.declared.command.Action.TheVariants.{Replay, Report}
+use Rattle.farm_base.specs.Nodes.{is_client}
+use Rattle.farm_command.specs.declared.command.Action.{Action}
+use Rattle.farm_command.specs.declared.command.Action.TheVariants.{Replay, Report}
 
 -- the name of a node of the site
 abbrev pub name_in : Option Node → List ℕ

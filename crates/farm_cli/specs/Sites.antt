@@ -1,7 +1,7 @@
 -- A replay over the site of a file.
 use Rattle.std.specs.Prelude.{ℕ, List, Result, Ok, Err}
-use Rattle.farm_model.specs.declared.site.Site.{Site}
-use Rattle.farm_model.specs.CheckedSite.{IsChecked}
+use Rattle.farm_base.specs.declared.site.Site.{Site}
+use Rattle.farm_base.specs.CheckedSite.{IsChecked}
 use Rattle.farm_site.specs.Spelling.{Spells}
 use Rattle.farm_cli.specs.Replay.{WasRead}
 use Rattle.farm_cli.specs.declared.fault.Fault.{Fault}

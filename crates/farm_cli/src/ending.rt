@@ -3,9 +3,9 @@
 ghost use Rattle.std.specs.Prelude.{◌≡◌};
 ghost use Rattle.farm_cli.specs.Ending.{status_of, stream_of, replay_status};
 
-use crate::command::CliFault;
 use crate::fault::Fault;
 use crate::replay::ReplayFault;
+use farm_command::CliFault;
 use farm_script::{LineFault, ScriptFault};
 use farm_site::SiteFault;
 

@@ -1,7 +1,7 @@
 //! Why the program does not do what it is asked to do.
 
-use crate::command::CliFault;
 use crate::replay::ReplayFault;
+use farm_command::CliFault;
 use farm_site::SiteFault;
 use thiserror::Error;
 

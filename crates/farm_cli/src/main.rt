@@ -1,6 +1,5 @@
 //! The farm as a program: it replays a schedule from standard input over a site.
 //!
-//! - `command`: what the words of the command line ask for.
 //! - `program`: words, site file, schedule, run and output, in this order.
 //! - `sites`: a replay over the row site, and over the site of a file.
 //! - `replay`: a schedule from a reader, run over a site, and what that prints to a writer.
@@ -8,7 +7,6 @@
 //! - `fault`, `ending`: why the program did not do it, and how it ends.
 #![tactic(auto)]
 
-mod command;
 mod ending;
 mod fault;
 mod output;
@@ -37,6 +35,3 @@ fn main(rt: HostRuntime) -> ExitCode {
     }
     ExitCode::from(ending.status)
 }
-
-#[cfg(test)]
-mod tests;

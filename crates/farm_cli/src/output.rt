@@ -5,9 +5,9 @@ ghost use Rattle.std.specs.List.{concat};
 ghost use Rattle.std.specs.Fmt.{decimal};
 ghost use Rattle.farm_cli.specs.Output.{client_name, name_at, recv_line, end_line, lines_of, output_of};
 
-use crate::command::Action;
 use dia_base::{ConnId, NodeNo};
 use dia_message::{Message, spell_message};
+use farm_command::Action;
 use farm_report::report;
 use farm_world::{Site, Trace, is_client};
 use std::alloc::{AllocError, Global};

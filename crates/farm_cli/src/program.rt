@@ -1,17 +1,17 @@
 //! What the program does, from the words of its command line to its output.
 
-use crate::command::{CliFault, Command, command_of};
 use crate::fault::Fault;
-use crate::replay::{ReplayFault, read_text};
 use crate::sites::{replay_row_site, replay_site_file};
 use dia_base::SCHEDULE_LIMIT;
+use farm_command::{CliFault, Command, command_of};
 use farm_site::{SITE_LIMIT, SiteFault};
+use farm_text::{ReadFault, TEXT_LIMIT, read_text};
 use std::fs::File;
 use std::io::ErrorKind;
 use std::{env, io};
 
 // A text of either is read up to one octet above its limit.
-const _: () = prove!(SITE_LIMIT == SCHEDULE_LIMIT);
+const _: () = prove!(SITE_LIMIT == TEXT_LIMIT && SCHEDULE_LIMIT == TEXT_LIMIT);
 
 /// The words behind the program's name.
 fn words_of(rt: &HostRuntime) -> Result<Vec<String>, CliFault> {
@@ -32,8 +32,8 @@ fn site_file(rt: &HostRuntime, path: &str) -> Result<Vec<u8>, Fault> {
     };
     match read_text(rt.alloc(), &mut file) {
         Ok(octets) => Ok(octets),
-        Err(ReplayFault::OutOfMemory) => Err(Fault::Site(SiteFault::OutOfMemory)),
-        Err(_) => Err(Fault::SiteFile),
+        Err(ReadFault::OutOfMemory) => Err(Fault::Site(SiteFault::OutOfMemory)),
+        Err(ReadFault::Failed) => Err(Fault::SiteFile),
     }
 }
 

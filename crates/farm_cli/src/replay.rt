@@ -1,28 +1,22 @@
 //! A schedule from a reader, run over a site, and what it prints to a writer.
 
-ghost use Rattle.std.specs.Prelude.{◌≡◌, ◌≢◌, ◌<◌, ◌≤◌, ℕ, List, length, take, IfOk, OnOk, OnErr, IfSome, IfErr, IsOkUnless, Err};
-ghost use Rattle.std.specs.Io.KnownBytes.{Keeps, Appends, Consumes, IsAtEnd};
+ghost use Rattle.std.specs.Prelude.{◌≡◌, ◌≢◌, ℕ, List, IfOk, OnErr, OnOk, IfSome, IfErr, IsOkUnless, Err};
+ghost use Rattle.std.specs.Io.KnownBytes.{Keeps, Appends};
 ghost use Rattle.farm_script.specs.declared.fault.ScriptFault.{ScriptFault};
-ghost use Rattle.farm_model.specs.CheckedSite.{IsChecked};
-ghost use Rattle.farm_cli.specs.Replay.{Replays, IsRefused, IsReading, IsOfText, ReadsSchedule, WasRead};
-ghost use Rattle.farm_cli.specs.Writing.{BeginsWriting};
+ghost use Rattle.farm_base.specs.CheckedSite.{IsChecked};
+ghost use Rattle.farm_text.specs.Reading.{ReadsText};
+ghost use Rattle.farm_text.specs.Writing.{BeginsWriting};
+ghost use Rattle.farm_cli.specs.Replay.{Replays, IsRefused, IsOfText, WasRead, of_reading};
 
-use crate::command::Action;
 use crate::output::output;
 use dia_avp::Wire;
-use dia_base::SCHEDULE_LIMIT;
+use farm_command::Action;
 use farm_script::{ScriptFault, steps_of};
+use farm_text::{ReadFault, read_text, write_text};
 use farm_world::{Site, run};
 use std::alloc::Global;
-use std::io;
-use std::io::{ErrorKind, Read, Write};
+use std::io::{Read, Write};
 use thiserror::Error;
-
-/// Interrupted calls of one stream that are tried again.
-const RETRY_LIMIT: u32 = 1_000;
-
-/// How many octets are asked for in one read.
-const PIECE: usize = 4_096;
 
 /// Why a schedule was not replayed, or not to its end.
 #[derive(Clone, Copy, Debug, PartialEq, Eq, Error)]
@@ -37,72 +31,27 @@ pub enum ReplayFault {
     OutOfMemory,
 }
 
-/// One read, which gives nothing only at the end.
-fn read_some<R: Read>(reader: &mut R, piece: &mut [u8]) -> io::Result<usize>
-    requires { 0 < length piece.old }
-    ensures bound { IfOk result (λ count. count ≤ length piece.new) }
-    ensures octets { IfOk result (λ count. Consumes (R.remaining reader.old) (R.remaining reader.new) (take count piece.new)) }
-    ensures end { IfOk result (λ count. count ≡ 0 → IsAtEnd (R.remaining reader.new)) }
-    ensures err { OnErr result (Keeps (R.remaining reader.old) (R.remaining reader.new)) }
-{
-    reader.read(piece)
-}
+impl From<ReadFault> for ReplayFault {
+    ghost from_gives = { λ fault result. result ≡ of_reading fault };
 
-/// Reads until the end, a fault, or one octet above the size limit, which schedules and site files share.
-pub fn read_text<R: Read>(alloc: Global, reader: &mut R) -> Result<Vec<u8>, ReplayFault>
-    ensures text { IfOk result (λ text. IfSome (R.remaining reader.old) (λ octets. text.items ≡ take 16777217 octets)) }
-    ensures read { OnOk result (ReadsSchedule (R.remaining reader.old) (R.remaining reader.new)) }
-    ensures fault { IfErr result IsReading }
-{
-    let mut text = Vec::new(alloc);
-    let mut piece = [0u8; PIECE];
-    let mut interrupted = 0;
-    while text.len() <= SCHEDULE_LIMIT {
-        let room = (SCHEDULE_LIMIT + 1 - text.len()).min(PIECE);
-        match read_some(reader, &mut piece[..room]) {
-            Ok(count) => {
-                if count == 0 {
-                    return Ok(text);
-                }
-                if text.extend_from_slice(&piece[..count]).is_err() {
-                    return Err(ReplayFault::OutOfMemory);
-                }
-            }
-            Err(error) => {
-                if error.kind() != ErrorKind::Interrupted || interrupted >= RETRY_LIMIT {
-                    return Err(ReplayFault::Read);
-                }
-                interrupted += 1;
-            }
+    fn from(fault: ReadFault) -> ReplayFault {
+        match fault {
+            ReadFault::Failed => ReplayFault::Read,
+            ReadFault::OutOfMemory => ReplayFault::OutOfMemory,
         }
     }
-    Ok(text)
 }
 
 /// Writes all of the text. After a fault a beginning of it was written.
-fn write_text<W: Write>(writer: &mut W, text: &[u8]) -> Result<(), ReplayFault>
+fn write_output<W: Write>(writer: &mut W, text: &[u8]) -> Result<(), ReplayFault>
     ensures ok { OnOk result (Appends (W.contents writer.old) (W.contents writer.new) text.now) }
     ensures err { OnErr result (BeginsWriting (W.contents writer.old) (W.contents writer.new) text.now) }
     ensures fault { IsOkUnless result ReplayFault.Write }
 {
-    let mut rest = text;
-    let mut interrupted = 0;
-    while !rest.is_empty() {
-        match writer.write(rest) {
-            Ok(0) => return Err(ReplayFault::Write),
-            Ok(count) => {
-                let (_, behind) = rest.split_at(count);
-                rest = behind;
-            }
-            Err(error) => {
-                if error.kind() != ErrorKind::Interrupted || interrupted >= RETRY_LIMIT {
-                    return Err(ReplayFault::Write);
-                }
-                interrupted += 1;
-            }
-        }
+    match write_text(writer, text) {
+        Ok(()) => Ok(()),
+        Err(_) => Err(ReplayFault::Write),
     }
-    writer.flush().map_err(|_| ReplayFault::Write)
 }
 
 /// What the action prints of a schedule's text, run over the site from an empty history.
@@ -149,7 +98,7 @@ pub fn replay_io<V: Wire, R: Read, W: Write>(
         (printed : List ℕ) × Replays action site.now octets printed × Appends (W.contents writer.old) (W.contents writer.new) printed)) }
 
     // Nothing is read behind the end, nor behind one octet above the size limit.
-    ensures read { WasRead result → ReadsSchedule (R.remaining reader.old) (R.remaining reader.new) }
+    ensures read { WasRead result → ReadsText (R.remaining reader.old) (R.remaining reader.new) }
 
     // Of a schedule that is refused nothing is written, and the fault is its first.
     ensures script { (fault : ScriptFault) → result ≡ Err (ReplayFault.Script fault) →
@@ -162,5 +111,5 @@ pub fn replay_io<V: Wire, R: Read, W: Write>(
 {
     let text = read_text(alloc, reader)?;
     let printed = replay_text::<V>(alloc, action, site, &text)?;
-    write_text(writer, &printed)
+    write_output(writer, &printed)
 }

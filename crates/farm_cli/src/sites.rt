@@ -4,17 +4,18 @@ ghost use Rattle.std.specs.Prelude.{◌≡◌, ◌≢◌, ℕ, List, OnOk, IfErr
 ghost use Rattle.std.specs.Io.KnownBytes.{Keeps, Appends};
 ghost use Rattle.farm_script.specs.declared.fault.ScriptFault.{ScriptFault};
 ghost use Rattle.farm_site.specs.declared.fault.SiteFault.{SiteFault};
-ghost use Rattle.farm_cli.specs.Replay.{Replays, IsRefused, ReadsSchedule, WasRead};
+ghost use Rattle.farm_cli.specs.Replay.{Replays, IsRefused, WasRead};
 ghost use Rattle.farm_site.specs.Faults.{AreWhyOctets};
 ghost use Rattle.farm_cli.specs.Sites.{OfSpelledSite, WasReadBehind};
-ghost use Rattle.farm_model.specs.declared.site.Site.{Site};
-ghost use Rattle.farm_model.specs.RowSite.{the_row_site};
-ghost use Rattle.farm_cli.specs.Writing.{BeginsWriting};
+ghost use Rattle.farm_base.specs.declared.site.Site.{Site};
+ghost use Rattle.farm_base.specs.RowSite.{the_row_site};
+ghost use Rattle.farm_text.specs.Reading.{ReadsText};
+ghost use Rattle.farm_text.specs.Writing.{BeginsWriting};
 
-use crate::command::Action;
 use crate::fault::Fault;
 use crate::replay::{ReplayFault, replay_io};
 use dia_avp::PlainWire;
+use farm_command::Action;
 use farm_site::site_of_octets;
 use farm_world::row_site;
 use std::alloc::Global;
@@ -29,7 +30,7 @@ pub fn replay_row_site<R: Read, W: Write>(
 ) -> Result<(), ReplayFault>
     ensures ok { OnOk result (IfSome (R.remaining reader.old) (λ octets.
         (printed : List ℕ) × Replays action the_row_site octets printed × Appends (W.contents writer.old) (W.contents writer.new) printed)) }
-    ensures read { WasRead result → ReadsSchedule (R.remaining reader.old) (R.remaining reader.new) }
+    ensures read { WasRead result → ReadsText (R.remaining reader.old) (R.remaining reader.new) }
     ensures script { (fault : ScriptFault) → result ≡ Err (ReplayFault.Script fault) →
         IfSome (R.remaining reader.old) (λ octets. IsRefused the_row_site octets fault) }
     ensures nothing { IfErr result (λ fault. fault ≢ ReplayFault.Write → Keeps (W.contents writer.old) (W.contents writer.new)) }
@@ -58,7 +59,7 @@ pub fn replay_site_file<R: Read, W: Write>(
         OfSpelledSite file.now (λ site. IfSome (R.remaining reader.old) (λ octets. IsRefused site octets fault)) }
     ensures write { result ≡ Err (Fault.Replay ReplayFault.Write) → OfSpelledSite file.now (λ site. IfSome (R.remaining reader.old) (λ octets.
         (printed : List ℕ) × Replays action site octets printed × BeginsWriting (W.contents writer.old) (W.contents writer.new) printed)) }
-    ensures read { WasReadBehind result → ReadsSchedule (R.remaining reader.old) (R.remaining reader.new) }
+    ensures read { WasReadBehind result → ReadsText (R.remaining reader.old) (R.remaining reader.new) }
 
     // A site is refused by a fault that its file has. No schedule is read then, and nothing is written.
     ensures why { (fault : SiteFault) → result ≡ Err (Fault.Site fault) → AreWhyOctets file.now fault }

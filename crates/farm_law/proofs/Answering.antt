@@ -1,5 +1,5 @@
 -- What an answer keeps of what it answers, and that it stays one when the book and the refusals grow.
-use Rattle.std.proofs.Common.{◌≡◌, ℕ, Bool, true, false, List, inl, Ok, refl, sym, ap, ◌∙◌}
+use Rattle.std.proofs.Common.{◌≡◌, ◌⊎◌, ℕ, Bool, true, false, List, inl, inr, Ok, refl, sym, subst, ap, ◌∙◌}
 use Rattle.dia_base.specs.declared.number.ConnId.{ConnId}
 use Rattle.dia_base.specs.declared.number.NodeNo.{NodeNo}
 use Rattle.dia_avp.specs.declared.avp.RawAvp.{RawAvp}
@@ -14,7 +14,7 @@ use Rattle.front_core.specs.declared.site.FrontSite.{FrontSite}
 use Rattle.front_core.specs.Answered.{IsAnswered}
 use Rattle.relay_core.specs.Forwarding.{Descends}
 use Rattle.relay_hops.specs.PendingTable.{under}
-use Rattle.farm_law.specs.Answers.{Answers, of_front, of_refusal}
+use Rattle.farm_law.specs.Answers.{IsToldBy, by_relay, Answers, of_front, of_refusal}
 use Rattle.farm_law.specs.Farm.{Refused}
 use Rattle.farm_law.specs.Invariant.{Fits}
 use Rattle.farm_law.specs.Lists.{Has}
@@ -52,10 +52,18 @@ identifiers {p} {message = message} {answer = answer} (of_refusal at tells d has
 
 -- ---- on the way back
 
+-- a relay has an answer from a node: it is linked with it, or it is that node
+abbrev pub HasFrom : Parties → NodeNo → NodeNo → Type 0
+HasFrom p relay node = (p.is_linked relay node ≡ true) ⊎ (node ≡ relay)
+
+told_on : (p : Parties) (author relay node : NodeNo) → p.is_relay relay ≡ true → HasFrom p relay node → IsToldBy p author node → IsToldBy p author relay
+told_on p author relay node is_relay (inl linked) told = by_relay is_relay linked told
+told_on p author relay node is_relay (inr same) told = subst (IsToldBy p author) same told
+
 -- an answer to what descends from a message answers that message, once it has the hop of it and a relay tells it
 pub answers_back : (l : Premises) (p : Parties) {book : Ledger} {refused : List Refused} {node relay : NodeNo} {conn c : ConnId} {first message answer : Message} (avps : List RawAvp) →
-    p.is_relay relay ≡ true → split_of first.body ≡ Ok avps → Descends first message → Answers p book refused node conn message answer → Answers p book refused relay c first (under first.header.hop answer)
-answers_back l p {first = first} {message = message} avps is_relay sp d (of_front front is_front tells a) = of_front front is_front (inl is_relay) (record {
+    p.is_relay relay ≡ true → HasFrom p relay node → split_of first.body ≡ Ok avps → Descends first message → Answers p book refused node conn message answer → Answers p book refused relay c first (under first.header.hop answer)
+answers_back l p {node = node} {relay = relay} {first = first} {message = message} avps is_relay from sp d (of_front front is_front tells a) = of_front front is_front (told_on p front relay node is_relay from tells) (record {
   request = a.request;
   view = sym (l.same_view site.vendors first message avps sp d) ∙ a.view;
   reply = a.reply;
@@ -67,7 +75,7 @@ answers_back l p {first = first} {message = message} avps is_relay sp d (of_fron
   where
     site : FrontSite
     site = p.front_site (p.name_of front)
-answers_back l p {first = first} {message = message} avps is_relay sp d (of_refusal at tells k has e) = of_refusal at (inl is_relay) (l.descends_on first message at.request d k) has (
+answers_back l p {first = first} {message = message} avps is_relay from sp d (of_refusal at tells k has e) = of_refusal at (inl is_relay) (l.descends_on first message at.request d k) has (
     ap (under first.header.hop) (e ∙ l.same_refusal (p.name_of at.node) p.realm first message at.refusal avps sp d)
     ∙ under_refusal (p.name_of at.node) p.realm first at.refusal)
 

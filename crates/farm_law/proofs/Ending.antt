@@ -177,7 +177,7 @@ module _ (p : Parties) {has_ended : ConnId → Bool} {items : List Item} {rows :
     single = λ c node h. let g = count-without (row_in (with_hop c node h)) wr in let u = v.single c node h in omega arith;
     sound = all-in (IsSound p has_ended next_rows book refused sent) wi (λ y h q. Asks-but wr gone (v.sound y h q))
         (λ _. subst (λ (n : NodeNo). Asks p has_ended next_rows sent asker.conn n (Fits p book refused row.relay asker.conn other.message)) (sym (waiting_answer other ids.flag))
-        (to_asker l p is_relay ids.flag a (Asks-but wr gone (subst (λ (o : Option Asker). IsAsked p has_ended rows sent row.request o) at (v.asked row (Has-without wr))))));
+        (to_asker l p is_relay (inr refl) ids.flag a (Asks-but wr gone (subst (λ (o : Option Asker). IsAsked p has_ended rows sent row.request o) at (v.asked row (Has-without wr))))));
     asked = λ z h. IsAsked-map p z.asker (λ one _ b. Asks-but wr gone b) (v.asked z (Has-more wr h));
     owed = v.owed;
     to_servers = all-in (λ (y : Item). y.message.header.request ≡ true → p.is_client y.to ≡ false) wi v.to_servers (λ f. absurd (clash f ids.flag));

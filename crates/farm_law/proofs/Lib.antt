@@ -7,4 +7,5 @@ pub mod Premises
 pub mod Relaying
 pub mod Returning
 pub mod Runs
+pub mod Tallying
 pub mod Weighing

@@ -23,15 +23,15 @@ use Rattle.farm_law.specs.Parties.{Parties}
 use Rattle.farm_law.proofs.Lists.{count-without, Has-without, Has-more, all-in}
 use Rattle.farm_law.proofs.Premises.{Premises}
 use Rattle.farm_law.proofs.Weighing.{clash, waiting_request, weight_request, other_node, single-more}
-use Rattle.farm_law.proofs.Answering.{Fits-self, Fits-answer, answers_back}
+use Rattle.farm_law.proofs.Answering.{HasFrom, Fits-self, Fits-answer, answers_back}
 use Rattle.farm_law.proofs.Asking.{Asks-map, Asks-rows, IsAsked-map}
 
 -- the answer to what a relay has sent goes to the asker
 pub to_asker : (l : Premises) (p : Parties) {has_ended : ConnId → Bool} {rows : List Pending} {book : Ledger} {refused : List Refused} {sent : Traffic} {node relay : NodeNo} {conn : ConnId} {asker : Asker} {request answer : Message} →
-    p.is_relay relay ≡ true → answer.header.request ≡ false → Answers p book refused node conn request answer →
+    p.is_relay relay ≡ true → HasFrom p relay node → answer.header.request ≡ false → Answers p book refused node conn request answer →
     Asks p has_ended rows sent asker.conn asker.node (Stems asker request) → Asks p has_ended rows sent asker.conn asker.node (Fits p book refused relay asker.conn (under asker.hop answer))
-to_asker l p {book = book} {refused = refused} {relay = relay} {asker = asker} {answer = answer} is_relay flag a asks = Asks-map p (λ asked s.
-    Fits-answer flag (subst (λ (h : ℕ). Answers p book refused relay asker.conn asked (under h answer)) s.hop (answers_back l p s.avps is_relay s.splits s.descends a))) asks
+to_asker l p {book = book} {refused = refused} {relay = relay} {asker = asker} {answer = answer} is_relay from flag a asks = Asks-map p (λ asked s.
+    Fits-answer flag (subst (λ (h : ℕ). Answers p book refused relay asker.conn asked (under h answer)) s.hop (answers_back l p s.avps is_relay from s.splits s.descends a))) asks
 
 module _ (p : Parties) {has_ended : ConnId → Bool} {items : List Item} {rows : List Pending} {book : Ledger} {refused : List Refused} {sent received : Traffic} (v : Keeps p has_ended items rows book refused sent received) where
   pub keep_forwards : {item : Item} {rest next : List Item} {next_rows : List Pending} (conn : ConnId) (peer : NodeNo) (hop : ℕ) (avps : List RawAvp) →

@@ -121,9 +121,9 @@ module _ (p : Parties) {has_ended : ConnId → Bool} {items rest : List Item} {r
     within = v.within;
   }
 
-  pub keep_returns : (l : Premises) (asker : Asker) (next : List Item) → p.is_relay item.to ≡ true → row.asker ≡ Some asker →
+  pub keep_returns : (l : Premises) (asker : Asker) (next : List Item) → p.is_relay item.to ≡ true → p.is_linked item.to item.from ≡ true → row.asker ≡ Some asker →
       Without (record { conn = asker.conn; from = item.to; to = asker.node; message = under asker.hop item.message }) next rest → Keeps p has_ended next left book refused sent received
-  keep_returns l asker next is_relay at wi = let m = matched in record {
+  keep_returns l asker next is_relay linked at wi = let m = matched in record {
     clients = λ c h d k.
         let a = count-without (item_in p (with_both c (p.client_on c) h d)) wo in let b = count-without (held_in (with_both c (p.client_on c) h d)) wr in
         let f = count-without (item_in p (with_both c (p.client_on c) h d)) wi in let n = less m.answers (with_both c (p.client_on c) h d) in
@@ -136,7 +136,7 @@ module _ (p : Parties) {has_ended : ConnId → Bool} {items rest : List Item} {r
     single = λ c node h. let g = count-without (row_in (with_hop c node h)) wr in let u = v.single c node h in omega arith;
     sound = all-in (IsSound p has_ended left book refused sent) wi m.sound
         (λ _. subst (λ (n : NodeNo). Asks p has_ended left sent asker.conn n (Fits p book refused item.to asker.conn other.message)) (sym (waiting_answer other flag))
-        (to_asker l p is_relay flag m.answers (subst (λ (o : Option Asker). IsAsked p has_ended left sent row.request o) at (m.asked row (Has-without wr)))));
+        (to_asker l p is_relay (inl linked) flag m.answers (subst (λ (o : Option Asker). IsAsked p has_ended left sent row.request o) at (m.asked row (Has-without wr)))));
     asked = λ z h. m.asked z (Has-more wr h);
     owed = v.owed;
     to_servers = all-in (λ (y : Item). y.message.header.request ≡ true → p.is_client y.to ≡ false) wi (λ y h. v.to_servers y (Has-more wo h)) (λ f. absurd (clash f flag));

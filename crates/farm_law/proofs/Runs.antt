@@ -6,7 +6,7 @@ use Rattle.cc_book.specs.declared.terms.Terms.{Terms}
 use Rattle.cc_book.specs.History.{IsLegal}
 use Rattle.cc_book.specs.Taking.{Ledger}
 use Rattle.relay_core.specs.Forwarding.{same}
-use Rattle.farm_law.specs.Answers.{Answers, of_front, of_refusal}
+use Rattle.farm_law.specs.Answers.{by_itself, Answers, of_front, of_refusal}
 use Rattle.farm_law.specs.Farm.{Refused, Farm}
 use Rattle.farm_law.specs.Invariant.{IsTaken, IsKept, new_farm}
 use Rattle.farm_law.specs.Lists.{Has}
@@ -27,13 +27,13 @@ refusal_told p book refused at = of_refusal at (inr (refl, refl, refl)) same (Ha
 
 -- ---- each move
 
-keep : (l : Premises) (p : Parties) {old new : Farm} → Move p old new → IsKept p old → IsKept p new
+pub keep : (l : Premises) (p : Parties) {old new : Farm} → Move p old new → IsKept p old → IsKept p new
 keep l p (sends conn to message client server wi) k = keep_sends p k conn to message client server wi
 keep l p (receives wo client server at_end from_server) k = keep_receives p k wo client server at_end from_server
 keep l p (loses left) k = keep_loses p k left
 keep l p (moves_on wo wi) k = keep_moves_on p k wo wi
 keep l p (answers {f = f} {item = item} answer wo e is_front a wi) k =
-    let told : Answers p f.book f.refused item.to item.conn item.message answer = of_front item.to is_front (inr refl) a in
+    let told : Answers p f.book f.refused item.to item.conn item.message answer = of_front item.to is_front by_itself a in
     keep_answers p k answer wo e (identifiers told) told wi
 keep l p (takes moment request h e view new room) k = keep_takes p k l moment request h e view new room
 keep l p (sweeps moment due room) k = keep_sweeps p k l moment due room
@@ -42,7 +42,7 @@ keep l p (refuses {f = f} {item = item} refusal wo e wi) k =
     let told = refusal_told p f.book f.refused at in
     keep_answers p (keep_refused p k (at ∷ [])) _ wo e (identifiers told) told wi
 keep l p (forwards conn peer hop avps wo e splits spelled is_relay relay server free wi wr) k = keep_forwards p k conn peer hop avps wo e splits spelled relay server free wi wr
-keep l p (returns {items = items} asker wo flag server is_relay live wr at_conn at_relay at_hop at_asker wi) k = keep_returns p wo flag server live wr at_conn at_relay at_hop k l asker items is_relay at_asker wi
+keep l p (returns {items = items} asker wo flag server is_relay linked live wr at_conn at_relay at_hop at_asker wi) k = keep_returns p wo flag server live wr at_conn at_relay at_hop k l asker items is_relay linked at_asker wi
 keep l p (forgets wo flag server live wr at_conn at_relay at_hop) k = keep_forgets p wo flag server live wr at_conn at_relay at_hop k
 keep l p (orphans o) k = keep_orphans p k o
 keep l p (drops left) k = keep_drops p k left

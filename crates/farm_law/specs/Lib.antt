@@ -5,3 +5,4 @@ pub mod Counts
 pub mod Answers
 pub mod Moves
 pub mod Invariant
+pub mod Tally

@@ -85,7 +85,7 @@ pub data Move (p : Parties) : Farm → Farm → Type 0 where
       Move p f (record f { items = items; rows = rows })
   -- a relay sends an answer back to the asker of its request
   returns : {f : Farm} {item : Item} {row : Pending} {rest items : List Item} {rows : List Pending} (asker : Asker) → Without item f.items rest → item.message.header.request ≡ false →
-      p.is_client item.from ≡ false → p.is_relay item.to ≡ true → f.has_ended item.conn ≡ false →
+      p.is_client item.from ≡ false → p.is_relay item.to ≡ true → p.is_linked item.to item.from ≡ true → f.has_ended item.conn ≡ false →
       Without row f.rows rows → row.conn ≡ item.conn → row.relay ≡ item.to → row.request.header.hop ≡ item.message.header.hop → row.asker ≡ Some asker →
       Without (record { conn = asker.conn; from = item.to; to = asker.node; message = under asker.hop item.message }) items rest →
       Move p f (record f { items = items; rows = rows })

@@ -8,6 +8,8 @@ pub record Parties : Type 0 where
   pub is_client : NodeNo → Bool
   pub is_relay : NodeNo → Bool
   pub is_front : NodeNo → Bool
+  -- the two are linked
+  pub is_linked : NodeNo → NodeNo → Bool
   -- the identity of a node (RFC 6733, section 4.3.1)
   pub name_of : NodeNo → List ℕ
   -- the Origin-Realm of each relay and front, and the vendors whose AVPs are known

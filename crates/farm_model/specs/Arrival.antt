@@ -10,8 +10,8 @@ use Rattle.relay_core.specs.declared.run.RelayEvent.{RelayEvent}
 use Rattle.relay_core.specs.declared.run.RelayEvent.TheVariants.{Received}
 use Rattle.relay_core.specs.RelayRun.{OnEvent}
 use Rattle.relay_core.specs.RelayState.{RelayState}
-use Rattle.farm_model.specs.declared.site.Site.{Site}
-use Rattle.farm_model.specs.Nodes.{is_client}
+use Rattle.farm_base.specs.declared.site.Site.{Site}
+use Rattle.farm_base.specs.Nodes.{is_client}
 use Rattle.farm_model.specs.World.{WorldState, with_traffic_from, with_front, front_at, with_relay, relay_at}
 
 -- ---- a relay
@@ -57,4 +57,5 @@ ArrivesAtServer w node conn message None next = AtRelay w node (Received conn me
 
 -- the farm after a message has come to a node on a connection
 abbrev pub Arrives : Site → WorldState → NodeNo → ConnId → Message → WorldState → Type 0
-Arrives site w node conn message next = MatchBool (is_client site node) (next ≡ after_arrival_at_client w conn message) (ArrivesAtServer w node conn message (front_at node w.fronts) next)
+Arrives site w node conn message next =
+    MatchBool (is_client site node) (next ≡ after_arrival_at_client w conn message) (ArrivesAtServer w node conn message (front_at node w.fronts) next)

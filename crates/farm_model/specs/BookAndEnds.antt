@@ -5,10 +5,10 @@ use Rattle.dia_base.specs.declared.number.NodeNo.{NodeNo}
 use Rattle.cc_book.specs.Taking.{Ledger, after_sweep}
 use Rattle.front_core.specs.FrontRun.{after_event}
 use Rattle.front_core.specs.FrontState.{FrontState}
-use Rattle.farm_model.specs.declared.site.Site.{Site}
+use Rattle.farm_base.specs.declared.site.Site.{Site}
 use Rattle.farm_model.specs.declared.state.Direction.{Direction}
-use Rattle.farm_model.specs.declared.step.Step.{Step}
-use Rattle.farm_model.specs.declared.step.Step.TheVariants.{Up, Charge, Sweep}
+use Rattle.farm_base.specs.declared.step.Step.{Step}
+use Rattle.farm_base.specs.declared.step.Step.TheVariants.{Up, Charge, Sweep}
 use Rattle.farm_model.specs.RelayRuns.{connects}
 use Rattle.farm_model.specs.Run.{Transition}
 use Rattle.farm_model.specs.World.{Ends, WorldState, front_at}
@@ -16,7 +16,8 @@ use Rattle.farm_model.specs.World.{Ends, WorldState, front_at}
 -- the book after a charge by a worker of a front, if there is one
 abbrev pub charged_by : Option FrontState → Ledger → ℕ → Moment → Ledger
 charged_by None book worker moment = book
-charged_by (Some front) book worker moment = (after_event front book (Rattle.front_core.specs.declared.event.FrontEvent.TheVariants.Charge worker moment)).ledger
+charged_by (Some front) book worker moment =
+    (after_event front book (Rattle.front_core.specs.declared.event.FrontEvent.TheVariants.Charge worker moment)).ledger
 
 abbrev pub book_at : Step → WorldState → Ledger
 book_at (Charge front worker moment) w = charged_by (front_at front w.fronts) w.book worker moment
@@ -34,9 +35,12 @@ next_way w from to = record { conn = record { 0 = length w.ends + 1 }; from = fr
 
 -- Why a direction stands after the step: it stood before, or is of the connection that is made.
 pub data StandsAfter (site : Site) (t : Transition) (direction : Direction) : Type 0 where
-  stood : (before : Direction) → Contains t.before.directions before → before.conn ≡ direction.conn → before.from ≡ direction.from → before.to ≡ direction.to → StandsAfter site t direction
-  first_made : (a b : NodeNo) → t.step ≡ Up a b → connects site a b t.before.directions ≡ true → direction ≡ next_way t.before a b → StandsAfter site t direction
-  second_made : (a b : NodeNo) → t.step ≡ Up a b → connects site a b t.before.directions ≡ true → direction ≡ next_way t.before b a → StandsAfter site t direction
+  stood : (before : Direction) → Contains t.before.directions before → before.conn ≡ direction.conn → before.from ≡ direction.from →
+      before.to ≡ direction.to → StandsAfter site t direction
+  first_made : (a b : NodeNo) → t.step ≡ Up a b → connects site a b t.before.directions ≡ true → direction ≡ next_way t.before a b →
+      StandsAfter site t direction
+  second_made : (a b : NodeNo) → t.step ≡ Up a b → connects site a b t.before.directions ≡ true → direction ≡ next_way t.before b a →
+      StandsAfter site t direction
 
 -- What is promised of each step.
 pub record KeepsBookAndEnds (site : Site) (t : Transition) : Type 0 where
@@ -45,6 +49,7 @@ pub record KeepsBookAndEnds (site : Site) (t : Transition) : Type 0 where
   -- The connections that were made are told in their order, with their nodes.
   pub ends : t.after.ends ≡ t.before.ends ++ ends_made site t.step t.before
   -- A new connection stands both ways.
-  pub made : (a b : NodeNo) → t.step ≡ Up a b → connects site a b t.before.directions ≡ true → Contains t.after.directions (next_way t.before a b) × Contains t.after.directions (next_way t.before b a)
+  pub made : (a b : NodeNo) → t.step ≡ Up a b → connects site a b t.before.directions ≡ true → Contains t.after.directions (next_way t.before a b) ×
+      Contains t.after.directions (next_way t.before b a)
   -- No other comes to stand.
   pub stands : (direction : Direction) → Contains t.after.directions direction → StandsAfter site t direction

@@ -18,7 +18,7 @@ use Rattle.relay_core.specs.Failover.{next_hop_again, after_end}
 use Rattle.relay_core.specs.RelayState.{RelayState, peer_on}
 use Rattle.relay_core.specs.Verdict.{decision}
 use Rattle.farm_model.specs.declared.state.Direction.{Direction}
-use Rattle.farm_model.specs.declared.step.Step.TheVariants.{Charge, Deliver, Refuse}
+use Rattle.farm_base.specs.declared.step.Step.TheVariants.{Charge, Deliver, Refuse}
 use Rattle.farm_model.specs.FarmStep.{flight_at}
 use Rattle.farm_model.specs.Run.{Transition}
 use Rattle.farm_model.specs.World.{WorldState, front_at, relay_at}
@@ -48,15 +48,21 @@ pub record IsStranded (relay : RelayState) (conn : ConnId) (message : Message) :
 -- The node has a cause to refuse a message that stands at it on the connection.
 pub data HasCause (t : Transition) (node : NodeNo) (conn : ConnId) (message : Message) : Refusal → Type 0 where
   -- it comes to a front, which finds no place for it
-  at_front : (front : FrontState) (refusal : Refusal) → IsDelivered t node conn message → front_at node t.before.fronts ≡ Some front → ArrivalCause front message refusal → HasCause t node conn message refusal
+  at_front : (front : FrontState) (refusal : Refusal) → IsDelivered t node conn message → front_at node t.before.fronts ≡ Some front →
+      ArrivalCause front message refusal → HasCause t node conn message refusal
   -- a front charges it
-  at_charge : (worker : ℕ) (moment : Moment) (front : FrontState) (refusal : Refusal) → t.step ≡ Charge node worker moment → front_at node t.before.fronts ≡ Some front → IsPicked front worker conn message →
+  at_charge : (worker : ℕ) (moment : Moment) (front : FrontState) (refusal : Refusal) → t.step ≡ Charge node worker moment →
+      front_at node t.before.fronts ≡ Some front → IsPicked front worker conn message →
       ChargeCause front.site t.before.book message refusal → HasCause t node conn message refusal
   -- a front refuses it by order
-  by_order : (worker : ℕ) (front : FrontState) → t.step ≡ Refuse node worker → front_at node t.before.fronts ≡ Some front → IsPicked front worker conn message → HasCause t node conn message (refusal_with TooBusy)
+  by_order : (worker : ℕ) (front : FrontState) → t.step ≡ Refuse node worker → front_at node t.before.fronts ≡ Some front →
+      IsPicked front worker conn message → HasCause t node conn message (refusal_with TooBusy)
   -- it comes to a relay, whose rules refuse it
-  at_relay : (relay : RelayState) (sender : LinkedPeer) (refusal : Refusal) → IsDelivered t node conn message → message.header.request ≡ true → relay_at node t.before.relays ≡ Some relay → peer_on relay.node conn ≡ Some sender →
+  at_relay : (relay : RelayState) (sender : LinkedPeer) (refusal : Refusal) → IsDelivered t node conn message → message.header.request ≡ true →
+      relay_at node t.before.relays ≡ Some relay → peer_on relay.node conn ≡ Some sender →
       decision relay sender.name message ≡ Err refusal → HasCause t node conn message refusal
   -- a relay has lost the connection on which it had sent it, and it can go nowhere else
-  at_lost_link : (w : WorldState) (relay : RelayState) (code : ResultCode) → Contains t.losses (record { loss = record { node = node; conn = conn }; before = w }) → relay_at node w.relays ≡ Some relay → IsStranded relay conn message →
+  at_lost_link : (w : WorldState) (relay : RelayState) (code : ResultCode) →
+      Contains t.losses (record { loss = record { node = node; conn = conn }; before = w }) →
+      relay_at node w.relays ≡ Some relay → IsStranded relay conn message →
       next_hop_again (after_end conn relay.node) message ≡ Err code → HasCause t node conn message (refusal_with code)

@@ -1,5 +1,6 @@
 -- One step of the farm.
-use Rattle.std.specs.Prelude.{◌≡◌, ℕ, ◌+◌, Bool, true, false, not, ◌&&◌, ◌||◌, List, [], ◌∷◌, ◌++◌, length, MatchBool, Option, Some, None, slice_get, remove, if◌then◌else◌}
+use Rattle.std.specs.Prelude.{◌≡◌, ℕ, ◌+◌, Bool, true, false, not, ◌&&◌, ◌||◌, List, [], ◌∷◌, ◌++◌, length, MatchBool, Option, Some, None, slice_get}
+use Rattle.std.specs.Prelude.{remove, if◌then◌else◌}
 use Rattle.std.specs.List.{find}
 use Rattle.dia_base.specs.declared.number.ConnId.{ConnId}
 use Rattle.dia_base.specs.declared.number.NodeNo.{NodeNo}
@@ -12,17 +13,18 @@ use Rattle.front_core.specs.FrontStep.{with_connection, after_pick, after_charge
 use Rattle.relay_core.specs.declared.error.RelayError.{RelayError}
 use Rattle.relay_core.specs.Connecting.{up_fault}
 use Rattle.relay_core.specs.RelayState.{RelayState}
-use Rattle.farm_model.specs.declared.site.Site.{Site}
+use Rattle.farm_base.specs.declared.site.Site.{Site}
 use Rattle.farm_model.specs.declared.state.Direction.{Direction}
 use Rattle.farm_model.specs.declared.state.FrontAt.{FrontAt}
 use Rattle.farm_model.specs.declared.state.RelayAt.{RelayAt}
-use Rattle.farm_model.specs.declared.step.Step.{Step}
-use Rattle.farm_model.specs.declared.step.Step.TheVariants.{Up, Send, Deliver, Lose, Cut, Restart, Pick, Charge, Refuse, Emit, Sweep}
+use Rattle.farm_base.specs.declared.step.Step.{Step}
+use Rattle.farm_base.specs.declared.step.Step.TheVariants.{Up, Send, Deliver, Lose, Cut, Restart, Pick, Charge, Refuse, Emit, Sweep}
 use Rattle.farm_model.specs.Arrival.{Arrives}
-use Rattle.farm_model.specs.Lists.{replace_first}
+use Rattle.farm_base.specs.Lists.{replace_first}
 use Rattle.farm_model.specs.Loss.{LossAt, LearnLosses, after_cut, losses_of_cut, after_restart, losses_of_restart}
-use Rattle.farm_model.specs.Nodes.{is_client, is_front, is_relay, is_linked}
-use Rattle.farm_model.specs.World.{WorldState, is_between, is_connected, conn_between, with_message, with_traffic_from, with_front, front_at, with_relay, relay_at}
+use Rattle.farm_base.specs.Nodes.{is_client, is_front, is_relay, is_linked}
+use Rattle.farm_model.specs.World.{WorldState, is_between, is_connected, conn_between, with_message, with_traffic_from, with_front, front_at, with_relay}
+use Rattle.farm_model.specs.World.{relay_at}
 
 -- ---- up: a new connection, which both nodes learn
 
@@ -169,7 +171,9 @@ can_restart site node = is_relay site node || is_front site node
 
 abbrev pub Restarts : Site → WorldState → NodeNo → Bool → List LossAt → WorldState → Type 0
 Restarts site w node applied losses next =
-    MatchBool (can_restart site node) ((applied ≡ true) × LearnLosses (losses_of_restart node w.directions) (after_restart w node) losses next) ((applied ≡ false) × (losses ≡ []) × (next ≡ w))
+    MatchBool (can_restart site node)
+      ((applied ≡ true) × LearnLosses (losses_of_restart node w.directions) (after_restart w node) losses next)
+      ((applied ≡ false) × (losses ≡ []) × (next ≡ w))
 
 -- ---- any step
 
@@ -183,11 +187,14 @@ abbrev pub FarmStep : Site → WorldState → Step → Bool → List LossAt → 
 FarmStep site old (Up a b) applied losses new = Outcome (after_up site old a b) applied old new × (losses ≡ [])
 FarmStep site old (Send client to message) applied losses new = Outcome (after_send site old client to message) applied old new × (losses ≡ [])
 FarmStep site old (Deliver from to place) applied losses new = Delivers site old to (flight_at old.directions from to place) applied new × (losses ≡ [])
-FarmStep site old (Lose from to place) applied losses new = Outcome (after_lost_message old (flight_at old.directions from to place)) applied old new × (losses ≡ [])
+FarmStep site old (Lose from to place) applied losses new = Outcome (after_lost_message old (flight_at old.directions from to place)) applied old new ×
+    (losses ≡ [])
 FarmStep site old (Cut a b) applied losses new = Cuts old a b (conn_between old.directions a b) applied losses new
 FarmStep site old (Restart node) applied losses new = Restarts site old node applied losses new
 FarmStep site old (Pick front worker) applied losses new = Outcome (after_pick_at old front worker (front_at front old.fronts)) applied old new × (losses ≡ [])
-FarmStep site old (Charge front worker moment) applied losses new = Outcome (after_charge_at old front worker moment (front_at front old.fronts)) applied old new × (losses ≡ [])
-FarmStep site old (Refuse front worker) applied losses new = Outcome (after_refusal_at old front worker (front_at front old.fronts)) applied old new × (losses ≡ [])
+FarmStep site old (Charge front worker moment) applied losses new =
+    Outcome (after_charge_at old front worker moment (front_at front old.fronts)) applied old new × (losses ≡ [])
+FarmStep site old (Refuse front worker) applied losses new = Outcome (after_refusal_at old front worker (front_at front old.fronts)) applied old new ×
+    (losses ≡ [])
 FarmStep site old (Emit front worker) applied losses new = Outcome (after_emit_at old front worker (front_at front old.fronts)) applied old new × (losses ≡ [])
 FarmStep site old (Sweep moment) applied losses new = Outcome (Some (after_sweep_at old moment)) applied old new × (losses ≡ [])

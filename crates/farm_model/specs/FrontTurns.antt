@@ -9,10 +9,10 @@ use Rattle.front_core.specs.FrontRun.{after_event}
 use Rattle.front_core.specs.FrontState.{FrontState}
 use Rattle.relay_core.specs.declared.run.RelayEvent.{RelayEvent}
 use Rattle.relay_core.specs.declared.run.RelayEvent.TheVariants.{Up, Received, Lost, Restart}
-use Rattle.farm_model.specs.declared.site.Site.{Site}
-use Rattle.farm_model.specs.declared.step.Step.{Step}
-use Rattle.farm_model.specs.declared.step.Step.TheVariants.{Pick, Charge, Refuse, Emit}
-use Rattle.farm_model.specs.Nodes.{is_node}
+use Rattle.farm_base.specs.declared.site.Site.{Site}
+use Rattle.farm_base.specs.declared.step.Step.{Step}
+use Rattle.farm_base.specs.declared.step.Step.TheVariants.{Pick, Charge, Refuse, Emit}
+use Rattle.farm_base.specs.Nodes.{is_node}
 use Rattle.farm_model.specs.RelayRuns.{events_at, PutsInFlight}
 use Rattle.farm_model.specs.Run.{Transition}
 use Rattle.farm_model.specs.World.{WorldState, front_at}
@@ -27,7 +27,8 @@ as_front_event Restart = Rattle.front_core.specs.declared.event.FrontEvent.TheVa
 -- what a worker of it does
 abbrev pub worker_events : NodeNo → Step → List FrontEvent
 worker_events node (Pick front worker) = if is_node front node then Rattle.front_core.specs.declared.event.FrontEvent.TheVariants.Pick worker ∷ [] else []
-worker_events node (Charge front worker moment) = if is_node front node then Rattle.front_core.specs.declared.event.FrontEvent.TheVariants.Charge worker moment ∷ [] else []
+worker_events node (Charge front worker moment) =
+    if is_node front node then Rattle.front_core.specs.declared.event.FrontEvent.TheVariants.Charge worker moment ∷ [] else []
 worker_events node (Refuse front worker) = if is_node front node then Rattle.front_core.specs.declared.event.FrontEvent.TheVariants.Refuse worker ∷ [] else []
 worker_events node (Emit front worker) = if is_node front node then Rattle.front_core.specs.declared.event.FrontEvent.TheVariants.Emit worker ∷ [] else []
 worker_events node step = []

@@ -1,15 +1,16 @@
 -- What a step does to what is in flight, and to what clients have sent and received: said of the directions before it
 -- and after it.
-use Rattle.std.specs.Prelude.{◌≡◌, ℕ, ◌≤◌, Bool, true, false, ◌&&◌, ◌||◌, ◌==◌, List, [], ◌∷◌, ◌++◌, map, filter, filter_map, count_by, Contains, Option, option_map, slice_get, remove, if◌then◌else◌}
+use Rattle.std.specs.Prelude.{◌≡◌, ℕ, ◌≤◌, Bool, true, false, ◌&&◌, ◌||◌, ◌==◌, List, [], ◌∷◌, ◌++◌, map, filter, filter_map, count_by, Contains, Option}
+use Rattle.std.specs.Prelude.{option_map, slice_get, remove, if◌then◌else◌}
 use Rattle.dia_base.specs.declared.number.ConnId.{ConnId}
 use Rattle.dia_base.specs.declared.number.NodeNo.{NodeNo}
 use Rattle.dia_message.specs.declared.message.Message.{Message}
 use Rattle.dia_message.specs.Traffic.{Traffic}
-use Rattle.farm_model.specs.declared.site.Site.{Site}
+use Rattle.farm_base.specs.declared.site.Site.{Site}
 use Rattle.farm_model.specs.declared.state.Direction.{Direction}
-use Rattle.farm_model.specs.declared.step.Step.{Step}
-use Rattle.farm_model.specs.declared.step.Step.TheVariants.{Send, Deliver, Lose, Cut, Restart, Emit}
-use Rattle.farm_model.specs.Nodes.{is_node, is_client, is_front, is_relay}
+use Rattle.farm_base.specs.declared.step.Step.{Step}
+use Rattle.farm_base.specs.declared.step.Step.TheVariants.{Send, Deliver, Lose, Cut, Restart, Emit}
+use Rattle.farm_base.specs.Nodes.{is_node, is_client, is_front, is_relay}
 use Rattle.farm_model.specs.Run.{Transition}
 
 -- ---- a direction
@@ -49,7 +50,8 @@ message_at place direction = option_map (λ message. (direction.conn, message)) 
 
 -- a client's message, on its connection with the node
 abbrev pub sent_at : Site → Step → List Direction → Traffic
-sent_at site (Send client to message) directions = if is_client site client then map (λ direction. (direction.conn, message)) (filter (goes client to) directions) else []
+sent_at site (Send client to message) directions = if is_client site client
+    then map (λ direction. (direction.conn, message)) (filter (goes client to) directions) else []
 sent_at site step directions = []
 
 -- the message that is delivered to a client
@@ -64,15 +66,19 @@ pub record KeepsTraffic (site : Site) (t : Transition) : Type 0 where
   -- What is in flight stays so, in its order, until it is delivered or lost, or its connection ends. Others come behind
   -- it only where a node may send.
   pub in_flight : (direction : Direction) → Contains t.before.directions direction → ends_at site t.step direction ≡ false →
-      (more : List Message) × (grows_at t.step direction ≡ false → more ≡ []) × Contains t.after.directions (record direction { messages = left_by t.step direction ++ more })
+      (more : List Message) × (grows_at t.step direction ≡ false → more ≡ []) ×
+      Contains t.after.directions (record direction { messages = left_by t.step direction ++ more })
   -- On a connection that comes up nothing is in flight.
-  pub begun : (direction : Direction) → Contains t.after.directions direction → ((other : Direction) → Contains t.before.directions other → (other.conn.0 == direction.conn.0) ≡ false) → direction.messages ≡ []
+  pub begun : (direction : Direction) → Contains t.after.directions direction →
+      ((other : Direction) → Contains t.before.directions other → (other.conn.0 == direction.conn.0) ≡ false) → direction.messages ≡ []
   -- Of a connection that ends nothing is left.
-  pub ended : (direction other : Direction) → Contains t.before.directions direction → ends_at site t.step direction ≡ true → Contains t.after.directions other → (other.conn.0 == direction.conn.0) ≡ false
+  pub ended : (direction other : Direction) → Contains t.before.directions direction → ends_at site t.step direction ≡ true →
+      Contains t.after.directions other → (other.conn.0 == direction.conn.0) ≡ false
   -- Two nodes have one connection at most.
   pub one_each : (from to : NodeNo) → count_by (goes from to) t.after.directions ≤ 1
   -- What a client sends on a connection that stands is in flight behind what was there.
-  pub posted : (client to : NodeNo) (message : Message) (direction : Direction) → t.step ≡ Send client to message → is_client site client ≡ true → Contains t.before.directions direction → goes client to direction ≡ true →
+  pub posted : (client to : NodeNo) (message : Message) (direction : Direction) → t.step ≡ Send client to message → is_client site client ≡ true →
+      Contains t.before.directions direction → goes client to direction ≡ true →
       Contains t.after.directions (record direction { messages = direction.messages ++ message ∷ [] })
   -- It is told as sent, and nothing else is.
   pub sent : t.after.sent ≡ t.before.sent ++ sent_at site t.step t.before.directions

@@ -10,7 +10,7 @@ use Rattle.farm_model.specs.declared.state.Direction.{Direction}
 use Rattle.farm_model.specs.declared.state.FrontAt.{FrontAt}
 use Rattle.farm_model.specs.declared.state.RelayAt.{RelayAt}
 use Rattle.farm_model.specs.Arrival.{AtRelay}
-use Rattle.farm_model.specs.Nodes.{is_node}
+use Rattle.farm_base.specs.Nodes.{is_node}
 use Rattle.farm_model.specs.World.{WorldState, without_conn, with_front, front_at, with_relay, relay_at}
 
 -- a node is to learn that a connection of it has ended
@@ -33,7 +33,8 @@ pub record LossAt : Type 0 where
 -- one node after the other learns it
 pub data LearnLosses : List Loss → WorldState → List LossAt → WorldState → Type 0 where
   all_know : {w : WorldState} → LearnLosses [] w [] w
-  learns : {loss : Loss} {losses : List Loss} {w next last : WorldState} {later : List LossAt} → LearnsLoss w loss (front_at loss.node w.fronts) next → LearnLosses losses next later last →
+  learns : {loss : Loss} {losses : List Loss} {w next last : WorldState} {later : List LossAt} → LearnsLoss w loss (front_at loss.node w.fronts) next →
+      LearnLosses losses next later last →
       LearnLosses (loss ∷ losses) w (record { loss = loss; before = w } ∷ later) last
 
 -- ---- a connection is cut
@@ -52,7 +53,8 @@ touches node direction = is_node direction.from node || is_node direction.to nod
 
 -- the other ends of its connections, in the order of these
 abbrev pub losses_of_restart : NodeNo → List Direction → List Loss
-losses_of_restart node directions = map (λ direction. record { node = direction.to; conn = direction.conn }) (filter (λ direction. is_node direction.from node) directions)
+losses_of_restart node directions =
+    map (λ direction. record { node = direction.to; conn = direction.conn }) (filter (λ direction. is_node direction.from node) directions)
 
 abbrev pub with_restart_of_front : NodeNo → List FrontAt → Option FrontState → List FrontAt
 with_restart_of_front node fronts None = fronts

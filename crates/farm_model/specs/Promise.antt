@@ -1,5 +1,5 @@
 -- What is promised of every run: who is answered what, and what the book stands on.
-use Rattle.std.specs.Prelude.{◌≡◌, ℕ, ◌-◌, ◌≤◌, true, false, ◌&&◌, ◌||◌, List, ◌∷◌, ◌++◌, find, All, Contains, length, Some, IsSome, Ok, slice_get}
+use Rattle.std.specs.Prelude.{◌≡◌, ℕ, ◌-◌, ◌≤◌, true, false, ◌&&◌, ◌||◌, List, [], ◌∷◌, ◌++◌, find, All, Contains, length, Some, IsSome, Ok, slice_get}
 use Rattle.dia_base.specs.declared.number.ConnId.{ConnId}
 use Rattle.dia_base.specs.declared.number.Moment.{Moment}
 use Rattle.dia_base.specs.declared.number.NodeNo.{NodeNo}
@@ -25,22 +25,26 @@ use Rattle.front_core.specs.Answered.{IsAnswered}
 use Rattle.front_core.specs.Counts.{requests_with, answers_with}
 use Rattle.relay_routes.specs.Routing.{IsLoop}
 use Rattle.relay_core.specs.Forwarding.{Descends, with_record}
-use Rattle.farm_model.specs.declared.site.Node.{Node}
+use Rattle.farm_base.specs.declared.site.Node.{Node}
 use Rattle.dia_base.specs.declared.node.NodeKind.TheVariants.{Front}
-use Rattle.farm_model.specs.declared.site.Site.{Site}
+use Rattle.farm_base.specs.declared.site.Site.{Site}
 use Rattle.farm_model.specs.declared.state.Direction.{Direction}
 use Rattle.farm_model.specs.declared.state.Trace.{Trace}
-use Rattle.farm_model.specs.declared.step.Step.{Step}
-use Rattle.farm_model.specs.declared.step.Step.TheVariants.{Charge, Deliver}
+use Rattle.farm_base.specs.declared.step.Step.{Step}
+use Rattle.farm_base.specs.declared.step.Step.TheVariants.{Charge, Deliver}
+use Rattle.farm_model.specs.Applying.{AppliesWhereItCan, could_not_apply}
 use Rattle.farm_model.specs.BookAndEnds.{KeepsBookAndEnds}
 use Rattle.farm_model.specs.Cause.{HasCause}
+use Rattle.farm_model.specs.ComingRound.{HasComeRound}
 use Rattle.farm_model.specs.FarmStep.{flight_at}
 use Rattle.farm_model.specs.FrontTurns.{KeepsFronts}
 use Rattle.farm_model.specs.InFlight.{KeepsTraffic}
-use Rattle.farm_model.specs.Nodes.{is_node, is_client, is_relay}
+use Rattle.farm_base.specs.Nodes.{is_node, is_client, is_relay, is_linked}
+use Rattle.farm_model.specs.OwnCauses.{HaveOwnCauses}
 use Rattle.farm_model.specs.RelayRuns.{RunsAsRelay}
 use Rattle.farm_model.specs.Run.{Past, Transition, IsTrace, steps_in, front_site}
-use Rattle.farm_model.specs.World.{Ends, is_outward, with_message_from}
+use Rattle.farm_model.specs.World.{Ends, WorldState, is_outward, with_message_from}
+use Rattle.farm_model.specs.SetUp.{BeginsEmpty, KeepsSetUp}
 
 -- What all states of a run share, and what grows alone as it goes on: the transitions so far, the connections
 -- that were made, what clients have sent, and the book.
@@ -75,11 +79,17 @@ pub record IsFrontNamed (site : Site) (node : NodeNo) (name : List ℕ) : Type 0
   pub kind : found.kind ≡ Front
   pub called : found.name ≡ name
 
--- The node answers on the connection: it is at an end of it, or a relay is, which forwards. The other end of a
--- connection with a client is that client.
+-- What a node answers comes to another one: to itself, or to a relay that is linked with a node that it comes to.
+pub data ComesTo (site : Site) (node : NodeNo) : NodeNo → Type 0 where
+  by_itself : ComesTo site node node
+  by_relay : {relay next : NodeNo} → is_relay site relay ≡ true → is_linked site relay next ≡ true → ComesTo site node next → ComesTo site node relay
+
+-- The node answers on the connection: it is at an end of it, or a relay is, which is linked with a node that its
+-- answers come to. The other end of a connection with a client is that client.
 pub data AnswersOn (site : Site) (ends : Ends) (conn : ConnId) (node : NodeNo) : Type 0 where
   itself : IsEndOf ends conn node → AnswersOn site ends conn node
-  over_relay : (relay : NodeNo) → IsEndOf ends conn relay → is_relay site relay ≡ true → AnswersOn site ends conn node
+  over_relay : (relay next : NodeNo) → IsEndOf ends conn relay → is_relay site relay ≡ true → is_linked site relay next ≡ true → ComesTo site node next →
+      AnswersOn site ends conn node
 
 -- The connection was made between a client and a node that is none, so it has one client. Connections are
 -- numbered from 1.
@@ -102,7 +112,8 @@ WasRequested sent conn message = WasSent sent conn message × (message.header.re
 
 -- whatever clients have sent with the key of this request has its content
 abbrev pub HasOneContent : Site → Traffic → CcRequest → Type 0
-HasOneContent site sent request = (conn : ConnId) (message : Message) (other : CcRequest) → WasRequested sent conn message → view_of site.vendors message ≡ Ok other → same_key (key_of other) (key_of request) ≡ true → other ≡ request
+HasOneContent site sent request = (conn : ConnId) (message : Message) (other : CcRequest) → WasRequested sent conn message →
+    view_of site.vendors message ≡ Ok other → same_key (key_of other) (key_of request) ≡ true → other ≡ request
 
 -- the account machine's reply to this very request, after the entries of the book that stand before it
 pub record IsMachineReply (book : Ledger) (request : CcRequest) (reply : CcReply) : Type 0 where
@@ -128,7 +139,8 @@ pub record AnswersRequest (site : Site) (journal : Journal) (conn : ConnId) (ans
 -- connection, one that descends from it, wherever that stood.
 pub data IsRefusedThere (site : Site) (ends : Ends) (conn : ConnId) (message : Message) (node : NodeNo) : ConnId → Message → Type 0 where
   itself : IsEndOf ends conn node → IsRefusedThere site ends conn message node conn message
-  over_relay : (relay : NodeNo) (at : ConnId) (there : Message) → IsEndOf ends conn relay → is_relay site relay ≡ true → Descends message there → IsRefusedThere site ends conn message node at there
+  over_relay : (relay : NodeNo) (at : ConnId) (there : Message) → IsEndOf ends conn relay → is_relay site relay ≡ true → Descends message there →
+      IsRefusedThere site ends conn message node at there
 
 -- a node's refusal of a request that a client sent on the connection, with a cause that the farm showed at a
 -- transition of this run
@@ -152,9 +164,25 @@ pub record IsRightAnswer (site : Site) (journal : Journal) (conn : ConnId) (answ
   pub answered : answer.header.error ≡ false → AnswersRequest site journal conn answer
   pub refused : answer.header.error ≡ true → RefusesRequest site journal conn answer
 
+-- ---- in time
+
+-- the journal as far as the run has come, with the connections that are made in it
+abbrev pub journal_then : Ends → Past → WorldState → Journal
+journal_then ends past w = record { past = past; ends = ends; sent = w.sent; book = w.book }
+
+-- What clients have received after each of these transitions is right by what has happened until then, and nothing that
+-- comes later: the request had been sent, the book had its entry, and the cause of a refusal had been shown.
+abbrev pub AnsweredInTime : Site → Ends → Past → Past → Type 0
+AnsweredInTime site ends before [] = Unit {0}
+AnsweredInTime site ends before (t ∷ past) =
+    All (λ item. IsRightAnswer site (journal_then ends (before ++ t ∷ []) t.after) item.0 item.1) t.after.received ×
+    AnsweredInTime site ends (before ++ t ∷ []) past
+
+-- ---- the book's entries
+
 -- the run has a step that sweeps at this moment
 abbrev pub WasSwept : Past → Moment → Type 0
-WasSwept past moment = Contains (steps_in past) (Rattle.farm_model.specs.declared.step.Step.TheVariants.Sweep moment)
+WasSwept past moment = Contains (steps_in past) (Rattle.farm_base.specs.declared.step.Step.TheVariants.Sweep moment)
 
 -- the run has a step that charges at this moment
 abbrev pub WasCharged : Past → Moment → Type 0
@@ -163,23 +191,26 @@ WasCharged past moment = (front : NodeNo) × (worker : ℕ) × Contains (steps_i
 -- an entry of the history takes, at the moment of a step of the run that charges, what is read in a request that a
 -- client sent, or is a sweep of a step of the run
 abbrev pub IsOfRun : Site → Past → Traffic → Entry → Type 0
-IsOfRun site past sent (Take moment request) = (conn : ConnId) × (message : Message) × WasRequested sent conn message × (view_of site.vendors message ≡ Ok request) × WasCharged past moment
+IsOfRun site past sent (Take moment request) = (conn : ConnId) × (message : Message) × WasRequested sent conn message ×
+    (view_of site.vendors message ≡ Ok request) × WasCharged past moment
 IsOfRun site past sent (Sweep moment) = WasSwept past moment
 
 -- ---- loops
 
--- The step delivers a request to a relay: wherever this holds of the relay's name and the request, it puts
+-- The step delivers a request to a relay: wherever this holds of the relay, its name and the request, it puts
 -- DIAMETER_LOOP_DETECTED in flight on the connection that it came on, which stands in that direction, and nothing
 -- else happens.
-abbrev pub RefusesAsLoop : (List ℕ → Message → Type 0) → Site → Transition → Type 0
-RefusesAsLoop Loops site t = (from node : NodeNo) (place : ℕ) (conn : ConnId) (message : Message) (directions : List Direction) (name : List ℕ) → t.step ≡ Deliver from node place →
+abbrev pub RefusesAsLoop : (NodeNo → List ℕ → Message → Type 0) → Site → Transition → Type 0
+RefusesAsLoop Loops site t = (from node : NodeNo) (place : ℕ) (conn : ConnId) (message : Message) (directions : List Direction) (name : List ℕ) →
+    t.step ≡ Deliver from node place →
     flight_at t.before.directions from node place ≡ Some (record { conn = conn; message = message; directions = directions }) → message.header.request ≡ true →
-    is_relay site node ≡ true → IsNamed site node name → Loops name message →
-    IsSome (find (is_outward node conn) directions) × t.after ≡ record t.before { directions = with_message_from node directions conn (refusal_of name site.realm message (refusal_with LoopDetected)) }
+    is_relay site node ≡ true → IsNamed site node name → Loops node name message →
+    IsSome (find (is_outward node conn) directions) ×
+    t.after ≡ record t.before { directions = with_message_from node directions conn (refusal_of name site.realm message (refusal_with LoopDetected)) }
 
 -- where it finds itself in a Route-Record (RFC 6733, section 6.1.3)
 abbrev pub RefusesLoop : Site → Transition → Type 0
-RefusesLoop site t = RefusesAsLoop (λ name message. IsLoop name message.body) site t
+RefusesLoop site t = RefusesAsLoop (λ node name message. IsLoop name message.body) site t
 
 -- whatever a relay of this name may have sent, once another node has forwarded it, however it went from there
 pub record HasComeBack (name : List ℕ) (message : Message) : Type 0 where
@@ -190,7 +221,11 @@ pub record HasComeBack (name : List ℕ) (message : Message) : Type 0 where
 
 -- where it comes back to it: no relay forwards that
 abbrev pub RefusesWhatComesBack : Site → Transition → Type 0
-RefusesWhatComesBack site t = RefusesAsLoop HasComeBack site t
+RefusesWhatComesBack site t = RefusesAsLoop (λ node name message. HasComeBack name message) site t
+
+-- where the relay sent it in this run, and other relays sent it on, one after the other
+abbrev pub RefusesWhatComesRound : Site → Past → Transition → Type 0
+RefusesWhatComesRound site past t = RefusesAsLoop (λ node name message. HasComeRound site past node message) site t
 
 -- ---- steps that do not apply
 
@@ -202,7 +237,8 @@ AppliedOrChangedNothing t = t.applied ≡ false → t.after ≡ t.before
 
 -- the site's accounts with their opening amounts, its prices, its validity and its money
 abbrev pub terms_of : Site → Terms
-terms_of site = record { accounts = site.accounts; tariffs = site.tariffs; validity = site.validity; money = record { currency = site.currency; exponent = site.exponent } }
+terms_of site = record { accounts = site.accounts; tariffs = site.tariffs; validity = site.validity;
+    money = record { currency = site.currency; exponent = site.exponent } }
 
 -- ---- the whole
 
@@ -212,16 +248,23 @@ pub record KeepsPromise (site : Site) (past : Past) (trace : Trace) : Type 0 whe
   pub senders : All (λ item. HasOneClient site trace.ends item.0) trace.sent
   pub receivers : All (λ item. HasOneClient site trace.ends item.0) trace.received
   pub received : All (λ item. IsRightAnswer site (journal_of past trace) item.0 item.1) trace.received
+  pub in_time : AnsweredInTime site trace.ends [] past
+  pub own_causes : HaveOwnCauses site [] past
   pub not_more : (conn : ConnId) (hop end : ℕ) → answers_with trace.received conn hop end ≤ requests_with trace.sent conn hop end
   pub legal : IsLegal trace.book.terms trace.book.history
   pub limit : trace.book.limit ≡ site.limit
   pub within : length trace.book.history ≤ site.limit
   pub taken : All (IsOfRun site past trace.sent) trace.book.history
   pub terms : trace.book.terms ≡ terms_of site
+  pub begins : BeginsEmpty past
+  pub set_up : All (KeepsSetUp site) past
   pub loops : All (RefusesLoop site) past
   pub come_back : All (RefusesWhatComesBack site) past
+  pub come_round : All (RefusesWhatComesRound site past) past
   pub traffic : All (KeepsTraffic site) past
   pub skipped : All AppliedOrChangedNothing past
+  pub applied : All (AppliesWhereItCan site) past
+  pub skips : trace.skipped ≡ could_not_apply site past
   pub book_and_ends : All (KeepsBookAndEnds site) past
   pub fronts : All (KeepsFronts site) past
   pub relays : (node : NodeNo) (name : List ℕ) → is_relay site node ≡ true → IsNamed site node name → RunsAsRelay site past node name

@@ -1,6 +1,7 @@
 -- What happens to a relay in a run of the farm, event by event: said of each step by the farm before it. And what the
 -- relay does then.
-use Rattle.std.specs.Prelude.{◌≡◌, ℕ, ◌+◌, Bool, true, false, not, ◌&&◌, ◌==◌, List, [], ◌∷◌, ◌++◌, length, map, filter, filter_map, flat_map, Contains, Some, if◌then◌else◌}
+use Rattle.std.specs.Prelude.{◌≡◌, ℕ, ◌+◌, Bool, true, false, not, ◌&&◌, ◌==◌, List, [], ◌∷◌, ◌++◌, length, map, filter, filter_map, flat_map, Contains}
+use Rattle.std.specs.Prelude.{Some, if◌then◌else◌}
 use Rattle.std.specs.List.{list_any}
 use Rattle.dia_base.specs.declared.number.ConnId.{ConnId}
 use Rattle.dia_base.specs.declared.number.NodeNo.{NodeNo}
@@ -12,12 +13,12 @@ use Rattle.relay_core.specs.declared.run.RelayEvent.TheVariants.{Received, Lost}
 use Rattle.relay_core.specs.Connecting.{new_relay}
 use Rattle.relay_core.specs.RelayRun.{IsRun, RelayStep}
 use Rattle.relay_core.specs.RelayState.{RelayState}
-use Rattle.farm_model.specs.declared.site.Site.{Site}
+use Rattle.farm_base.specs.declared.site.Site.{Site}
 use Rattle.farm_model.specs.declared.state.Direction.{Direction}
-use Rattle.farm_model.specs.declared.step.Step.{Step}
-use Rattle.farm_model.specs.declared.step.Step.TheVariants.{Up, Deliver, Cut, Restart}
+use Rattle.farm_base.specs.declared.step.Step.{Step}
+use Rattle.farm_base.specs.declared.step.Step.TheVariants.{Up, Deliver, Cut, Restart}
 use Rattle.farm_model.specs.InFlight.{goes, ends_at, left_by, message_at}
-use Rattle.farm_model.specs.Nodes.{is_node, is_linked}
+use Rattle.farm_base.specs.Nodes.{is_node, is_linked}
 use Rattle.farm_model.specs.Run.{Past, Transition, relay_site, start}
 use Rattle.farm_model.specs.World.{WorldState, relay_at}
 
@@ -42,7 +43,8 @@ received_events from to place directions = map (λ item. Received item.0 item.1)
 
 -- the connections of the node that end
 abbrev pub lost_events : Site → Step → NodeNo → List Direction → List RelayEvent
-lost_events site step node directions = map (λ direction. Lost direction.conn) (filter (λ direction. ends_at site step direction && is_node direction.to node) directions)
+lost_events site step node directions =
+    map (λ direction. Lost direction.conn) (filter (λ direction. ends_at site step direction && is_node direction.to node) directions)
 
 -- What happens to the node: one thing or nothing.
 abbrev pub events_at : Site → NodeNo → Step → WorldState → List RelayEvent
@@ -50,7 +52,8 @@ events_at site node (Up a b) w = if connects site a b w.directions then up_event
 events_at site node (Deliver from to place) w = if is_node to node then received_events from to place w.directions else []
 events_at site node (Cut a b) w = lost_events site (Cut a b) node w.directions
 -- the node itself begins anew, or another one
-events_at site node (Restart other) w = if is_node other node then Rattle.relay_core.specs.declared.run.RelayEvent.TheVariants.Restart ∷ [] else lost_events site (Restart other) node w.directions
+events_at site node (Restart other) w = if is_node other node then Rattle.relay_core.specs.declared.run.RelayEvent.TheVariants.Restart ∷ []
+    else lost_events site (Restart other) node w.directions
 events_at site node step w = []
 
 -- ---- in a run
@@ -76,13 +79,15 @@ sent_on conn outs = flat_map (λ out. messages_on conn out.items) outs
 -- On each connection of the node that stands on, this is put in flight behind what the step leaves there, and nothing
 -- else.
 abbrev pub PutsInFlight : Site → NodeNo → Transition → List Out → Type 0
-PutsInFlight site node t outs = (direction : Direction) → Contains t.before.directions direction → is_node direction.from node ≡ true → ends_at site t.step direction ≡ false →
+PutsInFlight site node t outs = (direction : Direction) → Contains t.before.directions direction → is_node direction.from node ≡ true →
+    ends_at site t.step direction ≡ false →
     Contains t.after.directions (record direction { messages = left_by t.step direction ++ sent_on direction.conn outs })
 
 -- so it is with what is sent at the events of each transition, one after the other
 abbrev pub PutsAllInFlight : Site → NodeNo → Past → List Out → Type 0
 PutsAllInFlight site node [] outs = outs ≡ []
-PutsAllInFlight site node (t ∷ past) outs = (now : List Out) × (later : List Out) × (outs ≡ now ++ later) × (length now ≡ length (events_at site node t.step t.before)) × PutsInFlight site node t now × PutsAllInFlight site node past later
+PutsAllInFlight site node (t ∷ past) outs = (now : List Out) × (later : List Out) × (outs ≡ now ++ later) ×
+    (length now ≡ length (events_at site node t.step t.before)) × PutsInFlight site node t now × PutsAllInFlight site node past later
 
 -- From its first state to the one in which the transitions leave it, the relay has done at each thing that happened to
 -- it what a relay does, and nothing else has changed it. What it sent then is what was put in flight on its connections.

@@ -7,18 +7,18 @@ use Rattle.front_core.specs.FrontState.{FrontState, new_front}
 use Rattle.relay_peers.specs.declared.peers.LinkedPeer.{LinkedPeer}
 use Rattle.relay_core.specs.declared.node.RelaySite.{RelaySite}
 use Rattle.relay_core.specs.Connecting.{new_relay}
-use Rattle.farm_model.specs.declared.site.Route.{Route}
-use Rattle.farm_model.specs.declared.site.Site.{Site}
-use Rattle.farm_model.specs.declared.site.Node.{Node}
+use Rattle.farm_base.specs.declared.site.Route.{Route}
+use Rattle.farm_base.specs.declared.site.Site.{Site}
+use Rattle.farm_base.specs.declared.site.Node.{Node}
 use Rattle.dia_base.specs.declared.node.NodeKind.{NodeKind}
 use Rattle.dia_base.specs.declared.node.NodeKind.TheVariants.{Relay, Front, Client}
 use Rattle.farm_model.specs.declared.state.FrontAt.{FrontAt}
 use Rattle.farm_model.specs.declared.state.RelayAt.{RelayAt}
 use Rattle.farm_model.specs.declared.state.Trace.{Trace}
-use Rattle.farm_model.specs.declared.step.Step.{Step}
+use Rattle.farm_base.specs.declared.step.Step.{Step}
 use Rattle.farm_model.specs.FarmStep.{FarmStep}
 use Rattle.farm_model.specs.Loss.{LossAt}
-use Rattle.farm_model.specs.Nodes.{is_node, is_linked}
+use Rattle.farm_base.specs.Nodes.{is_node, is_linked}
 use Rattle.farm_model.specs.World.{WorldState}
 
 -- ---- before the first step
@@ -74,13 +74,15 @@ relays_from site place (node ∷ nodes) = relay_if site place node node.kind ++ 
 -- the book with its accounts, and nothing taken
 abbrev pub empty_book : Site → Ledger
 empty_book site = record {
-  terms = record { accounts = site.accounts; tariffs = site.tariffs; validity = site.validity; money = record { currency = site.currency; exponent = site.exponent } };
+  terms = record { accounts = site.accounts; tariffs = site.tariffs; validity = site.validity;
+      money = record { currency = site.currency; exponent = site.exponent } };
   limit = site.limit;
   history = [];
 }
 
 abbrev pub start : Site → WorldState
-start site = record { directions = []; fronts = fronts_from site 0 site.nodes; relays = relays_from site 0 site.nodes; book = empty_book site; sent = []; received = []; ends = [] }
+start site = record { directions = []; fronts = fronts_from site 0 site.nodes; relays = relays_from site 0 site.nodes; book = empty_book site;
+    sent = []; received = []; ends = [] }
 
 -- ---- one step after another
 

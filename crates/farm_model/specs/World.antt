@@ -11,8 +11,8 @@ use Rattle.relay_core.specs.RelayState.{RelayState}
 use Rattle.farm_model.specs.declared.state.Direction.{Direction}
 use Rattle.farm_model.specs.declared.state.FrontAt.{FrontAt}
 use Rattle.farm_model.specs.declared.state.RelayAt.{RelayAt}
-use Rattle.farm_model.specs.Lists.{replace_first}
-use Rattle.farm_model.specs.Nodes.{is_node}
+use Rattle.farm_base.specs.Lists.{replace_first}
+use Rattle.farm_base.specs.Nodes.{is_node}
 
 -- the two nodes of each connection that was made; connections are numbered from 1
 abbrev pub Ends : Type 0

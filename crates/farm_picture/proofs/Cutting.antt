@@ -1,11 +1,11 @@
 -- A schedule that is read up to one octet above its size limit is the whole of what there is.
-use Rattle.std.proofs.Common.{◌≡◌, ℕ, ◌≤◌, Bool, true, cond, ltb, List, [], ◌++◌, length, take, Option, Some, None, Result, Ok, Err, subst, ap, ◌∙◌, inl, inr, arith, length-take}
-use Rattle.std.specs.Prelude.{IfSome, OnOk, option_map}
+use Rattle.std.proofs.Common.{◌≡◌, ℕ, ◌≤◌, Bool, true, cond, ltb, List, length, take, Option, Some, None, Result, Ok, Err, subst, ap, ◌∙◌, inl, inr, arith, length-take}
+use Rattle.std.specs.Prelude.{IfSome, OnOk}
 use Rattle.std.specs.Str.Lines.{lines}
 use Rattle.std.proofs.lemmas.Bool.{cases_Bool, ltb-false}
 use Rattle.std.proofs.lemmas.List.{take_all}
-use Rattle.farm_model.specs.declared.site.Site.{Site}
-use Rattle.farm_model.specs.declared.step.Step.{Step}
+use Rattle.farm_base.specs.declared.site.Site.{Site}
+use Rattle.farm_base.specs.declared.step.Step.{Step}
 use Rattle.farm_script.specs.Schedule.{steps_of, all_of, readings_from}
 use Rattle.farm_script.specs.declared.fault.ScriptFault.TheVariants.{TooLong}
 use Rattle.farm_picture.specs.Painting.{GivesSchedule, IsSchedule}
@@ -13,10 +13,6 @@ use Rattle.farm_picture.specs.Painting.{GivesSchedule, IsSchedule}
 -- what is read of a stream
 abbrev pub IsRead : Option (List ℕ) → List ℕ → Type 0
 IsRead known text = IfSome known (λ octets. text ≡ take 16777217 octets)
-
-pub front_is_read : (known : Option (List ℕ)) (limit : ℕ) (before text : List ℕ) → IfSome (option_map (take limit) known) (λ octets. text ≡ before ++ octets) → limit ≡ 16777217 → before ≡ [] → IsRead known text
-front_is_read None limit before text read is none = tt
-front_is_read (Some octets) limit before text read is none = read ∙ ap (λ (xs : List ℕ). xs ++ take limit octets) none ∙ ap (λ (n : ℕ). take n octets) is
 
 -- a schedule is not too long
 not_long : (site : Site) (text : List ℕ) (steps : List Step) → steps_of site text ≡ Ok steps → length text ≤ 16777216

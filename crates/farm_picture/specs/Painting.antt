@@ -1,8 +1,8 @@
 -- What a picture is drawn of.
 use Rattle.std.specs.Prelude.{◌≡◌, ℕ, List, Option, IfSome, Ok}
-use Rattle.farm_model.specs.CheckedSite.{IsChecked}
-use Rattle.farm_model.specs.declared.site.Site.{Site}
-use Rattle.farm_model.specs.declared.step.Step.{Step}
+use Rattle.farm_base.specs.CheckedSite.{IsChecked}
+use Rattle.farm_base.specs.declared.site.Site.{Site}
+use Rattle.farm_base.specs.declared.step.Step.{Step}
 use Rattle.farm_script.specs.Schedule.{steps_of}
 use Rattle.farm_site.specs.Spelling.{Spells}
 

@@ -2,21 +2,21 @@
 //! or over the site of a file with `--site FILE`, and writes an SVG.
 #![tactic(auto)]
 
-ghost use Rattle.std.specs.Prelude.{◌≢◌, IfErr, IfOk, OnOk};
+ghost use Rattle.std.specs.Prelude.{◌≢◌, IfErr, IfOk, IsOkUnless, OnOk};
 ghost use Rattle.std.specs.Io.KnownBytes.{Keeps};
-ghost use Rattle.farm_model.specs.CheckedSite.{IsChecked};
-ghost use Rattle.farm_model.specs.RowSite.{the_row_site};
+ghost use Rattle.farm_base.specs.CheckedSite.{IsChecked};
+ghost use Rattle.farm_base.specs.RowSite.{the_row_site};
 ghost use Rattle.farm_picture.specs.Painting.{IsSchedule, GivesSchedule, GivesScheduleOfFile};
 
 mod accounts;
 mod drawing;
 mod ending;
 mod escape;
+mod fault;
 mod flights;
 mod labels;
 mod layout;
 mod notes;
-mod streams;
 mod svg;
 mod timeline;
 mod ways;
@@ -26,17 +26,18 @@ use dia_base::SCHEDULE_LIMIT;
 use drawing::draw;
 use farm_script::{LineFault, ScriptFault, steps_of};
 use farm_site::{SITE_LIMIT, SiteFault, site_of_octets};
+use farm_text::{ReadFault, TEXT_LIMIT, read_text, write_text};
 use farm_world::{Site, row_site};
+use fault::PictureFault;
 use std::alloc::Global;
 use std::fs::File;
 use std::io::{ErrorKind, Read, Write};
 use std::process::ExitCode;
 use std::{env, io};
-use streams::{PictureFault, read_text, write_text};
 use timeline::timeline_of;
 
 // A text of either is read up to one octet above its limit.
-const _: () = prove!(SITE_LIMIT == SCHEDULE_LIMIT);
+const _: () = prove!(SITE_LIMIT == TEXT_LIMIT && SCHEDULE_LIMIT == TEXT_LIMIT);
 
 /// The picture of a schedule's run over the site, from an empty history.
 fn picture_of(alloc: Global, site: &Site, text: &[u8]) -> Result<String, PictureFault>
@@ -47,6 +48,16 @@ fn picture_of(alloc: Global, site: &Site, text: &[u8]) -> Result<String, Picture
     let timeline = timeline_of::<PlainWire>(alloc, site, &steps)?;
     let picture = draw(alloc, site, &timeline)?;
     Ok(picture)
+}
+
+/// Writes all of the picture.
+fn write_picture<W: Write>(writer: &mut W, picture: &[u8]) -> Result<(), PictureFault>
+    ensures { IsOkUnless result PictureFault.Write }
+{
+    match write_text(writer, picture) {
+        Ok(()) => Ok(()),
+        Err(_) => Err(PictureFault::Write),
+    }
 }
 
 /// Reads a schedule and writes its picture.
@@ -64,7 +75,7 @@ fn paint<R: Read, W: Write>(
 {
     let text = read_text(alloc, reader)?;
     let picture = picture_of(alloc, site, &text)?;
-    write_text(writer, picture.as_bytes())
+    write_picture(writer, picture.as_bytes())
 }
 
 /// The picture of a run over the row site.
@@ -111,8 +122,9 @@ fn site_file(rt: &HostRuntime, path: &str) -> Result<Vec<u8>, PictureFault> {
         return Err(PictureFault::SiteFile);
     };
     match read_text(rt.alloc(), &mut file) {
-        Err(PictureFault::Read) => Err(PictureFault::SiteFile),
-        read => read,
+        Ok(octets) => Ok(octets),
+        Err(ReadFault::Failed) => Err(PictureFault::SiteFile),
+        Err(ReadFault::OutOfMemory) => Err(PictureFault::OutOfMemory),
     }
 }
 

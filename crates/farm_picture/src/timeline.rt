@@ -1,6 +1,6 @@
 //! What happened at each step of a run.
 
-ghost use Rattle.farm_model.specs.CheckedSite.{IsChecked};
+ghost use Rattle.farm_base.specs.CheckedSite.{IsChecked};
 
 use crate::accounts::{Accounts, Charge, accounts_of, charge_between};
 use crate::flights::{Ended, Flight, FlightEnd, Flights};

@@ -2,14 +2,14 @@
 use Rattle.std.proofs.Common.{◌≡◌, ℕ, List, [], ◌∷◌, ◌++◌, codes, Result, Ok, Err, refl}
 use Rattle.std.specs.Str.Lines.{lines}
 use Rattle.farm_script.specs.Schedule.{steps_of}
-use Rattle.farm_model.specs.RowSite.{the_row_site, r1, r2, c1, c2, f1, f2}
+use Rattle.farm_base.specs.RowSite.{the_row_site, r1, r2, c1, c2, f1, f2}
 use Rattle.farm_script.specs.Words.{words_of, number_of}
 use Rattle.farm_script.specs.declared.fault.LineFault.{LineFault}
 use Rattle.farm_script.specs.declared.fault.LineFault.TheVariants.{UnknownWord, WrongCount, UnknownName, BadNumber, BadHex}
 use Rattle.farm_script.specs.declared.fault.ScriptFault.{ScriptFault}
 use Rattle.farm_script.specs.declared.fault.ScriptFault.TheVariants.{Line}
-use Rattle.farm_model.specs.declared.step.Step.{Step}
-use Rattle.farm_model.specs.declared.step.Step.TheVariants.{Up, Deliver, Lose, Cut, Restart, Pick, Charge, Refuse, Emit, Sweep}
+use Rattle.farm_base.specs.declared.step.Step.{Step}
+use Rattle.farm_base.specs.declared.step.Step.TheVariants.{Up, Deliver, Lose, Cut, Restart, Pick, Charge, Refuse, Emit, Sweep}
 
 -- a carriage return before a line feed is no part of the line, one at the end of the text is
 returns : lines (codes "a" ++ 13 ∷ 10 ∷ codes "b" ++ 13 ∷ []) ≡ codes "a" ∷ (codes "b" ++ 13 ∷ []) ∷ []

@@ -8,8 +8,8 @@ use Rattle.farm_script.specs.Schedule.{all_of, with_first, at_line, NoneBefore, 
 use Rattle.farm_script.specs.declared.fault.LineFault.{LineFault}
 use Rattle.farm_script.specs.declared.fault.ScriptFault.{ScriptFault}
 use Rattle.farm_script.specs.declared.fault.ScriptFault.TheVariants.{Line, TooLong}
-use Rattle.farm_model.specs.declared.site.Site.{Site}
-use Rattle.farm_model.specs.declared.step.Step.{Step}
+use Rattle.farm_base.specs.declared.site.Site.{Site}
+use Rattle.farm_base.specs.declared.step.Step.{Step}
 
 -- steps, and those behind them
 abbrev pub behind : List Step → Result (List Step) ScriptFault → Result (List Step) ScriptFault

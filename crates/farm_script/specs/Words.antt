@@ -10,8 +10,8 @@ use Rattle.hex.specs.Hex.{decode_of}
 use Rattle.hex.specs.declared.error.FromHexError.{FromHexError}
 use Rattle.farm_script.specs.declared.fault.LineFault.{LineFault}
 use Rattle.farm_script.specs.declared.fault.LineFault.TheVariants.{UnknownName, BadNumber, BadHex, BadMessage, OutOfMemory}
-use Rattle.farm_model.specs.declared.site.Node.{Node}
-use Rattle.farm_model.specs.declared.site.Site.{Site}
+use Rattle.farm_base.specs.declared.site.Node.{Node}
+use Rattle.farm_base.specs.declared.site.Site.{Site}
 
 -- the words: the longest runs of octets that are no spaces
 abbrev pub words_of : List ℕ → List (List ℕ)

@@ -27,7 +27,7 @@
 //! `reading` has a function for each form of line, and `word` one for each kind of word.
 //!
 //! ```text
-//! use farm_model::Site;
+//! use farm_base::Site;
 //! use farm_script::steps_of;
 //!
 //! fn count(alloc: Global, site: &Site) -> usize {
@@ -50,7 +50,7 @@ mod reading;
 mod word;
 
 use dia_base::{SCHEDULE_LIMIT, STEP_LIMIT};
-use farm_model::{Site, Step};
+use farm_base::{Site, Step};
 pub use fault::{LineFault, ScriptFault};
 use line::{first_line, is_skipped, words_of};
 use reading::step_of;

@@ -7,7 +7,7 @@ ghost use Rattle.farm_script.specs.Schedule.{step_of, up_of, send_of, deliver_of
 use crate::fault::LineFault;
 use crate::word::{message_of, node_of, number_of};
 use dia_base::Moment;
-use farm_model::{Site, Step};
+use farm_base::{Site, Step};
 use std::alloc::Global;
 
 const UP: &[u8] = b"up";

@@ -8,7 +8,7 @@ ghost use Rattle.farm_script.specs.Words.{Answers, message_of, node_of, is_named
 use crate::fault::LineFault;
 use dia_base::NodeNo;
 use dia_message::{Message, whole_message};
-use farm_model::{Node, Site};
+use farm_base::{Node, Site};
 use hex::FromHexError;
 use std::alloc::Global;
 

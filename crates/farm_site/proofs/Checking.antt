@@ -1,10 +1,10 @@
 -- The lists of a site are those that were read.
 use Rattle.std.proofs.Common.{◌≡◌, List, [], sym, subst}
-use Rattle.farm_model.specs.CheckedSite.{is_sound_link, is_sound_route, same_pair, same_route}
-use Rattle.farm_model.specs.declared.site.Link.{Link}
-use Rattle.farm_model.specs.declared.site.Node.{Node}
-use Rattle.farm_model.specs.declared.site.Route.{Route}
-use Rattle.farm_model.specs.declared.site.Site.{Site}
+use Rattle.farm_base.specs.CheckedSite.{is_sound_link, is_sound_route, same_pair, same_route}
+use Rattle.farm_base.specs.declared.site.Link.{Link}
+use Rattle.farm_base.specs.declared.site.Node.{Node}
+use Rattle.farm_base.specs.declared.site.Route.{Route}
+use Rattle.farm_base.specs.declared.site.Site.{Site}
 use Rattle.farm_site.specs.Graph.{site_over}
 use Rattle.farm_site.specs.Growing.{AreSound}
 

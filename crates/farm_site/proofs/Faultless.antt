@@ -16,12 +16,12 @@ use Rattle.dia_base.specs.Folding.{same_folded}
 use Rattle.dia_base.specs.Identity.{fault_of}
 use Rattle.dia_base.specs.declared.number.NodeNo.{NodeNo}
 use Rattle.dia_base.proofs.Faults.{fault_of-identity}
-use Rattle.farm_model.specs.CheckedSite.{is_candidate, is_known, is_sound_account, is_sound_link, is_sound_name, is_sound_route, is_visible, is_within, joins_two_of, same_account, same_name, same_octets, same_pair, same_route, size_of}
-use Rattle.farm_model.specs.Nodes.{is_client, is_front, is_node, is_relay}
-use Rattle.farm_model.specs.declared.site.Link.{Link}
-use Rattle.farm_model.specs.declared.site.Node.{Node}
-use Rattle.farm_model.specs.declared.site.Route.{Route}
-use Rattle.farm_model.specs.declared.site.Site.{Site}
+use Rattle.farm_base.specs.CheckedSite.{is_candidate, is_known, is_sound_account, is_sound_link, is_sound_name, is_sound_route, is_visible, is_within, joins_two_of, same_account, same_name, same_octets, same_pair, same_route, size_of}
+use Rattle.farm_base.specs.Nodes.{is_client, is_front, is_node, is_relay}
+use Rattle.farm_base.specs.declared.site.Link.{Link}
+use Rattle.farm_base.specs.declared.site.Node.{Node}
+use Rattle.farm_base.specs.declared.site.Route.{Route}
+use Rattle.farm_base.specs.declared.site.Site.{Site}
 use Rattle.farm_site.specs.Faults.{IsAccountFault, IsLinkFault, IsNoGrant, IsNodeFault, IsRouteFault, IsTariffFault, IsUnknownAt, NamesNone, is_bad_link}
 use Rattle.farm_site.specs.Forms.{is_key, is_number, need_of_account, need_of_link, need_of_node, need_of_route, need_of_tariff, required}
 use Rattle.farm_site.specs.Graph.{site_over}

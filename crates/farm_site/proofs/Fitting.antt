@@ -8,7 +8,7 @@ use Rattle.std.proofs.lemmas.Slice.Zip.{AllZip-long}
 use Rattle.toml.specs.Data.{Data, Members, integer, string, table}
 use Rattle.toml.specs.View.{items_of}
 use Rattle.dia_base.specs.Identity.{fault_of}
-use Rattle.farm_model.specs.CheckedSite.{is_visible, is_within, size_of}
+use Rattle.farm_base.specs.CheckedSite.{is_visible, is_within, size_of}
 use Rattle.farm_site.specs.Faults.{IsFaultOf, IsOfKeys, IsOfOptionalKey, IsTableFault, StandsAt, of_entry, of_table}
 use Rattle.farm_site.specs.Forms.{Form, Need, account_id, all_items, any_text, form_of, has_more_than, has_too_many, has_type, identity_text, integer_of_size, is_in_range, is_integer, is_key, is_number, is_string, is_table, items_len, known_word, list_of_numbers, list_of_tables, list_of_texts, number_within, units_number, required}
 use Rattle.farm_site.specs.Spelling.{SpellsTable, has_32_bits, number, numbers, tables, texts, value_at, value_or}

@@ -9,12 +9,12 @@ use Rattle.cc_rating.specs.Tariffs.{fault_after, has_key, in_range, is_twice, ra
 use Rattle.dia_base.specs.Folding.{same_folded}
 use Rattle.dia_base.specs.Identity.{fault_of}
 use Rattle.dia_base.proofs.Faults.{IsIdentity-no_fault}
-use Rattle.farm_model.specs.declared.site.Link.{Link}
-use Rattle.farm_model.specs.declared.site.Node.{Node}
-use Rattle.farm_model.specs.declared.site.Route.{Route}
-use Rattle.farm_model.specs.declared.site.Site.{Site}
-use Rattle.farm_model.specs.Nodes.{is_client, is_front, is_node, is_relay}
-use Rattle.farm_model.specs.CheckedSite.{is_candidate, is_known, is_sound_link, is_sound_name, is_sound_route, is_visible, is_within, joins_two_of, same_name, same_pair, same_route, size_of}
+use Rattle.farm_base.specs.declared.site.Link.{Link}
+use Rattle.farm_base.specs.declared.site.Node.{Node}
+use Rattle.farm_base.specs.declared.site.Route.{Route}
+use Rattle.farm_base.specs.declared.site.Site.{Site}
+use Rattle.farm_base.specs.Nodes.{is_client, is_front, is_node, is_relay}
+use Rattle.farm_base.specs.CheckedSite.{is_candidate, is_known, is_sound_link, is_sound_name, is_sound_route, is_visible, is_within, joins_two_of, same_name, same_pair, same_route, size_of}
 use Rattle.farm_site.specs.Growing.{MayFollow}
 use Rattle.farm_site.proofs.Pushing.{and_both, and_right}
 use Rattle.std.proofs.lemmas.Bool.{le-leb, leb-true}

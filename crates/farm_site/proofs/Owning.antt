@@ -10,7 +10,7 @@ use Rattle.std.specs.declared.cmp.Ordering.TheVariants.{Less, Equal, Greater}
 use Rattle.std.proofs.lemmas.List.Folds.{list_any-append}
 use Rattle.std.specs.Prelude.{nat_le}
 use Rattle.cc_book.specs.declared.account.Account.{Account}
-use Rattle.farm_model.specs.CheckedSite.{is_sound_account, is_visible, is_within, same_account, same_octets, size_of}
+use Rattle.farm_base.specs.CheckedSite.{is_sound_account, is_visible, is_within, same_account, same_octets, size_of}
 use Rattle.farm_site.specs.declared.account.Owner.{Owner}
 use Rattle.farm_site.specs.declared.key.Key.TheVariants.{Id, IdKind, Opening}
 use Rattle.farm_site.specs.Growing.{MayFollow}

@@ -4,7 +4,7 @@ use Rattle.std.proofs.lemmas.Bool.{or_from}
 use Rattle.std.specs.List.{AllZip, list_all, list_any}
 use Rattle.cc_rating.specs.Tariffs.{fault_after, fault_from}
 use Rattle.cc_rating.specs.declared.tariff.Tariff.{Tariff}
-use Rattle.farm_model.specs.Lists.{are_distinct}
+use Rattle.farm_base.specs.Lists.{are_distinct}
 use Rattle.farm_site.proofs.Pushing.{and_left, and_right, none_both, not_true, or_left, or_right}
 
 pub all_at : {A : Type 0} (test : A → Bool) (before rest : List A) (x : A) → list_all test (before ++ x ∷ rest) ≡ true → test x ≡ true

@@ -4,7 +4,7 @@ use Rattle.std.specs.List.{list_all, list_any}
 use Rattle.std.specs.Option.{option_or}
 use Rattle.cc_rating.specs.declared.tariff.Tariff.{Tariff}
 use Rattle.cc_rating.specs.Tariffs.{fault_after, fault_from, fault_of}
-use Rattle.farm_model.specs.Lists.{are_distinct}
+use Rattle.farm_base.specs.Lists.{are_distinct}
 use Rattle.farm_site.specs.Growing.{AreSound, MayFollow}
 
 pub and_both : (a b : Bool) → a ≡ true → b ≡ true → (a && b) ≡ true

@@ -10,12 +10,12 @@ use Rattle.toml.specs.Parse.{parse_document}
 use Rattle.cc_book.specs.declared.account.Account.{Account}
 use Rattle.cc_rating.specs.Tariffs.{fault_from}
 use Rattle.cc_rating.specs.declared.tariff.Tariff.{Tariff}
-use Rattle.farm_model.specs.CheckedSite.{IsChecked, is_sound_account, is_sound_link, is_sound_name, is_sound_route, same_account, same_name, same_pair, same_route}
-use Rattle.farm_model.specs.Lists.{are_distinct}
-use Rattle.farm_model.specs.declared.site.Link.{Link}
-use Rattle.farm_model.specs.declared.site.Node.{Node}
-use Rattle.farm_model.specs.declared.site.Route.{Route}
-use Rattle.farm_model.specs.declared.site.Site.{Site}
+use Rattle.farm_base.specs.CheckedSite.{IsChecked, is_sound_account, is_sound_link, is_sound_name, is_sound_route, same_account, same_name, same_pair, same_route}
+use Rattle.farm_base.specs.Lists.{are_distinct}
+use Rattle.farm_base.specs.declared.site.Link.{Link}
+use Rattle.farm_base.specs.declared.site.Node.{Node}
+use Rattle.farm_base.specs.declared.site.Route.{Route}
+use Rattle.farm_base.specs.declared.site.Site.{Site}
 use Rattle.farm_site.specs.Faults.{AreNoFile, AreWhyOctets, IsAccountFault, IsFaultIn, IsLinkFault, IsNodeFault, IsRouteFault, IsTableFault, IsTariffFault, IsToldOf, IsWhyText, of_accounts, of_file, of_links, of_nodes, of_routes, of_tariffs}
 use Rattle.farm_site.specs.Forms.{is_key, need_of_file, required}
 use Rattle.farm_site.specs.Spelling.{IsSiteFile, IsTyped, Spells, SpellsAccount, SpellsLink, SpellsNode, SpellsRoute, SpellsSite, SpellsTable, SpellsTariff, is_typed_route, is_typed_tariff, number, numbers, value_at}

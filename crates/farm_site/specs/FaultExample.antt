@@ -4,8 +4,8 @@ use Rattle.std.specs.Prelude.{ℕ, List, [], ◌∷◌, codes, None}
 use Rattle.toml.specs.Data.{string, Members, no_members, member}
 use Rattle.dia_base.specs.declared.node.NodeKind.{NodeKind}
 use Rattle.dia_base.specs.declared.node.NodeKind.TheVariants.{Relay, Front, Client}
-use Rattle.farm_model.specs.declared.site.Link.{Link}
-use Rattle.farm_model.specs.declared.site.Node.{Node}
+use Rattle.farm_base.specs.declared.site.Link.{Link}
+use Rattle.farm_base.specs.declared.site.Node.{Node}
 use Rattle.farm_site.specs.declared.key.Key.TheVariants as keys
 use Rattle.farm_site.specs.Keys.{spelled}
 

@@ -12,11 +12,11 @@ use Rattle.cc_rating.specs.Tariffs.{rates, units_limit}
 use Rattle.dia_base.specs.Folding.{same_folded}
 use Rattle.dia_base.specs.Identity.{fault_of}
 use Rattle.dia_base.specs.declared.number.NodeNo.{NodeNo}
-use Rattle.farm_model.specs.CheckedSite.{is_candidate, is_known, joins_two_of, same_octets, same_pair}
-use Rattle.farm_model.specs.Nodes.{is_client, is_front, is_node, is_relay}
-use Rattle.farm_model.specs.declared.site.Link.{Link}
-use Rattle.farm_model.specs.declared.site.Node.{Node}
-use Rattle.farm_model.specs.declared.site.Route.{Route}
+use Rattle.farm_base.specs.CheckedSite.{is_candidate, is_known, joins_two_of, same_octets, same_pair}
+use Rattle.farm_base.specs.Nodes.{is_client, is_front, is_node, is_relay}
+use Rattle.farm_base.specs.declared.site.Link.{Link}
+use Rattle.farm_base.specs.declared.site.Node.{Node}
+use Rattle.farm_base.specs.declared.site.Route.{Route}
 use Rattle.farm_site.specs.declared.fault.SiteFault.{SiteFault}
 use Rattle.farm_site.specs.declared.fault.SiteFault.TheVariants.{NotToml, Missing, WrongType, OutOfRange, Twice, UnknownName, BadIdentity, TooMany, BadLink, OutOfMemory}
 use Rattle.farm_site.specs.declared.key.Key.{Key}

@@ -2,7 +2,7 @@
 use Rattle.std.specs.Prelude.{ℕ, suc, ℤ, pos, negsuc, Bool, true, false, ◌&&◌, List, length, Option, Some, None, is_some, nat_le, nat_lt}
 use Rattle.std.specs.List.{list_all}
 use Rattle.toml.specs.Data.{Data, Items, no_items, item, as_array, as_integer, as_str, as_table}
-use Rattle.farm_model.specs.CheckedSite.{is_visible, is_within, size_of}
+use Rattle.farm_base.specs.CheckedSite.{is_visible, is_within, size_of}
 use Rattle.farm_site.specs.declared.key.Key.{Key}
 use Rattle.farm_site.specs.declared.key.Key.TheVariants.{Realm, Validity, Limit, Workers, Queue, Vendors, Currency, Exponent, Watchdog, Node, Link, Route, Tariff, Account, Name, Kind, Address, From, To, At, App, Peers, Group, Ident, Block, Price, Quantum, Greatest, IdKind, Id, Opening}
 

@@ -1,8 +1,8 @@
 -- The nodes and links of a site that are read so far.
 use Rattle.std.specs.Prelude.{List, [], pos}
-use Rattle.farm_model.specs.declared.site.Link.{Link}
-use Rattle.farm_model.specs.declared.site.Node.{Node}
-use Rattle.farm_model.specs.declared.site.Site.{Site}
+use Rattle.farm_base.specs.declared.site.Link.{Link}
+use Rattle.farm_base.specs.declared.site.Node.{Node}
+use Rattle.farm_base.specs.declared.site.Site.{Site}
 use Rattle.farm_site.specs.declared.graph.Graph.{Graph}
 
 -- a site of these nodes and links, and with nothing else: what is said of nodes and links looks at no more

@@ -1,7 +1,7 @@
 -- Lists of sound and distinct items, as they are read one by one.
 use Rattle.std.specs.Prelude.{◌≡◌, Bool, true, false, List}
 use Rattle.std.specs.List.{list_all, list_any}
-use Rattle.farm_model.specs.Lists.{are_distinct}
+use Rattle.farm_base.specs.Lists.{are_distinct}
 
 -- each item is sound, and no two are the same
 pub record AreSound {A : Type 0} (sound_item : A → Bool) (same : A → A → Bool) (items : List A) : Type 0 where

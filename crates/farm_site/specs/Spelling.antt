@@ -15,11 +15,11 @@ use Rattle.dia_base.specs.Identity.{fault_of}
 use Rattle.dia_base.specs.declared.node.NodeKind.{NodeKind}
 use Rattle.dia_base.specs.declared.node.NodeKind.TheVariants.{Relay, Front, Client}
 use Rattle.dia_base.specs.declared.number.NodeNo.{NodeNo}
-use Rattle.farm_model.specs.CheckedSite.{IsChecked, is_within}
-use Rattle.farm_model.specs.declared.site.Link.{Link}
-use Rattle.farm_model.specs.declared.site.Node.{Node}
-use Rattle.farm_model.specs.declared.site.Route.{Route}
-use Rattle.farm_model.specs.declared.site.Site.{Site}
+use Rattle.farm_base.specs.CheckedSite.{IsChecked, is_within}
+use Rattle.farm_base.specs.declared.site.Link.{Link}
+use Rattle.farm_base.specs.declared.site.Node.{Node}
+use Rattle.farm_base.specs.declared.site.Route.{Route}
+use Rattle.farm_base.specs.declared.site.Site.{Site}
 use Rattle.farm_site.specs.declared.entry.Entry.{Entry}
 use Rattle.farm_site.specs.declared.key.Key.{Key}
 use Rattle.farm_site.specs.declared.key.Key.TheVariants as keys

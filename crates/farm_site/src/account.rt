@@ -2,7 +2,7 @@
 
 ghost use Rattle.std.specs.Prelude.{◌≡◌, ◌≤◌, IfErr, IfOk, vec_len, true, nat_le, length, ◌&&◌};
 ghost use Rattle.std.specs.List.{list_all, list_any};
-ghost use Rattle.farm_model.specs.CheckedSite.{is_sound_account, is_visible, is_within, same_account, size_of};
+ghost use Rattle.farm_base.specs.CheckedSite.{is_sound_account, is_visible, is_within, same_account, size_of};
 ghost use Rattle.farm_site.specs.Faults.{IsAccountFault, IsFaultOf, IsOfKeys, IsTableFault};
 ghost use Rattle.farm_site.specs.Forms.{need_of_account};
 ghost use Rattle.farm_site.specs.Growing.{AreSound};

@@ -3,7 +3,7 @@
 ghost use Rattle.std.specs.Prelude.{◌≡◌, ◌≤◌, ◌⊎◌, [], ◌∷◌, IfErr, IfOk, None, true, false, length, vec_len, nat_le, map, option_map, pos};
 ghost use Rattle.std.specs.List.{list_all};
 ghost use Rattle.dia_base.specs.Identity.{fault_of};
-ghost use Rattle.farm_model.specs.CheckedSite.{is_within, size_of};
+ghost use Rattle.farm_base.specs.CheckedSite.{is_within, size_of};
 ghost use Rattle.farm_site.specs.Faults.{IsFaultOf, IsOfKey, IsOfOptionalKey, StandsAt};
 ghost use Rattle.farm_site.specs.Forms.{all_items, covers, form_of, has_more_than, identity_text, integer_of_size, is_for_text, is_from_to, is_integer, is_number, is_string, is_table, list_of_numbers, list_of_tables, list_of_texts, units_number};
 ghost use Rattle.farm_site.specs.Spelling.{has_32_bits, may_have_32_bits, value_at, value_or, number, numbers, texts, tables, tables_of};

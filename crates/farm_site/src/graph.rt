@@ -1,13 +1,13 @@
 //! The nodes and links of a site, as far as they are read.
 
 ghost use Rattle.std.specs.Prelude.{◌≡◌, ◌<◌, ◌≤◌, IfNone, IfSome, None, true, length, position};
-ghost use Rattle.farm_model.specs.Nodes.{joins, is_linked, is_client, is_front, is_relay, kind_at};
-ghost use Rattle.farm_model.specs.CheckedSite.{is_known};
+ghost use Rattle.farm_base.specs.Nodes.{joins, is_linked, is_client, is_front, is_relay, kind_at};
+ghost use Rattle.farm_base.specs.CheckedSite.{is_known};
 ghost use Rattle.farm_site.specs.Graph.{drawn};
 ghost use Rattle.farm_site.specs.Spelling.{Names, is_named};
 
 use dia_base::{NodeKind, NodeNo};
-use farm_model::{Link, Node};
+use farm_base::{Link, Node};
 
 /// The nodes and links that have been read.
 #[derive(Clone, Copy)]

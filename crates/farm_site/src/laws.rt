@@ -3,7 +3,7 @@
 
 ghost use Rattle.std.specs.Prelude.{◌≡◌, ℕ, List, [], ◌∷◌, codes, map, true, false};
 ghost use Rattle.std.specs.Str.{IsUtf8};
-ghost use Rattle.farm_model.specs.declared.site.Site.{Site};
+ghost use Rattle.farm_base.specs.declared.site.Site.{Site};
 ghost use Rattle.farm_site.specs.FaultExample.{entry_of_link, entry_of_node, five_nodes, link, one_link};
 ghost use Rattle.farm_site.specs.Faults.{AreWhyOctets, IsLinkFault, IsNodeFault, IsWhyText, is_bad_link};
 ghost use Rattle.farm_site.specs.Spelling.{IsSiteFile, Spells};
@@ -24,19 +24,19 @@ pub fn site_files_have_no_fault()
 
 /// A link of a node with itself is bad, of two clients, of two fronts, and of two nodes that are linked already, in
 /// either direction; one of two relays, of a relay and a front, or of a client and either is not.
-pub fn which_links_are_bad()
+pub fn links_join_two_nodes_once()
     ensures bad { map (is_bad_link five_nodes one_link) (link 0 0 ∷ link 3 4 ∷ link 2 2 ∷ link 3 0 ∷ link 0 3 ∷ []) ≡ true ∷ true ∷ true ∷ true ∷ true ∷ [] }
     ensures good { map (is_bad_link five_nodes one_link) (link 0 1 ∷ link 0 2 ∷ link 3 2 ∷ link 4 0 ∷ link 3 1 ∷ []) ≡ false ∷ false ∷ false ∷ false ∷ false ∷ [] }
 {}
 
 /// An end of a link is unknown where no node has its name, without ASCII case.
-pub fn which_ends_are_unknown()
+pub fn ends_are_nodes_of_the_file()
     ensures unknown { IsLinkFault five_nodes [] (entry_of_link (codes "c1.example") (codes "r3.example")) (UnknownName To) }
     ensures known { ¬ (IsLinkFault five_nodes [] (entry_of_link (codes "C1.Example") (codes "r3.example")) (UnknownName From)) }
 {}
 
 /// A name stands twice where a node before has it, without ASCII case.
-pub fn which_names_stand_twice()
+pub fn names_stand_once()
     ensures twice { IsNodeFault five_nodes (entry_of_node (codes "R1.Example")) (Twice Name) }
     ensures once { ¬ (IsNodeFault five_nodes (entry_of_node (codes "r3.example")) (Twice Name)) }
 {}

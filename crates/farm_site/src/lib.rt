@@ -52,7 +52,7 @@
 //! - [`SiteFault`] with its [`Key`]: why a text is no site, with the words that are printed.
 //! - [`one_site`], [`site_files_have_no_fault`]: a text spells one site at most, and where it does, no fault could be told
 //!   of it.
-//! - [`which_links_are_bad`], [`which_ends_are_unknown`], [`which_names_stand_twice`]: worked examples of faults that
+//! - [`links_join_two_nodes_once`], [`ends_are_nodes_of_the_file`], [`names_stand_once`]: worked examples of faults that
 //!   other entries decide.
 //!
 //! Inside, `entry` reads a key of a table, `graph` finds nodes and links by name, and `node`, `link`,
@@ -72,7 +72,7 @@
 
 ghost use Rattle.std.specs.Prelude.{◌≡◌, ◌<◌, ◌⊎◌, Err, Ok, IfErr, IfOk, None, Some, length, nat_le, true};
 ghost use Rattle.std.specs.Str.{IsUtf8};
-ghost use Rattle.farm_model.specs.CheckedSite.{IsChecked, size_of};
+ghost use Rattle.farm_base.specs.CheckedSite.{IsChecked, size_of};
 ghost use Rattle.farm_site.specs.Faults.{AreWhyOctets, IsFaultIn, IsFaultOf, IsNoFile, IsOfKey, IsWhyText};
 ghost use Rattle.farm_site.specs.Spelling.{IsSiteFile, IsTyped, Spells, SpellsSite, value_at};
 ghost use Rattle.toml.specs.Data.{integer};
@@ -93,13 +93,13 @@ mod tariff;
 use account::accounts_of;
 use dia_base::{HISTORY_LIMIT, Listing, QUEUE_LIMIT, WORKER_LIMIT};
 use entry::Entry;
-use farm_model::Site;
+use farm_base::Site;
 pub use fault::SiteFault;
 use graph::Graph;
 pub use key::Key;
 pub use laws::{
-    one_site, site_files_have_no_fault, which_ends_are_unknown, which_links_are_bad,
-    which_names_stand_twice,
+    ends_are_nodes_of_the_file, links_join_two_nodes_once, names_stand_once, one_site,
+    site_files_have_no_fault,
 };
 use link::links_of;
 use node::nodes_of;

@@ -2,8 +2,8 @@
 
 ghost use Rattle.std.specs.Prelude.{◌≡◌, ◌≤◌, ◌⊎◌, IfErr, IfOk, length, vec_len, true, [], not, ◌&&◌};
 ghost use Rattle.std.specs.List.{list_any};
-ghost use Rattle.farm_model.specs.Nodes.{is_client, is_front, is_node};
-ghost use Rattle.farm_model.specs.CheckedSite.{is_sound_link, is_known, joins_two_of, same_pair};
+ghost use Rattle.farm_base.specs.Nodes.{is_client, is_front, is_node};
+ghost use Rattle.farm_base.specs.CheckedSite.{is_sound_link, is_known, joins_two_of, same_pair};
 ghost use Rattle.farm_site.specs.Faults.{IsFaultOf, IsLinkFault, IsOfKey, IsTableFault, IsUnknownAt};
 ghost use Rattle.farm_site.specs.Forms.{form_of, is_for_text};
 ghost use Rattle.farm_site.specs.Graph.{drawn, site_over};
@@ -16,7 +16,7 @@ use crate::fault::SiteFault;
 use crate::graph::{Graph, joins};
 use crate::key::Key;
 use dia_base::NodeNo;
-use farm_model::{Link, Node};
+use farm_base::{Link, Node};
 use std::alloc::Global;
 
 /// The most links of a site.

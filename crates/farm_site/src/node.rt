@@ -4,7 +4,7 @@ ghost use Rattle.std.specs.Prelude.{◌≡◌, ◌≤◌, ◌⊎◌, IfErr, IfOk
 ghost use Rattle.std.specs.List.{list_any};
 ghost use Rattle.std.specs.Net.Grammar.{IsSocketText};
 ghost use Rattle.dia_base.specs.Folding.{same_folded};
-ghost use Rattle.farm_model.specs.CheckedSite.{is_sound_name, same_name};
+ghost use Rattle.farm_base.specs.CheckedSite.{is_sound_name, same_name};
 ghost use Rattle.farm_site.specs.Faults.{IsFaultOf, IsNodeFault, IsOfOptionalKey, IsTableFault, IsUnknownWord};
 ghost use Rattle.farm_site.specs.Growing.{AreSound, MayFollow};
 ghost use Rattle.farm_site.specs.Spelling.{SpellsNode, SpellsTable, WritesAddress, value_at, node_word};
@@ -16,7 +16,7 @@ use crate::fault::SiteFault;
 use crate::key::Key;
 use dia_avp::Octets;
 use dia_base::{Identity, NodeKind};
-use farm_model::Node;
+use farm_base::Node;
 use std::alloc::Global;
 use std::net::SocketAddr;
 

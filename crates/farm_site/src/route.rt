@@ -3,8 +3,8 @@
 ghost use Rattle.std.specs.Prelude.{◌≡◌, ◌≤◌, ◌⊎◌, IfErr, IfOk, length, vec_len, true, ◌&&◌, ◌==◌};
 ghost use Rattle.std.specs.List.{list_all, list_any};
 ghost use Rattle.dia_base.specs.Folding.{same_folded};
-ghost use Rattle.farm_model.specs.CheckedSite.{is_candidate, is_sound_route, same_route};
-ghost use Rattle.farm_model.specs.Nodes.{is_node, is_relay};
+ghost use Rattle.farm_base.specs.CheckedSite.{is_candidate, is_sound_route, same_route};
+ghost use Rattle.farm_base.specs.Nodes.{is_node, is_relay};
 ghost use Rattle.farm_site.specs.Faults.{IsFaultOf, IsOfKey, IsRouteFault, IsTableFault, IsUnknownAmong, IsUnknownAt, NamesNone};
 ghost use Rattle.farm_site.specs.Graph.{drawn};
 ghost use Rattle.farm_site.specs.Growing.{AreSound, MayFollow};
@@ -16,7 +16,7 @@ use crate::fault::SiteFault;
 use crate::graph::Graph;
 use crate::key::Key;
 use dia_base::{Identity, Listing, NodeNo};
-use farm_model::Route;
+use farm_base::Route;
 use std::alloc::Global;
 
 /// The most routes of a site.

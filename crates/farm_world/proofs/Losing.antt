@@ -2,18 +2,18 @@
 use Rattle.std.proofs.Common.{◌≡◌, ℕ, Bool, true, false, not, List, [], ◌∷◌, ◌++◌, get_or, Option, refl, sym, subst, ap, ◌∙◌}
 use Rattle.std.specs.Prelude.{MatchBool, filter}
 use Rattle.dia_base.specs.declared.number.NodeNo.{NodeNo}
-use Rattle.farm_model.specs.declared.site.Site.{Site}
+use Rattle.farm_base.specs.declared.site.Site.{Site}
 use Rattle.front_core.specs.FrontState.{FrontState}
 use Rattle.front_core.specs.FrontStep.{without_connection}
 use Rattle.farm_model.specs.declared.state.Direction.{Direction}
 use Rattle.farm_model.specs.declared.state.FrontAt.{FrontAt}
 use Rattle.farm_model.specs.declared.state.RelayAt.{RelayAt}
-use Rattle.farm_model.specs.Lists.{IsFirst}
+use Rattle.farm_base.specs.Lists.{IsFirst}
 use Rattle.farm_model.specs.FarmStep.{can_restart, Restarts}
 use Rattle.farm_model.specs.Loss.{Loss, LossAt, LearnsLoss, LearnLosses, all_know, learns, touches, after_restart, losses_of_restart, with_restart_of_front, with_restart_of_relay}
 use Rattle.farm_model.specs.Run.{TellsSame}
 use Rattle.farm_model.specs.World.{WorldState, is_front_at, front_at, relay_at}
-use Rattle.farm_model.proofs.WorldLemmas.{front_found, front_changed}
+use Rattle.farm_model.proofs.Wiring.WorldLemmas.{front_found, front_changed}
 use Rattle.farm_world.proofs.Turning.{fronts_with, with_parts}
 
 -- ---- one node learns it

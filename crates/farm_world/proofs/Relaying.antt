@@ -7,9 +7,9 @@ use Rattle.relay_core.specs.declared.run.RelayEvent.{RelayEvent}
 use Rattle.relay_core.specs.RelayRun.{OnEvent}
 use Rattle.relay_core.specs.RelayState.{RelayState}
 use Rattle.farm_model.specs.declared.state.RelayAt.{RelayAt}
-use Rattle.farm_model.specs.Lists.{IsFirst}
+use Rattle.farm_base.specs.Lists.{IsFirst}
 use Rattle.farm_model.specs.World.{is_relay_at, relay_at}
-use Rattle.farm_model.proofs.WorldLemmas.{relay_found, relay_changed}
+use Rattle.farm_model.proofs.Wiring.WorldLemmas.{relay_found, relay_changed}
 use Rattle.farm_world.specs.RelayEvents.{RelayTakes}
 
 -- the relay at a place does what it may do at the event

@@ -13,17 +13,17 @@ use Rattle.front_core.specs.declared.error.FrontError.{FrontError}
 use Rattle.front_core.specs.declared.error.FrontError.TheVariants.{OutOfMemory, UnknownConn}
 use Rattle.front_core.specs.FrontState.{FrontState, is_among}
 use Rattle.front_core.specs.FrontStep.{after_arrival, sent_at_arrival, after_pick, after_charge, after_refusal, after_emit, Applies, Charges, Emits}
-use Rattle.farm_model.specs.declared.site.Site.{Site}
+use Rattle.farm_base.specs.declared.site.Site.{Site}
 use Rattle.farm_model.specs.declared.state.Direction.{Direction}
 use Rattle.farm_model.specs.declared.state.FrontAt.{FrontAt}
-use Rattle.farm_model.specs.Lists.{IsFirst}
+use Rattle.farm_base.specs.Lists.{IsFirst}
 use Rattle.dia_message.specs.Traffic.{Traffic}
 use Rattle.farm_model.specs.World.{WorldState, is_between, with_message, with_traffic_from, is_front_at, with_front, front_at}
-use Rattle.farm_model.specs.Nodes.{is_client}
+use Rattle.farm_base.specs.Nodes.{is_client}
 use Rattle.farm_model.specs.Arrival.{Arrives, ArrivesAtServer, after_arrival_at_client, after_arrival_at_front}
 use Rattle.farm_model.specs.FarmStep.{Outcome, after_send, after_send_in, after_pick_at, with_pick, after_refusal_at, after_emit_at, with_emit, after_charge_at, with_charge}
-use Rattle.farm_model.proofs.ListLemmas.{first_item}
-use Rattle.farm_model.proofs.WorldLemmas.{front_found, front_changed}
+use Rattle.farm_model.proofs.Lists.ListLemmas.{first_item}
+use Rattle.farm_model.proofs.Wiring.WorldLemmas.{front_found, front_changed}
 
 -- the front of the part at a place, changed
 abbrev pub fronts_with : WorldState → ℕ → FrontAt → FrontState → List FrontAt

@@ -3,7 +3,7 @@
 ghost use Rattle.std.specs.Prelude.{◌≡◌, ◌<◌, ◌++◌, ◌∷◌, [], not, filter, length, None, IfSome, IfNone, OnOk, OnErr, slice_get, remove};
 ghost use Rattle.std.specs.List.{find};
 ghost use Rattle.farm_model.specs.FarmStep.{Takes, empty_direction, flight_at};
-ghost use Rattle.farm_model.specs.Lists.{IsFirst};
+ghost use Rattle.farm_base.specs.Lists.{IsFirst};
 ghost use Rattle.farm_model.specs.Loss.{touches};
 ghost use Rattle.farm_model.specs.World.{is_between, is_outward, is_connected, conn_between, without_conn, with_message, with_message_from, with_traffic_from};
 

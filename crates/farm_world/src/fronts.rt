@@ -3,7 +3,7 @@
 ghost use Rattle.std.specs.Prelude.{◌≡◌, IfSome, IfNone, OnOk, None};
 ghost use Rattle.std.specs.List.{find};
 ghost use Rattle.farm_model.specs.FarmStep.{with_connection_at};
-ghost use Rattle.farm_model.specs.Lists.{IsFirst};
+ghost use Rattle.farm_base.specs.Lists.{IsFirst};
 ghost use Rattle.farm_model.specs.Loss.{with_restart_of_front};
 ghost use Rattle.farm_model.specs.World.{is_front_at, front_at};
 

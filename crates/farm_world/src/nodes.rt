@@ -1,7 +1,7 @@
 //! What the site says of nodes.
 
 ghost use Rattle.std.specs.Prelude.{◌≡◌};
-ghost use Rattle.farm_model.specs.Nodes.{joins, is_linked, is_client, is_front, is_relay, kind_at};
+ghost use Rattle.farm_base.specs.Nodes.{joins, is_linked, is_client, is_front, is_relay, kind_at};
 
 use dia_base::{NodeKind, NodeNo};
 use farm_model::{Link, Site};

@@ -2,7 +2,7 @@
 
 ghost use Rattle.std.specs.Prelude.{◌≡◌, ◌≤◌, ◌<◌, ◌^◌, IfOk, None};
 ghost use Rattle.cc_rating.specs.Tariffs.{fault_of};
-ghost use Rattle.farm_model.specs.CheckedSite.{IsChecked};
+ghost use Rattle.farm_base.specs.CheckedSite.{IsChecked};
 ghost use Rattle.farm_model.specs.Run.{fresh_front, front_if, fronts_from, empty_book, start};
 
 mod relays;

@@ -3,7 +3,7 @@
 ghost use Rattle.std.specs.Prelude.{◌≡◌, ◌≢◌, [], IfSome, IfNone, IfOk, OnOk, None};
 ghost use Rattle.std.specs.List.{find};
 ghost use Rattle.farm_model.specs.FarmStep.{after_up_by, with_link_at};
-ghost use Rattle.farm_model.specs.Lists.{IsFirst};
+ghost use Rattle.farm_base.specs.Lists.{IsFirst};
 ghost use Rattle.farm_model.specs.Loss.{with_restart_of_relay};
 ghost use Rattle.farm_model.specs.World.{is_relay_at, relay_at};
 ghost use Rattle.farm_world.specs.RelayEvents.{RelayTakes};

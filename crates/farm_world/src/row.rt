@@ -2,7 +2,7 @@
 
 ghost use Rattle.std.specs.Prelude.{◌≡◌, None, IfOk};
 ghost use Rattle.dia_base.specs.Identity.{fault_of};
-ghost use Rattle.farm_model.specs.RowSite.{the_row_site, row_nodes, row_links, row_routes, row_tariffs, row_accounts, account, node, route};
+ghost use Rattle.farm_base.specs.RowSite.{the_row_site, row_nodes, row_links, row_routes, row_tariffs, row_accounts, account, node, route};
 
 use cc_book::Account;
 use cc_rating::{Tariff, UnitKind};

@@ -1,7 +1,7 @@
 //! A whole run of the farm.
 
 ghost use Rattle.std.specs.Prelude.{◌≡◌, ◌≤◌, ◌<◌, IfOk, IfErr, MatchOption, length, take};
-ghost use Rattle.farm_model.specs.CheckedSite.{IsChecked};
+ghost use Rattle.farm_base.specs.CheckedSite.{IsChecked};
 ghost use Rattle.farm_model.specs.Promise.{IsPromised};
 ghost use Rattle.farm_model.specs.Run.{skips, trace_of};
 

@@ -63,7 +63,9 @@ after_pick_from front worker (job ∷ jobs) = Some (with_worker (record front { 
 
 abbrev pub after_pick_by : FrontState → ℕ → Option Worker → Option FrontState
 after_pick_by front worker (Some Idle) = after_pick_from front worker front.queue
-after_pick_by front worker _ = None
+after_pick_by front worker (Some (Picked conn message)) = None
+after_pick_by front worker (Some (Done conn answer)) = None
+after_pick_by front worker None = None
 
 -- the front after a pick, none where it does not apply
 abbrev pub after_pick : FrontState → ℕ → Option FrontState
@@ -73,7 +75,9 @@ after_pick front worker = after_pick_by front worker (slice_get front.workers wo
 
 abbrev pub after_refusal_by : FrontState → ℕ → Option Worker → Option FrontState
 after_refusal_by front worker (Some (Picked conn message)) = Some (with_worker front worker (Done conn (too_busy front.site message)))
-after_refusal_by front worker _ = None
+after_refusal_by front worker (Some Idle) = None
+after_refusal_by front worker (Some (Done conn answer)) = None
+after_refusal_by front worker None = None
 
 -- the front after a refusal, none where it does not apply
 abbrev pub after_refusal : FrontState → ℕ → Option FrontState
@@ -83,7 +87,9 @@ after_refusal front worker = after_refusal_by front worker (slice_get front.work
 
 abbrev pub after_emit_by : FrontState → ℕ → Option Worker → Option (FrontState × Traffic)
 after_emit_by front worker (Some (Done conn answer)) = Some (with_worker front worker Idle, (if is_among front.connections conn then (conn, answer) ∷ [] else []))
-after_emit_by front worker _ = None
+after_emit_by front worker (Some Idle) = None
+after_emit_by front worker (Some (Picked conn message)) = None
+after_emit_by front worker None = None
 
 abbrev pub after_emit : FrontState → ℕ → Option (FrontState × Traffic)
 after_emit front worker = after_emit_by front worker (slice_get front.workers worker)
@@ -97,7 +103,9 @@ preparation_at site message = preparation_of site.name site.realm message (view_
 abbrev pub after_charge_by : FrontState → Ledger → Moment → ℕ → Option Worker → Option (FrontState × Ledger)
 after_charge_by front ledger moment worker (Some (Picked conn message)) =
     Some (with_worker front worker (Done conn (answer_in front.site ledger message (preparation_at front.site message))), book_after ledger moment (preparation_at front.site message))
-after_charge_by front ledger moment worker _ = None
+after_charge_by front ledger moment worker (Some Idle) = None
+after_charge_by front ledger moment worker (Some (Done conn answer)) = None
+after_charge_by front ledger moment worker None = None
 
 -- the front and the book after a charge, none where it does not apply
 abbrev pub after_charge : FrontState → Ledger → Moment → ℕ → Option (FrontState × Ledger)

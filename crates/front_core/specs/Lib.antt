@@ -8,3 +8,4 @@ pub mod FrontState
 pub mod FrontStep
 pub mod Promise
 pub mod ShortRuns
+pub mod StepExample

@@ -27,7 +27,14 @@ use Rattle.dia_message.specs.Traffic.{Traffic}
 
 abbrev pub message_at : FrontEvent → Option (ConnId × Message)
 message_at (FrontEvent.Message conn message) = Some (conn, message)
-message_at _ = None
+message_at (FrontEvent.Up conn) = None
+message_at (FrontEvent.Pick worker) = None
+message_at (Charge worker moment) = None
+message_at (Refuse worker) = None
+message_at (FrontEvent.Emit worker) = None
+message_at (FrontEvent.Sweep moment) = None
+message_at (FrontEvent.Lost conn) = None
+message_at FrontEvent.Restart = None
 
 -- the messages that came, each with its connection
 abbrev pub traffic_of : List FrontEvent → Traffic

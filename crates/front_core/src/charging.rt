@@ -35,9 +35,9 @@ pub fn charge<W: Wire>(
     }
 }
 
-/// The answer to a request: the book's reply, or 3004 where the book is full. The answer is spelled
-/// before the book takes the request, so that an error leaves the book as it was. So does a request that
-/// the book has already, sent again by its client or by a relay: it gets the kept reply.
+/// The answer to a request: the book's reply, or 3004 where the book is full. What the book would do is planned, the
+/// answer is spelled from the plan, and only then the plan is committed, so that an error leaves the book as it was.
+/// So does a request that the book has already, sent again by its client or by a relay: it gets the kept reply.
 fn take<W: Wire>(
     alloc: Global,
     site: &FrontSite,
@@ -51,8 +51,8 @@ fn take<W: Wire>(
     ensures err { OnErr result (book.new ≡ book.old) }
     ensures memory { IsOkUnless result FrontError.OutOfMemory }
 {
-    let quoted = match book.quote(alloc, moment, request) {
-        Ok(quoted) => quoted,
+    let plan = match book.plan(alloc, moment, request) {
+        Ok(plan) => plan,
         Err(BookRefusal::Full { .. }) => {
             let answer = too_busy::<W>(alloc, site, message)?;
             return Ok(answer);
@@ -65,15 +65,10 @@ fn take<W: Wire>(
         &site.realm,
         message,
         request,
-        &quoted.reply,
+        &plan.answered().reply,
     )?;
-    if !quoted.fresh {
-        return Ok(answer);
-    }
-    match book.take(alloc, moment, request) {
-        Ok(_) => Ok(answer),
-        Err(_) => Err(FrontError::OutOfMemory),
-    }
+    let _answered = book.commit(plan);
+    Ok(answer)
 }
 
 /// The refusal of a request that the front is too busy for: DIAMETER_TOO_BUSY (RFC 6733, section 7.1.3).

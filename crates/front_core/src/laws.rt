@@ -64,7 +64,7 @@ pub fn requests_wait_for_their_answers()
 
 /// Worked examples: what a front with one worker, at which one request may wait, sends at the last of these events, and
 /// how many entries the book has then.
-pub fn what_a_front_answers()
+pub fn fronts_answer_what_they_charge()
     // A sweep between the charge and its answer changes neither.
     ensures charged { told 1 1 (up ∷ debit ∷ pick ∷ charge ∷ sweep ∷ emit ∷ []) ≡ (sent_after 5 unknown_user, 1) }
     ensures full { told 1 1 (up ∷ debit ∷ debit ∷ []) ≡ (sent_after 2 busy_front, 0) }
@@ -80,7 +80,7 @@ pub fn what_a_front_answers()
 
 /// Worked examples: a front with two workers, at which three requests may wait, sends nothing of what is lost with a
 /// connection or at a restart. What was charged stays in the book.
-pub fn what_a_front_does_not_send()
+pub fn lost_connections_get_no_answers()
     ensures before_the_charge { told 2 3 (up ∷ debit ∷ pick ∷ lost ∷ charge ∷ emit ∷ []) ≡ (silence 6, 1) }
     ensures after_the_charge { told 2 3 (up ∷ debit ∷ pick ∷ charge ∷ lost ∷ second_up ∷ emit ∷ []) ≡ (silence 7, 1) }
     ensures at_a_restart { told 2 3 (up ∷ debit ∷ debit ∷ debit ∷ pick ∷ charge ∷ second_picks ∷ restart ∷ up ∷ emit ∷ second_emits ∷ pick ∷ charge ∷ emit ∷ []) ≡ (silence 14, 1) }

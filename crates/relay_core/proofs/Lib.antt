@@ -5,6 +5,8 @@ pub mod Keeping
 pub mod Losing
 pub mod NoneLost
 pub mod OnceEach
+pub mod OnlyFailovers
+pub mod OnlySteps
 pub mod Planning
 pub mod Promising
 pub mod Reaching

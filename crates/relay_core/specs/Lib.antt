@@ -10,3 +10,5 @@ pub mod RelayRun
 pub mod Acts
 pub mod Promise
 pub mod FirstForwarding
+pub mod RuleExample
+pub mod StepExample

@@ -32,7 +32,7 @@ ghost use Rattle.relay_core.specs.declared.run.RelayEvent.{RelayEvent};
 
 use cc_view::{forwarded_requests, view_without_identifiers};
 use dia_avp::one_avp_more;
-use relay_routes::{added_record_names, names_with_more, what_loops};
+use relay_routes::{added_record_names, loops_have_a_record_of_the_node, names_with_more};
 
 /// What descends from a message that descends from another one descends from that.
 pub fn descending_goes_on()
@@ -41,7 +41,7 @@ pub fn descending_goes_on()
 
 /// A message that descends from one whose body is a list of AVPs has its End-to-End Identifier and its
 /// view, and its answers and refusals are those of the other by the Hop-by-Hop Identifier alone.
-pub fn what_descends_reads_alike()
+pub fn descendants_read_alike()
     ensures end { (request passed : Message) → Descends request passed → passed.header.end ≡ request.header.end }
     ensures view { (vendors : List ℕ) (request passed : Message) (avps : List RawAvp) → split_of request.body ≡ Ok avps → Descends request passed → view_of vendors passed ≡ view_of vendors request }
     ensures answer { (front realm : List ℕ) (request passed : Message) (content : CcRequest) (reply : CcReply) (avps : List RawAvp) → split_of request.body ≡ Ok avps → Descends request passed →
@@ -69,14 +69,14 @@ pub fn loops_are_refused()
 
 /// What a relay has sent and another node has forwarded is a loop wherever it comes to the relay again,
 /// however it went: the Route-Record of the relay stays behind the AVPs (RFC 6733, sections 6.1.3 and 6.1.9).
-pub fn what_comes_back_loops()
+pub fn returning_requests_loop()
     ensures { (node : List ℕ) (request last : Message) (avps : List RawAvp) → HasSpelling (record_of node) → split_of request.body ≡ Ok avps →
         Descends (with_record node request) last → IsLoop node last.body }
 {
     one_avp_more();
     added_record_names();
     names_with_more();
-    what_loops();
+    loops_have_a_record_of_the_node();
 }
 
 /// Every run of a relay keeps the promise, over any list of events, whichever identifiers it gives among those

@@ -5,9 +5,9 @@
 //!   list of [`RelayEvent`]. After want of memory, and every other [`RelayError`], it is as it was.
 //! - [`RelaySite`]: what it is set up with; [`RelayNode`]: the same with the peers that are up.
 //! - [`FailoverChoice`], [`PlannedFailover`]: what is prepared before a connection is given up.
-//! - [`descending_goes_on`], [`what_descends_reads_alike`], [`loops_are_not_forwarded`],
-//!   [`loops_are_refused`], [`what_comes_back_loops`], [`relays_keep_their_promise`]: laws, functions without a
-//!   body.
+//! - [`descending_goes_on`], [`descendants_read_alike`], [`loops_are_not_forwarded`],
+//!   [`loops_are_refused`], [`returning_requests_loop`], [`relays_keep_their_promise`]: laws, functions without a
+//!   body. `rule_examples` has a worked example for each rule, `step_examples` one for each case of an event.
 //!
 //! The thirteen rules stand in `specs/Verdict`, with `specs/NextHop`; what may change in a request in
 //! `specs/Forwarding`; a message that comes in `specs/RelayStep`; a lost connection in `specs/Failover`, with
@@ -40,14 +40,32 @@ mod node;
 mod reading;
 mod recording;
 mod relay;
+mod rule_examples;
 mod run;
+mod step_examples;
 
 pub use error::RelayError;
 pub use failover::{FailoverChoice, PlannedFailover};
 pub use laws::{
-    descending_goes_on, first_forwarding, loops_are_not_forwarded, loops_are_refused,
-    relays_keep_their_promise, what_comes_back_loops, what_descends_reads_alike,
+    descendants_read_alike, descending_goes_on, first_forwarding, loops_are_not_forwarded,
+    loops_are_refused, relays_keep_their_promise, returning_requests_loop,
 };
 pub use node::{RelayNode, RelaySite};
 pub use relay::Relay;
+pub use rule_examples::{
+    a_full_relay_refuses_last, a_linked_host_is_the_only_candidate,
+    bodies_that_are_cut_off_are_refused_first, hosts_without_a_realm_are_refused_fourth,
+    loops_are_refused_second, no_request_goes_to_a_client,
+    requests_for_the_relay_itself_are_refused_fifth,
+    requests_without_a_candidate_are_refused_eleventh, requests_without_p_are_refused_third,
+    requests_without_room_for_a_record_are_refused_sixth, the_first_candidate_that_is_up_is_taken,
+    the_first_host_and_realm_count, unknown_applications_are_refused_tenth,
+    unknown_realms_are_refused_ninth,
+};
 pub use run::RelayEvent;
+pub use step_examples::{
+    a_restart_forgets_all, answers_go_to_the_origin_under_its_identifier,
+    forwarded_requests_are_kept_with_their_origin, linked_peers_come_up_once,
+    lost_connections_fail_over, refused_requests_are_answered_and_not_kept,
+    unknown_connections_change_nothing,
+};

@@ -119,6 +119,8 @@ fn nothing_unless_memory(alloc: Global, fault: RelayError) -> Result<Out, RelayE
 {
     match fault {
         RelayError::OutOfMemory => Err(RelayError::OutOfMemory),
-        _ => Ok(Out::nothing(alloc)),
+        RelayError::UnknownConn { .. }
+        | RelayError::PeerUp { .. }
+        | RelayError::UnknownPeer { .. } => Ok(Out::nothing(alloc)),
     }
 }

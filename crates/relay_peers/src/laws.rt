@@ -25,7 +25,7 @@ pub fn conns_after_down()
 {}
 
 /// Worked examples: a peer is found by its number, and by its whole identity in either case. Of several the first counts.
-pub fn which_peer_is_found()
+pub fn peers_are_found_without_case()
     ensures number { map (peer_numbered four_peers) (node 2 ∷ node 3 ∷ []) ≡ Some front ∷ None ∷ [] }
     ensures identity { map (peer_named four_peers) (codes "R2.Example" ∷ codes "r2.example." ∷ codes "r2" ∷ []) ≡ Some relay ∷ None ∷ None ∷ [] }
     ensures kind { map (kind_in four_peers) (node 4 ∷ node 2 ∷ node 3 ∷ []) ≡ Some Client ∷ Some Front ∷ None ∷ [] }
@@ -34,7 +34,7 @@ pub fn which_peer_is_found()
 {}
 
 /// Worked examples: which peers are up, and on which connections.
-pub fn which_peers_are_up()
+pub fn peers_are_up_on_one_connection()
     ensures nobody { map (conn_in []) (node 4 ∷ node 2 ∷ []) ≡ None ∷ None ∷ [] }
     // So the client is refused a second connection, and any other peer is refused this one.
     ensures client { (conn_in client_up (node 4) ≡ Some (conn 1)) × (peer_in client_up (conn 1) ≡ Some (node 4)) }

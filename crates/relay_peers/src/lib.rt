@@ -5,7 +5,7 @@
 //!   connections. A peer has one connection at most, and a connection one peer.
 //! - [`LinkedPeer`], [`Link`], [`UpFault`]: what it holds, and why a peer does not come up.
 //! - [`each_finds_the_other`], [`conns_after_up`], [`conns_after_down`]: laws, functions without a body;
-//!   [`which_peer_is_found`], [`which_peers_are_up`]: worked examples, likewise.
+//!   [`peers_are_found_without_case`], [`peers_are_up_on_one_connection`]: worked examples, likewise.
 //!
 //! What contracts see of the table stands in `specs/PeerTable`.
 //!
@@ -29,6 +29,7 @@ mod laws;
 mod peers;
 
 pub use laws::{
-    conns_after_down, conns_after_up, each_finds_the_other, which_peer_is_found, which_peers_are_up,
+    conns_after_down, conns_after_up, each_finds_the_other, peers_are_found_without_case,
+    peers_are_up_on_one_connection,
 };
 pub use peers::{Link, LinkedPeer, Peers, UpFault};

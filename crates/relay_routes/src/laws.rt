@@ -25,19 +25,19 @@ pub fn same_loop()
 {}
 
 /// A request loops where its body spells AVPs and one of them is a Route-Record of the node.
-pub fn what_loops()
+pub fn loops_have_a_record_of_the_node()
     ensures { (node body : List ℕ) → (loops node body ≡ true) ↔ IsLoop node body }
 {}
 
 /// The candidates are the peers of the first route for the realm and the application. The realm is
 /// unknown where no route is for it, else a route for the application is missing.
-pub fn what_candidates_are()
+pub fn candidates_are_of_the_first_route()
     ensures { (routes : List Route) (realm : List ℕ) (app : ℕ) → AreCandidates routes realm app (candidates_of routes realm app) }
 {}
 
 /// Worked examples: the candidates for a realm, which is compared whole and without ASCII case, and an application. Of
 /// several routes the first counts.
-pub fn which_candidates_a_relay_has()
+pub fn candidates_go_by_realm_and_application()
     ensures past_the_fronts { candidates_of routes_of_r1 (codes "OCS.EXAMPLE") 4 ≡ Ok (f1 ∷ f2 ∷ r2 ∷ []) }
     ensures fronts { candidates_of routes_of_r2 (codes "OCS.EXAMPLE") 4 ≡ Ok (f1 ∷ f2 ∷ []) }
     ensures each_other { map (λ routes. candidates_of routes (codes "LOOP.EXAMPLE") 4) (routes_of_r1 ∷ routes_of_r2 ∷ []) ≡ Ok (r2 ∷ []) ∷ Ok (r1 ∷ []) ∷ [] }
@@ -50,7 +50,7 @@ pub fn which_candidates_a_relay_has()
 
 /// Worked examples: a node is named by a Route-Record that is its whole identity, in either case, wherever it stands. A
 /// Route-Record is written with the flag M and padding (RFC 6733, sections 4.1 and 4.5).
-pub fn which_records_name_a_node()
+pub fn records_name_whole_identities()
     ensures nothing { names_node (codes "r1.example") [] ≡ false }
     ensures others { names_node (codes "r1.example") other_avps ≡ false }
     ensures last { names_node (codes "r1.example") (other_avps ++ avp 282 0 (codes "R1.example") ∷ []) ≡ true }

@@ -4,8 +4,8 @@
 //! - [`Routes`], [`Route`]: which peers a request of a realm and an application may be sent to;
 //!   [`RouteFault`]: why there are none.
 //! - [`loop_check`]: whether a request was at a node before, and the Route-Record that a relay appends.
-//! - [`what_loops`], [`same_loop`], [`what_candidates_are`] and others: laws, functions without a body;
-//!   [`which_candidates_a_relay_has`], [`which_records_name_a_node`]: worked examples, likewise.
+//! - [`loops_have_a_record_of_the_node`], [`same_loop`], [`candidates_are_of_the_first_route`] and others: laws, functions without a body;
+//!   [`candidates_go_by_realm_and_application`], [`records_name_whole_identities`]: worked examples, likewise.
 //!
 //! What a loop is, and what the candidates are, stands in `specs/Routing`.
 //!
@@ -27,7 +27,7 @@ pub mod loop_check;
 mod routes;
 
 pub use laws::{
-    added_record_names, names_with_more, same_loop, what_candidates_are, what_loops,
-    which_candidates_a_relay_has, which_records_name_a_node,
+    added_record_names, candidates_are_of_the_first_route, candidates_go_by_realm_and_application,
+    loops_have_a_record_of_the_node, names_with_more, records_name_whole_identities, same_loop,
 };
 pub use routes::{Route, RouteFault, Routes};

@@ -3,7 +3,7 @@ use Rattle.std.proofs.lemmas.Grind.{common_steps}
 use Rattle.std.specs.Str.Lines.{lines}
 use Rattle.farm_script.specs.Schedule.{limited, step_of, steps_of}
 use Rattle.farm_script.specs.Words.{words_of, says_nothing}
-use Rattle.farm_model.specs.declared.step.Step.{Step}
+use Rattle.farm_base.specs.declared.step.Step.{Step}
 use Rattle.farm_script.proofs.Readings.{Continues, Continues-memory, Continues-step, read_by}
 use Rattle.farm_script.proofs.steps_of.Goals as goal
 

@@ -8,11 +8,11 @@ use Rattle.std.proofs.lemmas.Bool.{le-leb}
 use Rattle.cc_book.specs.declared.account.Account.{Account}
 use Rattle.cc_rating.specs.declared.tariff.Tariff.{Tariff}
 use Rattle.cc_rating.specs.Tariffs.{fault_of}
-use Rattle.farm_model.specs.CheckedSite.{is_sound_account, is_sound_link, is_sound_name, is_sound_route, same_account, same_name, same_pair, same_route, size_of}
-use Rattle.farm_model.specs.declared.site.Link.{Link}
-use Rattle.farm_model.specs.declared.site.Node.{Node}
-use Rattle.farm_model.specs.declared.site.Route.{Route}
-use Rattle.farm_model.specs.declared.site.Site.{Site}
+use Rattle.farm_base.specs.CheckedSite.{is_sound_account, is_sound_link, is_sound_name, is_sound_route, same_account, same_name, same_pair, same_route, size_of}
+use Rattle.farm_base.specs.declared.site.Link.{Link}
+use Rattle.farm_base.specs.declared.site.Node.{Node}
+use Rattle.farm_base.specs.declared.site.Route.{Route}
+use Rattle.farm_base.specs.declared.site.Site.{Site}
 use Rattle.toml.specs.Data.{Members, integer}
 use Rattle.toml.specs.View.{table_view}
 use Rattle.farm_site.specs.declared.key.Key.TheVariants as keys

@@ -1,7 +1,7 @@
 //! The relays of a site before the first step.
 
 ghost use Rattle.std.specs.Prelude.{◌≡◌, IfOk};
-ghost use Rattle.farm_model.specs.CheckedSite.{IsChecked};
+ghost use Rattle.farm_base.specs.CheckedSite.{IsChecked};
 ghost use Rattle.farm_model.specs.Run.{peers_from, routes_at, relay_site, relays_from};
 ghost use Rattle.relay_core.specs.Connecting.{new_relay};
 

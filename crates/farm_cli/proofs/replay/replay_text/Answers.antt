@@ -1,5 +1,5 @@
 use Rattle.std.proofs.Common.{rules, ◌≡◌, length, subst, ap, ◌∙◌, List, ℕ}
-use Rattle.farm_model.specs.declared.step.Step.{Step}
+use Rattle.farm_base.specs.declared.step.Step.{Step}
 use Rattle.farm_model.specs.Promise.{IsPromised}
 use Rattle.farm_cli.specs.Output.{output_of}
 use Rattle.farm_cli.proofs.replay.replay_text.Goals as goal

@@ -1,9 +1,9 @@
 use Rattle.std.proofs.Common.{ℕ, List, subst}
 use Rattle.std.specs.Prelude.{OnOk, IfSome}
 use Rattle.std.specs.Io.KnownBytes.{Appends}
-use Rattle.farm_model.specs.declared.site.Site.{Site}
+use Rattle.farm_base.specs.declared.site.Site.{Site}
 use Rattle.farm_cli.specs.Replay.{Replays, IsRefused}
-use Rattle.farm_cli.specs.Writing.{BeginsWriting}
+use Rattle.farm_text.specs.Writing.{BeginsWriting}
 use Rattle.farm_cli.proofs.sites.replay_row_site.Goals as goal
 
 pub returns-clause-ok : goal.returns-clause-ok

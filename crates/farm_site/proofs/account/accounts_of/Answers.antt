@@ -2,7 +2,7 @@ use Rattle.std.proofs.Common.{◌≡◌, List, true, false, sym, subst, refl, �
 use Rattle.std.specs.BTreeMap.{is_at}
 use Rattle.std.specs.List.{list_any}
 use Rattle.cc_book.specs.declared.account.Account.{Account}
-use Rattle.farm_model.specs.CheckedSite.{is_sound_account, same_account}
+use Rattle.farm_base.specs.CheckedSite.{is_sound_account, same_account}
 use Rattle.toml.specs.View.{table_view}
 use Rattle.farm_site.specs.declared.fault.SiteFault.TheVariants.{Twice}
 use Rattle.farm_site.specs.Faults.{IsAccountFault, IsIdTwice, IsTableFault}

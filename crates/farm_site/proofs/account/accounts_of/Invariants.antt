@@ -1,6 +1,6 @@
 use Rattle.std.proofs.Common.{◌≡◌, take, vec_len}
 use Rattle.std.specs.List.{AllZip}
-use Rattle.farm_model.specs.CheckedSite.{is_sound_account, same_account}
+use Rattle.farm_base.specs.CheckedSite.{is_sound_account, same_account}
 use Rattle.farm_site.specs.Growing.{AreSound}
 use Rattle.farm_site.proofs.Owning.{AreOwners}
 use Rattle.farm_site.specs.Spelling.{SpellsAccount, tables_of}

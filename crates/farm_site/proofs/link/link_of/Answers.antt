@@ -1,8 +1,8 @@
 use Rattle.std.proofs.Common.{rules, ◌≡◌, true, sym, ◌∙◌}
 use Rattle.std.specs.List.{list_any}
-use Rattle.farm_model.specs.CheckedSite.{joins_two_of, same_pair}
-use Rattle.farm_model.specs.Nodes.{is_client, is_front, is_node}
-use Rattle.farm_model.specs.declared.site.Link.{Link}
+use Rattle.farm_base.specs.CheckedSite.{joins_two_of, same_pair}
+use Rattle.farm_base.specs.Nodes.{is_client, is_front, is_node}
+use Rattle.farm_base.specs.declared.site.Link.{Link}
 use Rattle.farm_site.specs.Faults.{is_bad_link}
 use Rattle.farm_site.specs.Graph.{drawn}
 use Rattle.farm_site.proofs.Refusing.{bad_by_ends, bad_by_pair}

@@ -1,5 +1,5 @@
 use Rattle.std.proofs.Common.{List, [], subst, arith}
-use Rattle.farm_model.specs.CheckedSite.{is_sound_link, same_pair}
+use Rattle.farm_base.specs.CheckedSite.{is_sound_link, same_pair}
 use Rattle.farm_site.specs.Graph.{site_over}
 use Rattle.farm_site.specs.Faults.{IsLinkFault, IsTableFault}
 use Rattle.farm_site.specs.Spelling.{SpellsLink}

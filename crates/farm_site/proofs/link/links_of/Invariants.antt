@@ -1,6 +1,6 @@
 use Rattle.std.proofs.Common.{◌≡◌, [], take, vec_len}
 use Rattle.std.specs.List.{AllZip}
-use Rattle.farm_model.specs.CheckedSite.{is_sound_link, same_pair}
+use Rattle.farm_base.specs.CheckedSite.{is_sound_link, same_pair}
 use Rattle.farm_site.specs.Graph.{site_over}
 use Rattle.farm_site.specs.Growing.{AreSound}
 use Rattle.farm_site.specs.Spelling.{SpellsLink, tables_of}

@@ -2,7 +2,7 @@ use Rattle.std.proofs.Common.{◌≡◌, ℕ, List, Some, None, false, sym, ap, 
 use Rattle.std.specs.List.{list_any}
 use Rattle.dia_base.specs.Folding.{same_folded}
 use Rattle.dia_base.specs.Identity.{fault_of}
-use Rattle.farm_model.specs.declared.site.Node.{Node}
+use Rattle.farm_base.specs.declared.site.Node.{Node}
 use Rattle.toml.specs.Data.{string}
 use Rattle.farm_site.proofs.Following.{node_may_follow}
 use Rattle.farm_site.proofs.node.node_of.Goals as goal

@@ -1,5 +1,5 @@
 use Rattle.std.proofs.Common.{List, subst, arith}
-use Rattle.farm_model.specs.CheckedSite.{is_sound_name, same_name}
+use Rattle.farm_base.specs.CheckedSite.{is_sound_name, same_name}
 use Rattle.farm_site.specs.Faults.{IsNodeFault, IsTableFault}
 use Rattle.farm_site.specs.Spelling.{SpellsNode}
 use Rattle.farm_site.proofs.Pushing.{grown}

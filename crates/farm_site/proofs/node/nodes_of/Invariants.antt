@@ -1,6 +1,6 @@
 use Rattle.std.proofs.Common.{◌≡◌, take, vec_len}
 use Rattle.std.specs.List.{AllZip}
-use Rattle.farm_model.specs.CheckedSite.{is_sound_name, same_name}
+use Rattle.farm_base.specs.CheckedSite.{is_sound_name, same_name}
 use Rattle.farm_site.specs.Growing.{AreSound}
 use Rattle.farm_site.specs.Spelling.{SpellsNode, tables_of}
 use Rattle.farm_site.proofs.node.nodes_of.Given as goal

@@ -1,7 +1,7 @@
 use Rattle.std.proofs.Common.{◌≡◌, ◌⊎◌, inr, List, ℕ, Bor, map, true, Some, ap, ◌∙◌, sym, subst, arith}
 use Rattle.std.specs.List.{list_all}
 use Rattle.dia_base.specs.declared.number.NodeNo.{NodeNo}
-use Rattle.farm_model.specs.CheckedSite.{is_candidate}
+use Rattle.farm_base.specs.CheckedSite.{is_candidate}
 use Rattle.toml.specs.View.{table_view}
 use Rattle.farm_site.specs.declared.fault.SiteFault.TheVariants.{UnknownName}
 use Rattle.farm_site.specs.declared.key.Key.TheVariants as keys

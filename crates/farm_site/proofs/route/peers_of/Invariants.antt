@@ -1,6 +1,6 @@
 use Rattle.std.proofs.Common.{◌≡◌, true, map, take, vec_len}
 use Rattle.std.specs.List.{AllZip, list_all}
-use Rattle.farm_model.specs.CheckedSite.{is_candidate}
+use Rattle.farm_base.specs.CheckedSite.{is_candidate}
 use Rattle.farm_site.specs.Graph.{drawn}
 use Rattle.farm_site.specs.Spelling.{Names}
 use Rattle.farm_site.proofs.route.peers_of.Given as goal

@@ -1,7 +1,7 @@
 use Rattle.std.proofs.Common.{◌≡◌, true, List, sym, subst, arith}
 use Rattle.std.specs.List.{list_all}
-use Rattle.farm_model.specs.declared.site.Route.{Route}
-use Rattle.farm_model.specs.CheckedSite.{is_sound_route, same_route}
+use Rattle.farm_base.specs.declared.site.Route.{Route}
+use Rattle.farm_base.specs.CheckedSite.{is_sound_route, same_route}
 use Rattle.farm_site.specs.Graph.{drawn}
 use Rattle.farm_site.specs.Faults.{IsRouteFault, IsTableFault}
 use Rattle.farm_site.specs.Spelling.{SpellsRoute, is_typed_route}

@@ -1,6 +1,6 @@
 use Rattle.std.proofs.Common.{◌≡◌, true, take, vec_len}
 use Rattle.std.specs.List.{AllZip, list_all}
-use Rattle.farm_model.specs.CheckedSite.{is_sound_route, same_route}
+use Rattle.farm_base.specs.CheckedSite.{is_sound_route, same_route}
 use Rattle.farm_site.specs.Graph.{drawn}
 use Rattle.farm_site.specs.Growing.{AreSound}
 use Rattle.farm_site.specs.Spelling.{SpellsRoute, is_typed_route, tables_of}

@@ -3,7 +3,7 @@ use Rattle.std.specs.List.{position}
 use Rattle.std.proofs.lemmas.Iterator.{YieldsList-from_slice}
 use Rattle.std.proofs.lemmas.Iterator.Search.{position_from_yields_List}
 use Rattle.farm_model.specs.World.{is_outward}
-use Rattle.farm_model.proofs.ListLemmas.{found_first, found_none}
+use Rattle.farm_model.proofs.Lists.ListLemmas.{found_first, found_none}
 use Rattle.farm_world.proofs.directions.place_outward.Goals as goal
 
 pub returns : goal.returns

@@ -1,7 +1,7 @@
 use Rattle.std.proofs.Common.{sym, ap, ◌∙◌, List}
 use Rattle.farm_model.specs.declared.state.Direction.{Direction}
 use Rattle.farm_model.specs.World.{with_message_from}
-use Rattle.farm_model.proofs.WorldLemmas.{with_traffic_from-push}
+use Rattle.farm_model.proofs.Wiring.WorldLemmas.{with_traffic_from-push}
 use Rattle.farm_world.proofs.directions.post.Goals as goal
 
 pub loop-conn-preserved : goal.loop-conn-preserved

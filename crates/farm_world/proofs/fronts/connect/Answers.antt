@@ -3,7 +3,7 @@ use Rattle.std.specs.Prelude.{slice_set}
 use Rattle.front_core.specs.FrontState.{FrontState}
 use Rattle.front_core.specs.FrontStep.{with_connection}
 use Rattle.farm_model.specs.FarmStep.{with_connection_of}
-use Rattle.farm_model.proofs.WorldLemmas.{front_found, front_changed}
+use Rattle.farm_model.proofs.Wiring.WorldLemmas.{front_found, front_changed}
 use Rattle.farm_world.proofs.fronts.connect.Goals as goal
 
 pub returns-in-Ok : goal.returns-in-Ok

@@ -3,7 +3,7 @@ use Rattle.std.specs.Prelude.{slice_set}
 use Rattle.front_core.specs.FrontStep.{after_restart}
 use Rattle.front_core.specs.FrontState.{FrontState}
 use Rattle.farm_model.specs.Loss.{with_restart_of_front}
-use Rattle.farm_model.proofs.WorldLemmas.{front_found, front_changed}
+use Rattle.farm_model.proofs.Wiring.WorldLemmas.{front_found, front_changed}
 use Rattle.farm_world.proofs.fronts.restart.Goals as goal
 
 pub returns-in-Some : goal.returns-in-Some

@@ -4,7 +4,7 @@ use Rattle.std.proofs.lemmas.Result.{on_ok_weaker}
 use Rattle.relay_core.specs.Connecting.{up_fault}
 use Rattle.relay_core.specs.RelayState.{RelayState}
 use Rattle.farm_model.specs.FarmStep.{after_up_by, with_link_of}
-use Rattle.farm_model.proofs.WorldLemmas.{relay_found, relay_changed}
+use Rattle.farm_model.proofs.Wiring.WorldLemmas.{relay_found, relay_changed}
 use Rattle.farm_world.proofs.relays.connect.Goals as goal
 
 pub returns : goal.returns

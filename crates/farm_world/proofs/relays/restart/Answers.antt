@@ -3,7 +3,7 @@ use Rattle.std.specs.Prelude.{slice_set}
 use Rattle.relay_core.specs.Connecting.{after_restart}
 use Rattle.relay_core.specs.RelayState.{RelayState}
 use Rattle.farm_model.specs.Loss.{with_restart_of_relay}
-use Rattle.farm_model.proofs.WorldLemmas.{relay_found, relay_changed}
+use Rattle.farm_model.proofs.Wiring.WorldLemmas.{relay_found, relay_changed}
 use Rattle.farm_world.proofs.relays.restart.Goals as goal
 
 pub returns-in-Some : goal.returns-in-Some

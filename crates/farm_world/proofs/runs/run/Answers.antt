@@ -1,13 +1,13 @@
 use Rattle.std.proofs.Common.{◌≡◌, ◌+◌, ◌<◌, ◌≤◌, List, [], ◌∷◌, ◌++◌, length, take, refl, sym, ap, ◌∙◌, arith}
 use Rattle.std.proofs.lemmas.List.{take_all, take_more}
-use Rattle.farm_model.specs.declared.site.Site.{Site}
+use Rattle.farm_base.specs.declared.site.Site.{Site}
 use Rattle.farm_model.specs.declared.state.Trace.{Trace}
-use Rattle.farm_model.specs.declared.step.Step.{Step}
-use Rattle.farm_model.specs.CheckedSite.{IsChecked}
+use Rattle.farm_base.specs.declared.step.Step.{Step}
+use Rattle.farm_base.specs.CheckedSite.{IsChecked}
 use Rattle.farm_model.specs.Promise.{KeepsPromise, IsPromised}
 use Rattle.farm_model.specs.Run.{Past, Transition, start, Run, steps_in, skipped_in, trace_of, TellsSame, IsTrace}
 use Rattle.farm_model.specs.World.{WorldState}
-use Rattle.farm_model.proofs.RunLemmas.{Run-push, steps_in-push, skipped_in-push, trace_before}
+use Rattle.farm_model.proofs.Runs.RunLemmas.{Run-push, steps_in-push, skipped_in-push, trace_before}
 use Rattle.farm_world.proofs.runs.run.Goals as goal
 
 pub loop-place-preserved : goal.loop-place-preserved

@@ -15,7 +15,9 @@ invariant_of-result c =
     let standing = c.in_ok-standing.standing in
     let openings = c.in_ok-standing.ensures.balances ∙ ap (map (λ (a : Account). a.opening)) (c.deref.ensures.value ∙ sym c.from_vec.ensures) in
     let stands = empty-stands terms standing.balances.items openings c.in_ok-standing.ensures.least c.in_ok-standing.ensures.most in
-    subst (λ (ss : List OpenSession). IsBook terms c.args.limit c.new-2.result.items c.new-3.result.items standing.balances.items ss) (sym c.in_ok-standing.ensures.sessions)
-    (subst (λ (rs : List (Option CcReply)). IsBook terms c.args.limit c.new-2.result.items rs standing.balances.items []) (sym c.new-3.ensures.items)
-    (subst (λ (es : List Entry). IsBook terms c.args.limit es [] standing.balances.items []) (sym c.new-2.ensures.items)
-    (IsBook-empty terms c.args.limit standing.balances.items (omega arith) stands)))
+    let book =
+    subst (λ (ss : List OpenSession). IsBook terms c.args.limit c.in_ok-with_capacity.field-0.items c.in_ok-with_capacity-2.field-0.items standing.balances.items ss) (sym c.in_ok-standing.ensures.sessions)
+    (subst (λ (rs : List (Option CcReply)). IsBook terms c.args.limit c.in_ok-with_capacity.field-0.items rs standing.balances.items []) (sym c.in_ok-with_capacity-2.ensures.items)
+    (subst (λ (es : List Entry). IsBook terms c.args.limit es [] standing.balances.items []) (sym c.in_ok-with_capacity.ensures.items)
+    (IsBook-empty terms c.args.limit standing.balances.items (omega arith) stands))) in
+    (book, record { for_entries = omega (arith, c.in_ok-with_capacity.ensures.exact); for_replies = omega (arith, c.in_ok-with_capacity-2.ensures.exact); for_sessions = omega (arith, c.in_ok-standing.ensures.room) })

@@ -1,0 +1,107 @@
+//! A request is planned, and what is planned is committed.
+
+ghost use Rattle.std.specs.Prelude.{◌≡◌, IfOk, IfSome, IsSome, None, false, if◌then◌else◌, slice_index_or};
+
+use super::{Answered, Book, BookRefusal, free_place};
+use crate::copy::{copy_of_reply, copy_of_request};
+use crate::entry::Entry;
+use crate::key::kept;
+use crate::plan::{Plan, Taken};
+use cc_view::{CcReply, CcRequest};
+use dia_base::Moment;
+use std::alloc::{AllocError, Global};
+
+impl Book {
+    ghost use Rattle.cc_book.specs.Planning.{IsGoodFor, IsTaking, PlansWith, after_plan, answer_planned};
+    ghost use Rattle.cc_book.specs.Taking.{answer_of, with_take};
+
+    /// What a request does to the book, which it leaves as it is: all that `take` refuses is refused here, and all the
+    /// memory that it wants is wanted here.
+    pub fn plan(
+        &self,
+        alloc: Global,
+        moment: Moment,
+        request: &CcRequest,
+    ) -> Result<Plan, BookRefusal>
+        ensures answer { PlansWith (answer_of self.now request.now) result }
+        ensures good { IfOk result (IsGoodFor self.now) }
+        ensures after { IfOk result (λ plan. after_plan self.now plan ≡ (if (answer_planned plan).fresh then with_take self.now moment request.now else self.now)) }
+    {
+        if let Some((place, _)) = kept(&self.history, request) {
+            let answered = kept_answer(alloc, &self.replies, place)?;
+            return Ok(Plan {
+                answered,
+                taken: None,
+            });
+        }
+        let Some(place) = free_place(&self.history, self.limit) else {
+            return Err(BookRefusal::Full { limit: self.limit });
+        };
+        let outcome = self
+            .terms
+            .outcome_of(alloc, &self.standing, moment, request)?;
+        let reply = copy_of_reply(alloc, &outcome.reply)?;
+        let request = copy_of_request(alloc, request)?;
+        Ok(Plan {
+            answered: Answered {
+                reply,
+                place,
+                fresh: true,
+            },
+            taken: Some(Taken {
+                moment,
+                request,
+                outcome,
+            }),
+        })
+    }
+
+    /// Does what was planned, and answers so. The plan is one that was made of this history. It takes no memory.
+    pub fn commit(&mut self, plan: Plan) -> Answered
+        requires { IsGoodFor self.old plan }
+        ensures answer { result ≡ answer_planned plan }
+        ensures after { self.new ≡ after_plan self.old plan }
+    {
+        let Plan { answered, taken } = plan;
+        let Some(taken) = taken else {
+            return answered;
+        };
+        self.keep(taken);
+        answered
+    }
+
+    /// Debits, changes the session, and appends the entry with its reply.
+    fn keep(&mut self, taken: Taken)
+        requires { IsTaking self.old taken }
+        ensures { self.new ≡ with_take self.old taken.moment taken.request }
+    {
+        let Taken {
+            moment,
+            request,
+            outcome,
+        } = taken;
+        self.history.push_reserved(Entry::Take { moment, request });
+        self.replies.push_reserved(Some(outcome.reply));
+        self.standing.debit(outcome.account, outcome.debit);
+        self.standing.change(outcome.change);
+    }
+}
+
+/// The answer to a repeat: the reply that is kept at this place.
+fn kept_answer(
+    alloc: Global,
+    replies: &[Option<CcReply>],
+    place: usize,
+) -> Result<Answered, AllocError>
+    requires { IsSome (slice_index_or replies.now place None) }
+    ensures { IfOk result (λ answered. IfSome (slice_index_or replies.now place None) (λ reply. answered ≡ record { reply = reply; place = place; fresh = false })) }
+{
+    match &replies[place] {
+        Some(reply) => Ok(Answered {
+            reply: copy_of_reply(alloc, reply)?,
+            place: place as u64,
+            fresh: false,
+        }),
+        None => unreachable!(),
+    }
+}

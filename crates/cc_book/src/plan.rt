@@ -1,0 +1,44 @@
+//! What a request would do to a book.
+
+ghost use Rattle.std.specs.Prelude.{◌≡◌};
+
+use crate::book::Answered;
+use crate::outcome::Outcome;
+use cc_view::CcRequest;
+use dia_base::Moment;
+
+/// What a request does to a book, found out before anything changes: what it is answered and, where the book does
+/// not keep it yet, the entry that it becomes with all that follows from it. It owns what the book keeps of it. It is
+/// good for the history that it was made of, and so for one commit.
+#[derive(Debug, Drop)]
+pub struct Plan {
+    pub(crate) answered: Answered,
+    /// None where the book keeps the request already.
+    pub(crate) taken: Option<Taken>,
+}
+
+/// A request that the book does not keep yet, and what it does.
+#[derive(Debug, Drop)]
+pub struct Taken {
+    pub moment: Moment,
+    pub request: CcRequest,
+    pub outcome: Outcome,
+}
+
+impl Plan {
+    ghost use Rattle.cc_book.specs.Planning.{answer_planned};
+
+    /// What the request is answered.
+    pub fn answered(&self) -> &Answered
+        ensures { result.now ≡ answer_planned self.now }
+    {
+        &self.answered
+    }
+
+    /// What the request is answered, where it is not to be committed.
+    pub fn into_answered(self) -> Answered
+        ensures { result ≡ answer_planned self }
+    {
+        self.answered
+    }
+}

@@ -1,5 +1,0 @@
-use Rattle.cc_rating.proofs.Sharing.{tariffs-from_none, none-from_tariffs}
-use Rattle.cc_rating.proofs.laws.what_tariffs_are.Goals as goal
-
-pub returns : goal.returns
-returns c = λ tariffs. (tariffs-from_none tariffs, none-from_tariffs tariffs)

@@ -1,0 +1,214 @@
+-- What the book answers makes a true receipt, and which receipts stand in its history.
+use Rattle.std.proofs.Common.{◌≡◌, ℕ, zero, suc, Bool, true, false, not, List, [], ◌∷◌, ◌++◌, length, take, Option, Some, Ok, Err, inl, inr, refl, sym, subst, ap, ◌∙◌, arith, append_assoc}
+use Rattle.std.specs.Prelude.{◌⊎◌, IsTrue, MatchBool, slice_get, unwrap_or}
+use Rattle.std.specs.Bool.{Decides}
+use Rattle.std.specs.List.{list_all, IsDistinct, AllByRecursion}
+use Rattle.std.proofs.lemmas.Bool.{and_from, cases_lt}
+use Rattle.std.proofs.lemmas.List.{length-take-le}
+use Rattle.std.proofs.lemmas.List.Elements.{filter_map-append}
+use Rattle.dia_base.specs.declared.number.Moment.{Moment}
+use Rattle.cc_view.specs.declared.reply.CcReply.{CcReply}
+use Rattle.cc_view.specs.declared.request.CcRequest.{CcRequest}
+use Rattle.cc_book.specs.declared.book.Answered.{Answered}
+use Rattle.cc_book.specs.declared.book.BookRefusal.TheVariants.{Full}
+use Rattle.cc_book.specs.declared.entry.Entry.{Entry}
+use Rattle.cc_book.specs.declared.entry.Entry.TheVariants.{Take, Sweep}
+use Rattle.cc_book.specs.declared.terms.Terms.{Terms}
+use Rattle.cc_book.specs.AccountMachine.{reply_to, kept_from, kept_reply}
+use Rattle.cc_book.specs.Duplicate.{Key, has_key, key_of, same_key}
+use Rattle.cc_book.specs.History.{IsKeptAt, IsLegal, IsNew, entry_key, keys_of, place_of}
+use Rattle.cc_book.specs.Taking.{Ledger, answer_by, answer_of}
+use Rattle.cc_book.proofs.Keys.{kept_reply-first, key-same}
+use Rattle.cc_book.proofs.Replies.{answer_of-fresh, answer_of-full, answer_of-kept}
+use Rattle.cc_shared.specs.declared.receipt.Receipt.{Receipt}
+use Rattle.cc_shared.specs.Receipts.{Fits, IsTakenAt, IsTrueReceipt, Tells}
+
+-- ---- the front of a legal history
+
+all_front : (P : Key → Type 0) (xs ys : List Key) → AllByRecursion P (xs ++ ys) → AllByRecursion P xs
+all_front P [] ys all = tt
+all_front P (x ∷ xs) ys all = (all.0, all_front P xs ys all.1)
+
+distinct_front : (xs ys : List Key) → IsDistinct same_key (xs ++ ys) → IsDistinct same_key xs
+unfolding IsDistinct
+distinct_front [] ys all = tt
+distinct_front (x ∷ xs) ys all = (all_front (λ (k : Key). same_key x k ≡ false) xs ys all.0, distinct_front xs ys all.1)
+
+pub legal_front : (terms : Terms) (before after : List Entry) → IsLegal terms (before ++ after) → IsLegal terms before
+legal_front terms before after legal = record {
+  distinct = distinct_front (keys_of before) (keys_of after) (subst (λ (keys : List Key). IsDistinct same_key keys) (filter_map-append entry_key before after) legal.distinct);
+  sweeps = λ b a m e. legal.sweeps b (a ++ after) m (ap (λ (h : List Entry). h ++ after) e ∙ append_assoc b (Sweep m ∷ a) after);
+}
+
+-- what stands behind an entry of a list
+record Around (xs : List Entry) (i : ℕ) (x : Entry) : Type 0 where
+  after : List Entry
+  is : xs ≡ take i xs ++ x ∷ after
+
+around : (xs : List Entry) (i : ℕ) (x : Entry) → slice_get xs i ≡ Some x → Around xs i x
+around [] i x e = absurd cc
+around (y ∷ ys) zero x e = let same : y ≡ x = cc in record { after = ys; is = ap (λ (z : Entry). z ∷ ys) same }
+around (y ∷ ys) (suc i) x e = let rest = around ys i x e in record { after = rest.after; is = ap (λ (zs : List Entry). y ∷ zs) rest.is }
+
+legal_take : (terms : Terms) (history : List Entry) (place : ℕ) (entry : Entry) → IsLegal terms history → slice_get history place ≡ Some entry → IsLegal terms (take place history)
+legal_take terms history place entry legal at =
+    let a = around history place entry at in
+    legal_front terms (take place history) (entry ∷ a.after) (subst (λ (h : List Entry). IsLegal terms h) a.is legal)
+
+-- ---- the first take with a key, if there is one
+
+pub record Kept (history : List Entry) (key : Key) : Type 0 where
+  pub place : ℕ
+  pub taken : CcRequest
+  pub at : IsKeptAt history key place taken
+
+kept_next : (entry : Entry) (history : List Entry) (key : Key) → has_key key entry ≡ false → Kept history key → Kept (entry ∷ history) key
+kept_next entry history key other kept = record {
+  place = suc kept.place;
+  taken = kept.taken;
+  at = record {
+    within = (let w = kept.at.within in omega (arith, w));
+    new_before = and_from (not (has_key key entry)) (list_all (λ (e : Entry). not (has_key key e)) (take kept.place history)) (ap not other) kept.at.new_before;
+    moment = kept.at.moment;
+    entry = kept.at.entry;
+    same = kept.at.same;
+  };
+}
+
+new_next : (entry : Entry) (history : List Entry) (key : Key) → has_key key entry ≡ false → IsNew history key → IsNew (entry ∷ history) key
+new_next entry history key other new = and_from (not (has_key key entry)) (list_all (λ (e : Entry). not (has_key key e)) history) (ap not other) new
+
+later : (entry : Entry) (history : List Entry) (key : Key) → has_key key entry ≡ false → IsNew history key ⊎ Kept history key → IsNew (entry ∷ history) key ⊎ Kept (entry ∷ history) key
+later entry history key other (inl new) = inl (new_next entry history key other new)
+later entry history key other (inr kept) = inr (kept_next entry history key other kept)
+
+here_or_later : (moment : Moment) (request : CcRequest) (history : List Entry) (key : Key) (b : Bool) → same_key (key_of request) key ≡ b → IsNew history key ⊎ Kept history key
+    → IsNew (Take moment request ∷ history) key ⊎ Kept (Take moment request ∷ history) key
+here_or_later moment request history key true same rest =
+    inr (record { place = 0; taken = request; at = record { within = omega arith; new_before = refl; moment = moment; entry = refl; same = same } })
+here_or_later moment request history key false same rest = later (Take moment request) history key same rest
+
+new_or_kept : (history : List Entry) (key : Key) → IsNew history key ⊎ Kept history key
+new_or_kept [] key = inl refl
+new_or_kept (Take moment request ∷ history) key = here_or_later moment request history key (same_key (key_of request) key) refl (new_or_kept history key)
+new_or_kept (Sweep moment ∷ history) key = later (Sweep moment) history key refl (new_or_kept history key)
+
+-- ---- what the book answers is true
+
+pub record IsTrueAnswer (ledger : Ledger) (request : CcRequest) (answered : Answered) : Type 0 where
+  pub true_receipt : IsTrueReceipt ledger.terms (record { request = request; reply = answered.reply; place = answered.place; fresh = answered.fresh })
+  pub last : answered.fresh ≡ true → answered.place ≡ length ledger.history
+
+abbrev answered : CcReply → ℕ → Bool → Answered
+answered reply place fresh = record { reply = reply; place = place; fresh = fresh }
+
+same_key-self : (request : CcRequest) → same_key (key_of request) (key_of request) ≡ true
+same_key-self request = (key-same request request).1 (refl, refl)
+
+fresh_is_true : (ledger : Ledger) (request : CcRequest) → IsLegal ledger.terms ledger.history → IsTrueAnswer ledger request (answered (reply_to ledger.terms ledger.history request) (length ledger.history) true)
+fresh_is_true ledger request legal = record {
+  true_receipt = record {
+    before = ledger.history;
+    legal = legal;
+    place = refl;
+    taken = request;
+    told = record { same = same_key-self request; reply = refl; own = λ _. refl };
+  };
+  last = λ _. refl;
+}
+
+kept_is_true : (ledger : Ledger) (request : CcRequest) → IsLegal ledger.terms ledger.history → (kept : Kept ledger.history (key_of request))
+    → IsTrueAnswer ledger request (answered (reply_to ledger.terms (take kept.place ledger.history) kept.taken) kept.place false)
+kept_is_true ledger request legal kept = record {
+  true_receipt = record {
+    before = take kept.place ledger.history;
+    legal = legal_take ledger.terms ledger.history kept.place (Take kept.at.moment kept.taken) legal kept.at.entry;
+    place = (let w = kept.at.within in length-take-le kept.place ledger.history (omega (arith, w)));
+    taken = kept.taken;
+    told = record { same = kept.at.same; reply = refl; own = λ e. absurd cc };
+  };
+  last = λ e. absurd cc;
+}
+
+new_is_true : (ledger : Ledger) (request : CcRequest) (a : Answered) → IsLegal ledger.terms ledger.history → IsNew ledger.history (key_of request) → answer_of ledger request ≡ Ok a → IsTrueAnswer ledger request a
+new_is_true ledger request a legal new is = elim (cases_lt (length ledger.history) ledger.limit) as (λ _. IsTrueAnswer ledger request a) [
+  | inl room ↦ (let e = answer_of-fresh ledger request (length ledger.history) (reply_to ledger.terms ledger.history request) new refl room refl in
+      let same : answered (reply_to ledger.terms ledger.history request) (length ledger.history) true ≡ a = cc in
+      subst (λ (x : Answered). IsTrueAnswer ledger request x) same (fresh_is_true ledger request legal))
+  | inr reached ↦ absurd (let e = answer_of-full ledger request new reached in cc)
+]
+
+old_is_true : (ledger : Ledger) (request : CcRequest) (a : Answered) → IsLegal ledger.terms ledger.history → Kept ledger.history (key_of request) → answer_of ledger request ≡ Ok a → IsTrueAnswer ledger request a
+old_is_true ledger request a legal kept is =
+    let e = answer_of-kept ledger request kept.taken kept.place (reply_to ledger.terms (take kept.place ledger.history) kept.taken) kept.at refl in
+    let same : answered (reply_to ledger.terms (take kept.place ledger.history) kept.taken) kept.place false ≡ a = cc in
+    subst (λ (x : Answered). IsTrueAnswer ledger request x) same (kept_is_true ledger request legal kept)
+
+pub answer_is_true : (ledger : Ledger) (request : CcRequest) (a : Answered) → IsLegal ledger.terms ledger.history → answer_of ledger request ≡ Ok a → IsTrueAnswer ledger request a
+answer_is_true ledger request a legal is = elim (new_or_kept ledger.history (key_of request)) as (λ _. IsTrueAnswer ledger request a) [
+  | inl new ↦ new_is_true ledger request a legal new is
+  | inr kept ↦ old_is_true ledger request a legal kept is
+]
+
+-- ---- which receipts stand in the history
+
+kept_by_key : (terms : Terms) (history : List Entry) (one other : CcRequest) → key_of one ≡ key_of other → kept_reply terms history one ≡ kept_reply terms history other
+unfolding kept_reply
+kept_by_key terms history one other same = ap (λ (key : Key). kept_from terms [] history key) same
+
+-- the reply that is kept for a request is that to the take with its key
+pub kept_there : (terms : Terms) (history : List Entry) (place : ℕ) (moment : Moment) (taken request : CcRequest) → IsLegal terms history → slice_get history place ≡ Some (Take moment taken)
+    → IsTrue (same_key (key_of taken) (key_of request)) → kept_reply terms history request ≡ Some (reply_to terms (take place history) taken)
+kept_there terms history place moment taken request legal at same =
+    let a = around history place (Take moment taken) at in
+    let parts = (key-same taken request).0 same in
+    let keys : key_of request ≡ key_of taken = λ i. record { session = sym parts.0 i; number = sym parts.1 i } in
+    kept_by_key terms history request taken keys
+    ∙ ap (λ (h : List Entry). kept_reply terms h taken) a.is
+    ∙ kept_reply-first terms (take place history) a.after moment taken (subst (λ (h : List Entry). IsLegal terms h) a.is legal)
+
+-- what a book answers to a request whose reply is kept
+pub repeat_is_answered : (ledger : Ledger) (request : CcRequest) (reply : CcReply) (a : Answered) → kept_reply ledger.terms ledger.history request ≡ Some reply → answer_of ledger request ≡ Ok a → a.reply ≡ reply
+repeat_is_answered ledger request reply a kept is =
+    let e : answer_of ledger request ≡ Ok (answered reply (unwrap_or (place_of ledger.history (key_of request)) 0) false) = ap (λ (r : Option CcReply). answer_by ledger request (unwrap_or (place_of ledger.history (key_of request)) 0) r) kept in
+    let same : a ≡ answered reply (unwrap_or (place_of ledger.history (key_of request)) 0) false = cc in
+    ap (λ (x : Answered). x.reply) same
+
+pub repeat_is_not_full : (ledger : Ledger) (request : CcRequest) (reply : CcReply) (limit : ℕ) → kept_reply ledger.terms ledger.history request ≡ Some reply → answer_of ledger request ≡ Err (Full limit) → ⊥
+repeat_is_not_full ledger request reply limit kept is =
+    let e : answer_of ledger request ≡ Ok (answered reply (unwrap_or (place_of ledger.history (key_of request)) 0) false) = ap (λ (r : Option CcReply). answer_by ledger request (unwrap_or (place_of ledger.history (key_of request)) 0) r) kept in
+    cc
+
+same_request_at : (history : List Entry) (place : ℕ) (one other : CcRequest) → IsTakenAt history place one → IsTakenAt history place other → one ≡ other
+same_request_at history place one other a b =
+    let same : Some (Take a.moment one) ≡ Some (Take b.moment other) = sym a.entry ∙ b.entry in
+    cc
+
+-- a receipt that stands in a history tells of the take at its place
+pub told_at : (terms : Terms) (history : List Entry) (receipt : Receipt) (taken : CcRequest) → IsTakenAt history receipt.place taken → Fits terms history receipt
+    → Tells terms (take receipt.place history) taken receipt
+told_at terms history receipt taken at fits =
+    subst (λ (x : CcRequest). Tells terms (take receipt.place history) x receipt) (same_request_at history receipt.place fits.taken taken fits.at at) fits.told
+
+fits_by : (b : Bool) (P Q : Type 0) → Decides b Q → (Q → P) → (P → Q) → MatchBool b P (P → ⊥)
+fits_by true P Q decides to from = to (decides.0 refl)
+fits_by false P Q decides to from = λ p. absurd (let e = decides.1 (from p) in cc)
+
+-- Whether a receipt stands in a history is whether its reply is the one that the book has kept, where it may tell of the
+-- request at its place.
+pub fits_where_same : (book : Ledger) (receipt : Receipt) (taken : CcRequest) (kept : Answered) (same : Bool) → IsLegal book.terms book.history → IsTakenAt book.history receipt.place taken
+    → IsTrue (same_key (key_of taken) (key_of receipt.request)) × (receipt.fresh ≡ true → taken ≡ receipt.request) → answer_of book receipt.request ≡ Ok kept → Decides same (receipt.reply ≡ kept.reply)
+    → MatchBool same (Fits book.terms book.history receipt) (Fits book.terms book.history receipt → ⊥)
+fits_where_same book receipt taken kept same legal at may is decides =
+    let reply = reply_to book.terms (take receipt.place book.history) taken in
+    let there = kept_there book.terms book.history receipt.place at.moment taken receipt.request legal at.entry may.0 in
+    let answer : kept.reply ≡ reply = repeat_is_answered book receipt.request reply kept there is in
+    fits_by same (Fits book.terms book.history receipt) (receipt.reply ≡ kept.reply) decides
+    (λ e. record { taken = taken; at = at; told = record { same = may.0; reply = e ∙ answer; own = may.1 } })
+    (λ fits. (told_at book.terms book.history receipt taken at fits).reply ∙ sym answer)
+
+pub never_full : (book : Ledger) (receipt : Receipt) (taken : CcRequest) (limit : ℕ) → IsLegal book.terms book.history → IsTakenAt book.history receipt.place taken
+    → IsTrue (same_key (key_of taken) (key_of receipt.request)) → answer_of book receipt.request ≡ Err (Full limit) → ⊥
+never_full book receipt taken limit legal at same is =
+    let there = kept_there book.terms book.history receipt.place at.moment taken receipt.request legal at.entry same in
+    repeat_is_not_full book receipt.request (reply_to book.terms (take receipt.place book.history) taken) limit there is

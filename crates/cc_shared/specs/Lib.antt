@@ -1,0 +1,4 @@
+pub mod Receipts
+pub mod Sharing
+pub mod Serving
+pub mod Closing

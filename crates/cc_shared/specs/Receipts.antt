@@ -1,0 +1,37 @@
+-- What a receipt says of the one history.
+use Rattle.std.specs.Prelude.{◌≡◌, ℕ, List, length, take, slice_get, Some, IsTrue, true}
+use Rattle.dia_base.specs.declared.number.Moment.{Moment}
+use Rattle.cc_view.specs.declared.request.CcRequest.{CcRequest}
+use Rattle.cc_book.specs.declared.entry.Entry.{Entry}
+use Rattle.cc_book.specs.declared.entry.Entry.TheVariants.{Take}
+use Rattle.cc_book.specs.declared.terms.Terms.{Terms}
+use Rattle.cc_book.specs.AccountMachine.{reply_to}
+use Rattle.cc_book.specs.Duplicate.{key_of, same_key}
+use Rattle.cc_book.specs.History.{IsLegal}
+use Rattle.cc_shared.specs.declared.receipt.Receipt.{Receipt}
+
+-- What a receipt tells of the request that was taken under its key, after these entries: the account machine's reply
+-- to that request is the receipt's. A fresh receipt's own request is the one that was taken.
+pub record Tells (terms : Terms) (before : List Entry) (taken : CcRequest) (receipt : Receipt) : Type 0 where
+  pub same : IsTrue (same_key (key_of taken) (key_of receipt.request))
+  pub reply : receipt.reply ≡ reply_to terms before taken
+  pub own : receipt.fresh ≡ true → taken ≡ receipt.request
+
+-- A receipt is true: what it tells holds after a legal history that has as many entries as its place says.
+pub record IsTrueReceipt (terms : Terms) (receipt : Receipt) : Type 0 where
+  pub before : List Entry
+  pub legal : IsLegal terms before
+  pub place : length before ≡ receipt.place
+  pub taken : CcRequest
+  pub told : Tells terms before taken receipt
+
+-- the entry at this place is the take of a request
+pub record IsTakenAt (history : List Entry) (place : ℕ) (taken : CcRequest) : Type 0 where
+  pub moment : Moment
+  pub entry : slice_get history place ≡ Some (Take moment taken)
+
+-- A receipt stands in this history: the entry at its place is the take of which it tells, after the entries before it.
+pub record Fits (terms : Terms) (history : List Entry) (receipt : Receipt) : Type 0 where
+  pub taken : CcRequest
+  pub at : IsTakenAt history receipt.place taken
+  pub told : Tells terms (take receipt.place history) taken receipt

@@ -1,0 +1,38 @@
+//! One account book that threads share, behind one lock.
+//!
+//! - [`SharedBook`]: a handle on the book. [`SharedBook::serve`] takes a request and answers a [`Receipt`];
+//!   [`SharedBook::finish`] gives the book back, once it has seen that every receipt stands in its one history.
+//! - [`Seat`]: what a thread serves through. It counts its takes, in a ledger whose total stands beside the book.
+//! - [`Sharing`]: names one sharing.
+//!
+//! The lock is held for one call of the book and no longer: requests are read and answers are spelled outside it.
+//!
+//! What receipts say stands in `specs/Receipts`, what a shared book is in `specs/Sharing`, what a call of `serve` answers
+//! in `specs/Serving`, and when a book is finished in `specs/Closing`.
+//!
+//! ```text
+//! let Ok((shared, seats)) = SharedBook::<L>::share(alloc, Blank::new(2), book, 2) else { .. };
+//! // in each thread, with a handle and a seat of its own:
+//! match shared.serve(rt, alloc, &mut seat, moment, request) {
+//!     Ok(receipt) => answer(&receipt),
+//!     Err(ServeError { why, request }) => refuse(why, request),   // the book is as it was
+//! }
+//! // once the threads have ended:
+//! let book = shared.finish(rt, alloc, seats, receipts)?;         // each receipt stands in book.history()
+//! ```
+#![tactic(auto)]
+
+mod checking;
+mod error;
+mod open;
+mod receipt;
+mod same;
+mod seat;
+mod shared;
+mod sharing;
+
+pub use error::{CloseError, ServeError, ServeRefusal};
+pub use receipt::Receipt;
+pub use seat::Seat;
+pub use shared::SharedBook;
+pub use sharing::Sharing;

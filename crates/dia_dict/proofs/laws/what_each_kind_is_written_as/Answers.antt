@@ -1,8 +1,0 @@
-use Rattle.std.proofs.Common.{refl}
-use Rattle.std.specs.Str.{is_utf8, chars}
-use lib.Utf8.{encode}
-use Rattle.dia_dict.proofs.laws.what_each_kind_is_written_as.Goals as goal
-
-pub returns-clause-text : goal.returns-clause-text
-unfolding is_utf8 chars encode
-returns-clause-text c = refl

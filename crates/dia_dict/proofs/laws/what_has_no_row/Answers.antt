@@ -1,5 +1,0 @@
-use Rattle.dia_dict.proofs.Unlisted.{other_vendor}
-use Rattle.dia_dict.proofs.laws.what_has_no_row.Goals as goal
-
-pub returns-clause-vendor : goal.returns-clause-vendor
-returns-clause-vendor c = other_vendor

@@ -1,5 +1,0 @@
-use Rattle.dia_grammar.proofs.Requests.{request-from_none, none-from_request}
-use Rattle.dia_grammar.proofs.laws.what_a_request_is.Goals as goal
-
-pub returns : goal.returns
-returns c = λ vendors avps. (request-from_none vendors avps, none-from_request vendors avps)

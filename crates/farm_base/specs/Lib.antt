@@ -1,0 +1,4 @@
+pub mod CheckedSite
+pub mod Lists
+pub mod Nodes
+pub mod RowSite

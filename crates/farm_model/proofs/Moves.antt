@@ -1,0 +1,25 @@
+-- Each step is some of the small moves, by which answers, refusals and their causes are accounted for.
+pub mod AsFarm
+pub mod ClientSteps
+pub mod Connecting
+pub mod Deciding
+pub mod Deliveries
+pub mod FailingOver
+pub mod FrontArrival
+pub mod FrontCharge
+pub mod FrontEmit
+pub mod FrontItems
+pub mod FrontRequests
+pub mod FrontSteps
+pub mod LinkSteps
+pub mod Losing
+pub mod Moving
+pub mod Orphaning
+pub mod Posting
+pub mod Receiving
+pub mod Restarting
+pub mod RowsOf
+pub mod Sending
+pub mod StepGoes
+pub mod Sweeping
+pub mod Turning

@@ -1,0 +1,114 @@
+-- A request that goes out goes to a peer that is up and is no client.
+use Rattle.std.proofs.Common.{◌≡◌, ℕ, Bool, true, false, List, [], ◌∷◌, Option, Some, None, refl, sym, subst, ap, ◌∙◌, Result, Ok, Err}
+use Rattle.std.specs.Prelude.{◌&&◌, ◌||◌, nat_le, filter, length}
+use Rattle.std.specs.List.{find, list_all, list_any}
+use Rattle.std.proofs.lemmas.Bool.{and_parts}
+use Rattle.dia_base.specs.declared.number.ConnId.{ConnId}
+use Rattle.dia_base.specs.declared.number.NodeNo.{NodeNo}
+use Rattle.dia_base.specs.declared.node.NodeKind.{NodeKind}
+use Rattle.dia_base.specs.declared.node.NodeKind.TheVariants.{Relay, Front, Client}
+use Rattle.dia_avp.specs.declared.avp.RawAvp.{RawAvp}
+use Rattle.relay_peers.specs.declared.peers.Link.{Link}
+use Rattle.relay_peers.specs.declared.peers.LinkedPeer.{LinkedPeer}
+use Rattle.relay_peers.specs.PeerTable.{conn_in}
+use Rattle.relay_routes.specs.declared.routes.RouteFault.{RouteFault}
+use Rattle.relay_routes.specs.declared.routes.RouteFault.TheVariants.{RealmUnknown, NoApplication}
+use Rattle.relay_routes.specs.declared.routes.Route.{Route as RelayRoute}
+use Rattle.relay_routes.specs.Routing.{has_realm, has_realm_and_app, peers_of}
+use Rattle.relay_core.specs.declared.node.RelayNode.{RelayNode}
+use Rattle.relay_core.specs.NextHop.{or_later, first_up, deliverable, hop_to_host, hop_by_realm, hop_by_host, candidates_for, peer_for, host_in}
+use Rattle.relay_core.specs.NextHop.{realm_in, next_hop}
+use Rattle.farm_law.specs.Lists.{Has, here, there}
+use Rattle.farm_base.specs.declared.site.Route.{Route}
+use Rattle.farm_base.specs.declared.site.Site.{Site}
+use Rattle.farm_base.specs.CheckedSite.{is_candidate, is_sound_route}
+use Rattle.farm_base.specs.Nodes.{means_client, kind_at, is_node, is_client, is_front, is_relay, is_linked}
+use Rattle.farm_model.specs.Run.{peers_from, route_of, routes_at}
+use Rattle.farm_model.proofs.Lists.Among.{Has-unmap, Has-filter}
+use Rattle.farm_model.proofs.Lists.Finding.{Has-found, all_has}
+use Rattle.farm_model.proofs.Wiring.LinkedPeers.{linked_node}
+use Rattle.farm_model.proofs.Wiring.OneKind.{server_no_client}
+
+-- the connection is that of a peer that is up and is no client
+pub record LeadsToServer (site : Site) (links : List Link) (to : ConnId) : Type 0 where
+  pub peer : NodeNo
+  pub conn : conn_in links peer ≡ Some to
+  pub no_client : is_client site peer ≡ false
+
+-- ---- the first that is up
+
+deliverable-some : (o : Option ConnId) (to : ConnId) → deliverable o ≡ Ok to → o ≡ Some to
+deliverable-some None to e = absurd cc
+deliverable-some (Some conn) to e = cc
+
+up_among : (links : List Link) (peers : List NodeNo) (to : ConnId) → first_up links peers ≡ Some to → (peer : NodeNo) × Has peer peers ×
+    (conn_in links peer ≡ Some to)
+up_among links [] to e = absurd cc
+up_among links (peer ∷ peers) to e = go (conn_in links peer) refl e (up_among links peers to)
+  where
+    go : (o : Option ConnId) → conn_in links peer ≡ o → or_later o (first_up links peers) ≡ Some to →
+        (first_up links peers ≡ Some to → (p : NodeNo) × Has p peers × (conn_in links p ≡ Some to))
+        → (p : NodeNo) × Has p (peer ∷ peers) × (conn_in links p ≡ Some to)
+    go (Some conn) is k more = (peer, here, is ∙ k)
+    go None is k more = let m = more k in (m.0, there m.1, m.2)
+
+-- ---- routes
+
+route_by : (routes : List RelayRoute) (test : RelayRoute → Bool) (known : Bool) (peers : List NodeNo) (found : Option RelayRoute) → find test routes ≡ found →
+    peers_of found known ≡ Ok peers
+    → (route : RelayRoute) × Has route routes × (route.peers ≡ peers)
+route_by routes test known peers (Some route) is e = let same : route.peers ≡ peers = cc in (route, Has-found test routes is, same)
+route_by routes test true peers None is e = absurd cc
+route_by routes test false peers None is e = absurd cc
+
+-- ---- where a request goes
+
+module _ (site : Site) (node : NodeNo) (relay : RelayNode) (linked : relay.peers.linked ≡ peers_from site node 0 site.nodes)
+    (routes : relay.routes ≡ routes_at site.routes node) (sound : list_all (is_sound_route site) site.routes ≡ true) where
+  candidate_no_client : (route : RelayRoute) → Has route relay.routes → (peer : NodeNo) → Has peer route.peers → is_client site peer ≡ false
+  candidate_no_client route h peer g =
+      let from = Has-unmap route_of (filter (λ (r : Route). is_node r.at node) site.routes) (subst (Has route) routes h) in
+      let its = from.0 in
+      let among = Has-filter (λ (r : Route). is_node r.at node) site.routes from.1 in
+      let good = all_has (is_sound_route site) sound among.0 in
+      let parts = and_parts (is_relay site its.at && nat_le (length its.peers) 16) (list_all (is_candidate site its.at) its.peers) good in
+      let there_too : Has peer its.peers = subst (Has peer) (sym (ap (λ (r : RelayRoute). r.peers) from.2)) g in
+      let fit = all_has (is_candidate site its.at) parts.1 there_too in
+      server_no_client (kind_at site peer) (and_parts (is_linked site its.at peer) (is_relay site peer || is_front site peer) fit).1
+
+  by_realm : (found : Result (List NodeNo) RouteFault) (to : ConnId) →
+      ((peers : List NodeNo) → found ≡ Ok peers → (peer : NodeNo) → Has peer peers → is_client site peer ≡ false) → hop_by_realm relay.peers.links found ≡ Ok
+      to → LeadsToServer site relay.peers.links to
+  by_realm (Err RealmUnknown) to good e = absurd cc
+  by_realm (Err NoApplication) to good e = absurd cc
+  by_realm (Ok peers) to good e =
+      let up = up_among relay.peers.links peers to (deliverable-some (first_up relay.peers.links peers) to e) in
+      record { peer = up.0; conn = up.2; no_client = good peers refl up.0 up.1 }
+
+  for_realm : (realm : Option (List ℕ)) (app : ℕ) (peers : List NodeNo) → candidates_for relay realm app ≡ Ok peers → (peer : NodeNo) → Has peer peers →
+      is_client site peer ≡ false
+  for_realm None app peers e peer h = absurd cc
+  for_realm (Some realm) app peers e peer h =
+      let r = route_by relay.routes (has_realm_and_app realm app) (list_any (has_realm realm) relay.routes) peers
+      (find (has_realm_and_app realm app) relay.routes) refl e in
+      candidate_no_client r.0 r.1 peer (subst (Has peer) (sym r.2) h)
+
+  kind_no_client : (peer : NodeNo) (kind : NodeKind) (to : ConnId) → kind_at site peer ≡ Some kind → hop_to_host relay.peers.links peer kind ≡ Ok to →
+      LeadsToServer site relay.peers.links to
+  kind_no_client peer Client to is e = absurd cc
+  kind_no_client peer Relay to is e = record { peer = peer; conn = deliverable-some (conn_in relay.peers.links peer) to e; no_client = ap means_client is }
+  kind_no_client peer Front to is e = record { peer = peer; conn = deliverable-some (conn_in relay.peers.links peer) to e; no_client = ap means_client is }
+
+  by_host : (host : Option LinkedPeer) (realm : Option (List ℕ)) (app : ℕ) (to : ConnId) →
+      ((peer : LinkedPeer) → host ≡ Some peer → Has peer relay.peers.linked) → hop_by_host relay host realm app ≡ Ok to → LeadsToServer site relay.peers.links
+      to
+  by_host None realm app to among e = by_realm (candidates_for relay realm app) to (for_realm realm app) e
+  by_host (Some peer) realm app to among e = kind_no_client peer.peer peer.kind to (linked_node site node peer (subst (Has peer) linked (among peer refl))).0 e
+
+  named : (host : Option (List ℕ)) (peer : LinkedPeer) → peer_for relay host ≡ Some peer → Has peer relay.peers.linked
+  named None peer e = absurd cc
+  named (Some host) peer e = Has-found _ relay.peers.linked e
+
+  -- it goes to a relay or a front that is up
+  pub next_server : (avps : List RawAvp) (app : ℕ) (to : ConnId) → next_hop relay avps app ≡ Ok to → LeadsToServer site relay.peers.links to
+  next_server avps app to e = by_host (peer_for relay (host_in avps)) (realm_in avps) app to (named (host_in avps)) e

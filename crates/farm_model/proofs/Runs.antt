@@ -1,0 +1,8 @@
+-- A run: what holds at its start, between two steps, and so at its end.
+pub mod Premises
+pub mod PromiseLemmas
+pub mod RowSiteLemmas
+pub mod RunHolds
+pub mod RunLemmas
+pub mod Running
+pub mod Starting

@@ -1,0 +1,27 @@
+-- How connections, fronts and relays hang together, between two steps and over each step.
+pub mod AnswerStands
+pub mod Apart
+pub mod ApartAfterStep
+pub mod Ending
+pub mod Joined
+pub mod KindsAgree
+pub mod KnowsAfterCut
+pub mod KnowsAfterLoss
+pub mod KnowsAfterRestart
+pub mod KnowsAfterStep
+pub mod KnowsAfterUp
+pub mod KnowsAtStart
+pub mod KnowsPeers
+pub mod Linked
+pub mod LinkedPeers
+pub mod NewLinks
+pub mod OneKind
+pub mod RelayPeers
+pub mod RelayPlaces
+pub mod SamePeers
+pub mod Sides
+pub mod StandingOn
+pub mod Taken
+pub mod Wired
+pub mod WiredLemmas
+pub mod WorldLemmas

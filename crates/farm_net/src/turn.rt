@@ -1,0 +1,144 @@
+//! One turn of a connection: what is read of its reader, and what is written to its writer.
+
+ghost use Rattle.std.specs.Prelude.{◌≡◌, ◌≢◌, ◌<◌, ◌≤◌, ◌++◌, ◌↔◌, [], None, Some, Ok, Err, length, take, IsTrue, IfOk, IfErr, IfSome, OnOk, OnErr, ℕ};
+ghost use Rattle.std.specs.Io.KnownBytes.{Appends, Consumes, IsAtEnd, Keeps};
+ghost use Rattle.dia_message.specs.declared.frames.FrameFault.{FrameFault as Fault};
+ghost use Rattle.dia_message.specs.Stream.{stream_of};
+ghost use Rattle.farm_net.specs.Device.{HasFailed};
+ghost use Rattle.farm_net.specs.Turn.{HasWritten, IsOfPiece, IsOfReader, IsOfStream, IsOfWriter, Receives};
+
+use crate::device::Device;
+use crate::loss::Loss;
+use bytes::BytesMut;
+use dia_message::{FrameFault, Frames, Message};
+use std::alloc::Global;
+use std::io::{Read, Write};
+
+/// The most reads of a turn, and the most writes.
+pub const TURN_LIMIT: u32 = 64;
+
+/// Whether a call has failed since the count was taken.
+fn has_failed(before: u64, after: u64) -> bool
+    ensures { IsTrue result ↔ HasFailed before after }
+{
+    before < after || after == u64::MAX
+}
+
+/// One read: how many octets it gave, or none where the turn ends.
+fn read_once<R: Read + Device>(
+    reader: &mut R,
+    before: u64,
+    piece: &mut [u8],
+) -> Result<Option<usize>, Loss>
+    requires { 0 < length piece.old }
+    ensures octets { IfOk result (λ count. IfSome count (λ n. (n ≤ length piece.new) × Consumes (R.remaining reader.old) (R.remaining reader.new) (take n piece.new))) }
+    ensures none { result ≡ Ok None → Keeps (R.remaining reader.old) (R.remaining reader.new) }
+    ensures err { OnErr result (Keeps (R.remaining reader.old) (R.remaining reader.new)) }
+    ensures end { result ≡ Err Loss.End → IsAtEnd (R.remaining reader.new) }
+    ensures fault { result ≡ Err Loss.Read → HasFailed before (R.faults reader.new) }
+    ensures only { IfErr result IsOfReader }
+{
+    match reader.read(piece) {
+        Ok(0) => Err(Loss::End),
+        Ok(count) => Ok(Some(count)),
+        Err(_) => {
+            if has_failed(before, reader.faults()) {
+                Err(Loss::Read)
+            } else {
+                Ok(None)
+            }
+        }
+    }
+}
+
+/// The messages that are whole with a piece of the stream go behind those before.
+fn take_piece(
+    alloc: Global,
+    frames: &mut Frames,
+    piece: &[u8],
+    messages: &mut Vec<Message>,
+) -> Result<(), Loss>
+    requires { (stream_of frames.old).fault ≡ None }
+    ensures messages { result ≢ Err Loss.OutOfMemory → messages.new.items ≡ messages.old.items ++ (stream_of (frames.old ++ piece.now)).messages }
+    ensures rest { result ≢ Err Loss.OutOfMemory → frames.new ≡ (stream_of (frames.old ++ piece.now)).rest }
+    ensures memory { result ≡ Err Loss.OutOfMemory → messages.new.items ≡ messages.old.items }
+    ensures fault { (fault : Fault) → result ≡ Err (Loss.Frame fault) → (stream_of (frames.old ++ piece.now)).fault ≡ Some fault }
+    ensures sound { OnOk result ((stream_of frames.new).fault ≡ None) }
+    ensures only { IfErr result IsOfPiece }
+{
+    let mut more = match frames.feed(alloc, piece) {
+        Ok(more) => more,
+        Err(FrameFault::OutOfMemory) => return Err(Loss::OutOfMemory),
+        Err(fault) => return Err(Loss::Frame(fault)),
+    };
+    if messages.append(&mut more).is_err() {
+        return Err(Loss::OutOfMemory);
+    }
+    match frames.fault() {
+        Some(fault) => Err(Loss::Frame(fault)),
+        None => Ok(()),
+    }
+}
+
+/// Reads until the reader has nothing now, or often enough for a turn.
+pub(crate) fn read_turn<R: Read + Device>(
+    alloc: Global,
+    reader: &mut R,
+    frames: &mut Frames,
+    piece: &mut [u8],
+    messages: &mut Vec<Message>,
+) -> Result<(), Loss>
+    requires room { 0 < length piece.old }
+    requires none { messages.old.items ≡ [] }
+    ensures receives { Receives (R.remaining reader.old) (R.remaining reader.new) frames.old messages.new.items frames.new result }
+    ensures end { result ≡ Err Loss.End → IsAtEnd (R.remaining reader.new) }
+    ensures fault { result ≡ Err Loss.Read → HasFailed (R.faults reader.old) (R.faults reader.new) }
+    ensures frame { (fault : Fault) → result ≡ Err (Loss.Frame fault) → (stream_of frames.new).fault ≡ Some fault }
+    ensures sound { OnOk result ((stream_of frames.new).fault ≡ None) }
+    ensures only { IfErr result IsOfStream }
+{
+    // What is wrong with the octets that are unread stays wrong.
+    if let Some(fault) = frames.fault() {
+        return Err(Loss::Frame(fault));
+    }
+    let before = reader.faults();
+    for _ in 0..TURN_LIMIT {
+        match read_once(reader, before, piece)? {
+            Some(count) => {
+                let (octets, _) = piece.split_at(count);
+                take_piece(alloc, frames, octets, messages)?;
+            }
+            None => return Ok(()),
+        }
+    }
+    Ok(())
+}
+
+/// Writes until the writer takes nothing now, nothing is left, or often enough for a turn.
+pub(crate) fn write_turn<W: Write + Device>(
+    writer: &mut W,
+    outbox: &mut BytesMut,
+) -> Result<(), Loss>
+    ensures writes { HasWritten (W.contents writer.old) (W.contents writer.new) outbox.old.items outbox.new.items }
+    ensures fault { OnErr result (HasFailed (W.faults writer.old) (W.faults writer.new)) }
+    ensures only { IfErr result IsOfWriter }
+{
+    let before = writer.faults();
+    for _ in 0..TURN_LIMIT {
+        if outbox.is_empty() {
+            return Ok(());
+        }
+        match writer.write(outbox.as_slice()) {
+            Ok(0) => return Ok(()),
+            Ok(count) => outbox.advance(count),
+            Err(_) => {
+                return if has_failed(before, writer.faults()) {
+                    Err(Loss::Write)
+                } else {
+                    Ok(())
+                };
+            }
+        }
+    }
+    Ok(())
+}

@@ -1,0 +1,14 @@
+-- AVPs that are written one after the other.
+use Rattle.std.proofs.Common.{◌≡◌, ℕ, List, [], ◌∷◌, ◌++◌, Result, subst, append_assoc}
+use Rattle.std.specs.Prelude.{flat_map, OnOk}
+use Rattle.std.proofs.lemmas.List.{append-nil}
+
+-- the same list by another name
+pub OnOk-same : {E : Type 0} (r : Result (Unit {0}) E) (new a b : List ℕ) → OnOk r (new ≡ a) → a ≡ b → OnOk r (new ≡ b)
+OnOk-same r new a b h e = subst (λ (x : List ℕ). OnOk r (new ≡ x)) e h
+
+-- two at once, and then four
+pub six_added : {A : Type 0} (f : A → List ℕ) (x1 x2 x3 x4 x5 x6 : A) (b0 b1 b2 b3 b4 : List ℕ) → b1 ≡ b0 ++ flat_map f (x1 ∷ x2 ∷ []) → b2 ≡ b1 ++ f x3
+    → b3 ≡ b2 ++ f x4 → b4 ≡ b3 ++ f x5
+    → b4 ++ f x6 ≡ b0 ++ flat_map f (x1 ∷ x2 ∷ x3 ∷ x4 ∷ x5 ∷ x6 ∷ [])
+six_added f x1 x2 x3 x4 x5 x6 b0 b1 b2 b3 b4 e1 e2 e3 e4 = rw (e4, e3, e2, e1) (simp (append_assoc, append-nil))

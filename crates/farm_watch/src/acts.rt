@@ -1,0 +1,75 @@
+//! What a connection asks of those who keep it.
+
+ghost use Rattle.std.specs.Prelude.{◌≡◌, [], ◌∷◌, ◌++◌, option_to_list};
+
+use dia_base::NodeNo;
+use dia_message::Message;
+use std::marker::Model;
+
+/// What is to be done with a connection.
+#[derive(Debug, Drop)]
+pub enum Act {
+    /// The message goes out on it.
+    Send(Message),
+    /// The node at its other end is up: that node tells and is told messages on it from now on.
+    PeerUp(NodeNo),
+    /// The message is the node's.
+    Pass(Message),
+    /// It ends, once what was sent before is out.
+    Drop,
+}
+
+/// The acts of one event, in their order: two at most. They take no memory of their own.
+#[derive(Debug, Drop)]
+pub struct Acts {
+    first: Option<Act>,
+    second: Option<Act>,
+}
+
+impl Model for Acts {
+    ghost use Rattle.std.specs.Prelude.{List, ◌++◌, option_to_list};
+    ghost use Rattle.farm_watch.specs.declared.acts.Act.{Act};
+
+    ghost Value = { List Act };
+
+    ghost view = { λ acts. option_to_list acts.first ++ option_to_list acts.second };
+}
+
+impl Acts {
+    pub(crate) fn none() -> Self
+        ensures { result ≡ [] }
+    {
+        Acts {
+            first: None,
+            second: None,
+        }
+    }
+
+    pub(crate) fn of_one(act: Act) -> Self
+        ensures { result ≡ act ∷ [] }
+    {
+        Acts {
+            first: Some(act),
+            second: None,
+        }
+    }
+
+    pub(crate) fn of_two(first: Act, second: Act) -> Self
+        ensures { result ≡ first ∷ second ∷ [] }
+    {
+        Acts {
+            first: Some(first),
+            second: Some(second),
+        }
+    }
+
+    /// Takes the first act that is left off, if there is one.
+    pub fn take_first(&mut self) -> Option<Act>
+        ensures { self.old ≡ option_to_list result ++ self.new }
+    {
+        match self.first.take() {
+            Some(act) => Some(act),
+            None => self.second.take(),
+        }
+    }
+}

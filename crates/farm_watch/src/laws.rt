@@ -1,0 +1,97 @@
+//! Laws and worked examples. Each is the contract of a function without a body.
+
+ghost use Rattle.std.specs.Prelude.{◌≡◌, ◌∷◌, [], List, map, codes, Some, true, false};
+ghost use Rattle.dia_avp.specs.AvpExample.{from_hex};
+ghost use Rattle.dia_dict.specs.Dictionary.{name_of};
+ghost use Rattle.dia_message.specs.Spelling.{octets_of};
+ghost use Rattle.farm_watch.specs.Capabilities.{avps_in, is_success};
+ghost use Rattle.dia_base.specs.declared.number.Moment.{Moment};
+ghost use Rattle.farm_watch.specs.Life.{Event, IsLife, before_up, life_of};
+ghost use Rattle.farm_watch.specs.declared.site.Side.{Side};
+ghost use Rattle.farm_watch.specs.declared.site.WatchSite.{WatchSite};
+ghost use Rattle.farm_watch.specs.Numbers.{capabilities_exchange, common_messages, device_watchdog, disconnect_cause, disconnect_peer, host_ip_address, no_common_application, relay_application, success, vendor_id, vendor_specific_application_id};
+ghost use Rattle.farm_watch.specs.PeerMessages.{cea, cer, dpr, dwr, success_to};
+ghost use Rattle.farm_watch.specs.Table.{after_close, after_message, after_tick, beginning, drops, identifier_after, stays};
+ghost use Rattle.farm_watch.specs.WatchExample.{application_of_vendor_text, asked, at, c1, cea_text, cer_of_client_text, cer_text, dpa_text, dpr_text, dwa_text, dwr_of_front_text, dwr_text, f1, greeting_at_front, heard, message, node, other_application_text, r1, refusing_cea_text, waiting};
+ghost use Rattle.farm_watch.specs.declared.acts.Act.TheVariants as act;
+ghost use Rattle.farm_watch.specs.declared.reading.Greeting.TheVariants as greeted;
+ghost use Rattle.farm_watch.specs.declared.site.Side.TheVariants.{Connects};
+ghost use Rattle.farm_watch.specs.declared.watch.Waits.TheVariants as waits;
+
+use crate::codes::{
+    CAPABILITIES_EXCHANGE, COMMON_MESSAGES, DEVICE_WATCHDOG, DISCONNECT_CAUSE, DISCONNECT_PEER,
+    HOST_IP_ADDRESS, NO_COMMON_APPLICATION, RELAY_APPLICATION, SUCCESS, VENDOR_ID,
+    VENDOR_SPECIFIC_APPLICATION_ID,
+};
+
+/// The constants of [`crate::codes`] are the numbers that definitions name, and those of AVPs are the rows of
+/// the dictionary under these names.
+pub fn peer_codes_are_defined()
+    ensures numbers { (CAPABILITIES_EXCHANGE ∷ DEVICE_WATCHDOG ∷ DISCONNECT_PEER ∷ COMMON_MESSAGES ∷ RELAY_APPLICATION ∷ SUCCESS ∷ NO_COMMON_APPLICATION ∷ []) ≡ capabilities_exchange ∷ device_watchdog ∷ disconnect_peer ∷ common_messages ∷ relay_application ∷ success ∷ no_common_application ∷ [] }
+    ensures avps { (HOST_IP_ADDRESS ∷ VENDOR_SPECIFIC_APPLICATION_ID ∷ VENDOR_ID ∷ DISCONNECT_CAUSE ∷ []) ≡ host_ip_address ∷ vendor_specific_application_id ∷ vendor_id ∷ disconnect_cause ∷ [] }
+    ensures names { map name_of (host_ip_address ∷ vendor_specific_application_id ∷ vendor_id ∷ disconnect_cause ∷ []) ≡ Some (codes "Host-IP-Address") ∷ Some (codes "Vendor-Specific-Application-Id") ∷ Some (codes "Vendor-Id") ∷ Some (codes "Disconnect-Cause") ∷ [] }
+{}
+
+/// Of a whole life of a connection: the node at its other end comes up at most once, the node here is passed messages only
+/// while that is up, and nothing comes behind the end.
+pub fn peers_come_up_once_and_nothing_follows_the_end()
+    ensures { (site : WatchSite) (moment : Moment) (side : Side) (events : List Event) → IsLife before_up (life_of site moment side events) }
+{}
+
+/// Worked examples: the messages between a relay r1, a front f1 and a client c1 as octets.
+pub fn neighbours_write_their_octets()
+    ensures cer { octets_of (cer r1 1) ≡ from_hex cer_text }
+    // An address of IPv6.
+    ensures client { octets_of (cer c1 1) ≡ from_hex cer_of_client_text }
+    ensures cea { octets_of (cea f1 2001 (message cer_text).header) ≡ from_hex cea_text }
+    ensures refusing { octets_of (cea f1 5010 (message cer_text).header) ≡ from_hex refusing_cea_text }
+    ensures dwr { octets_of (dwr r1 1) ≡ from_hex dwr_text }
+    ensures dwa { octets_of (success_to r1 (message dwr_of_front_text).header) ≡ from_hex dwa_text }
+    ensures dpr { octets_of (dpr r1 1) ≡ from_hex dpr_text }
+    ensures dpa { octets_of (success_to f1 (message dpr_text).header) ≡ from_hex dpa_text }
+{}
+
+/// Worked examples: whom a front greets, that a relay may connect to.
+pub fn only_linked_nodes_are_welcome()
+    ensures relay { greeting_at_front [] cer_text ≡ greeted.Welcome (node 0) }
+    // Without case, and with its application inside a group.
+    ensures vendor { greeting_at_front [] application_of_vendor_text ≡ greeted.Welcome (node 0) }
+    ensures up { greeting_at_front (node 3 ∷ node 0 ∷ []) cer_text ≡ greeted.Unwelcome }
+    ensures stranger { greeting_at_front [] cer_of_client_text ≡ greeted.Unwelcome }
+    ensures application { greeting_at_front [] other_application_text ≡ greeted.NothingInCommon }
+    // A relay speaks all applications.
+    ensures success { map (λ text. is_success (avps_in (message text).body)) (cea_text ∷ refusing_cea_text ∷ dwr_text ∷ []) ≡ true ∷ false ∷ false ∷ [] }
+{}
+
+/// Worked examples: a connection from its first message on.
+pub fn connections_begin_with_capabilities()
+    ensures connects { (beginning r1 (at 5) (Connects (node 2))).acts ≡ act.Send (message cer_text) ∷ [] }
+    ensures greets { (after_message f1 [] (at 7) (message cer_text) (waiting (waits.ForCer (at 5)))).acts ≡ act.Send (message cea_text) ∷ act.PeerUp (node 0) ∷ [] }
+    ensures refuses { (after_message f1 [] (at 7) (message other_application_text) (waiting (waits.ForCer (at 5)))).acts ≡ act.Send (message refusing_cea_text) ∷ act.Drop ∷ [] }
+    ensures comes_up { (after_message r1 [] (at 7) (message cea_text) (waiting (waits.ForCea (node 2) (at 5)))).acts ≡ act.PeerUp (node 2) ∷ [] }
+    ensures refused { after_message r1 [] (at 7) (message refusing_cea_text) (waiting (waits.ForCea (node 2) (at 5))) ≡ drops (waiting (waits.ForCea (node 2) (at 5))) }
+    // Any other first message.
+    ensures dwr { after_message f1 [] (at 7) (message dwr_text) (waiting (waits.ForCer (at 5))) ≡ drops (waiting (waits.ForCer (at 5))) }
+    ensures late { (after_tick r1 (at 30005) (waiting (waits.ForCer (at 5)))).acts ≡ act.Drop ∷ [] }
+{}
+
+/// Worked examples: the watchdog, at an interval of 30000 milliseconds.
+pub fn watchdogs_ask_and_then_drop()
+    ensures early { after_tick r1 (at 30999) heard ≡ stays heard }
+    ensures asks { after_tick r1 (at 31000) heard ≡ record { acts = act.Send (message dwr_text) ∷ []; next = asked } }
+    ensures waits { after_tick r1 (at 60999) asked ≡ stays asked }
+    ensures gives_up { after_tick r1 (at 61000) asked ≡ drops asked }
+    ensures answers { (after_message r1 [] (at 2000) (message dwr_of_front_text) heard).acts ≡ act.Send (message dwa_text) ∷ [] }
+    // Any message counts as an answer.
+    ensures hears { (after_message r1 [] (at 40000) (message dwa_text) asked).next ≡ record asked { waits = waits.ForMessage (at 40000) } }
+    // Identifiers begin again behind the highest one.
+    ensures identifiers { map identifier_after (0 ∷ 1 ∷ 4294967294 ∷ 4294967295 ∷ []) ≡ 1 ∷ 2 ∷ 4294967295 ∷ 1 ∷ [] }
+{}
+
+/// Worked examples: how a connection ends.
+pub fn connections_end_with_disconnect_peer()
+    ensures closes { (after_close r1 (at 2000) heard).acts ≡ act.Send (message dpr_text) ∷ [] }
+    ensures answered { (after_message r1 [] (at 2100) (message dpa_text) (after_close r1 (at 2000) heard).next).acts ≡ act.Drop ∷ [] }
+    ensures unanswered { map (λ moment. (after_tick r1 (at moment) (after_close r1 (at 2000) heard).next).acts) (31999 ∷ 32000 ∷ []) ≡ [] ∷ (act.Drop ∷ []) ∷ [] }
+    ensures is_closed { (after_message f1 [] (at 2000) (message dpr_text) heard).acts ≡ act.Send (message dpa_text) ∷ act.Drop ∷ [] }
+{}

@@ -1,0 +1,68 @@
+//! What a node knows of itself and of its neighbours.
+
+ghost use Rattle.std.specs.Prelude.{◌≡◌};
+ghost use Rattle.farm_watch.specs.PeerMessages.{application_number};
+
+use crate::codes::RELAY_APPLICATION;
+use dia_base::codes::CREDIT_CONTROL_APPLICATION;
+use dia_base::{Identity, Listing, NodeNo};
+
+/// The application that a node advertises to its neighbours (RFC 6733, section 2.4).
+#[derive(Clone, Copy, Debug, PartialEq, Eq)]
+pub enum Application {
+    /// A relay forwards the messages of any application.
+    Relay,
+    /// A front and a client speak Credit-Control alone (RFC 8506).
+    CreditControl,
+}
+
+impl Application {
+    /// The number in Auth-Application-Id.
+    pub fn number(self) -> u32
+        ensures { result ≡ application_number self }
+    {
+        match self {
+            Application::Relay => RELAY_APPLICATION,
+            Application::CreditControl => CREDIT_CONTROL_APPLICATION,
+        }
+    }
+}
+
+/// The address that a node tells its neighbours (RFC 6733, section 4.3.1, Address).
+#[derive(Clone, Copy, Debug, PartialEq, Eq)]
+pub enum HostAddress {
+    V4([u8; 4]),
+    V6([u8; 16]),
+}
+
+/// A node that may connect, by the identity under which it does.
+#[derive(Debug, Drop)]
+pub struct Neighbour {
+    pub name: Identity,
+    pub node: NodeNo,
+}
+
+/// What a node knows of itself and of its neighbours, for all of its connections.
+#[derive(Debug, Drop)]
+pub struct WatchSite {
+    /// Origin-Host of what it writes.
+    pub name: Identity,
+    /// Origin-Realm of what it writes.
+    pub realm: Identity,
+    /// Host-IP-Address of what it writes.
+    pub address: HostAddress,
+    pub application: Application,
+    /// The nodes that may connect to it. Of several with one name the first counts.
+    pub neighbours: Listing<Neighbour>,
+    /// How long it waits for a message, and then for the answer to its own: in milliseconds.
+    pub interval: u32,
+}
+
+/// The side of a connection that a node is on.
+#[derive(Clone, Copy, Debug, PartialEq, Eq)]
+pub enum Side {
+    /// It has connected to this node.
+    Connects(NodeNo),
+    /// Some node has connected to it.
+    Accepts,
+}

@@ -1,0 +1,57 @@
+-- Worked examples: what the relay r1.example sends at an event, and what is pending then.
+use Rattle.std.specs.Prelude.{◌≡◌, ◌↔◌, ℕ, List, [], ◌∷◌, codes, true, false, Option, Some}
+use Rattle.dia_avp.specs.AvpList.{written_list}
+use Rattle.dia_message.specs.declared.message.Message.{Message}
+use Rattle.dia_message.specs.Traffic.{Traffic}
+use Rattle.cc_view.specs.FirstDebit.{debit_header}
+use Rattle.relay_hops.specs.declared.row.Origin.{Origin}
+use Rattle.relay_hops.specs.declared.row.Row.{Row}
+use Rattle.relay_hops.specs.PendingTable.{again, under}
+use Rattle.relay_core.specs.declared.run.RelayEvent.{RelayEvent}
+use Rattle.relay_core.specs.declared.run.RelayEvent.TheVariants.{Received, Lost}
+use Rattle.relay_core.specs.FirstForwarding.{forwarded_debit}
+use Rattle.relay_core.specs.RelayRun.{OnEvent}
+use Rattle.relay_core.specs.RelayState.{RelayState}
+use Rattle.relay_core.specs.RuleExample.{avp, conn, session}
+
+-- ---- what is sent
+
+-- these are sent and these requests are pending afterwards, and nothing else may be done
+abbrev pub DoesOnly : RelayState → RelayEvent → Traffic → RelayState → Type 0
+DoesOnly relay event sent next = (items : Traffic) (after : RelayState) → OnEvent relay event items after ↔ ((items ≡ sent) × (after ≡ next))
+
+-- the same where the relay chooses a Hop-by-Hop Identifier
+abbrev pub DoesUnder : RelayState → RelayEvent → (ℕ → Traffic) → (ℕ → RelayState) → Type 0
+DoesUnder relay event sent next =
+    (items : Traffic) (after : RelayState) → OnEvent relay event items after ↔ ((hop : ℕ) × (items ≡ sent hop) × (after ≡ next hop))
+
+-- r1's refusal of a request of c1 with that Session-Id, with the octets of this Result-Code
+abbrev pub refused_with : List ℕ → Message
+refused_with code = record {
+  header = record debit_header { request = false; error = true };
+  body = written_list (session ∷ avp 264 (codes "r1.example") ∷ avp 296 (codes "ocs.example") ∷ avp 268 code ∷ []);
+}
+
+-- ---- what is pending
+
+-- a request that came from c1 under the identifier 7
+abbrev pub of_c1 : Option Origin
+of_c1 = Some (record { conn = conn 1; hop = 7 })
+
+-- a request that went out on a connection under an identifier
+abbrev pub pending_on : ℕ → ℕ → Option Origin → Message → Row
+pending_on to hop origin request = record { conn = conn to; held = record { origin = origin; request = under hop request } }
+
+-- the first debit, with the Route-Record of c1
+abbrev pub debit_on : ℕ → ℕ → Option Origin → Row
+debit_on to hop origin = pending_on to hop origin forwarded_debit
+
+-- the first debit, once it was sent again
+abbrev pub debit_again_on : ℕ → ℕ → Row
+debit_again_on to hop = record { conn = conn to; held = record { origin = of_c1; request = again hop forwarded_debit } }
+
+abbrev pub received : ℕ → Message → RelayEvent
+received from message = Received (conn from) message
+
+abbrev pub lost : ℕ → RelayEvent
+lost number = Lost (conn number)

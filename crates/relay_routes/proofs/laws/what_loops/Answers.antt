@@ -1,5 +1,0 @@
-use Rattle.relay_routes.proofs.Loops.{IsLoop-from_test, test-from_IsLoop}
-use Rattle.relay_routes.proofs.laws.what_loops.Goals as goal
-
-pub returns : goal.returns
-returns c = λ node body. (IsLoop-from_test node body, test-from_IsLoop node body)
