@@ -172,8 +172,8 @@ can_restart site node = is_relay site node || is_front site node
 abbrev pub Restarts : Site → WorldState → NodeNo → Bool → List LossAt → WorldState → Type 0
 Restarts site w node applied losses next =
     MatchBool (can_restart site node)
-      ((applied ≡ true) × LearnLosses (losses_of_restart node w.directions) (after_restart w node) losses next)
-      ((applied ≡ false) × (losses ≡ []) × (next ≡ w))
+    ((applied ≡ true) × LearnLosses (losses_of_restart node w.directions) (after_restart w node) losses next)
+    ((applied ≡ false) × (losses ≡ []) × (next ≡ w))
 
 -- ---- any step
 

@@ -237,8 +237,12 @@ AppliedOrChangedNothing t = t.applied ≡ false → t.after ≡ t.before
 
 -- the site's accounts with their opening amounts, its prices, its validity and its money
 abbrev pub terms_of : Site → Terms
-terms_of site = record { accounts = site.accounts; tariffs = site.tariffs; validity = site.validity;
-    money = record { currency = site.currency; exponent = site.exponent } }
+terms_of site = record {
+  accounts = site.accounts;
+  tariffs = site.tariffs;
+  validity = site.validity;
+  money = record { currency = site.currency; exponent = site.exponent };
+}
 
 -- ---- the whole
 

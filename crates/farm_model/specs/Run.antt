@@ -74,15 +74,26 @@ relays_from site place (node ∷ nodes) = relay_if site place node node.kind ++ 
 -- the book with its accounts, and nothing taken
 abbrev pub empty_book : Site → Ledger
 empty_book site = record {
-  terms = record { accounts = site.accounts; tariffs = site.tariffs; validity = site.validity;
-      money = record { currency = site.currency; exponent = site.exponent } };
+  terms = record {
+    accounts = site.accounts;
+    tariffs = site.tariffs;
+    validity = site.validity;
+    money = record { currency = site.currency; exponent = site.exponent };
+  };
   limit = site.limit;
   history = [];
 }
 
 abbrev pub start : Site → WorldState
-start site = record { directions = []; fronts = fronts_from site 0 site.nodes; relays = relays_from site 0 site.nodes; book = empty_book site;
-    sent = []; received = []; ends = [] }
+start site = record {
+  directions = [];
+  fronts = fronts_from site 0 site.nodes;
+  relays = relays_from site 0 site.nodes;
+  book = empty_book site;
+  sent = [];
+  received = [];
+  ends = [];
+}
 
 -- ---- one step after another
 
