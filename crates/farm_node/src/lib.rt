@@ -1,0 +1,30 @@
+//! One face for the nodes of a farm: what happens to a node, what it sends then, and why it does not do what it is
+//! told.
+//!
+//! - [`Node`]: a node by its events. Those who have connections tell it what happens on them, and send what it says.
+//! - [`Reaction`]: what a node sends at an event, and whether it did what it was told.
+//! - [`NodeError`]: why not. It is small and takes no memory, so that it can be counted and logged.
+//!
+//! A relay ([`relay_core::Relay`]) and a front ([`front_core::Front`]) are nodes. `specs/Events` says what may happen to
+//! a node, and `specs/Nodes` what each of them does then: it is the step of the crate that the node is of, and nothing
+//! besides.
+//!
+//! ```
+//! use dia_avp::PlainWire;
+//! use farm_node::{Node, Reaction};
+//!
+//! /// A message comes on a new connection of a node.
+//! fn first<N: Node>(node: &mut N, alloc: Global, me: NodeNo, peer: NodeNo, message: Message) -> Reaction {
+//!     let _up = node.on_up(alloc, me, peer, ConnId(1));
+//!     node.on_message::<PlainWire>(alloc, ConnId(1), message)
+//! }
+//! ```
+#![tactic(auto)]
+
+mod error;
+mod front;
+mod node;
+mod relay;
+
+pub use error::NodeError;
+pub use node::{Node, Reaction};

@@ -1,0 +1,51 @@
+//! A relay as a node.
+
+ghost use Rattle.std.specs.Prelude.{◌≡◌, [], Ok, Err, IfOk, IfErr};
+ghost use Rattle.farm_node.specs.Nodes.{OnRelayEvent, error_of_relay};
+
+use crate::error::NodeError;
+use crate::node::{Node, Reaction};
+use dia_avp::Wire;
+use dia_base::{ConnId, Moment, NodeNo};
+use dia_message::{Message, Out};
+use relay_core::{Relay, RelayError};
+use std::alloc::Global;
+
+/// What a relay sends, or why it does nothing.
+fn reaction(alloc: Global, answer: Result<Out, RelayError>) -> Reaction
+    ensures sent { IfOk answer (λ out. (result.out.items ≡ out.items) × (result.outcome ≡ Ok tt)) }
+    ensures refused { IfErr answer (λ error. (result.out.items ≡ []) × (result.outcome ≡ Err (error_of_relay error))) }
+{
+    match answer {
+        Ok(out) => Reaction::sends(out),
+        Err(error) => Reaction::refuses(alloc, NodeError::of_relay(error)),
+    }
+}
+
+/// Which of the nodes that are served here it is, is of no account: it is served alone.
+impl Node for Relay {
+    ghost on_event = { OnRelayEvent };
+
+    fn on_up(&mut self, alloc: Global, _local: NodeNo, peer: NodeNo, conn: ConnId) -> Reaction {
+        match self.conn_up(peer, conn) {
+            Ok(()) => Reaction::nothing(alloc),
+            Err(error) => Reaction::refuses(alloc, NodeError::of_relay(error)),
+        }
+    }
+
+    fn on_message<W: Wire>(&mut self, alloc: Global, conn: ConnId, message: Message) -> Reaction {
+        reaction(alloc, Relay::on_message::<W>(self, alloc, conn, message))
+    }
+
+    fn on_lost<W: Wire>(&mut self, alloc: Global, conn: ConnId) -> Reaction {
+        reaction(alloc, self.conn_lost::<W>(alloc, conn))
+    }
+
+    fn on_tick<W: Wire>(&mut self, alloc: Global, _moment: Moment) -> Reaction {
+        Reaction::nothing(alloc)
+    }
+
+    fn on_wake<W: Wire>(&mut self, alloc: Global) -> Reaction {
+        Reaction::nothing(alloc)
+    }
+}
