@@ -1,3 +1,4 @@
 pub mod Losing
+pub mod NodeEvents
 pub mod Relaying
 pub mod Turning

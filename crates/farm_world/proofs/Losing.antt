@@ -12,17 +12,27 @@ use Rattle.farm_base.specs.Lists.{IsFirst}
 use Rattle.farm_model.specs.FarmStep.{can_restart, Restarts}
 use Rattle.farm_model.specs.Loss.{Loss, LossAt, LearnsLoss, LearnLosses, all_know, learns, touches, after_restart, losses_of_restart, with_restart_of_front, with_restart_of_relay}
 use Rattle.farm_model.specs.Run.{TellsSame}
-use Rattle.farm_model.specs.World.{WorldState, is_front_at, front_at, relay_at}
+use Rattle.farm_model.specs.World.{WorldState, is_front_at, front_at, relay_at, with_traffic_from}
 use Rattle.farm_model.proofs.Wiring.WorldLemmas.{front_found, front_changed}
+use Rattle.farm_node.specs.Events.{NodeEvent as event}
+use Rattle.farm_node.specs.Nodes.{OnFrontEvent}
+use Rattle.dia_message.specs.Traffic.{Traffic}
+use Rattle.farm_world.specs.NodeEvents.{Takes}
+use Rattle.farm_world.proofs.NodeEvents.{forgotten}
 use Rattle.farm_world.proofs.Turning.{fronts_with, with_parts}
 
 -- ---- one node learns it
 
-pub learnt_by_front : (w : WorldState) (loss : Loss) (place : ℕ) (part : FrontAt) (front : FrontState) → IsFirst (is_front_at loss.node) w.fronts place → part ≡ get_or w.fronts place part → front ≡ without_connection part.front loss.conn
-    → LearnsLoss w loss (front_at loss.node w.fronts) (with_parts w w.directions (fronts_with w place part front))
-learnt_by_front w loss place part front first read is =
-    subst (λ (o : Option FrontState). LearnsLoss w loss o (with_parts w w.directions (fronts_with w place part front))) (sym (front_found loss.node w.fronts place part first read))
-    (ap (with_parts w w.directions) (ap (fronts_with w place part) is ∙ front_changed loss.node w.fronts place part (without_connection part.front loss.conn) first read))
+pub learnt_by_front : (w : WorldState) (loss : Loss) (place : ℕ) (part : FrontAt) (front : FrontState) (directions : List Direction) (sent : Traffic) → IsFirst (is_front_at loss.node) w.fronts place → part ≡ get_or w.fronts place part
+    → Takes OnFrontEvent part.front (event.lost loss.conn) sent front → directions ≡ with_traffic_from loss.node w.directions sent
+    → LearnsLoss w loss (front_at loss.node w.fronts) (with_parts w directions (fronts_with w place part front))
+learnt_by_front w loss place part front directions sent first read takes directions_are =
+    subst (λ (o : Option FrontState). LearnsLoss w loss o (with_parts w directions (fronts_with w place part front))) (sym (front_found loss.node w.fronts place part first read))
+    (ap (λ (ds : List Direction). with_parts w ds (fronts_with w place part front)) (directions_are ∙ ap (with_traffic_from loss.node w.directions) forgets.0)
+    ∙ ap (with_parts w w.directions) (ap (fronts_with w place part) forgets.1 ∙ front_changed loss.node w.fronts place part (without_connection part.front loss.conn) first read))
+  where
+    forgets : (sent ≡ []) × (front ≡ without_connection part.front loss.conn)
+    forgets = forgotten part.front loss.conn sent front takes
 
 -- ---- one more at the end learns it
 

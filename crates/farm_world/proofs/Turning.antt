@@ -1,6 +1,6 @@
 -- What a step leaves, where a front of the farm was changed in its place.
 use Rattle.std.proofs.Common.{◌≡◌, ℕ, Bool, true, false, cond, List, [], ◌∷◌, ◌++◌, get_or, Option, Some, None, refl, sym, subst, ap, ◌∙◌}
-use Rattle.std.specs.Prelude.{slice_set, IsOkUnless, MatchBool, Result, Ok, Err}
+use Rattle.std.specs.Prelude.{slice_set, MatchBool}
 use Rattle.std.specs.List.{find}
 use Rattle.std.proofs.lemmas.List.{set-get_or}
 use Rattle.dia_base.specs.declared.number.ConnId.{ConnId}
@@ -9,8 +9,6 @@ use Rattle.dia_base.specs.declared.number.NodeNo.{NodeNo}
 use Rattle.cc_book.specs.Taking.{Ledger}
 use Rattle.dia_message.specs.declared.message.Message.{Message}
 use Rattle.dia_message.specs.declared.message.Out.{Out}
-use Rattle.front_core.specs.declared.error.FrontError.{FrontError}
-use Rattle.front_core.specs.declared.error.FrontError.TheVariants.{OutOfMemory, UnknownConn}
 use Rattle.front_core.specs.FrontState.{FrontState, is_among}
 use Rattle.front_core.specs.FrontStep.{after_arrival, sent_at_arrival, after_pick, after_charge, after_refusal, after_emit, Applies, Charges, Emits}
 use Rattle.farm_base.specs.declared.site.Site.{Site}
@@ -24,6 +22,10 @@ use Rattle.farm_model.specs.Arrival.{Arrives, ArrivesAtServer, after_arrival_at_
 use Rattle.farm_model.specs.FarmStep.{Outcome, after_send, after_send_in, after_pick_at, with_pick, after_refusal_at, after_emit_at, with_emit, after_charge_at, with_charge}
 use Rattle.farm_model.proofs.Lists.ListLemmas.{first_item}
 use Rattle.farm_model.proofs.Wiring.WorldLemmas.{front_found, front_changed}
+use Rattle.farm_node.specs.Events.{NodeEvent as event}
+use Rattle.farm_node.specs.Nodes.{OnFrontEvent}
+use Rattle.farm_world.specs.NodeEvents.{Takes}
+use Rattle.farm_world.proofs.NodeEvents.{arrived}
 
 -- the front of the part at a place, changed
 abbrev pub fronts_with : WorldState → ℕ → FrontAt → FrontState → List FrontAt
@@ -61,38 +63,20 @@ at_server site w node conn message o next is found arrives =
     (subst (λ (f : Option FrontState). ArrivesAtServer w node conn message f next) (sym found) arrives)
 
 pub arrive_turn : (site : Site) (w : WorldState) (node : NodeNo) (conn : ConnId) (message : Message) (place : ℕ) (part : FrontAt) (front : FrontState) (directions : List Direction) (sent : Traffic) → is_client site node ≡ false
-    → IsFirst (is_front_at node) w.fronts place → part ≡ get_or w.fronts place part → is_among part.front.connections conn ≡ true
-    → front ≡ after_arrival part.front conn message → sent ≡ sent_at_arrival part.front conn message → directions ≡ with_traffic_from node w.directions sent
+    → IsFirst (is_front_at node) w.fronts place → part ≡ get_or w.fronts place part → Takes OnFrontEvent part.front (event.message conn message) sent front → directions ≡ with_traffic_from node w.directions sent
     → Arrives site w node conn message (with_parts w directions (fronts_with w place part front))
-arrive_turn site w node conn message place part front directions sent is first read known front_is sent_is directions_is =
+arrive_turn site w node conn message place part front directions sent is first read takes directions_are =
     at_server site w node conn message (Some part.front) (with_parts w directions (fronts_with w place part front)) is (front_found node w.fronts place part first read)
-    (ap (λ (ds : List Direction). with_parts w ds (fronts_with w place part front)) (directions_is ∙ ap (with_traffic_from node w.directions) sent_is)
-    ∙ ap (with_parts w (with_traffic_from node w.directions (sent_at_arrival part.front conn message))) (ap (fronts_with w place part) front_is ∙ front_changed node w.fronts place part (after_arrival part.front conn message) first read)
-    ∙ sym (ap (λ (b : Bool). cond b (after_arrival_at_front w node conn message part.front) w) known))
-
--- on a connection that the front does not know
-pub lost_turn : (site : Site) (w : WorldState) (node : NodeNo) (conn : ConnId) (message : Message) (place : ℕ) (part : FrontAt) (front : FrontState) → is_client site node ≡ false
-    → IsFirst (is_front_at node) w.fronts place → part ≡ get_or w.fronts place part → is_among part.front.connections conn ≡ false
-    → front ≡ part.front → Arrives site w node conn message (with_parts w w.directions (fronts_with w place part front))
-lost_turn site w node conn message place part front is first read unknown same =
-    at_server site w node conn message (Some part.front) (with_parts w w.directions (fronts_with w place part front)) is (front_found node w.fronts place part first read)
-    (ap (with_parts w w.directions) (same_fronts w place part front read same)
-    ∙ sym (ap (λ (b : Bool). cond b (after_arrival_at_front w node conn message part.front) w) unknown))
-
--- which connections a front knows, by what it answers
-abbrev ok_of : Out → Result Out FrontError
-ok_of out = Ok out
-
-abbrev err_of : FrontError → Result Out FrontError
-err_of e = Err e
-
-pub known_where_ok : (b : Bool) (out : Out) (conn : ConnId) → MatchBool b (IsOkUnless (ok_of out) OutOfMemory) (ok_of out ≡ err_of (UnknownConn conn)) → b ≡ true
-known_where_ok true out conn h = refl
-known_where_ok false out conn h = absurd cc
-
-pub unknown_where_err : (b : Bool) (e : FrontError) (conn other : ConnId) → e ≡ UnknownConn other → MatchBool b (IsOkUnless (err_of e) OutOfMemory) (err_of e ≡ err_of (UnknownConn conn)) → b ≡ false
-unknown_where_err false e conn other is h = refl
-unknown_where_err true e conn other is h = absurd cc
+    (go (is_among part.front.connections conn) (arrived part.front conn message sent front takes))
+  where
+    go : (b : Bool) → MatchBool b ((sent ≡ sent_at_arrival part.front conn message) × (front ≡ after_arrival part.front conn message)) ((sent ≡ []) × (front ≡ part.front))
+        → with_parts w directions (fronts_with w place part front) ≡ cond b (after_arrival_at_front w node conn message part.front) w
+    go true (sent_is, front_is) =
+        ap (λ (ds : List Direction). with_parts w ds (fronts_with w place part front)) (directions_are ∙ ap (with_traffic_from node w.directions) sent_is)
+        ∙ ap (with_parts w (with_traffic_from node w.directions (sent_at_arrival part.front conn message))) (ap (fronts_with w place part) front_is ∙ front_changed node w.fronts place part (after_arrival part.front conn message) first read)
+    go false (sent_is, same) =
+        ap (λ (ds : List Direction). with_parts w ds (fronts_with w place part front)) (directions_are ∙ ap (with_traffic_from node w.directions) sent_is)
+        ∙ ap (with_parts w w.directions) (same_fronts w place part front read same)
 
 -- what a worker did at a front that was found, if it did anything
 worker_turn : (w : WorldState) (node : NodeNo) (place : ℕ) (part : FrontAt) (applied : Bool) (front : FrontState) (o : Option FrontState) → IsFirst (is_front_at node) w.fronts place → part ≡ get_or w.fronts place part

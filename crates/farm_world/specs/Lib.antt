@@ -1,1 +1,2 @@
+pub mod NodeEvents
 pub mod RelayEvents

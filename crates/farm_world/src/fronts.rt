@@ -7,9 +7,10 @@ ghost use Rattle.farm_base.specs.Lists.{IsFirst};
 ghost use Rattle.farm_model.specs.Loss.{with_restart_of_front};
 ghost use Rattle.farm_model.specs.World.{is_front_at, front_at};
 
+use crate::events;
 use dia_base::{ConnId, NodeNo};
 use farm_model::FrontAt;
-use std::alloc::AllocError;
+use std::alloc::{AllocError, Global};
 
 /// The place of the front that is this node.
 pub fn place_of_front(fronts: &[FrontAt], node: NodeNo) -> Option<usize>
@@ -19,17 +20,20 @@ pub fn place_of_front(fronts: &[FrontAt], node: NodeNo) -> Option<usize>
     fronts.iter().position(|at| at.node == node)
 }
 
-/// A front learns of a connection. Where the node is no front, nothing happens.
-pub fn connect(fronts: &mut Vec<FrontAt>, node: NodeNo, conn: ConnId) -> Result<(), AllocError>
+/// A front learns of a connection with a peer. Where the node is no front, nothing happens.
+pub fn connect(
+    alloc: Global,
+    fronts: &mut Vec<FrontAt>,
+    node: NodeNo,
+    peer: NodeNo,
+    conn: ConnId,
+) -> Result<(), AllocError>
     ensures { OnOk result (fronts.new.items ≡ with_connection_at node conn fronts.old.items) }
 {
     let Some(place) = place_of_front(fronts, node) else {
         return Ok(());
     };
-    match fronts[place].front.conn_up(conn) {
-        Ok(()) => Ok(()),
-        Err(_) => Err(AllocError),
-    }
+    events::up(&mut fronts[place].front, alloc, node, peer, conn)
 }
 
 /// A front begins anew. Where the node is no front, nothing happens.

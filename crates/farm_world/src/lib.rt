@@ -8,8 +8,8 @@
 //! - [`row_site`]: the site that a schedule runs over where no site file is given.
 //! - [`Site`], [`Step`], [`Trace`] and the definitions of a step and a run are `farm_model`'s.
 //!
-//! Inside, `directions` keeps what is in flight, `nodes` asks the site, `fronts` and `relays` pass an
-//! event on to the one that it comes to, and `opening` makes the farm before its first step. A function
+//! Inside, `directions` keeps what is in flight, `nodes` asks the site, `fronts` and `relays` find the node
+//! that an event comes to, `events` tells it by the face that all nodes have, and `opening` makes the farm before its first step. A function
 //! for each word of a schedule stands in `turns`, in `loss` where connections end, and in `workers` where
 //! a worker of a front acts; `runs` goes over the steps.
 //!
@@ -28,6 +28,7 @@
 #![tactic(auto)]
 
 mod directions;
+mod events;
 mod fronts;
 mod loss;
 mod nodes;

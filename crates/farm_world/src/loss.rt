@@ -9,8 +9,8 @@ ghost use Rattle.farm_model.specs.World.{conn_between, front_at};
 use crate::directions::{conn_between, post, remove_conn, remove_node};
 use crate::fronts::{self, place_of_front};
 use crate::nodes::{is_front, is_relay};
-use crate::relays;
 use crate::world::World;
+use crate::{events, relays};
 use dia_avp::Wire;
 use dia_base::{ConnId, NodeNo};
 use farm_model::{Direction, Site};
@@ -62,11 +62,11 @@ impl World {
         ensures ok { OnOk result (LearnsLoss self.old loss.now (front_at loss.now.node self.old.fronts) self.new) }
         ensures same { TellsSame self.old self.new }
     {
-        if let Some(place) = place_of_front(&self.fronts, loss.node) {
-            self.fronts[place].front.conn_lost(loss.conn);
-            return Ok(());
-        }
-        let out = relays::conn_lost::<W>(alloc, &mut self.relays, loss.node, loss.conn)?;
+        let Some(place) = place_of_front(&self.fronts, loss.node) else {
+            let out = relays::conn_lost::<W>(alloc, &mut self.relays, loss.node, loss.conn)?;
+            return post(&mut self.directions, loss.node, out);
+        };
+        let out = events::lose::<_, W>(&mut self.fronts[place].front, alloc, loss.conn)?;
         post(&mut self.directions, loss.node, out)
     }
 

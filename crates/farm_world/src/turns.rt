@@ -7,16 +7,15 @@ ghost use Rattle.farm_model.specs.Loss.{LossAt};
 ghost use Rattle.farm_model.specs.Run.{TellsSame};
 
 use crate::directions::{empty_direction, is_connected, place_between, post, put, take_off};
-use crate::fronts::{connect, place_of_front};
+use crate::fronts::{self, place_of_front};
 use crate::nodes::{is_client, is_linked};
-use crate::relays;
 use crate::world::World;
+use crate::{events, relays};
 use cc_book::BookRefusal;
 use dia_avp::Wire;
 use dia_base::{ConnId, Moment, NodeNo};
 use dia_message::Message;
 use farm_model::{Site, Step};
-use front_core::FrontError;
 use std::alloc::{AllocError, Global};
 
 impl World {
@@ -43,10 +42,10 @@ impl World {
         let conn = ConnId(self.ends.len() as u64 + 1);
         self.directions.push(empty_direction(alloc, conn, a, b))?;
         self.directions.push(empty_direction(alloc, conn, b, a))?;
-        connect(&mut self.fronts, a, conn)?;
-        connect(&mut self.fronts, b, conn)?;
-        relays::connect(&mut self.relays, a, b, conn)?;
-        relays::connect(&mut self.relays, b, a, conn)?;
+        fronts::connect(alloc, &mut self.fronts, a, b, conn)?;
+        fronts::connect(alloc, &mut self.fronts, b, a, conn)?;
+        relays::connect(alloc, &mut self.relays, a, b, conn)?;
+        relays::connect(alloc, &mut self.relays, b, a, conn)?;
         self.ends.push((a, b))?;
         Ok(true)
     }
@@ -96,14 +95,9 @@ impl World {
             let out = relays::receive::<W>(alloc, &mut self.relays, node, conn, message)?;
             return post(&mut self.directions, node, out);
         };
-        match self.fronts[place]
-            .front
-            .on_message::<W>(alloc, conn, message)
-        {
-            Ok(out) => post(&mut self.directions, node, out),
-            Err(FrontError::UnknownConn { .. }) => Ok(()),
-            Err(FrontError::OutOfMemory) => Err(AllocError),
-        }
+        let front = &mut self.fronts[place].front;
+        let out = events::receive::<_, W>(front, alloc, conn, message)?;
+        post(&mut self.directions, node, out)
     }
 
     /// A message in flight arrives.
