@@ -19,6 +19,7 @@ pub mod InOrder
 pub mod Keys
 pub mod Looking
 pub mod Outcomes
+pub mod Placing
 pub mod Postings
 pub mod Replies
 pub mod Sessions

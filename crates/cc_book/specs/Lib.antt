@@ -3,6 +3,7 @@ pub mod Balance
 pub mod Duplicate
 pub mod History
 pub mod Laws
+pub mod Places
 pub mod Planning
 pub mod Posting
 pub mod Reservation

@@ -8,6 +8,7 @@ mod planning;
 
 use crate::account::{Account, Money};
 use crate::entry::Entry;
+use crate::places::Places;
 use crate::standing::Standing;
 use crate::terms::Terms;
 use cc_rating::Tariffs;
@@ -61,11 +62,15 @@ pub struct Book {
     history: Vec<Entry>,
     /// The reply of each entry, none of a sweep.
     replies: Vec<Option<CcReply>>,
+    /// Where its requests stand in the history.
+    places: Places,
     standing: Standing,
 }
 
 impl Model for Book {
     ghost use Rattle.std.specs.Prelude.{vec_capacity};
+    ghost use Rattle.std.specs.Prelude.{length};
+    ghost use Rattle.cc_book.specs.Places.{HasPlaces, IsIndexed};
     ghost use Rattle.cc_book.specs.Taking.{HasRoom, IsBook, Ledger};
 
     ghost Value = { Ledger };
@@ -74,7 +79,9 @@ impl Model for Book {
 
     ghost invariant = { λ b.
         IsBook b.terms b.limit b.history.items b.replies.items b.standing.balances.items b.standing.sessions.items
-        × HasRoom b.limit (vec_capacity b.history) (vec_capacity b.replies) (vec_capacity b.standing.sessions) };
+        × HasRoom b.limit (vec_capacity b.history) (vec_capacity b.replies) (vec_capacity b.standing.sessions)
+        × IsIndexed b.history.items b.places
+        × HasPlaces b.limit (length b.history.items) b.places };
 }
 
 impl Book {
@@ -110,6 +117,7 @@ impl Book {
             limit,
             history: Vec::with_capacity(alloc, room)?,
             replies: Vec::with_capacity(alloc, room)?,
+            places: Places::new(alloc, room)?,
             standing,
         })
     }

@@ -3,11 +3,50 @@
 ghost use Rattle.std.specs.Prelude.{◌≡◌, IfOk};
 
 use cc_view::{CcReply, CcRequest, Services};
+use dia_avp::Octets;
 use dia_base::Listing;
 use std::alloc::{AllocError, Global};
+use std::marker::Model;
 
-/// A copy of the request.
-pub fn copy_of_request(alloc: Global, request: &CcRequest) -> Result<CcRequest, AllocError>
+/// A copy of a request, and one more of its Session-Id: the entry keeps the one, the places of requests the other.
+#[derive(Debug, Drop)]
+pub struct RequestCopy {
+    request: CcRequest,
+    session: Octets,
+}
+
+impl Model for RequestCopy {
+    ghost use Rattle.std.specs.Prelude.{◌≡◌};
+    ghost use Rattle.cc_view.specs.declared.request.CcRequest.{CcRequest as Request};
+
+    ghost Value = { Request };
+
+    ghost view = { λ copy. copy.request };
+
+    ghost invariant = { λ copy. copy.session ≡ copy.request.session };
+}
+
+impl RequestCopy {
+    /// A copy of the request.
+    pub fn of(alloc: Global, request: &CcRequest) -> Result<Self, AllocError>
+        ensures { IfOk result (λ copy. copy ≡ request.now) }
+    {
+        Ok(RequestCopy {
+            request: copy_of_request(alloc, request)?,
+            session: request.session.clone()?,
+        })
+    }
+
+    /// The copy, and its Session-Id.
+    pub fn into_parts(self) -> (CcRequest, Octets)
+        ensures request { result.0 ≡ self }
+        ensures session { result.1 ≡ self.session }
+    {
+        (self.request, self.session)
+    }
+}
+
+fn copy_of_request(alloc: Global, request: &CcRequest) -> Result<CcRequest, AllocError>
     ensures { IfOk result (λ copy. copy ≡ request.now) }
 {
     Ok(CcRequest {

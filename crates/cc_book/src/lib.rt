@@ -12,8 +12,8 @@
 //!
 //! The reply to a request stands in `specs/AccountMachine`, what entries do to accounts in `specs/Posting` and
 //! `specs/Balance`, sessions and reservations in `specs/Session` and `specs/Reservation`, what services ask and used
-//! in `specs/ServiceRating`, the history in `specs/History` and `specs/Duplicate`, what it has left in
-//! `specs/Standing`, a call in `specs/Taking`, and its two halves in `specs/Planning`.
+//! in `specs/ServiceRating`, the history in `specs/History` and `specs/Duplicate`, how a request is found in it in
+//! `specs/Places`, what it has left in `specs/Standing`, a call in `specs/Taking`, and its two halves in `specs/Planning`.
 //! `specs/RowExample` and `specs/SessionExample` are worked examples. The functions of `laws` have no body: their
 //! contracts are laws of these definitions.
 //!
@@ -41,6 +41,7 @@ mod event;
 mod key;
 mod laws;
 mod outcome;
+mod places;
 mod plan;
 mod session;
 mod settling;

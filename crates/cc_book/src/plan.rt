@@ -3,8 +3,8 @@
 ghost use Rattle.std.specs.Prelude.{◌≡◌};
 
 use crate::book::Answered;
+use crate::copy::RequestCopy;
 use crate::outcome::Outcome;
-use cc_view::CcRequest;
 use dia_base::Moment;
 
 /// What a request does to a book, found out before anything changes: what it is answered and, where the book does
@@ -21,7 +21,7 @@ pub struct Plan {
 #[derive(Debug, Drop)]
 pub struct Taken {
     pub moment: Moment,
-    pub request: CcRequest,
+    pub request: RequestCopy,
     pub outcome: Outcome,
 }
 

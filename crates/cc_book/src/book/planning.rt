@@ -3,7 +3,7 @@
 ghost use Rattle.std.specs.Prelude.{◌≡◌, IfOk, IfSome, IsSome, None, false, if◌then◌else◌, slice_index_or};
 
 use super::{Answered, Book, BookRefusal, free_place};
-use crate::copy::{copy_of_reply, copy_of_request};
+use crate::copy::{RequestCopy, copy_of_reply};
 use crate::entry::Entry;
 use crate::key::kept;
 use crate::plan::{Plan, Taken};
@@ -27,7 +27,7 @@ impl Book {
         ensures good { IfOk result (IsGoodFor self.now) }
         ensures after { IfOk result (λ plan. after_plan self.now plan ≡ (if (answer_planned plan).fresh then with_take self.now moment request.now else self.now)) }
     {
-        if let Some((place, _)) = kept(&self.history, request) {
+        if let Some((place, _)) = kept(&self.history, &self.places, request) {
             let answered = kept_answer(alloc, &self.replies, place)?;
             return Ok(Plan {
                 answered,
@@ -41,7 +41,7 @@ impl Book {
             .terms
             .outcome_of(alloc, &self.standing, moment, request)?;
         let reply = copy_of_reply(alloc, &outcome.reply)?;
-        let request = copy_of_request(alloc, request)?;
+        let request = RequestCopy::of(alloc, request)?;
         Ok(Plan {
             answered: Answered {
                 reply,
@@ -80,6 +80,8 @@ impl Book {
             request,
             outcome,
         } = taken;
+        let (request, session) = request.into_parts();
+        self.places.add(session, request.number, self.history.len());
         self.history.push_reserved(Entry::Take { moment, request });
         self.replies.push_reserved(Some(outcome.reply));
         self.standing.debit(outcome.account, outcome.debit);

@@ -1,8 +1,14 @@
-use Rattle.std.proofs.Common.{rules, ◌≡◌, ◌<◌, List, length, ap, subst, sym, ◌∙◌, arith, SFits, Vec, Global, vec_len}
+use Rattle.std.proofs.Common.{rules, ◌≡◌, ℕ, ◌<◌, List, [], ◌∷◌, ◌++◌, length, length-append, ap, subst, sym, ◌∙◌, arith, SFits, Vec, Global, vec_len}
 use Rattle.std.specs.Int.{w128}
 use Rattle.std.specs.Prelude.{ℤ, vec_capacity}
 use Rattle.std.proofs.lemmas.Int.{to_z-of_z}
+use Rattle.cc_view.specs.declared.request.CcRequest.{CcRequest}
+use Rattle.cc_book.specs.declared.entry.Entry.{Entry}
+use Rattle.cc_book.specs.declared.entry.Entry.TheVariants.{Take}
 use Rattle.cc_book.specs.declared.session.OpenSession.{OpenSession}
+use Rattle.cc_book.specs.Duplicate.{Key, key_of}
+use Rattle.cc_book.specs.History.{IsNew}
+use Rattle.cc_book.specs.Places.{HasPlaces, IsIndexed}
 use Rattle.cc_book.specs.Planning.{IsTaking}
 use Rattle.cc_book.specs.Standing.{IsPlacedIn, after_change, after_debit}
 use Rattle.cc_book.specs.Taking.{Ledger}
@@ -65,11 +71,21 @@ invariant_of-self c =
     c.change.ensures.sessions ∙ ap (λ (ss : List OpenSession). after_change ss outcome.change) (ap (λ (v : Vec OpenSession Global). v.items) c.debit.ensures.sessions) in
     let balances : c.change.new.self.balances.items ≡ after_debit c.self.inside.standing.balances.items outcome.account outcome.debit =
     ap (λ (v : Vec ℤ Global). v.items) c.change.ensures.balances ∙ c.debit.ensures.balances
-    ∙ ap (after_debit c.self.inside.standing.balances.items outcome.account) (to_z-of_z w128 outcome.debit fits) in (
-      same-book _ c.push_reserved.new.self.items _ c.push_reserved-2.new.self.items _ c.change.new.self.balances.items _ c.change.new.self.sessions.items (sym c.push_reserved.ensures.items) (sym c.push_reserved-2.ensures.items) (sym balances) (sym sessions) book,
+    ∙ ap (after_debit c.self.inside.standing.balances.items outcome.account) (to_z-of_z w128 outcome.debit fits) in
+    let pushed : c.push_reserved.new.self.items ≡ c.self.inside.history.items ++ Take c.args.taken.moment c.args.taken.request ∷ [] =
+    c.push_reserved.ensures.items ∙ ap (λ (r : CcRequest). c.self.inside.history.items ++ Take c.args.taken.moment r ∷ []) c.into_parts-request.ensures.request in
+    let key : ◌≡◌ {A = Key} (record { session = c.into_parts-request.result.1; number = c.into_parts-request.result.0.number }) (key_of c.args.taken.request) =
+    ap (λ (id : List ℕ). record { session = id; number = c.into_parts-request.result.0.number }) c.into_parts-request.ensures.session
+    ∙ ap (λ (r : CcRequest). record { session = c.args.taken.request.session; number = r.number }) c.into_parts-request.ensures.request in
+    let long = length-append c.self.inside.history.items (Take c.args.taken.moment c.args.taken.request ∷ []) in (
+      same-book _ c.push_reserved.new.self.items _ c.push_reserved-2.new.self.items _ c.change.new.self.balances.items _ c.change.new.self.sessions.items (sym pushed) (sym c.push_reserved-2.ensures.items) (sym balances) (sym sessions) book,
       record {
         for_entries = omega (arith, c.self.invariant.1.for_entries, c.push_reserved.ensures.capacity);
         for_replies = omega (arith, c.self.invariant.1.for_replies, c.push_reserved-2.ensures.capacity);
         for_sessions = (let same = ap (λ (v : Vec OpenSession Global). vec_capacity v) c.debit.ensures.sessions in omega (arith, c.self.invariant.1.for_sessions, c.change.ensures.room));
       },
+      subst (λ (es : List Entry). IsIndexed es c.add.new.self) (sym pushed)
+          (c.add.ensures.indexed c.self.inside.history.items c.args.taken.moment c.args.taken.request c.self.invariant.2 (omega (arith, c.len.ensures, c.self.inside.history.ok.0)) key (subst (IsNew c.self.inside.history.items) (sym key) taking.new)),
+      subst (λ (es : List Entry). HasPlaces c.self.inside.limit (length es) c.add.new.self) (sym pushed)
+          (record { for_firsts = omega (arith, long, c.self.invariant.3.for_firsts, c.add.ensures.firsts); for_numbered = omega (arith, long, c.self.invariant.3.for_numbered, c.add.ensures.numbered) }),
     )

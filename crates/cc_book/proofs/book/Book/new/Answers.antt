@@ -1,9 +1,10 @@
-use Rattle.std.proofs.Common.{subst, sym, ap, ◌∙◌, List, Option, arith, map, []}
+use Rattle.std.proofs.Common.{subst, sym, ap, ◌∙◌, List, length, Option, arith, map, []}
 use Rattle.cc_view.specs.declared.reply.CcReply.{CcReply}
 use Rattle.cc_book.specs.declared.account.Account.{Account}
 use Rattle.cc_book.specs.declared.entry.Entry.{Entry}
 use Rattle.cc_book.specs.declared.session.OpenSession.{OpenSession}
 use Rattle.cc_book.specs.declared.terms.Terms.{Terms}
+use Rattle.cc_book.specs.Places.{HasPlaces, IsIndexed}
 use Rattle.cc_book.specs.Taking.{IsBook}
 use Rattle.cc_book.proofs.Books.{IsBook-empty}
 use Rattle.cc_book.proofs.Stands.{empty-stands}
@@ -20,4 +21,9 @@ invariant_of-result c =
     (subst (λ (rs : List (Option CcReply)). IsBook terms c.args.limit c.in_ok-with_capacity.field-0.items rs standing.balances.items []) (sym c.in_ok-with_capacity-2.ensures.items)
     (subst (λ (es : List Entry). IsBook terms c.args.limit es [] standing.balances.items []) (sym c.in_ok-with_capacity.ensures.items)
     (IsBook-empty terms c.args.limit standing.balances.items (omega arith) stands))) in
-    (book, record { for_entries = omega (arith, c.in_ok-with_capacity.ensures.exact); for_replies = omega (arith, c.in_ok-with_capacity-2.ensures.exact); for_sessions = omega (arith, c.in_ok-standing.ensures.room) })
+    let places = c.in_ok-new.field-0 in (
+      book,
+      record { for_entries = omega (arith, c.in_ok-with_capacity.ensures.exact); for_replies = omega (arith, c.in_ok-with_capacity-2.ensures.exact); for_sessions = omega (arith, c.in_ok-standing.ensures.room) },
+      subst (λ (es : List Entry). IsIndexed es places) (sym c.in_ok-with_capacity.ensures.items) c.in_ok-new.ensures.indexed,
+      subst (λ (es : List Entry). HasPlaces c.args.limit (length es) places) (sym c.in_ok-with_capacity.ensures.items) c.in_ok-new.ensures.room,
+    )

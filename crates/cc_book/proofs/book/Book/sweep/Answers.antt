@@ -1,9 +1,12 @@
-use Rattle.std.proofs.Common.{◌≡◌, ◌<◌, ◌≤◌, List, length, Ok, Vec, Global, ap, subst, sym, ◌∙◌, arith}
+use Rattle.std.proofs.Common.{◌≡◌, ◌<◌, ◌≤◌, List, length, Ok, Vec, Global, ap, subst, sym, ◌∙◌, arith, ◌∷◌, [], length-append}
 use Rattle.std.specs.Prelude.{ℤ, count_by}
 use Rattle.cc_book.specs.declared.entry.Entry.{Entry}
+use Rattle.cc_book.specs.declared.entry.Entry.TheVariants.{Sweep}
+use Rattle.cc_book.specs.Places.{HasPlaces, IsIndexed}
 use Rattle.cc_book.specs.Standing.{is_due}
 use Rattle.cc_book.specs.Taking.{Ledger, sweep_answer}
 use Rattle.cc_book.proofs.Books.{replies-long, same-book}
+use Rattle.cc_book.proofs.Placing.{IsIndexed-sweep}
 use Rattle.cc_book.proofs.Sweeps.{IsBook-sweep, sweep-full, sweep-none, sweep-some}
 use Rattle.cc_book.proofs.book.Book.sweep.Goals as goal
 
@@ -37,6 +40,10 @@ invariant_of-self c =
         for_replies = omega (arith, c.self.invariant.1.for_replies, c.push_reserved-2.ensures.capacity);
         for_sessions = omega (arith, c.self.invariant.1.for_sessions, c.sweep.ensures.room);
       },
+      subst (λ (es : List Entry). IsIndexed es c.self.inside.places) (sym c.push_reserved.ensures.items) (IsIndexed-sweep c.self.inside.history.items c.self.inside.places c.args.moment c.self.invariant.2),
+      subst (λ (es : List Entry). HasPlaces c.self.inside.limit (length es) c.self.inside.places) (sym c.push_reserved.ensures.items)
+          (let long = length-append c.self.inside.history.items (Sweep c.args.moment ∷ []) in
+          record { for_firsts = omega (arith, c.self.invariant.3.for_firsts); for_numbered = omega (arith, c.self.invariant.3.for_numbered) }),
     )
 
 pub returns-clause-answer : goal.returns-clause-answer
