@@ -1,0 +1,5 @@
+pub mod Rule
+pub mod Jobs
+pub mod Refused
+pub mod Serving
+pub mod Comparing

@@ -1,0 +1,28 @@
+-- A message whose view refuses it.
+use Rattle.std.proofs.Common.{◌≡◌, Some, None, Result, Ok, Err, refl, sym, ◌∙◌}
+use Rattle.dia_message.specs.declared.message.Message.{Message}
+use Rattle.cc_view.specs.declared.refusal.Refusal.{Refusal}
+use Rattle.cc_view.specs.declared.request.CcRequest.{CcRequest}
+use Rattle.cc_view.specs.Answer.{refusal_of}
+use Rattle.cc_view.specs.RequestView.{view_of}
+use Rattle.cc_book.specs.declared.terms.Terms.{Terms}
+use Rattle.front_core.specs.declared.preparing.Prepared.{Prepared}
+use Rattle.front_core.specs.declared.preparing.Prepared.TheVariants.{Refused}
+use Rattle.front_core.specs.Charging.{preparation_of}
+use Rattle.front_pool.specs.declared.site.PoolSite.{PoolSite}
+use Rattle.front_pool.specs.Answering.{Answers, refuses}
+
+same_refusal : (one other : Message) → Refused one ≡ Refused other → one ≡ other
+same_refusal one other e = cc
+
+refused_by :
+    (site : PoolSite) (terms : Terms) (message answer : Message) (view : Result CcRequest Refusal) → view_of site.vendors message ≡ view
+    → Refused answer ≡ preparation_of site.name site.realm message view → Answers site terms message (Some answer) None
+refused_by site terms message answer (Ok request) is e = let other : ⊥ = cc in absurd other
+refused_by site terms message answer (Err refusal) is e =
+    refuses (Some answer) refusal is (same_refusal answer (refusal_of site.name site.realm message refusal) e)
+
+pub refused :
+    (site : PoolSite) (terms : Terms) (message answer : Message) (prepared : Prepared) → prepared ≡ Refused answer
+    → prepared ≡ preparation_of site.name site.realm message (view_of site.vendors message) → Answers site terms message (Some answer) None
+refused site terms message answer prepared is e = refused_by site terms message answer (view_of site.vendors message) refl (sym is ∙ e)

@@ -1,0 +1,17 @@
+use Rattle.std.proofs.Common.{◌+◌, ◌≤◌, ◌++◌, vec_len, vec_capacity}
+use Rattle.std.specs.Prelude.{All}
+use Rattle.std.specs.List.Sorted.{IsPermutation}
+use Rattle.crossbeam_queue.specs.Passes.{IsPassOf}
+use Rattle.front_pool.specs.Answering.{IsAnswered}
+use Rattle.front_pool.specs.Jobs.{jobs_of}
+use Rattle.front_pool.proofs.pool.drain.Given as goal
+
+abbrev pub invariant-loop : goal.invariant-loop
+invariant-loop g l = record {
+  next : (goal.iterator-loop g).can_next l.iterator';
+  finite : (goal.iterator-loop g).is_finite l.iterator';
+  pass : IsPassOf l.queue l.pass;
+  jobs : IsPermutation l.fn.unanswered.items (jobs_of l.finished.items ++ l.left.items);
+  answered : All (IsAnswered g.L.Pooling.site g.L.Sharing.opened.terms) l.finished.items;
+  room : vec_len l.left + vec_len l.finished ≤ vec_capacity l.finished;
+}

@@ -1,0 +1,5 @@
+pub mod Jobs
+pub mod Answering
+pub mod Moving
+pub mod Working
+pub mod Keeping

@@ -1,0 +1,138 @@
+//! What a worker does with a message: it reads the request, has it served, and spells the answer.
+
+ghost use Rattle.std.specs.Prelude.{◌≡◌, IfSome, Ok};
+ghost use Rattle.cc_view.specs.Answer.{answer_to};
+ghost use Rattle.cc_view.specs.RequestView.{view_of};
+ghost use Rattle.front_pool.specs.Answering.{Answers, IsAnswered, too_busy};
+ghost use Rattle.front_pool.specs.Jobs.{job_of};
+
+use crate::gate::Gate;
+use crate::job::{Finished, Job};
+use crate::site::{PoolSite, Pooling};
+use cc_shared::{Receipt, Seat, SharedBook};
+use cc_view::{CcRequest, Refusal, ResultCode, answer_bytes, refusal_bytes};
+use dia_avp::Wire;
+use dia_base::Moment;
+use dia_message::Message;
+use front_core::{Prepared, prepare};
+use std::alloc::Global;
+use std::rt::Clock;
+use std::sync::Wait;
+use std::time::{SystemTime, UNIX_EPOCH};
+
+/// The moment of the system's clock, in milliseconds since 1970. None where it cannot be read.
+fn now<R: Clock>(rt: &R) -> Option<Moment> {
+    let since = SystemTime::now(rt).ok()?.duration_since(UNIX_EPOCH).ok()?;
+    let millis = u64::try_from(since.as_millis()).ok()?;
+    Some(Moment(millis))
+}
+
+/// DIAMETER_TOO_BUSY. None where memory is refused for it.
+fn too_busy<W: Wire>(alloc: Global, site: &PoolSite, message: &Message) -> Option<Message>
+    ensures { IfSome result (λ answer. answer ≡ too_busy site.now message.now) }
+{
+    let busy = Refusal {
+        code: ResultCode::TooBusy,
+        failed: None,
+    };
+    refusal_bytes::<W>(alloc, &site.name, &site.realm, message, &busy).ok()
+}
+
+/// The answer to a request that was served. None where memory is refused for it.
+fn answer<W: Wire>(
+    alloc: Global,
+    site: &PoolSite,
+    message: &Message,
+    receipt: &Receipt,
+) -> Option<Message>
+    ensures { IfSome result (λ answer. answer ≡ answer_to site.now.name site.now.realm message.now receipt.now.request receipt.now.reply) }
+{
+    answer_bytes::<W>(
+        alloc,
+        &site.name,
+        &site.realm,
+        message,
+        &receipt.request,
+        &receipt.reply,
+    )
+    .ok()
+}
+
+/// Has a request served that was read in a message, and answers it. One that is not served, or for which no moment can be
+/// read, is answered DIAMETER_TOO_BUSY.
+fn charge<W: Wire, L: Pooling, R: Wait + Clock>(
+    rt: &R,
+    alloc: Global,
+    shared: &SharedBook<L>,
+    seat: &mut Seat<L>,
+    site: &PoolSite,
+    message: &Message,
+    request: CcRequest,
+) -> (Option<Message>, Option<Receipt>)
+    requires view { view_of site.now.vendors message.now ≡ Ok request }
+    ensures { Answers site.now L.opened.terms message.now result.0 result.1 }
+{
+    let Some(moment) = now(rt) else {
+        return (too_busy::<W>(alloc, site, message), None);
+    };
+    match shared.serve(rt, alloc, seat, moment, request) {
+        Ok(receipt) => {
+            let written = answer::<W>(alloc, site, message, &receipt);
+            (written, Some(receipt))
+        }
+        Err(_) => (too_busy::<W>(alloc, site, message), None),
+    }
+}
+
+/// The answer to a message, and the receipt of the book where the book was asked. The message passes the gate once it is
+/// read.
+fn work<W: Wire, L: Pooling, R: Wait + Clock, G: Gate>(
+    rt: &R,
+    alloc: Global,
+    shared: &SharedBook<L>,
+    seat: &mut Seat<L>,
+    site: &PoolSite,
+    gate: &G,
+    job: &Job,
+) -> (Option<Message>, Option<Receipt>)
+    ensures { Answers site.now L.opened.terms job.now.request result.0 result.1 }
+{
+    let vendors = site.vendors.as_slice();
+    let prepared = prepare::<W>(alloc, &site.name, &site.realm, vendors, &job.request);
+    gate.before_book(rt, job.number);
+    match prepared {
+        Ok(Prepared::Refused(refusal)) => (Some(refusal), None),
+        Ok(Prepared::Ask(request)) => {
+            charge::<W, L, R>(rt, alloc, shared, seat, site, &job.request, request)
+        }
+        Err(_) => (too_busy::<W>(alloc, site, &job.request), None),
+    }
+}
+
+/// Finishes a job.
+pub fn finish<W: Wire, L: Pooling, R: Wait + Clock, G: Gate>(
+    rt: &R,
+    alloc: Global,
+    shared: &SharedBook<L>,
+    seat: &mut Seat<L>,
+    site: &PoolSite,
+    gate: &G,
+    job: Job,
+) -> Finished
+    ensures job { job_of result ≡ job }
+    ensures answered { IsAnswered site.now L.opened.terms result }
+{
+    let (written, receipt) = work::<W, L, R, G>(rt, alloc, shared, seat, site, gate, &job);
+    let Job {
+        number,
+        conn,
+        request,
+    } = job;
+    Finished {
+        job: number,
+        conn,
+        request,
+        answer: written,
+        receipt,
+    }
+}

@@ -1,0 +1,277 @@
+//! A pool: the jobs that were handed over, and the threads that work on them.
+
+ghost use Rattle.std.specs.Prelude.{◌≡◌, ◌+◌, ◌≤◌, [], ◌++◌, length, All, IfSome, MatchBool, vec_len, vec_capacity};
+ghost use Rattle.std.specs.List.Sorted.{IsPermutation};
+ghost use Rattle.std.specs.Arc.{arc_value};
+ghost use Rattle.crossbeam_queue.specs.Passes.{IsPassOf};
+ghost use Rattle.front_pool.specs.Answering.{IsAnswered};
+ghost use Rattle.front_pool.specs.Jobs.{job_of, jobs_of};
+ghost use Rattle.front_pool.specs.Keeping.{Balances, Collects, HandsBack, IsAt, IsTakenOff, new_pool};
+
+use crate::control::Control;
+use crate::desk::Desk;
+use crate::error::SubmitError;
+use crate::job::{Finished, Job, Stopped, is_of};
+use crate::queues::{FinishedPass, FinishedQueue, JobPass, JobQueue, Puts, TakesAnswered};
+use crate::site::Pooling;
+use cc_shared::{Seat, SharedBook};
+use dia_base::ConnId;
+use dia_message::Message;
+use std::alloc::Global;
+use std::marker::Model;
+use std::rt::Clock;
+use std::sync::{Arc, Wait};
+use std::thread;
+use std::thread::{JoinHandle, Threads};
+use std::time::Duration;
+
+/// How many milliseconds a pool that stops sleeps, while its workers end, before it looks again.
+const NOT_YET: u64 = 1;
+
+/// Worker threads on one shared book. Contracts see how many there are, the last number given, and the jobs that were handed
+/// over and not collected.
+#[derive(Drop)]
+pub struct Pool<L: Pooling> {
+    jobs: Arc<JobQueue>,
+    job_pass: JobPass,
+    finished: Arc<FinishedQueue<L>>,
+    finished_pass: FinishedPass,
+    control: Arc<Control>,
+    shared: SharedBook<L>,
+    workers: Vec<JoinHandle<Seat<L>>>,
+    /// Empty, with room for the seat of each worker.
+    seats: Vec<Seat<L>>,
+    last: u64,
+    unanswered: Vec<Job>,
+    /// Empty, with room for each job that is not collected.
+    room: Vec<Finished>,
+}
+
+impl<L: Pooling> Model for Pool<L> {
+    ghost use Rattle.std.specs.Prelude.{◌≡◌, ◌≤◌, [], vec_len, vec_capacity};
+    ghost use Rattle.std.specs.Arc.{arc_value};
+    ghost use Rattle.crossbeam_queue.specs.Passes.{IsPassOf};
+    ghost use Rattle.front_pool.specs.Keeping.{IsNumbered, PoolState};
+
+    ghost Value = { PoolState };
+
+    ghost view = { λ p. record { workers = vec_len p.workers; last = p.last; unanswered = p.unanswered.items } };
+
+    ghost invariant = { λ p. IsPassOf (arc_value p.jobs) p.job_pass × IsPassOf (arc_value p.finished) p.finished_pass
+        × (p.seats.items ≡ []) × (vec_len p.workers ≤ vec_capacity p.seats)
+        × (p.room.items ≡ []) × (vec_len p.unanswered ≤ vec_capacity p.room) × IsNumbered p.unanswered.items p.last };
+}
+
+impl<L: Pooling> Pool<L> {
+    /// A pool with these workers, before its first job.
+    pub fn of_workers<G: Drop>(
+        alloc: Global,
+        desk: Desk<L, G>,
+        job_pass: JobPass,
+        finished_pass: FinishedPass,
+        shared: SharedBook<L>,
+        workers: Vec<JoinHandle<Seat<L>>>,
+        seats: Vec<Seat<L>>,
+    ) -> Self
+        requires jobs { IsPassOf (arc_value desk.jobs) job_pass }
+        requires finished { IsPassOf (arc_value desk.finished) finished_pass }
+        requires seats { (seats.items ≡ []) × (vec_len workers ≤ vec_capacity seats) }
+        ensures { result ≡ new_pool (vec_len workers) }
+    {
+        let Desk {
+            jobs,
+            finished,
+            site: _,
+            gate: _,
+            control,
+        } = desk;
+        Pool {
+            jobs,
+            job_pass,
+            finished,
+            finished_pass,
+            control,
+            shared,
+            workers,
+            seats,
+            last: 0,
+            unanswered: Vec::new(alloc),
+            room: Vec::new(alloc),
+        }
+    }
+
+    /// Hands a request over that came on this connection: it is a job from then on, under the next number, the first being 1.
+    /// A request for which there is no room or no memory is handed back, and the pool is as it was.
+    pub fn submit<R: Wait>(
+        &mut self,
+        rt: &R,
+        conn: ConnId,
+        request: Message,
+    ) -> Result<u64, SubmitError>
+        ensures { HandsBack self.old conn request result self.new }
+    {
+        let Some(number) = self.last.checked_add(1) else {
+            return Err(SubmitError::PoolFull { request });
+        };
+        let Ok(kept) = request.clone() else {
+            return Err(SubmitError::OutOfMemory { request });
+        };
+        if self.unanswered.reserve(1).is_err()
+            || self.room.reserve(self.unanswered.len() + 1).is_err()
+        {
+            return Err(SubmitError::OutOfMemory { request });
+        }
+        let job = Job {
+            number,
+            conn,
+            request,
+        };
+        if let Err(job) = self.jobs.push_as::<Puts, R>(rt, &mut self.job_pass, job) {
+            return Err(SubmitError::PoolFull {
+                request: job.request,
+            });
+        }
+        self.unanswered.push_reserved(Job {
+            number,
+            conn,
+            request: kept,
+        });
+        self.last = number;
+        self.control.tell_one();
+        Ok(number)
+    }
+
+    /// A finished job. None where none is.
+    pub fn collect<R: Wait>(&mut self, rt: &R) -> Option<Finished>
+        ensures collects { Collects self.old result self.new }
+        ensures answered { IfSome result (λ finished. IsAnswered L.site L.opened.terms finished) }
+    {
+        let finished = self.take(rt)?;
+        if take_off(&mut self.unanswered, &finished) {
+            Some(finished)
+        } else {
+            None
+        }
+    }
+
+    /// What a worker has put among the finished jobs. None where nothing is.
+    fn take<R: Wait>(&mut self, rt: &R) -> Option<Finished>
+        ensures same { self.new ≡ self.old }
+        ensures answered { IfSome result (λ finished. IsAnswered L.site L.opened.terms finished) }
+    {
+        self.finished
+            .pop_as::<TakesAnswered<L>, R>(rt, &mut self.finished_pass)
+    }
+
+    /// Ends all workers, each after the job that it holds, and joins them. Each job that was handed over and not collected
+    /// is there once: finished, or, where no worker has finished it, unserved. It takes no memory.
+    pub fn stop<R: Threads + Wait + Clock>(self, rt: &R) -> Stopped<L>
+        ensures balances { Balances self (length result.seats.items) result.finished.items result.unserved.items }
+        ensures answered { All (λ finished. IsAnswered L.site L.opened.terms finished) result.finished.items }
+    {
+        let Pool {
+            jobs: _,
+            job_pass: _,
+            finished,
+            finished_pass,
+            control,
+            shared: _,
+            workers,
+            seats,
+            last: _,
+            unanswered,
+            room,
+        } = self;
+        control.stop();
+        let count = workers.len() as u64;
+        let (finished, unserved) = drain::<L, R>(
+            rt,
+            &finished,
+            finished_pass,
+            &control,
+            count,
+            unanswered,
+            room,
+        );
+        let seats = joined(rt, workers, seats);
+        Stopped {
+            seats,
+            finished,
+            unserved,
+        }
+    }
+}
+
+/// The place of the job that is finished. None where it is not among these.
+fn place_of(jobs: &[Job], finished: &Finished) -> Option<usize>
+    ensures { IfSome result (λ place. IsAt jobs.now place (job_of finished.now)) }
+{
+    for place in 0..jobs.len() {
+        if is_of(&jobs[place], finished) {
+            return Some(place);
+        }
+    }
+    None
+}
+
+/// Takes off the job that is finished, where it is among these.
+fn take_off(jobs: &mut Vec<Job>, finished: &Finished) -> bool
+    ensures taken { MatchBool result (IsTakenOff (job_of finished.now) jobs.old.items jobs.new.items) (jobs.new.items ≡ jobs.old.items) }
+    ensures len { MatchBool result (vec_len jobs.new + 1 ≡ vec_len jobs.old) (vec_len jobs.new ≡ vec_len jobs.old) }
+{
+    let Some(place) = place_of(jobs, finished) else {
+        return false;
+    };
+    let _job = jobs.remove(place);
+    true
+}
+
+/// Takes finished jobs out until all of so many workers have ended and no more is there: those, and the jobs that are left.
+fn drain<L: Pooling, R: Wait + Clock>(
+    rt: &R,
+    queue: &FinishedQueue<L>,
+    pass: FinishedPass,
+    control: &Control,
+    workers: u64,
+    unanswered: Vec<Job>,
+    room: Vec<Finished>,
+) -> (Vec<Finished>, Vec<Job>)
+    requires pass { IsPassOf queue.now pass }
+    requires empty { room.items ≡ [] }
+    requires room { vec_len unanswered ≤ vec_capacity room }
+    ensures jobs { IsPermutation unanswered.items (jobs_of result.0.items ++ result.1.items) }
+    ensures answered { All (λ finished. IsAnswered L.site L.opened.terms finished) result.0.items }
+{
+    let mut pass = pass;
+    let mut left = unanswered;
+    let mut finished = room;
+    for _ in rt.forever() {
+        let all_ended = control.ended() >= workers;
+        match queue.pop_as::<TakesAnswered<L>, R>(rt, &mut pass) {
+            Some(next) => {
+                if take_off(&mut left, &next) {
+                    finished.push_reserved(next);
+                }
+            }
+            None if all_ended => break,
+            None => thread::sleep(rt, Duration::from_millis(NOT_YET)),
+        }
+    }
+    (finished, left)
+}
+
+/// These seats, and those of workers that end.
+pub fn joined<L: Pooling, R: Threads>(
+    rt: &R,
+    workers: Vec<JoinHandle<Seat<L>>>,
+    room: Vec<Seat<L>>,
+) -> Vec<Seat<L>>
+    requires { vec_len room + vec_len workers ≤ vec_capacity room }
+    ensures { length result.items ≡ vec_len room + vec_len workers }
+{
+    let mut seats = room;
+    for worker in workers {
+        seats.push_reserved(worker.join(rt));
+    }
+    seats
+}

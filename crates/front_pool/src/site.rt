@@ -1,0 +1,43 @@
+//! What a pool is made with, and what names it.
+
+use cc_shared::Sharing;
+use dia_base::{Identity, Listing};
+use std::marker::Brand;
+
+/// What a pool is made with.
+#[derive(Debug, Drop)]
+pub struct PoolQueue {
+    /// The Origin-Host of its answers.
+    pub name: Identity,
+    /// Their Origin-Realm.
+    pub realm: Identity,
+    /// Vendors whose AVPs are known and opaque.
+    pub vendors: Listing<u32>,
+    /// How many jobs may wait, and how many finished answers: at least 1.
+    pub jobs: usize,
+}
+
+/// The front in whose name a pool answers.
+#[derive(Debug, Drop)]
+pub struct PoolSite {
+    /// Its Origin-Host.
+    pub name: Identity,
+    /// Its Origin-Realm.
+    pub realm: Identity,
+    /// Vendors whose AVPs are known and opaque.
+    pub vendors: Listing<u32>,
+}
+
+/// Names one pool: the sharing of its book, and the front in whose name it answers. Each call of a program that starts a
+/// pool picks it.
+pub trait Pooling: Sharing {
+    ghost use Rattle.front_pool.specs.declared.site.PoolSite.{PoolSite};
+
+    ghost site: { PoolSite };
+}
+
+impl Pooling for Brand {
+    ghost use Rattle.std.specs.Prelude.{[]};
+
+    ghost site = { record { name = []; realm = []; vendors = [] } };
+}
