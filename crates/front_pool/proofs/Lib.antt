@@ -3,3 +3,4 @@ pub mod Jobs
 pub mod Refused
 pub mod Serving
 pub mod Comparing
+pub mod Charges

@@ -3,3 +3,4 @@ pub mod Answering
 pub mod Moving
 pub mod Working
 pub mod Keeping
+pub mod Charging

@@ -11,7 +11,8 @@
 //! its answer is collected, so that no job is lost, whatever its worker does.
 //!
 //! What a finished answer says stands in `specs/Answering`, what travels in the queues in `specs/Moving`, and what the calls
-//! do with the jobs in `specs/Keeping`.
+//! do with the jobs in `specs/Keeping`. That receipts are charges of a front, in the order of their places, is the law
+//! [`fresh_receipts_are_charges`], over `specs/Charging`.
 //!
 //! ```text
 //! let queue = PoolQueue { name, realm, vendors, jobs: 1024 };
@@ -31,6 +32,7 @@ mod desk;
 mod error;
 mod gate;
 mod job;
+mod laws;
 mod pool;
 mod queues;
 mod site;
@@ -40,6 +42,7 @@ mod worker;
 pub use error::{StartFailed, SubmitError};
 pub use gate::{Gate, NoGate, Wake, Wakes};
 pub use job::{Finished, Job, Stopped};
+pub use laws::fresh_receipts_are_charges;
 pub use pool::Pool;
 pub use queues::Moves;
 pub use site::{PoolQueue, PoolSite, Pooling};

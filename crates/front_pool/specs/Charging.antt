@@ -1,0 +1,28 @@
+-- What a pool's receipts are for a front: its charges, in the order of their places.
+use Rattle.std.specs.Prelude.{ℕ, ◌+◌, take}
+use Rattle.dia_base.specs.declared.number.Moment.{Moment}
+use Rattle.dia_message.specs.declared.message.Message.{Message}
+use Rattle.cc_view.specs.Answer.{answer_to}
+use Rattle.cc_book.specs.Taking.{Ledger}
+use Rattle.cc_shared.specs.declared.receipt.Receipt.{Receipt}
+use Rattle.front_core.specs.declared.site.FrontSite.{FrontSite}
+use Rattle.front_core.specs.ChargeCases.{IsCharge}
+use Rattle.front_pool.specs.declared.site.PoolSite.{PoolSite}
+
+-- the pool that answers in the name of a front
+abbrev pub pool_of : FrontSite → PoolSite
+pool_of site = record { name = site.name; realm = site.realm; vendors = site.vendors }
+
+-- the answer of a front to a message, with the reply of a receipt
+abbrev pub answer_with : FrontSite → Message → Receipt → Message
+answer_with site message receipt = answer_to site.name site.realm message receipt.request receipt.reply
+
+-- a book as it was when its history had so many entries
+abbrev pub as_of : Ledger → ℕ → Ledger
+as_of ledger count = record ledger { history = take count ledger.history }
+
+-- The front's charge of a message takes the book from what it was before the receipt's place to what it was behind it, and
+-- its answer has the receipt's reply.
+pub record IsChargedAt (site : FrontSite) (ledger : Ledger) (message : Message) (receipt : Receipt) : Type 0 where
+  pub moment : Moment
+  pub charge : IsCharge site (as_of ledger receipt.place) moment message (answer_with site message receipt) (as_of ledger (receipt.place + 1))
