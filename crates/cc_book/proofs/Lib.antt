@@ -1,6 +1,7 @@
 mod Accounts
 mod Beside
 mod Due
+pub mod Fitting
 mod Ending
 mod Granting
 mod Greatest
@@ -16,6 +17,7 @@ pub mod Books
 pub mod ByKind
 pub mod Changes
 pub mod InOrder
+pub mod KeptSessions
 pub mod Keys
 pub mod Looking
 pub mod Outcomes

@@ -4,6 +4,7 @@ pub mod Duplicate
 pub mod History
 pub mod Laws
 pub mod Places
+pub mod OpenSessions
 pub mod Planning
 pub mod Posting
 pub mod Reservation

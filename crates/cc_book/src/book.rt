@@ -68,8 +68,7 @@ pub struct Book {
 }
 
 impl Model for Book {
-    ghost use Rattle.std.specs.Prelude.{vec_capacity};
-    ghost use Rattle.std.specs.Prelude.{length};
+    ghost use Rattle.std.specs.Prelude.{◌≡◌, ◌+◌, length, vec_capacity};
     ghost use Rattle.cc_book.specs.Places.{HasPlaces, IsIndexed};
     ghost use Rattle.cc_book.specs.Taking.{HasRoom, IsBook, Ledger};
 
@@ -79,7 +78,8 @@ impl Model for Book {
 
     ghost invariant = { λ b.
         IsBook b.terms b.limit b.history.items b.replies.items b.standing.balances.items b.standing.sessions.items
-        × HasRoom b.limit (vec_capacity b.history) (vec_capacity b.replies) (vec_capacity b.standing.sessions)
+        × HasRoom b.limit (vec_capacity b.history) (vec_capacity b.replies) (length b.history.items + b.standing.sessions.room)
+        × (b.standing.sessions.accounts ≡ length b.terms.accounts)
         × IsIndexed b.history.items b.places
         × HasPlaces b.limit (length b.history.items) b.places };
 }

@@ -8,11 +8,13 @@ use dia_base::Listing;
 use std::alloc::{AllocError, Global};
 use std::marker::Model;
 
-/// A copy of a request, and one more of its Session-Id: the entry keeps the one, the places of requests the other.
+/// A copy of a request, and two more of its Session-Id: the entry keeps the one, the places of requests and the open
+/// sessions the others, where they do not know it yet.
 #[derive(Debug, Drop)]
 pub struct RequestCopy {
     request: CcRequest,
     session: Octets,
+    opened: Octets,
 }
 
 impl Model for RequestCopy {
@@ -23,7 +25,7 @@ impl Model for RequestCopy {
 
     ghost view = { λ copy. copy.request };
 
-    ghost invariant = { λ copy. copy.session ≡ copy.request.session };
+    ghost invariant = { λ copy. (copy.session ≡ copy.request.session) × (copy.opened ≡ copy.request.session) };
 }
 
 impl RequestCopy {
@@ -34,15 +36,17 @@ impl RequestCopy {
         Ok(RequestCopy {
             request: copy_of_request(alloc, request)?,
             session: request.session.clone()?,
+            opened: request.session.clone()?,
         })
     }
 
-    /// The copy, and its Session-Id.
-    pub fn into_parts(self) -> (CcRequest, Octets)
+    /// The copy, and its Session-Id twice.
+    pub fn into_parts(self) -> (CcRequest, Octets, Octets)
         ensures request { result.0 ≡ self }
         ensures session { result.1 ≡ self.session }
+        ensures opened { result.2 ≡ self.session }
     {
-        (self.request, self.session)
+        (self.request, self.session, self.opened)
     }
 }
 

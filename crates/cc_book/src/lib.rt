@@ -40,6 +40,7 @@ mod entry;
 mod event;
 mod key;
 mod laws;
+mod open_sessions;
 mod outcome;
 mod places;
 mod plan;

@@ -1,12 +1,14 @@
 //! What a history has left: balances, and the sessions that are open.
 
-ghost use Rattle.std.specs.Prelude.{◌≡◌, ◌<◌, ◌≤◌, ◌^◌, [], length, map, pos, negsuc, ◌+ℤ◌, ◌-ℤ◌, ◌≤ℤ◌, IfOk, IfSome, MatchOption, None, slice_index_or, vec_capacity, vec_len, All, count_by};
+ghost use Rattle.std.specs.Prelude.{◌≡◌, ◌<◌, ◌≤◌, ◌^◌, ◌+◌, [], length, map, pos, negsuc, ◌+ℤ◌, ◌-ℤ◌, ◌≤ℤ◌, IfOk, MatchOption, None, slice_index_or, All, count_by};
 ghost use Rattle.std.specs.Option.{ForSome};
-ghost use Rattle.cc_book.specs.Standing.{IsOpenAt, after_change, after_debit, free_in, held_by_all, is_due, is_session, place_in, reserved_in, without_due, IsPlacedIn};
+ghost use Rattle.cc_book.specs.OpenSessions.{FitsIn};
+ghost use Rattle.cc_book.specs.Standing.{IsOpenAt, after_change, after_debit, free_in, held_by_all, is_due, place_in, reserved_in, without_due};
 
 use crate::account::Account;
+use crate::open_sessions::OpenSessions;
 use crate::outcome::Change;
-use crate::session::{OpenSession, held_in};
+use crate::session::OpenSession;
 use dia_avp::Octets;
 use dia_base::Moment;
 use std::alloc::{AllocError, Global};
@@ -17,7 +19,7 @@ pub struct Standing {
     /// The balance of each account.
     pub balances: Vec<i128>,
     /// The sessions that are open, in the order in which they opened.
-    pub sessions: Vec<OpenSession>,
+    pub sessions: OpenSessions,
 }
 
 impl Standing {
@@ -27,7 +29,8 @@ impl Standing {
         ensures least { IfOk result (λ standing. All (λ balance. negsuc (2 ^ 63) ≤ℤ balance) standing.balances.items) }
         ensures most { IfOk result (λ standing. All (λ balance. balance ≤ℤ pos (2 ^ 63)) standing.balances.items) }
         ensures sessions { IfOk result (λ standing. standing.sessions.items ≡ []) }
-        ensures room { IfOk result (λ standing. vec_capacity standing.sessions ≡ room) }
+        ensures room { IfOk result (λ standing. room ≤ standing.sessions.room) }
+        ensures accounts { IfOk result (λ standing. standing.sessions.accounts ≡ length accounts.now) }
     {
         let mut balances = Vec::new(alloc);
         for account in accounts {
@@ -35,7 +38,7 @@ impl Standing {
         }
         Ok(Standing {
             balances,
-            sessions: Vec::with_capacity(alloc, room)?,
+            sessions: OpenSessions::new(alloc, accounts.len(), room)?,
         })
     }
 
@@ -43,15 +46,7 @@ impl Standing {
     pub fn open_session(&self, id: &Octets) -> Option<(usize, &OpenSession)>
         ensures { MatchOption result (place_in self.now.sessions.items id.now ≡ None) (λ found. IsOpenAt self.now.sessions.items id.now found.0 found.1.now) }
     {
-        let place = self.place_of(id)?;
-        Some((place, &self.sessions[place]))
-    }
-
-    fn place_of(&self, id: &Octets) -> Option<usize>
-        ensures value { result ≡ place_in self.now.sessions.items id.now }
-        ensures within { IfSome result (λ place. place < length self.now.sessions.items) }
-    {
-        self.sessions.iter().position(|session| session.id == *id)
+        self.sessions.find(id)
     }
 
     /// What the sessions of an account have reserved of it.
@@ -60,13 +55,7 @@ impl Standing {
         ensures value { result ≡ reserved_in account self.now.sessions.items }
         ensures most { result ≤ held_by_all self.now.sessions.items }
     {
-        let mut reserved = 0;
-        for session in &self.sessions {
-            if session.account == account {
-                reserved += held_in(session.holds.as_slice());
-            }
-        }
-        reserved
+        self.sessions.total(account)
     }
 
     /// What is free of an account: its balance less what sessions have reserved of it.
@@ -116,20 +105,18 @@ impl Standing {
     pub fn count_due(&self, validity: u32, moment: Moment) -> usize
         ensures { result ≡ count_by (is_due validity moment) self.now.sessions.items }
     {
-        self.sessions
-            .iter()
-            .filter(|session| session.is_due(validity, moment))
-            .count()
+        self.sessions.count_due(validity, moment)
     }
 
     /// Ends the sessions that have ended by a moment, with all that they hold.
     pub fn sweep(&mut self, validity: u32, moment: Moment)
+        requires { held_by_all self.old.sessions.items ≤ 2 ^ 110 }
         ensures sessions { self.new.sessions.items ≡ without_due validity moment self.old.sessions.items }
-        ensures room { vec_capacity self.new.sessions ≡ vec_capacity self.old.sessions }
+        ensures room { self.old.sessions.room ≤ self.new.sessions.room }
+        ensures accounts { self.new.sessions.accounts ≡ self.old.sessions.accounts }
         ensures balances { self.new.balances ≡ self.old.balances }
     {
-        self.sessions
-            .retain(|session| !session.is_due(validity, moment));
+        self.sessions.sweep(validity, moment);
     }
 
     /// Debits an account.
@@ -147,21 +134,21 @@ impl Standing {
         }
     }
 
-    /// Changes the session of a request. There is room for one that opens.
-    pub fn change(&mut self, change: Change)
-        requires room { vec_len self.old.sessions < vec_capacity self.old.sessions }
-        requires within { IsPlacedIn change (length self.old.sessions.items) }
+    /// Changes the session of a request, whose Session-Id this is. There is room for one that opens.
+    pub fn change(&mut self, id: Octets, change: Change)
+        requires room { 0 < self.old.sessions.room }
+        requires fits { FitsIn self.old.sessions id change }
+        requires held { held_by_all self.old.sessions.items ≤ 2 ^ 110 }
         ensures sessions { self.new.sessions.items ≡ after_change self.old.sessions.items change }
-        ensures room { vec_capacity self.new.sessions ≡ vec_capacity self.old.sessions }
+        ensures room { self.old.sessions.room ≤ self.new.sessions.room + 1 }
+        ensures accounts { self.new.sessions.accounts ≡ self.old.sessions.accounts }
         ensures balances { self.new.balances ≡ self.old.balances }
     {
         match change {
             Change::Stays => {}
-            Change::Opens { session } => self.sessions.push_reserved(session),
-            Change::GoesOn { place, session } => self.sessions[place] = session,
-            Change::Ends { place } => {
-                let _ended = self.sessions.remove(place);
-            }
+            Change::Opens { session } => self.sessions.add(id, session),
+            Change::GoesOn { place, session } => self.sessions.go_on(place, session),
+            Change::Ends { place } => self.sessions.end(place),
         }
     }
 }

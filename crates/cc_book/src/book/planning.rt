@@ -80,12 +80,12 @@ impl Book {
             request,
             outcome,
         } = taken;
-        let (request, session) = request.into_parts();
+        let (request, session, opened) = request.into_parts();
         self.places.add(session, request.number, self.history.len());
         self.history.push_reserved(Entry::Take { moment, request });
         self.replies.push_reserved(Some(outcome.reply));
         self.standing.debit(outcome.account, outcome.debit);
-        self.standing.change(outcome.change);
+        self.standing.change(opened, outcome.change);
     }
 }
 

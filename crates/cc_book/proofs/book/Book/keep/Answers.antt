@@ -1,6 +1,6 @@
-use Rattle.std.proofs.Common.{rules, ◌≡◌, ℕ, ◌<◌, List, [], ◌∷◌, ◌++◌, length, length-append, ap, subst, sym, ◌∙◌, arith, SFits, Vec, Global, vec_len}
+use Rattle.std.proofs.Common.{rules, ◌≡◌, ℕ, ◌<◌, List, [], ◌∷◌, ◌++◌, length, length-append, ap, subst, sym, ◌∙◌, arith, SFits, Vec, Global, All, ◌≤◌, ◌^◌}
 use Rattle.std.specs.Int.{w128}
-use Rattle.std.specs.Prelude.{ℤ, vec_capacity}
+use Rattle.std.specs.Prelude.{ℤ}
 use Rattle.std.proofs.lemmas.Int.{to_z-of_z}
 use Rattle.cc_view.specs.declared.request.CcRequest.{CcRequest}
 use Rattle.cc_book.specs.declared.entry.Entry.{Entry}
@@ -10,9 +10,12 @@ use Rattle.cc_book.specs.Duplicate.{Key, key_of}
 use Rattle.cc_book.specs.History.{IsNew}
 use Rattle.cc_book.specs.Places.{HasPlaces, IsIndexed}
 use Rattle.cc_book.specs.Planning.{IsTaking}
-use Rattle.cc_book.specs.Standing.{IsPlacedIn, after_change, after_debit}
+use Rattle.cc_book.specs.AccountMachine.{posting_of, postings_of}
+use Rattle.cc_book.specs.OpenSessions.{FitsIn, Sessions}
+use Rattle.cc_book.specs.Standing.{after_change, after_debit, held_by_all}
 use Rattle.cc_book.specs.Taking.{Ledger}
-use Rattle.cc_book.proofs.Books.{IsBook-push, account-within, change-within, replies-long, same-book, sessions-within, small-book, taking-outcome}
+use Rattle.cc_book.proofs.Books.{IsBook-push, account-within, replies-long, same-book, small-book, taking-outcome}
+use Rattle.cc_book.proofs.Fitting.{Fits, change-fits}
 use Rattle.cc_book.proofs.book.Book.keep.Goals as goal
 
 -- ---- there is room
@@ -31,10 +34,8 @@ push_reserved-requires-2 c =
 pub change-requires-clause-room : goal.change-requires-clause-room
 change-requires-clause-room c =
     let taking = subst (λ (l : Ledger). IsTaking l c.args.taken) (sym c.self.view_is) c.requires in
-    let few = sessions-within c.self.invariant.0 in
-    let room : vec_len c.self.inside.standing.sessions < vec_capacity c.self.inside.standing.sessions =
-    omega (arith, taking.room, c.self.invariant.1.for_sessions, c.self.inside.standing.sessions.ok.0) in
-    subst (λ (v : Vec OpenSession Global). vec_len v < vec_capacity v) (sym c.debit.ensures.sessions) room
+    let same = ap (λ (s : Sessions). s.room) c.debit.ensures.sessions in
+    omega (arith, taking.room, c.self.invariant.1.for_sessions)
 
 -- ---- what is debited and changed is there
 
@@ -49,12 +50,22 @@ debit-requires-clause-least c = (small-book c.self.invariant.0).least
 pub debit-requires-clause-most : goal.debit-requires-clause-most
 debit-requires-clause-most c = (small-book c.self.invariant.0).most
 
-pub change-requires-clause-within : goal.change-requires-clause-within
-change-requires-clause-within c =
+pub change-requires-clause-held : goal.change-requires-clause-held
+change-requires-clause-held c = subst (λ (now : Sessions). held_by_all now.items ≤ 2 ^ 110) (sym c.debit.ensures.sessions) (small-book c.self.invariant.0).held
+
+pub change-requires-clause-fits : goal.change-requires-clause-fits
+change-requires-clause-fits c =
     let taking = subst (λ (l : Ledger). IsTaking l c.args.taken) (sym c.self.view_is) c.requires in
-    let same = ap (λ (v : Vec OpenSession Global). v.items) c.debit.ensures.sessions in
-    subst (λ (ss : List OpenSession). IsPlacedIn c.args.taken.outcome.change (length ss)) (sym same)
-    (change-within c.self.invariant.0 c.args.taken.moment c.args.taken.request c.args.taken.outcome (taking-outcome c.self.invariant.0 c.args.taken taking))
+    let does = taking-outcome c.self.invariant.0 c.args.taken taking in
+    let outcome = c.args.taken.outcome in
+    let now = c.self.inside.standing.sessions in
+    let book = IsBook-push c.self.inside.terms c.self.inside.limit c.self.inside.history.items c.self.inside.replies.items c.self.inside.standing.balances.items now.items c.args.taken.moment c.args.taken.request outcome c.self.invariant.0 taking.new taking.room does in
+    let posting = posting_of c.self.inside.terms (postings_of c.self.inside.terms c.self.inside.history.items) (Take c.args.taken.moment c.args.taken.request) in
+    let fits : Fits now c.args.taken.request c.args.taken.moment posting c.self.invariant.0.stands.own_ids outcome.change =
+    subst (Fits now c.args.taken.request c.args.taken.moment posting c.self.invariant.0.stands.own_ids) (sym does.change) (change-fits now c.args.taken.request c.args.taken.moment posting c.self.invariant.0.stands.own_ids) in
+    let known = subst (λ (n : ℕ). All (λ (s : OpenSession). s.account < n) (after_change now.items outcome.change)) (sym c.self.invariant.2) book.stands.known in
+    subst (λ (later : Sessions). FitsIn later c.into_parts-request.result.2 outcome.change) (sym c.debit.ensures.sessions)
+    (subst (λ (id : List ℕ). FitsIn now id outcome.change) (sym c.into_parts-request.ensures.opened) (fits (small-book book).held known))
 
 -- ---- and it is a book again
 
@@ -68,7 +79,7 @@ invariant_of-self c =
     let fits : SFits w128 outcome.debit = search rules in
     let book = IsBook-push c.self.inside.terms c.self.inside.limit c.self.inside.history.items c.self.inside.replies.items c.self.inside.standing.balances.items c.self.inside.standing.sessions.items c.args.taken.moment c.args.taken.request outcome c.self.invariant.0 taking.new taking.room does in
     let sessions : c.change.new.self.sessions.items ≡ after_change c.self.inside.standing.sessions.items outcome.change =
-    c.change.ensures.sessions ∙ ap (λ (ss : List OpenSession). after_change ss outcome.change) (ap (λ (v : Vec OpenSession Global). v.items) c.debit.ensures.sessions) in
+    c.change.ensures.sessions ∙ ap (λ (ss : List OpenSession). after_change ss outcome.change) (ap (λ (s : Sessions). s.items) c.debit.ensures.sessions) in
     let balances : c.change.new.self.balances.items ≡ after_debit c.self.inside.standing.balances.items outcome.account outcome.debit =
     ap (λ (v : Vec ℤ Global). v.items) c.change.ensures.balances ∙ c.debit.ensures.balances
     ∙ ap (after_debit c.self.inside.standing.balances.items outcome.account) (to_z-of_z w128 outcome.debit fits) in
@@ -82,10 +93,11 @@ invariant_of-self c =
       record {
         for_entries = omega (arith, c.self.invariant.1.for_entries, c.push_reserved.ensures.capacity);
         for_replies = omega (arith, c.self.invariant.1.for_replies, c.push_reserved-2.ensures.capacity);
-        for_sessions = (let same = ap (λ (v : Vec OpenSession Global). vec_capacity v) c.debit.ensures.sessions in omega (arith, c.self.invariant.1.for_sessions, c.change.ensures.room));
+        for_sessions = (let same = ap (λ (s : Sessions). s.room) c.debit.ensures.sessions in let more = ap length pushed in omega (arith, long, c.self.invariant.1.for_sessions, c.change.ensures.room));
       },
+      c.change.ensures.accounts ∙ ap (λ (s : Sessions). s.accounts) c.debit.ensures.sessions ∙ c.self.invariant.2,
       subst (λ (es : List Entry). IsIndexed es c.add.new.self) (sym pushed)
-          (c.add.ensures.indexed c.self.inside.history.items c.args.taken.moment c.args.taken.request c.self.invariant.2 (omega (arith, c.len.ensures, c.self.inside.history.ok.0)) key (subst (IsNew c.self.inside.history.items) (sym key) taking.new)),
+          (c.add.ensures.indexed c.self.inside.history.items c.args.taken.moment c.args.taken.request c.self.invariant.3 (omega (arith, c.len.ensures, c.self.inside.history.ok.0)) key (subst (IsNew c.self.inside.history.items) (sym key) taking.new)),
       subst (λ (es : List Entry). HasPlaces c.self.inside.limit (length es) c.add.new.self) (sym pushed)
-          (record { for_firsts = omega (arith, long, c.self.invariant.3.for_firsts, c.add.ensures.firsts); for_numbered = omega (arith, long, c.self.invariant.3.for_numbered, c.add.ensures.numbered) }),
+          (record { for_firsts = omega (arith, long, c.self.invariant.4.for_firsts, c.add.ensures.firsts); for_numbered = omega (arith, long, c.self.invariant.4.for_numbered, c.add.ensures.numbered) }),
     )

@@ -24,6 +24,7 @@ invariant_of-result c =
     let places = c.in_ok-new.field-0 in (
       book,
       record { for_entries = omega (arith, c.in_ok-with_capacity.ensures.exact); for_replies = omega (arith, c.in_ok-with_capacity-2.ensures.exact); for_sessions = omega (arith, c.in_ok-standing.ensures.room) },
+      c.in_ok-standing.ensures.accounts ∙ ap length (c.deref.ensures.value ∙ sym c.from_vec.ensures),
       subst (λ (es : List Entry). IsIndexed es places) (sym c.in_ok-with_capacity.ensures.items) c.in_ok-new.ensures.indexed,
       subst (λ (es : List Entry). HasPlaces c.args.limit (length es) places) (sym c.in_ok-with_capacity.ensures.items) c.in_ok-new.ensures.room,
     )

@@ -5,7 +5,7 @@ use Rattle.cc_book.specs.declared.entry.Entry.TheVariants.{Sweep}
 use Rattle.cc_book.specs.Places.{HasPlaces, IsIndexed}
 use Rattle.cc_book.specs.Standing.{is_due}
 use Rattle.cc_book.specs.Taking.{Ledger, sweep_answer}
-use Rattle.cc_book.proofs.Books.{replies-long, same-book}
+use Rattle.cc_book.proofs.Books.{replies-long, same-book, small-book}
 use Rattle.cc_book.proofs.Placing.{IsIndexed-sweep}
 use Rattle.cc_book.proofs.Sweeps.{IsBook-sweep, sweep-full, sweep-none, sweep-some}
 use Rattle.cc_book.proofs.book.Book.sweep.Goals as goal
@@ -27,6 +27,9 @@ push_reserved-requires-2 c =
     let long = replies-long c.self.invariant.0 in
     omega (arith, c.self.invariant.1.for_replies, c.self.inside.replies.ok.0)
 
+pub sweep-requires : goal.sweep-requires
+sweep-requires c = (small-book c.self.invariant.0).held
+
 pub invariant_of-self : goal.invariant_of-self
 invariant_of-self c =
     let room = subst (λ (es : List Entry). length es < c.self.inside.limit) c.deref.ensures.value c.in-Some.ensures.some.1 in
@@ -38,12 +41,14 @@ invariant_of-self c =
       record {
         for_entries = omega (arith, c.self.invariant.1.for_entries, c.push_reserved.ensures.capacity);
         for_replies = omega (arith, c.self.invariant.1.for_replies, c.push_reserved-2.ensures.capacity);
-        for_sessions = omega (arith, c.self.invariant.1.for_sessions, c.sweep.ensures.room);
+        for_sessions = (let pushed = ap length c.push_reserved.ensures.items in let long = length-append c.self.inside.history.items (Sweep c.args.moment ∷ []) in
+            omega (arith, c.self.invariant.1.for_sessions, c.sweep.ensures.room));
       },
-      subst (λ (es : List Entry). IsIndexed es c.self.inside.places) (sym c.push_reserved.ensures.items) (IsIndexed-sweep c.self.inside.history.items c.self.inside.places c.args.moment c.self.invariant.2),
+      c.sweep.ensures.accounts ∙ c.self.invariant.2,
+      subst (λ (es : List Entry). IsIndexed es c.self.inside.places) (sym c.push_reserved.ensures.items) (IsIndexed-sweep c.self.inside.history.items c.self.inside.places c.args.moment c.self.invariant.3),
       subst (λ (es : List Entry). HasPlaces c.self.inside.limit (length es) c.self.inside.places) (sym c.push_reserved.ensures.items)
           (let long = length-append c.self.inside.history.items (Sweep c.args.moment ∷ []) in
-          record { for_firsts = omega (arith, c.self.invariant.3.for_firsts); for_numbered = omega (arith, c.self.invariant.3.for_numbered) }),
+          record { for_firsts = omega (arith, c.self.invariant.4.for_firsts); for_numbered = omega (arith, c.self.invariant.4.for_numbered) }),
     )
 
 pub returns-clause-answer : goal.returns-clause-answer

@@ -1,0 +1,52 @@
+#!/usr/bin/env python3
+"""What a request takes in the book, how long its history may be, a sweep, and what an entry takes of memory: bench/book.py
+
+It lays bench/book beside the crates of a copy of the repository, runs it unproved (`rt try`), and says what it measured:
+the least of ten windows of 1,250 requests of all kinds at so many entries, a sweep that ends 10 of so many open
+sessions and one that ends none, and the octets of memory that the process took more for each of a million entries.
+"""
+import os
+import shutil
+import subprocess
+import tempfile
+from pathlib import Path
+
+TOP = Path(__file__).resolve().parent.parent
+CRATES = "dia_base dia_avp dia_message dia_dict dia_grammar cc_view cc_rating cc_book".split()
+ENTRIES = [1_000, 30_000, 1_000_000]
+
+
+def lay(copy):
+    """The crates that the book stands on, with the bench as one more."""
+    lines = [line for line in (TOP / "crates.txt").read_text().splitlines() if line.split(":")[0] in CRATES]
+    lines.append("bench_book: dia_base dia_avp cc_view cc_rating cc_book anyhow")
+    (copy / "crates.txt").write_text("\n".join(lines) + "\n")
+    for name in CRATES:
+        shutil.copytree(TOP / "crates" / name, copy / "crates" / name, ignore=shutil.ignore_patterns("out"))
+        if (TOP / "crates" / name / "out").exists():
+            shutil.copytree(TOP / "crates" / name / "out", copy / "crates" / name / "out", symlinks=True)
+    shutil.copytree(TOP / "bench/book", copy / "crates/bench_book")
+
+
+def run(copy, *words):
+    """What the bench prints, and the most memory that it had, in octets."""
+    child = subprocess.Popen(["rt", "try", "bench_book", "--", *words], cwd=copy, stdout=subprocess.PIPE, text=True)
+    out = child.stdout.read()
+    _, status, usage = os.wait4(child.pid, 0)
+    if status:
+        raise SystemExit(f"rt try {' '.join(words)} failed")
+    return out, usage.ru_maxrss * 1024
+
+
+def main():
+    with tempfile.TemporaryDirectory() as name:
+        copy = Path(name)
+        lay(copy)
+        for entries in ENTRIES:
+            print(run(copy, "take", str(entries))[0], end="")
+        for sessions in (1_000, 100_000):
+            print(run(copy, "sweep", str(sessions))[0], end="")
+
+
+if __name__ == "__main__":
+    main()

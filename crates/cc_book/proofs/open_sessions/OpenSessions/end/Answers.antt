@@ -1,0 +1,60 @@
+use Rattle.std.proofs.Common.{◌≡◌, ◌-◌, List, length, subst, sym, ap, ◌∙◌, arith, get_or, remove}
+use Rattle.std.specs.Prelude.{slice_set}
+use Rattle.std.proofs.lemmas.List.{get_or_default}
+use Rattle.indexmap.specs.IndexMap.{values}
+use Rattle.std.specs.Map.{values_of}
+use Rattle.cc_book.specs.declared.session.OpenSession.{OpenSession}
+use Rattle.cc_book.specs.OpenSessions.{IsKept, Sessions}
+use Rattle.cc_book.specs.Standing.{held_by_all, held_in}
+use Rattle.cc_book.proofs.Amounts.{reserved_in-part}
+use Rattle.cc_book.proofs.KeptSessions.{IsKept-end, Rows, held-total, known-at, values-at, values-remove}
+use Rattle.cc_book.proofs.open_sessions.OpenSessions.end.Goals as goal
+
+pub held_in-requires : goal.held_in-requires
+held_in-requires c =
+    let account = c.in-Some.ended.account in
+    let items : values c.self.inside.sessions ≡ c.args.self.now.items = ap (λ (s : Sessions). s.items) c.self.view_is in
+    let all : held_by_all (values c.self.inside.sessions) ≡ held_by_all c.args.self.now.items = ap held_by_all items in
+    let part = reserved_in-part account (values c.self.inside.sessions) in
+    let there = values-at c.self.inside.sessions.entries c.args.place (c.in-Some._id, c.in-Some.ended) (sym c.in-Some.ensures.entry) in
+    let own = held-total (values c.self.inside.sessions) c.args.place c.in-Some.ended there in
+    let same = ap held_in c.as_slice.ensures in
+    omega (arith, c.requires.held)
+
+pub index_mut-requires : goal.index_mut-requires
+index_mut-requires c =
+    let there = values-at c.self.inside.sessions.entries c.args.place (c.in-Some._id, c.in-Some.ended) (sym c.in-Some.ensures.entry) in
+    let lt = known-at (length c.self.inside.totals.items) (values c.self.inside.sessions) c.args.place c.in-Some.ended there c.self.invariant.known in
+    omega (arith, c.self.inside.totals.ok.0)
+
+pub overflow_sub-index_mut : goal.overflow_sub-index_mut
+overflow_sub-index_mut c =
+    let account = c.in-Some.ended.account in
+    let there = values-at c.self.inside.sessions.entries c.args.place (c.in-Some._id, c.in-Some.ended) (sym c.in-Some.ensures.entry) in
+    let lt = known-at (length c.self.inside.totals.items) (values c.self.inside.sessions) c.args.place c.in-Some.ended there c.self.invariant.known in
+    let own = held-total (values c.self.inside.sessions) c.args.place c.in-Some.ended there in
+    let total = c.self.invariant.summed account in
+    let value : c.index_mut.result.now ≡ get_or c.self.inside.totals.items account 0 = c.index_mut.ensures.value ∙ get_or_default c.self.inside.totals.items account c.index_mut.result.now 0 lt in
+    let same = ap held_in c.as_slice.ensures in
+    omega (arith, c.held_in.ensures)
+
+pub invariant_of-self : goal.invariant_of-self
+invariant_of-self c =
+    let account = c.in-Some.ended.account in
+    let at = sym c.in-Some.ensures.entry in
+    let there = values-at c.self.inside.sessions.entries c.args.place (c.in-Some._id, c.in-Some.ended) at in
+    let lt = known-at (length c.self.inside.totals.items) (values c.self.inside.sessions) c.args.place c.in-Some.ended there c.self.invariant.known in
+    let own = held-total (values c.self.inside.sessions) c.args.place c.in-Some.ended there in
+    let total = c.self.invariant.summed account in
+    let value : c.index_mut.result.now ≡ get_or c.self.inside.totals.items account 0 = c.index_mut.ensures.value ∙ get_or_default c.self.inside.totals.items account c.index_mut.result.now 0 lt in
+    let same = ap held_in c.as_slice.ensures in
+    let left = c.index_mut.result.now - c.held_in.result in
+    subst (λ (es : Rows). IsKept es (slice_set c.self.inside.totals.items account left)) (sym c.shift_remove_index.ensures.entries)
+    (IsKept-end c.self.inside.sessions.entries c.self.inside.totals.items c.args.place (c.in-Some._id, c.in-Some.ended) left c.self.invariant at (omega (arith, c.held_in.ensures)))
+
+pub returns-in-Some-clause-items : goal.returns-in-Some-clause-items
+returns-in-Some-clause-items c =
+    let items : values c.self.inside.sessions ≡ c.args.self.now.items = ap (λ (s : Sessions). s.items) c.self.view_is in
+    ap (λ (es : Rows). values_of es) c.shift_remove_index.ensures.entries
+    ∙ values-remove c.self.inside.sessions.entries c.args.place
+    ∙ ap (λ (ss : List OpenSession). remove ss c.args.place) items

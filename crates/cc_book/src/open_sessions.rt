@@ -1,0 +1,161 @@
+//! The sessions that are open, by their Session-Id, and what they hold of each account.
+
+ghost use Rattle.std.specs.Prelude.{◌≡◌, ◌+◌, ◌<◌, ◌≤◌, ◌^◌, ◌++◌, ◌∷◌, [], length, remove, slice_set, count_by, not, None, IfOk, MatchOption};
+ghost use Rattle.std.specs.List.{AllByRecursion};
+ghost use Rattle.indexmap.specs.IndexMap.{values};
+ghost use Rattle.cc_book.specs.OpenSessions.{AreTotals, GoesOnAt};
+ghost use Rattle.cc_book.specs.Standing.{IsOpenAt, held_by_all, held_in, is_due, place_in, reserved_in, without_due};
+
+use crate::session::{OpenSession, held_in};
+use dia_avp::Octets;
+use dia_base::Moment;
+use indexmap::IndexMap;
+use std::alloc::{AllocError, Global};
+use std::marker::Model;
+
+/// The sessions that are open, in the order in which they opened. Each is found by its Session-Id, and what they hold
+/// of an account is kept as a total, so that neither takes a walk.
+#[derive(Debug, Drop)]
+pub struct OpenSessions {
+    sessions: IndexMap<Octets, OpenSession>,
+    /// What they hold of each account.
+    totals: Vec<u128>,
+}
+
+impl Model for OpenSessions {
+    ghost use Rattle.std.specs.Prelude.{length};
+    ghost use Rattle.indexmap.specs.IndexMap.{spare, values};
+    ghost use Rattle.cc_book.specs.OpenSessions.{IsKept, Sessions};
+
+    ghost Value = { Sessions };
+
+    ghost view = { λ sessions. record { items = values sessions.sessions; room = spare sessions.sessions; accounts = length sessions.totals.items } };
+
+    ghost invariant = { λ sessions. IsKept sessions.sessions.entries sessions.totals.items };
+}
+
+impl OpenSessions {
+    /// No session, with room for so many to open, on so many accounts.
+    pub fn new(alloc: Global, accounts: usize, room: usize) -> Result<Self, AllocError>
+        ensures items { IfOk result (λ sessions. sessions.items ≡ []) }
+        ensures room { IfOk result (λ sessions. room ≤ sessions.room) }
+        ensures accounts { IfOk result (λ sessions. sessions.accounts ≡ accounts) }
+    {
+        Ok(OpenSessions {
+            sessions: IndexMap::with_capacity(alloc, room)?,
+            totals: vec![in alloc; 0; accounts]?,
+        })
+    }
+
+    /// How many there are.
+    pub fn len(&self) -> usize
+        ensures { result ≡ length self.now.items }
+    {
+        self.sessions.len()
+    }
+
+    /// The open session with this Session-Id, and its place.
+    pub fn find(&self, id: &Octets) -> Option<(usize, &OpenSession)>
+        ensures { MatchOption result (place_in self.now.items id.now ≡ None) (λ found. IsOpenAt self.now.items id.now found.0 found.1.now) }
+    {
+        let (place, _id, session) = self.sessions.get_full(id)?;
+        Some((place, session))
+    }
+
+    /// What they hold of an account.
+    pub fn total(&self, account: usize) -> u128
+        ensures { result ≡ reserved_in account self.now.items }
+    {
+        self.totals.get(account).copied().unwrap_or(0)
+    }
+
+    /// How many of them have ended by a moment.
+    pub fn count_due(&self, validity: u32, moment: Moment) -> usize
+        ensures { result ≡ count_by (is_due validity moment) self.now.items }
+    {
+        self.sessions
+            .values()
+            .filter(|session| session.is_due(validity, moment))
+            .count()
+    }
+
+    /// A session opens, which is not open yet. There is room for it.
+    pub fn add(&mut self, id: Octets, session: OpenSession)
+        requires room { 0 < self.old.room }
+        requires own { id ≡ session.id }
+        requires closed { place_in self.old.items session.id ≡ None }
+        requires known { session.account < self.old.accounts }
+        requires held { held_by_all self.old.items ≤ 2 ^ 110 }
+        requires more { held_in session.holds ≤ 2 ^ 110 }
+        ensures items { self.new.items ≡ self.old.items ++ session ∷ [] }
+        ensures room { self.old.room ≤ self.new.room + 1 }
+        ensures accounts { self.new.accounts ≡ self.old.accounts }
+    {
+        self.totals[session.account] += held_in(session.holds.as_slice());
+        self.sessions.insert(id, session).unwrap();
+    }
+
+    /// The session at a place is this one now.
+    pub fn go_on(&mut self, place: usize, session: OpenSession)
+        requires there { GoesOnAt self.old.items place session }
+        requires held { held_by_all self.old.items ≤ 2 ^ 110 }
+        requires more { held_in session.holds ≤ 2 ^ 110 }
+        ensures items { self.new.items ≡ slice_set self.old.items place session }
+        ensures room { self.new.room ≡ self.old.room }
+        ensures accounts { self.new.accounts ≡ self.old.accounts }
+    {
+        let before = held_in(self.sessions[place].holds.as_slice());
+        let left = self.totals[session.account] - before;
+        self.totals[session.account] = left + held_in(session.holds.as_slice());
+        self.sessions[place] = session;
+    }
+
+    /// The session at a place ends, and all that it holds.
+    pub fn end(&mut self, place: usize)
+        requires there { place < length self.old.items }
+        requires held { held_by_all self.old.items ≤ 2 ^ 110 }
+        ensures items { self.new.items ≡ remove self.old.items place }
+        ensures room { self.old.room ≤ self.new.room }
+        ensures accounts { self.new.accounts ≡ self.old.accounts }
+    {
+        if let Some((_id, ended)) = self.sessions.shift_remove_index(place) {
+            self.totals[ended.account] -= held_in(ended.holds.as_slice());
+        }
+    }
+
+    /// Ends the sessions that have ended by a moment, with all that they hold.
+    pub fn sweep(&mut self, validity: u32, moment: Moment)
+        requires { held_by_all self.old.items ≤ 2 ^ 110 }
+        ensures items { self.new.items ≡ without_due validity moment self.old.items }
+        ensures room { self.old.room ≤ self.new.room }
+        ensures accounts { self.new.accounts ≡ self.old.accounts }
+    {
+        release(&mut self.totals, &self.sessions, validity, moment);
+        self.sessions.retain(
+            |_id: &Octets, session: &mut OpenSession| -> bool
+                ensures { (result ≡ not (is_due validity moment session.old)) × (session.new ≡ session.old) }
+            { !session.is_due(validity, moment) },
+        );
+    }
+}
+
+/// Takes off the totals what the sessions hold that have ended by a moment.
+fn release(
+    totals: &mut Vec<u128>,
+    sessions: &IndexMap<Octets, OpenSession>,
+    validity: u32,
+    moment: Moment,
+)
+    requires totals { AreTotals totals.old.items (values sessions.now) }
+    requires known { AllByRecursion (λ session. session.account < length totals.old.items) (values sessions.now) }
+    requires held { held_by_all (values sessions.now) ≤ 2 ^ 110 }
+    ensures totals { AreTotals totals.new.items (without_due validity moment (values sessions.now)) }
+    ensures len { length totals.new.items ≡ length totals.old.items }
+{
+    for place in 0..sessions.len() {
+        let session = &sessions[place];
+        if session.is_due(validity, moment) {
+            totals[session.account] -= held_in(session.holds.as_slice());
+        }
+    }
+}
