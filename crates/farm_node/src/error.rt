@@ -30,7 +30,7 @@ pub enum NodeError {
 
 impl NodeError {
     /// The same of a relay.
-    pub(crate) fn of_relay(error: RelayError) -> Self
+    pub fn of_relay(error: RelayError) -> Self
         ensures { result ≡ error_of_relay error }
     {
         match error {
@@ -42,7 +42,7 @@ impl NodeError {
     }
 
     /// The same of a front.
-    pub(crate) fn of_front(error: FrontError) -> Self
+    pub fn of_front(error: FrontError) -> Self
         ensures { result ≡ error_of_front error }
     {
         match error {

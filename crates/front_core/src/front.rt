@@ -99,6 +99,13 @@ impl Front {
         Ok(())
     }
 
+    /// Whether a connection is up.
+    pub fn is_up(&self, conn: ConnId) -> bool
+        ensures { result ≡ is_among self.now.connections conn }
+    {
+        self.connections.contains(&conn)
+    }
+
     /// A connection is lost. Requests that came on it stay where they are: they may still be charged,
     /// and their answers go nowhere. One that is not up changes nothing. It takes no memory.
     pub fn conn_lost(&mut self, conn: ConnId)

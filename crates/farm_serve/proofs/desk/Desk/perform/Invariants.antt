@@ -1,0 +1,8 @@
+use Rattle.std.proofs.Common.{◌≡◌, length}
+use Rattle.farm_serve.proofs.desk.Desk.perform.Given as goal
+
+abbrev pub invariant-loop-act : goal.invariant-loop-act
+invariant-loop-act g l = length l.self.links.items ≡ length l.fn.self.links.items
+
+abbrev pub decreases-loop-act : goal.decreases-loop-act
+decreases-loop-act g l = length l.acts

@@ -1,0 +1,11 @@
+use Rattle.std.proofs.Common.{◌≡◌, length}
+use Rattle.farm_serve.specs.Desks.{marks_of}
+use Rattle.farm_serve.proofs.desk.Desk.send_all.Given as goal
+
+abbrev pub invariant-loop-conn : goal.invariant-loop-conn
+invariant-loop-conn g l = record {
+  node : l.self.node ≡ l.fn.self.node;
+  marks : marks_of l.self.links.items ≡ marks_of l.fn.self.links.items;
+  made : l.self.made ≡ l.fn.self.made;
+  places : length l.self.links.items ≡ length l.fn.self.links.items;
+}

@@ -1,0 +1,15 @@
+use Rattle.std.proofs.Common.{ap, ◌∙◌}
+use Rattle.farm_serve.specs.Desks.{mark_of}
+use Rattle.farm_serve.proofs.Placing.{same_read}
+use Rattle.farm_serve.proofs.Telling.{message_way, way_still}
+use Rattle.farm_serve.proofs.desk.Desk.tell_message.Goals as goal
+
+pub returns-clause-tells : goal.returns-clause-tells
+returns-clause-tells g c =
+    let links = c.args.self.now.links.items in
+    let link = c.index.result.now in
+    let same = same_read links c.args.place c.index_mut.result.now link c.requires.within c.index_mut.ensures.value c.index.ensures in
+    way_still _ _ _
+    (message_way c.args.self.now.node c.on_message-reaction.new.self links c.args.place link c.end_unless_told.new.link c.args.self.now.made c.args.peer c.args.message c.on_message-reaction.result.out.items
+    c.on_message-reaction.result.outcome c.requires.within c.index.ensures (c.requires.up link c.index.ensures) (c.end_unless_told.ensures.mark ∙ ap (λ l. mark_of l) same) c.on_message-reaction.ensures)
+    c.send_all.ensures.kept

@@ -1,0 +1,20 @@
+use Rattle.std.proofs.Common.{ap, ◌∙◌}
+use Rattle.farm_serve.specs.declared.link.Link.{Link}
+use Rattle.farm_serve.specs.Turns.{standing_as}
+use Rattle.farm_serve.specs.Desks.{mark_of, standing_after}
+use Rattle.farm_serve.proofs.Placing.{same_read}
+use Rattle.farm_serve.proofs.Telling.{up_way, way_still}
+use Rattle.farm_serve.proofs.desk.Desk.tell_up.Goals as goal
+
+pub returns-clause-tells : goal.returns-clause-tells
+returns-clause-tells g c =
+    let links = c.args.self.now.links.items in
+    let link = c.index-link.result.now in
+    let same = same_read links c.args.place c.index_mut.result.now link c.requires.within c.index_mut.ensures.value c.index-link.ensures in
+    let outcome = c.on_up-reaction.result.outcome in
+    way_still _ _ _
+    (up_way c.args.self.now.node c.on_up-reaction.new.self links c.args.place link c.come_up.new.link c.args.self.now.made c.args.peer c.on_up-reaction.result.out.items outcome c.requires.within c.index-link.ensures
+    (c.requires.waits link c.index-link.ensures)
+    (c.come_up.ensures.mark ∙ ap (λ l. standing_as (mark_of l) (standing_after c.args.peer outcome)) same)
+    c.on_up-reaction.ensures)
+    c.send_all.ensures.kept

@@ -1,0 +1,58 @@
+-- A node with its connections as turns see it.
+use Rattle.std.specs.Prelude.{◌≡◌, ◌<◌, ℕ, ◌&&◌, Bool, true, false, is_some, length, position, ◌+◌, [], ◌∷◌, if◌then◌else◌, get_or, List, map, Option, Some, None}
+use Rattle.dia_base.specs.declared.number.NodeNo.{NodeNo}
+use Rattle.dia_message.specs.Traffic.{Traffic}
+use Rattle.std.specs.Prelude.{Result, Ok, Err}
+use Rattle.farm_node.specs.Events.{NodeEvent}
+use Rattle.farm_node.specs.declared.error.NodeError.{NodeError}
+use Rattle.farm_serve.specs.declared.desk.Desk.{Desk}
+use Rattle.farm_serve.specs.declared.link.Link.{Link}
+use Rattle.farm_serve.specs.declared.link.Standing.{Standing}
+use Rattle.farm_serve.specs.declared.link.Standing.TheVariants.{Waiting, Up, Over}
+use Rattle.farm_serve.specs.Turns.{Goes, Kept, Mark, Told}
+
+abbrev pub mark_of : {R W : Type 0} → Link R W → Mark
+mark_of link = record { id = link.id; local = link.local; standing = link.standing }
+
+abbrev pub marks_of : {R W : Type 0} → List (Link R W) → List Mark
+marks_of links = map mark_of links
+
+abbrev pub kept_by : {N R W : Type 0} → Desk N R W → Kept N
+kept_by desk = record { node = desk.node; marks = marks_of desk.links.items; made = desk.made }
+
+-- It has gone from the one to the other, telling its node what it was to tell.
+abbrev pub Tells : {N R W : Type 0} → (N → NodeEvent → Traffic → Result (Unit {0}) NodeError → N → Type 0) → Desk N R W → Desk N R W → Type 0
+Tells On old new = (told : List Told) × Goes On (kept_by old) told (kept_by new)
+
+-- ---- ends that the node is still to be told of
+
+abbrev pub is_up : Standing → Bool
+is_up Waiting = false
+is_up (Up peer) = true
+is_up (Over peer) = false
+
+-- It has ended, and the last that the node was told of it is a message, or that it is up.
+abbrev pub is_to_be_told : {R W : Type 0} → Link R W → Bool
+is_to_be_told link = is_up link.standing && is_some link.end
+
+-- There is no such connection.
+abbrev pub AreSettled : {R W : Type 0} → List (Link R W) → Type 0
+AreSettled links = position is_to_be_told links ≡ None
+
+-- one at this place passes the test
+abbrev pub IsPlaceOf : {A : Type 0} → (A → Bool) → List A → ℕ → Type 0
+IsPlaceOf {A} passes xs place = (place < length xs) × ((x : A) → passes (get_or xs place x) ≡ true)
+
+-- how many are up
+abbrev pub ups : List Mark → ℕ
+ups [] = 0
+ups (mark ∷ marks) = (if is_up mark.standing then 1 else 0) + ups marks
+
+-- what is known of the one at this place
+abbrev pub StandsAt : {R W : Type 0} → List (Link R W) → ℕ → Standing → Type 0
+StandsAt {R} {W} links place standing = (link : Link R W) → link ≡ get_or links place link → link.standing ≡ standing
+
+-- where the node was told that this node is up, and did what it was told or refused it
+abbrev pub standing_after : NodeNo → Result (Unit {0}) NodeError → Standing
+standing_after peer (Ok done) = Up peer
+standing_after peer (Err error) = Over peer

@@ -1,0 +1,467 @@
+//! A node with its connections: what it is told, and in which order, and what is sent.
+
+ghost use Rattle.std.specs.Prelude.{◌≡◌, ◌<◌, length, IfNone, IfSome};
+ghost use Rattle.farm_serve.specs.Desks.{AreSettled, IsPlaceOf, StandsAt, Tells, is_to_be_told, kept_by, marks_of, ups};
+
+use crate::end::End;
+use crate::link::{
+    Link, Standing, be_over, come_up, end_at, end_unless_told, flush_at, greet_at, hear_at,
+    is_waiting, loss_of, open_peer, send_at,
+};
+use crate::local::{LocalNode, site_of};
+use crate::note::Notes;
+use dia_avp::Wire;
+use dia_base::{ConnId, Moment, NodeNo};
+use dia_message::{Message, Out};
+use farm_net::Device;
+use farm_node::{Node, NodeError, Reaction};
+use farm_watch::{Act, Acts, Waits};
+use std::alloc::{AllocError, Global};
+use std::io::{Read, Write};
+
+/// A node with its connections, in the order of their numbers.
+#[derive(Debug, Drop)]
+pub struct Desk<N, R, W> {
+    pub alloc: Global,
+    pub node: N,
+    pub links: Vec<Link<R, W>>,
+    pub notes: Notes,
+    /// How many answers the node has sent.
+    pub answers: u64,
+    /// How many connections were made.
+    pub made: u64,
+    /// The node could not be told of an end, for want of memory.
+    pub failed: bool,
+}
+
+/// The place of a connection.
+pub fn place_of<R, W>(links: &[Link<R, W>], conn: ConnId) -> Option<usize>
+    ensures place { IfSome result (λ place. place < length links.now) }
+{
+    links.iter().position(|link| link.id.0 == conn.0)
+}
+
+/// The place of a connection that has ended and of which the node is still to be told so.
+pub fn place_of_loss<R, W>(links: &[Link<R, W>]) -> Option<usize>
+    ensures place { IfSome result (λ place. place < length links.now) }
+    ensures none { IfNone result (AreSettled links.now) }
+    ensures some { IfSome result (λ place. IsPlaceOf is_to_be_told links.now place) }
+{
+    links.iter().position(|link| is_to_be_told(link))
+}
+
+fn is_to_be_told<R, W>(link: &Link<R, W>) -> bool
+    ensures { result ≡ is_to_be_told link.now }
+{
+    match link.standing {
+        Standing::Up { .. } => link.end.is_some(),
+        Standing::Waiting | Standing::Over { .. } => false,
+    }
+}
+
+/// The nodes that are up on connections of this node.
+fn peers_of<R, W>(
+    alloc: Global,
+    links: &[Link<R, W>],
+    local: NodeNo,
+) -> Result<Vec<NodeNo>, AllocError> {
+    let mut peers = Vec::new(alloc);
+    for link in links {
+        if let Some(peer) = peer_here(link, local) {
+            peers.push(peer)?;
+        }
+    }
+    Ok(peers)
+}
+
+/// The node that is up on a connection, if it is one of this node.
+fn peer_here<R, W>(link: &Link<R, W>, local: NodeNo) -> Option<NodeNo> {
+    match link.standing {
+        Standing::Up { peer } if link.local.0 == local.0 => Some(peer),
+        Standing::Up { .. } | Standing::Waiting | Standing::Over { .. } => None,
+    }
+}
+
+/// Why a connection ends whose life drops it at a message, by what it waited for.
+fn why_at_message(waits: Waits) -> End {
+    match waits {
+        Waits::ForCer { .. } | Waits::ForCea { .. } => End::Unwelcome,
+        Waits::ForMessage { .. } | Waits::ForDwa { .. } => End::Disconnected,
+        Waits::ForDpa { .. } | Waits::ForNothing => End::Closed,
+    }
+}
+
+/// Why a connection ends whose life drops it at a tick, by what it waited for.
+fn why_at_tick(waits: Waits) -> End {
+    match waits {
+        Waits::ForDpa { .. } | Waits::ForNothing => End::Closed,
+        Waits::ForCer { .. }
+        | Waits::ForCea { .. }
+        | Waits::ForMessage { .. }
+        | Waits::ForDwa { .. } => End::Silent,
+    }
+}
+
+/// How many answers the node has sent, with this message.
+fn count_after(answers: u64, message: &Message) -> u64 {
+    if message.header.request {
+        answers
+    } else {
+        answers.saturating_add(1)
+    }
+}
+
+/// Whether the node could once not be told of an end.
+fn has_failed(failed: bool, outcome: &Result<(), NodeError>) -> bool {
+    match outcome {
+        Ok(()) => failed,
+        Err(_) => true,
+    }
+}
+
+/// A message of the node goes out on its connection, or nowhere where there is none.
+fn send_one<R: Read + Device, W: Write + Device>(
+    links: &mut Vec<Link<R, W>>,
+    conn: ConnId,
+    message: &Message,
+    moment: Moment,
+)
+    ensures marks { marks_of links.new.items ≡ marks_of links.old.items }
+    ensures places { length links.new.items ≡ length links.old.items }
+{
+    if let Some(place) = place_of(links, conn) {
+        send_at(&mut links[place], message, moment);
+    }
+}
+
+/// Each connection writes for one turn.
+pub fn flush_all<R: Read + Device, W: Write + Device>(links: &mut Vec<Link<R, W>>, moment: Moment)
+    ensures marks { marks_of links.new.items ≡ marks_of links.old.items }
+    ensures places { length links.new.items ≡ length links.old.items }
+{
+    for place in 0..links.len() {
+        flush_at(&mut links[place], moment);
+    }
+}
+
+/// What a new connection sends first.
+pub fn greet<R: Read + Device, W: Write + Device>(
+    links: &mut Vec<Link<R, W>>,
+    place: usize,
+    acts: Acts,
+    moment: Moment,
+)
+    requires { place < length links.old.items }
+    ensures marks { marks_of links.new.items ≡ marks_of links.old.items }
+    ensures places { length links.new.items ≡ length links.old.items }
+{
+    let mut acts = acts;
+    while let Some(act) = acts.take_first() {
+        greet_at(&mut links[place], act, moment);
+    }
+}
+
+impl<N: Node, R: Read + Device, W: Write + Device> Desk<N, R, W> {
+    /// What the node sends goes out, each message on its own connection.
+    pub fn send_all(&mut self, out: &Out, moment: Moment)
+        ensures places { length self.new.links.items ≡ length self.old.links.items }
+        ensures kept { kept_by self.new ≡ kept_by self.old }
+    {
+        for (conn, message) in out.items.as_slice() {
+            self.answers = count_after(self.answers, message);
+            send_one(&mut self.links, *conn, message, moment);
+        }
+    }
+
+    /// A message goes out on a connection.
+    fn send_here(&mut self, place: usize, message: &Message, moment: Moment)
+        requires { place < length self.old.links.items }
+        ensures kept { kept_by self.new ≡ kept_by self.old }
+        ensures places { length self.new.links.items ≡ length self.old.links.items }
+    {
+        send_at(&mut self.links[place], message, moment);
+    }
+
+    /// A connection ends.
+    fn end_here(&mut self, place: usize, why: End, moment: Moment)
+        requires { place < length self.old.links.items }
+        ensures kept { kept_by self.new ≡ kept_by self.old }
+        ensures places { length self.new.links.items ≡ length self.old.links.items }
+    {
+        end_at(&mut self.links[place], why, moment);
+    }
+
+    /// The node is told that its neighbour is up. Where it refuses that, the connection ends.
+    fn tell_up(&mut self, place: usize, peer: NodeNo, moment: Moment)
+        requires within { place < length self.old.links.items }
+        requires waits { StandsAt self.old.links.items place Standing.Waiting }
+        ensures tells { Tells N.on_event self.old self.new }
+        ensures places { length self.new.links.items ≡ length self.old.links.items }
+    {
+        let link = &self.links[place];
+        let (local, conn) = (link.local, link.id);
+        let reaction = self.node.on_up(self.alloc, local, peer, conn);
+        come_up(&mut self.links[place], peer, reaction.outcome, moment);
+        self.notes.up(conn, local, peer, reaction.outcome);
+        self.send_all(&reaction.out, moment);
+    }
+
+    /// The node is told of a message. Where it refuses that, the connection ends.
+    fn tell_message<P: Wire>(
+        &mut self,
+        place: usize,
+        peer: NodeNo,
+        message: Message,
+        moment: Moment,
+    )
+        requires within { place < length self.old.links.items }
+        requires up { StandsAt self.old.links.items place (Standing.Up peer) }
+        ensures tells { Tells N.on_event self.old self.new }
+        ensures places { length self.new.links.items ≡ length self.old.links.items }
+    {
+        let conn = self.links[place].id;
+        let reaction = self.node.on_message::<P>(self.alloc, conn, message);
+        end_unless_told(&mut self.links[place], reaction.outcome, moment);
+        self.notes.answers::<P>(self.alloc, conn, &reaction.out);
+        self.send_all(&reaction.out, moment);
+    }
+
+    /// The node is told of the end of a connection.
+    fn tell_lost<P: Wire>(&mut self, place: usize, peer: NodeNo, why: End, moment: Moment)
+        requires within { place < length self.old.links.items }
+        requires up { StandsAt self.old.links.items place (Standing.Up peer) }
+        ensures tells { Tells N.on_event self.old self.new }
+        ensures places { length self.new.links.items ≡ length self.old.links.items }
+        ensures fewer { ups (marks_of self.new.links.items) < ups (marks_of self.old.links.items) }
+    {
+        let conn = self.links[place].id;
+        let reaction = self.node.on_lost::<P>(self.alloc, conn);
+        be_over(&mut self.links[place], peer);
+        self.failed = has_failed(self.failed, &reaction.outcome);
+        self.notes.lost(conn, peer, why);
+        self.notes.failovers::<P>(self.alloc, conn, &reaction.out);
+        self.send_all(&reaction.out, moment);
+    }
+
+    /// The node is told that its neighbour is up, unless the connection has ended.
+    fn greet_peer(&mut self, place: usize, peer: NodeNo, moment: Moment)
+        requires { place < length self.old.links.items }
+        ensures places { length self.new.links.items ≡ length self.old.links.items }
+    {
+        if is_waiting(&self.links[place]) {
+            self.tell_up(place, peer, moment);
+        }
+    }
+
+    /// The node is told of a message, unless the connection has ended or no node is up on it.
+    fn pass<P: Wire>(&mut self, place: usize, message: Message, moment: Moment)
+        requires { place < length self.old.links.items }
+        ensures places { length self.new.links.items ≡ length self.old.links.items }
+    {
+        if let Some(peer) = open_peer(&self.links[place]) {
+            self.tell_message::<P>(place, peer, message, moment);
+        }
+    }
+
+    /// An act of the life of a connection.
+    fn act<P: Wire>(&mut self, place: usize, act: Act, why: End, moment: Moment)
+        requires { place < length self.old.links.items }
+        ensures places { length self.new.links.items ≡ length self.old.links.items }
+    {
+        match act {
+            Act::Send(message) => self.send_here(place, &message, moment),
+            Act::PeerUp(peer) => self.greet_peer(place, peer, moment),
+            Act::Pass(message) => self.pass::<P>(place, message, moment),
+            Act::Drop => self.end_here(place, why, moment),
+        }
+    }
+
+    /// The acts of the life of a connection, in their order.
+    pub fn perform<P: Wire>(&mut self, place: usize, acts: Acts, why: End, moment: Moment)
+        requires { place < length self.old.links.items }
+        ensures places { length self.new.links.items ≡ length self.old.links.items }
+    {
+        let mut acts = acts;
+        while let Some(act) = acts.take_first() {
+            self.act::<P>(place, act, why, moment);
+        }
+    }
+
+    /// What the life of a connection says to a message, or why the connection ends.
+    fn acts_at_message<P: Wire>(
+        &mut self,
+        locals: &[LocalNode],
+        place: usize,
+        message: Message,
+        moment: Moment,
+    ) -> Result<Acts, End>
+        requires { place < length self.old.links.items }
+        ensures kept { kept_by self.new ≡ kept_by self.old }
+        ensures places { length self.new.links.items ≡ length self.old.links.items }
+    {
+        let local = self.links[place].local;
+        let Some(site) = site_of(locals, local) else {
+            return Err(End::Closed);
+        };
+        let Ok(up) = peers_of(self.alloc, &self.links, local) else {
+            return Err(End::OutOfMemory);
+        };
+        let alloc = self.alloc;
+        hear_at::<P, R, W>(alloc, &mut self.links[place], site, &up, message, moment)
+    }
+
+    /// A message came on a connection.
+    fn hear<P: Wire>(
+        &mut self,
+        locals: &[LocalNode],
+        place: usize,
+        message: Message,
+        moment: Moment,
+    )
+        requires { place < length self.old.links.items }
+        ensures places { length self.new.links.items ≡ length self.old.links.items }
+    {
+        let link = &self.links[place];
+        if link.end.is_some() {
+            return;
+        }
+        let why = why_at_message(link.watch.waits());
+        match self.acts_at_message::<P>(locals, place, message, moment) {
+            Ok(acts) => self.perform::<P>(place, acts, why, moment),
+            Err(why) => self.end_here(place, why, moment),
+        }
+    }
+
+    /// Messages came on a connection.
+    fn hear_all<P: Wire>(
+        &mut self,
+        locals: &[LocalNode],
+        place: usize,
+        messages: Vec<Message>,
+        moment: Moment,
+    )
+        requires { place < length self.old.links.items }
+        ensures places { length self.new.links.items ≡ length self.old.links.items }
+    {
+        for message in messages {
+            self.hear::<P>(locals, place, message, moment);
+        }
+    }
+
+    /// A connection reads for one turn.
+    pub fn receive<P: Wire>(
+        &mut self,
+        locals: &[LocalNode],
+        place: usize,
+        piece: &mut [u8],
+        moment: Moment,
+    )
+        requires within { place < length self.old.links.items }
+        requires piece { 0 < length piece.old }
+        ensures places { length self.new.links.items ≡ length self.old.links.items }
+    {
+        let link = &mut self.links[place];
+        if link.end.is_some() {
+            return;
+        }
+        let received = link.conn.receive(piece);
+        self.hear_all::<P>(locals, place, received.messages, moment);
+        if let Err(loss) = received.outcome {
+            self.end_here(place, End::Loss(loss), moment);
+        }
+    }
+
+    /// The node is told of each end that it has not been told of.
+    pub fn settle<P: Wire>(&mut self, moment: Moment)
+        ensures settled { AreSettled self.new.links.items }
+        ensures places { length self.new.links.items ≡ length self.old.links.items }
+    {
+        while let Some(place) = place_of_loss(&self.links) {
+            let Some((peer, why)) = loss_of(&self.links[place]) else {
+                unreachable!();
+            };
+            self.tell_lost::<P>(place, peer, why, moment);
+        }
+    }
+
+    /// Time has passed for a connection.
+    fn tick_one<P: Wire>(&mut self, locals: &[LocalNode], place: usize, moment: Moment)
+        requires { place < length self.old.links.items }
+        ensures places { length self.new.links.items ≡ length self.old.links.items }
+    {
+        let link = &mut self.links[place];
+        if link.end.is_some() {
+            return;
+        }
+        let why = why_at_tick(link.watch.waits());
+        let Some(site) = site_of(locals, link.local) else {
+            return;
+        };
+        if let Ok(acts) = link.watch.on_tick(self.alloc, site, moment) {
+            self.perform::<P>(place, acts, why, moment);
+        }
+    }
+
+    /// Time has passed for each connection.
+    pub fn tick_all<P: Wire>(&mut self, locals: &[LocalNode], moment: Moment)
+        ensures places { length self.new.links.items ≡ length self.old.links.items }
+    {
+        for place in 0..self.links.len() {
+            self.tick_one::<P>(locals, place, moment);
+        }
+    }
+
+    /// A connection is to end.
+    fn close_one<P: Wire>(&mut self, locals: &[LocalNode], place: usize, moment: Moment)
+        requires { place < length self.old.links.items }
+        ensures places { length self.new.links.items ≡ length self.old.links.items }
+    {
+        let link = &mut self.links[place];
+        if link.end.is_some() {
+            return;
+        }
+        let Some(site) = site_of(locals, link.local) else {
+            return;
+        };
+        match link.watch.close(self.alloc, site, moment) {
+            Ok(acts) => self.perform::<P>(place, acts, End::Closed, moment),
+            Err(AllocError) => self.end_here(place, End::Closed, moment),
+        }
+    }
+
+    /// Each connection is to end.
+    pub fn close_all<P: Wire>(&mut self, locals: &[LocalNode], moment: Moment)
+        ensures places { length self.new.links.items ≡ length self.old.links.items }
+    {
+        for place in 0..self.links.len() {
+            self.close_one::<P>(locals, place, moment);
+        }
+    }
+
+    /// What the node does at an event that is of no connection.
+    fn react(&mut self, reaction: Reaction, moment: Moment)
+        ensures places { length self.new.links.items ≡ length self.old.links.items }
+        ensures kept { kept_by self.new ≡ kept_by self.old }
+    {
+        if let Err(error) = reaction.outcome {
+            self.notes.failed(error);
+        }
+        self.send_all(&reaction.out, moment);
+    }
+
+    /// Time has passed for the node.
+    pub fn tick_node<P: Wire>(&mut self, moment: Moment)
+        ensures places { length self.new.links.items ≡ length self.old.links.items }
+    {
+        let reaction = self.node.on_tick::<P>(self.alloc, moment);
+        self.react(reaction, moment);
+    }
+
+    /// The node is woken.
+    pub fn wake_node<P: Wire>(&mut self, moment: Moment)
+        ensures places { length self.new.links.items ≡ length self.old.links.items }
+    {
+        let reaction = self.node.on_wake::<P>(self.alloc);
+        self.react(reaction, moment);
+    }
+}

@@ -1,0 +1,27 @@
+//! The connections of one process, between its sockets and its node: no socket stands here, and nothing waits.
+//!
+//! - [`Serving`]: a node with its connections over any readers and writers. Those who have sockets hand new ones in
+//!   ([`Serving::accept`], [`Serving::connect`]), say which are ready ([`Serving::readable`], [`Serving::writable`]) and
+//!   what time it is ([`Serving::tick`]), and take out those that have ended ([`Serving::take_ended`]).
+//! - [`Fronts`]: all fronts of a site as one node, with one book.
+//! - [`End`]: why a connection has ended; [`Note`]: what an operator may want to read of it.
+//! - [`UNKNOWN_LIMIT`], [`LINGER`], [`NOTE_LIMIT`], [`ROUND_LIMIT`]: the limits.
+#![tactic(auto)]
+
+mod desk;
+mod end;
+mod fronts;
+mod laws;
+mod link;
+mod local;
+mod note;
+mod serving;
+
+pub use desk::Desk;
+pub use end::{End, Ended, NotTaken, Refusal};
+pub use fronts::{FrontAt, Fronts, ROUND_LIMIT};
+pub use laws::nodes_are_told_in_turn;
+pub use link::{LINGER, Link, Standing};
+pub use local::LocalNode;
+pub use note::{NOTE_LIMIT, Note, Notes};
+pub use serving::{Serving, UNKNOWN_LIMIT};

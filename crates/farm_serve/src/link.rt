@@ -1,0 +1,199 @@
+//! One connection of a process.
+
+ghost use Rattle.std.specs.Prelude.{◌≡◌, IfNone, IfSome, true, false};
+ghost use Rattle.farm_serve.specs.Desks.{is_to_be_told, mark_of, standing_after};
+ghost use Rattle.farm_serve.specs.Turns.{standing_as};
+
+use crate::end::End;
+use dia_avp::Wire;
+use dia_base::{ConnId, Moment, NodeNo};
+use dia_message::Message;
+use farm_net::{Conn, Device};
+use farm_node::NodeError;
+use farm_watch::{Act, Acts, Watch, WatchSite};
+use std::alloc::{AllocError, Global};
+use std::io::{Read, Write};
+
+/// How long octets of an ended connection may wait to be written, in milliseconds.
+pub const LINGER: u64 = 5_000;
+
+/// What the node was told of a connection.
+#[derive(Clone, Copy, Debug, PartialEq, Eq)]
+pub enum Standing {
+    /// Nothing: the node at the other end is not up.
+    Waiting,
+    /// That this node is up, and nothing but messages since.
+    Up { peer: NodeNo },
+    /// Last that it has ended; or that this node is up, which the node here has refused.
+    Over { peer: NodeNo },
+}
+
+impl Standing {
+    /// The node at the other end, if the node here was ever told of it.
+    pub fn peer(self) -> Option<NodeNo> {
+        match self {
+            Standing::Waiting => None,
+            Standing::Up { peer } | Standing::Over { peer } => Some(peer),
+        }
+    }
+}
+
+/// A connection with all that is kept of it.
+#[derive(Debug, Drop)]
+pub struct Link<R, W> {
+    pub id: ConnId,
+    /// The node of this process whose connection it is.
+    pub local: NodeNo,
+    /// Whether the other end has connected.
+    pub accepted: bool,
+    pub watch: Watch,
+    pub conn: Conn<R, W>,
+    pub standing: Standing,
+    /// Why it has ended, and when.
+    pub end: Option<(End, Moment)>,
+}
+
+/// The connection ends for this reason, unless it has ended before.
+pub(crate) fn end_at<R: Read + Device, W: Write + Device>(
+    link: &mut Link<R, W>,
+    why: End,
+    moment: Moment,
+)
+    ensures mark { mark_of link.new ≡ mark_of link.old }
+{
+    if link.end.is_none() {
+        link.end = Some((why, moment));
+        link.conn.finish();
+    }
+}
+
+/// A message goes out on the connection, unless that has ended. Where it cannot, the connection ends.
+pub(crate) fn send_at<R: Read + Device, W: Write + Device>(
+    link: &mut Link<R, W>,
+    message: &Message,
+    moment: Moment,
+)
+    ensures mark { mark_of link.new ≡ mark_of link.old }
+{
+    if link.end.is_some() {
+        return;
+    }
+    if let Err(loss) = link.conn.send(message) {
+        link.end = Some((End::Loss(loss), moment));
+    }
+}
+
+/// The connection writes for one turn, and ends where that fails.
+pub(crate) fn flush_at<R: Read + Device, W: Write + Device>(link: &mut Link<R, W>, moment: Moment)
+    ensures mark { mark_of link.new ≡ mark_of link.old }
+{
+    if let Err(loss) = link.conn.flush() {
+        if link.end.is_none() {
+            link.end = Some((End::Loss(loss), moment));
+        }
+    }
+}
+
+/// The node was told that its neighbour is up. Where it refuses that, the connection ends.
+pub(crate) fn come_up<R: Read + Device, W: Write + Device>(
+    link: &mut Link<R, W>,
+    peer: NodeNo,
+    outcome: Result<(), NodeError>,
+    moment: Moment,
+)
+    ensures mark { mark_of link.new ≡ standing_as (mark_of link.old) (standing_after peer outcome) }
+{
+    match outcome {
+        Ok(()) => link.standing = Standing::Up { peer },
+        Err(error) => {
+            link.standing = Standing::Over { peer };
+            end_at(link, End::Refused(error), moment);
+        }
+    }
+}
+
+/// The node was told of a message. Where it refuses that, the connection ends.
+pub(crate) fn end_unless_told<R: Read + Device, W: Write + Device>(
+    link: &mut Link<R, W>,
+    outcome: Result<(), NodeError>,
+    moment: Moment,
+)
+    ensures mark { mark_of link.new ≡ mark_of link.old }
+{
+    if let Err(error) = outcome {
+        end_at(link, End::Refused(error), moment);
+    }
+}
+
+/// The node was told of its end.
+pub(crate) fn be_over<R, W>(link: &mut Link<R, W>, peer: NodeNo)
+    ensures mark { mark_of link.new ≡ standing_as (mark_of link.old) (Standing.Over peer) }
+{
+    link.standing = Standing::Over { peer };
+}
+
+/// Whether the node may be told that its neighbour is up.
+pub(crate) fn is_waiting<R, W>(link: &Link<R, W>) -> bool
+    ensures { result ≡ true → link.now.standing ≡ Standing.Waiting }
+{
+    match link.standing {
+        Standing::Waiting => link.end.is_none(),
+        Standing::Up { .. } | Standing::Over { .. } => false,
+    }
+}
+
+/// The node that is up on a connection which has not ended.
+pub(crate) fn open_peer<R, W>(link: &Link<R, W>) -> Option<NodeNo>
+    ensures { IfSome result (λ peer. link.now.standing ≡ Standing.Up peer) }
+{
+    match (link.standing, link.end) {
+        (Standing::Up { peer }, None) => Some(peer),
+        (Standing::Up { .. }, Some(_)) | (Standing::Waiting | Standing::Over { .. }, _) => None,
+    }
+}
+
+/// The node that is up on a connection which has ended, and why that has.
+pub(crate) fn loss_of<R, W>(link: &Link<R, W>) -> Option<(NodeNo, End)>
+    ensures some { IfSome result (λ loss. link.now.standing ≡ Standing.Up loss.0) }
+    ensures none { IfNone result (is_to_be_told link.now ≡ false) }
+{
+    match (link.standing, link.end) {
+        (Standing::Up { peer }, Some((why, _))) => Some((peer, why)),
+        (Standing::Up { .. }, None) | (Standing::Waiting | Standing::Over { .. }, _) => None,
+    }
+}
+
+/// What a new connection sends first.
+pub(crate) fn greet_at<R: Read + Device, W: Write + Device>(
+    link: &mut Link<R, W>,
+    act: Act,
+    moment: Moment,
+)
+    ensures mark { mark_of link.new ≡ mark_of link.old }
+{
+    if let Act::Send(message) = act {
+        send_at(link, &message, moment);
+    }
+}
+
+/// What the life of a connection says to a message.
+pub(crate) fn hear_at<P: Wire, R, W>(
+    alloc: Global,
+    link: &mut Link<R, W>,
+    site: &WatchSite,
+    up: &[NodeNo],
+    message: Message,
+    moment: Moment,
+) -> Result<Acts, End>
+    ensures mark { mark_of link.new ≡ mark_of link.old }
+{
+    match link.watch.on_message::<P>(alloc, site, up, moment, message) {
+        Ok(acts) => Ok(acts),
+        Err(AllocError) => Err(End::OutOfMemory),
+    }
+}
+
+/// Whether octets of an ended connection have waited too long.
+pub(crate) fn is_overdue(end: Moment, moment: Moment) -> bool {
+    u128::from(end.0) + u128::from(LINGER) <= u128::from(moment.0)
+}

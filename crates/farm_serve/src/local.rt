@@ -1,0 +1,17 @@
+//! The nodes that are served here.
+
+use dia_base::NodeNo;
+use farm_watch::WatchSite;
+
+/// A node that is served here, with what its connections know of it.
+#[derive(Debug, Drop)]
+pub struct LocalNode {
+    pub node: NodeNo,
+    pub site: WatchSite,
+}
+
+/// What the connections of a node know of it, if it is served here.
+pub(crate) fn site_of(locals: &[LocalNode], node: NodeNo) -> Option<&WatchSite> {
+    let local = locals.iter().find(|local| local.node.0 == node.0)?;
+    Some(&local.site)
+}

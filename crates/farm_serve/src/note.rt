@@ -1,0 +1,148 @@
+//! What an operator may want to read.
+
+use crate::end::End;
+use dia_avp::Wire;
+use dia_base::codes::RESULT_CODE;
+use dia_base::{ConnId, NodeNo};
+use dia_message::{Message, Out};
+use farm_node::NodeError;
+use std::alloc::Global;
+use std::collections::VecDeque;
+
+/// The most notes that are kept. Further ones are counted.
+pub const NOTE_LIMIT: usize = 1_024;
+
+/// Something that has happened. It is small, and whoever writes a log chooses the words.
+#[derive(Clone, Copy, Debug, PartialEq, Eq)]
+pub enum Note {
+    /// The node at the other end of a connection is up.
+    Up {
+        conn: ConnId,
+        local: NodeNo,
+        peer: NodeNo,
+    },
+    /// A connection has ended on which a node was up.
+    Lost {
+        conn: ConnId,
+        peer: NodeNo,
+        why: End,
+    },
+    /// A connection has ended on which no node was up.
+    Refused {
+        conn: ConnId,
+        why: End,
+    },
+    /// A request that was not answered on a lost connection was sent again.
+    FailedOver {
+        lost: ConnId,
+        to: ConnId,
+    },
+    /// A request that was not answered on a lost connection was answered with this Result-Code, 0 where it cannot be
+    /// read.
+    GivenUp {
+        lost: ConnId,
+        to: ConnId,
+        code: u32,
+    },
+    /// The node has refused a request with this Result-Code, 0 where it cannot be read.
+    Refusal {
+        conn: ConnId,
+        code: u32,
+    },
+    /// The node did not do what it was told, which was of no connection.
+    Failed {
+        error: NodeError,
+    },
+}
+
+/// Notes that wait to be read, the oldest first.
+#[derive(Debug, Drop)]
+pub struct Notes {
+    waiting: VecDeque<Note>,
+    dropped: u64,
+}
+
+impl Notes {
+    pub(crate) fn new(alloc: Global) -> Self {
+        Notes {
+            waiting: VecDeque::new(alloc),
+            dropped: 0,
+        }
+    }
+
+    /// Takes the oldest one.
+    pub(crate) fn take_first(&mut self) -> Option<Note> {
+        self.waiting.pop_front()
+    }
+
+    /// How many had no place.
+    pub(crate) fn dropped(&self) -> u64 {
+        self.dropped
+    }
+
+    fn add(&mut self, note: Note) {
+        if self.waiting.len() >= NOTE_LIMIT || self.waiting.push_back(note).is_err() {
+            self.dropped = self.dropped.saturating_add(1);
+        }
+    }
+
+    pub(crate) fn up(
+        &mut self,
+        conn: ConnId,
+        local: NodeNo,
+        peer: NodeNo,
+        outcome: Result<(), NodeError>,
+    ) {
+        if outcome.is_ok() {
+            self.add(Note::Up { conn, local, peer });
+        }
+    }
+
+    pub(crate) fn lost(&mut self, conn: ConnId, peer: NodeNo, why: End) {
+        self.add(Note::Lost { conn, peer, why });
+    }
+
+    pub(crate) fn refused(&mut self, conn: ConnId, why: End) {
+        self.add(Note::Refused { conn, why });
+    }
+
+    pub(crate) fn failed(&mut self, error: NodeError) {
+        self.add(Note::Failed { error });
+    }
+
+    /// The refusals among what a node sends where a message came on this connection: an error that goes back there.
+    pub(crate) fn answers<P: Wire>(&mut self, alloc: Global, conn: ConnId, out: &Out) {
+        for (to, message) in out.items.as_slice() {
+            if to.0 == conn.0 && message.header.error && !message.header.request {
+                let code = result_code::<P>(alloc, message);
+                self.add(Note::Refusal { conn, code });
+            }
+        }
+    }
+
+    /// What a node sends where a connection is lost: requests again, and answers to those that it gives up.
+    pub(crate) fn failovers<P: Wire>(&mut self, alloc: Global, lost: ConnId, out: &Out) {
+        for (to, message) in out.items.as_slice() {
+            let to = *to;
+            if message.header.request {
+                self.add(Note::FailedOver { lost, to });
+            } else {
+                let code = result_code::<P>(alloc, message);
+                self.add(Note::GivenUp { lost, to, code });
+            }
+        }
+    }
+}
+
+/// The first Result-Code of an answer, 0 where it cannot be read.
+fn result_code<P: Wire>(alloc: Global, answer: &Message) -> u32 {
+    let Ok(avps) = P::split(alloc, &answer.body) else {
+        return 0;
+    };
+    for avp in &avps {
+        if avp.code == RESULT_CODE && avp.vendor == 0 {
+            return dia_avp::u32_of(avp).unwrap_or(0);
+        }
+    }
+    0
+}

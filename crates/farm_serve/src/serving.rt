@@ -1,0 +1,283 @@
+//! A node with its connections, for those who have sockets.
+
+ghost use Rattle.std.specs.Prelude.{◌<◌, length};
+ghost use Rattle.farm_serve.specs.Desks.{AreSettled};
+
+use crate::desk::{Desk, flush_all, greet, place_of};
+use crate::end::{End, Ended, NotTaken, Refusal};
+use crate::link::{Link, Standing, flush_at, is_overdue};
+use crate::local::{LocalNode, site_of};
+use crate::note::{Note, Notes};
+use dia_avp::Wire;
+use dia_base::{ConnId, Moment, NodeNo};
+use farm_net::{Conn, Device};
+use farm_node::Node;
+use farm_watch::{Acts, Side, Watch};
+use std::alloc::{AllocError, Global};
+use std::io::{Read, Write};
+
+/// The most connections that others have made and on which no node is up. A further one is refused. Each is dropped an
+/// interval after it was made (`WatchSite::interval`), so that nobody keeps a place by saying nothing.
+pub const UNKNOWN_LIMIT: usize = 64;
+
+/// A node with its connections over any readers and writers: what they bring the node is told, and what it says is
+/// sent. The node may be several of the site, as [`crate::Fronts`] is.
+#[derive(Debug, Drop)]
+pub struct Serving<N, R, W> {
+    desk: Desk<N, R, W>,
+    locals: Vec<LocalNode>,
+}
+
+/// Whether the connection was made by others, and no node was ever up on it.
+fn is_unknown<R, W>(link: &Link<R, W>) -> bool {
+    link.accepted && link.standing == Standing::Waiting
+}
+
+/// Whether there is nothing more to do with a connection at this moment.
+fn is_over<R: Read + Device, W: Write + Device>(link: &Link<R, W>, moment: Moment) -> bool {
+    match (link.end, link.standing) {
+        (None, _) | (Some(_), Standing::Up { .. }) => false,
+        (Some((_, since)), Standing::Waiting | Standing::Over { .. }) => {
+            link.conn.is_done() || is_overdue(since, moment)
+        }
+    }
+}
+
+impl<N: Node, R: Read + Device, W: Write + Device> Serving<N, R, W> {
+    /// A node without connections, which is all of these nodes of the site. Connections are numbered from 1.
+    pub fn new(alloc: Global, node: N, locals: Vec<LocalNode>) -> Self {
+        Serving {
+            desk: Desk {
+                alloc,
+                node,
+                links: Vec::new(alloc),
+                notes: Notes::new(alloc),
+                answers: 0,
+                made: 0,
+                failed: false,
+            },
+            locals,
+        }
+    }
+
+    /// Some node has connected to the node `local`. It has an interval to say who it is.
+    pub fn accept(
+        &mut self,
+        local: NodeNo,
+        reader: R,
+        writer: W,
+        moment: Moment,
+    ) -> Result<ConnId, NotTaken<R, W>> {
+        let unknown = self
+            .desk
+            .links
+            .iter()
+            .filter(|link| is_unknown(link))
+            .count();
+        if unknown >= UNKNOWN_LIMIT {
+            let limit = UNKNOWN_LIMIT;
+            let why = Refusal::TooManyUnknown { limit };
+            return Err(NotTaken {
+                reader,
+                writer,
+                why,
+            });
+        }
+        self.add(local, Side::Accepts, reader, writer, moment)
+    }
+
+    /// The node `local` has connected to the node `peer`: its Capabilities-Exchange-Request waits to be written.
+    pub fn connect(
+        &mut self,
+        local: NodeNo,
+        peer: NodeNo,
+        reader: R,
+        writer: W,
+        moment: Moment,
+    ) -> Result<ConnId, NotTaken<R, W>> {
+        self.add(local, Side::Connects(peer), reader, writer, moment)
+    }
+
+    /// A new connection, or why there is none.
+    fn add(
+        &mut self,
+        local: NodeNo,
+        side: Side,
+        reader: R,
+        writer: W,
+        moment: Moment,
+    ) -> Result<ConnId, NotTaken<R, W>> {
+        let (id, watch, acts) = match self.begin(local, side, moment) {
+            Ok(begun) => begun,
+            Err(why) => return Err(NotTaken {
+                reader,
+                writer,
+                why,
+            }),
+        };
+        let accepted = side == Side::Accepts;
+        let alloc = self.desk.alloc;
+        let place = self.desk.links.len();
+        if self.desk.links.reserve(1).is_err() {
+            let why = Refusal::OutOfMemory;
+            return Err(NotTaken {
+                reader,
+                writer,
+                why,
+            });
+        }
+        self.desk.links.push_reserved(Link {
+            id,
+            local,
+            accepted,
+            watch,
+            conn: Conn::new(alloc, reader, writer),
+            standing: Standing::Waiting,
+            end: None,
+        });
+        self.desk.made = id.0;
+        greet(&mut self.desk.links, place, acts, moment);
+        Ok(id)
+    }
+
+    /// The number and the life of a new connection, and what is sent on it first.
+    fn begin(
+        &self,
+        local: NodeNo,
+        side: Side,
+        moment: Moment,
+    ) -> Result<(ConnId, Watch, Acts), Refusal> {
+        let Some(site) = site_of(&self.locals, local) else {
+            return Err(Refusal::UnknownLocal { local });
+        };
+        let Some(number) = self.desk.made.checked_add(1) else {
+            return Err(Refusal::NoNumber);
+        };
+        match Watch::new(self.desk.alloc, site, side, moment) {
+            Ok((watch, acts)) => Ok((ConnId(number), watch, acts)),
+            Err(AllocError) => Err(Refusal::OutOfMemory),
+        }
+    }
+
+    /// A connection may have octets. They are read for one turn, at most 64 times, `piece` at a time, and the node is
+    /// told of what came. What is sent for it waits to be written ([`Serving::write_all`]). `piece` is not empty, and
+    /// what it holds is of no account. A number that no connection has changes nothing.
+    pub fn readable<P: Wire>(&mut self, conn: ConnId, piece: &mut [u8], moment: Moment)
+        requires { 0 < length piece.old }
+        ensures settled { AreSettled self.new.desk.links.items }
+    {
+        if let Some(place) = place_of(&self.desk.links, conn) {
+            self.desk.receive::<P>(&self.locals, place, piece, moment);
+        }
+        self.desk.settle::<P>(moment);
+    }
+
+    /// A connection may take octets: it writes for one turn, at most 64 times.
+    pub fn writable<P: Wire>(&mut self, conn: ConnId, moment: Moment)
+        ensures settled { AreSettled self.new.desk.links.items }
+    {
+        if let Some(place) = place_of(&self.desk.links, conn) {
+            flush_at(&mut self.desk.links[place], moment);
+        }
+        self.desk.settle::<P>(moment);
+    }
+
+    /// Each connection writes for one turn.
+    pub fn write_all<P: Wire>(&mut self, moment: Moment)
+        ensures settled { AreSettled self.new.desk.links.items }
+    {
+        flush_all(&mut self.desk.links, moment);
+        self.desk.settle::<P>(moment);
+    }
+
+    /// Time has passed: for the node, and for the life of each connection.
+    pub fn tick<P: Wire>(&mut self, moment: Moment)
+        ensures settled { AreSettled self.new.desk.links.items }
+    {
+        self.desk.tick_node::<P>(moment);
+        self.desk.tick_all::<P>(&self.locals, moment);
+        self.desk.settle::<P>(moment);
+    }
+
+    /// Something that works for the node elsewhere has something for it.
+    pub fn wake<P: Wire>(&mut self, moment: Moment)
+        ensures settled { AreSettled self.new.desk.links.items }
+    {
+        self.desk.wake_node::<P>(moment);
+        self.desk.settle::<P>(moment);
+    }
+
+    /// Each connection is to end in good order: the other end of one that is up is told by Disconnect-Peer-Request,
+    /// and one that is not up ends at once.
+    pub fn close_all<P: Wire>(&mut self, moment: Moment)
+        ensures settled { AreSettled self.new.desk.links.items }
+    {
+        self.desk.close_all::<P>(&self.locals, moment);
+        self.desk.settle::<P>(moment);
+    }
+
+    /// Takes out a connection that has ended and on which nothing waits to be written any more, or for longer than
+    /// [`crate::LINGER`]. The node was told of its end before. To be called until there is none.
+    pub fn take_ended(&mut self, moment: Moment) -> Option<Ended<R, W>> {
+        let place = self
+            .desk
+            .links
+            .iter()
+            .position(|link| is_over(link, moment))?;
+        let (why, _) = self.desk.links[place].end?;
+        let link = self.desk.links.remove(place);
+        if link.standing == Standing::Waiting {
+            self.desk.notes.refused(link.id, why);
+        }
+        Some(Ended {
+            conn: link.id,
+            local: link.local,
+            peer: link.standing.peer(),
+            why,
+            streams: link.conn,
+        })
+    }
+
+    /// Takes out a note; the oldest first.
+    pub fn take_note(&mut self) -> Option<Note> {
+        self.desk.notes.take_first()
+    }
+
+    /// How many notes had no place.
+    pub fn notes_dropped(&self) -> u64 {
+        self.desk.notes.dropped()
+    }
+
+    /// How many answers the node has sent: those of the node, and not those of the life of its connections.
+    pub fn answers(&self) -> u64 {
+        self.desk.answers
+    }
+
+    /// How many connections there are, with those that have ended and are not taken out.
+    pub fn count(&self) -> usize {
+        self.desk.links.len()
+    }
+
+    /// A connection, to be looked at: its standing, whether it has ended, its reader and writer, and whether it wants to
+    /// write. None where no connection has this number.
+    pub fn link(&self, conn: ConnId) -> Option<&Link<R, W>> {
+        let place = place_of(&self.desk.links, conn)?;
+        self.desk.links.get(place)
+    }
+
+    /// All connections, to be looked at.
+    pub fn links(&self) -> &[Link<R, W>] {
+        &self.desk.links
+    }
+
+    /// Memory was missing where the node was told that a connection has ended. It cannot go on then: the process is to
+    /// end, with status 4.
+    pub fn has_failed(&self) -> bool {
+        self.desk.failed
+    }
+
+    /// The node.
+    pub fn node(&self) -> &N {
+        &self.desk.node
+    }
+}
