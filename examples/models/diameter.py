@@ -7,7 +7,7 @@ from dataclasses import dataclass, replace
 REQUEST, PROXIABLE, ERROR, RETRANSMITTED = 0x80, 0x40, 0x20, 0x10
 VENDOR, MANDATORY = 0x80, 0x40
 
-HEADER_OCTETS, MESSAGE_LIMIT = 20, 65_536
+HEADER_OCTETS, MESSAGE_LIMIT = 20, 262_144
 # A Failed-AVP with more octets than this holds the AVP's least form alone.
 FAILED_LIMIT = 8192
 # Session-Id and Proxy-Info, which answers give back, take at most so many octets together.

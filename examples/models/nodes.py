@@ -12,7 +12,7 @@ from diameter import (APPLICATION_UNSUPPORTED, COMMAND_UNSUPPORTED, DESTINATION_
                       ROUTE_RECORD, TOO_BUSY, UNABLE_TO_DELIVER, NoList, first, refusal, split, text)
 from site_data import CLIENT
 
-PENDING_LIMIT = 4096
+PENDING_LIMIT = 16_384
 
 
 class Client:
@@ -163,7 +163,7 @@ class Relay:
     def on_request(self, conn, message):
         try:
             avps = self.accepted(conn, message)
-            peer = self.candidate(message, avps)
+            peer = self.candidate(message, avps + split(self.route_record(conn)))
             if len(self.pending) >= PENDING_LIMIT:
                 raise Refusing(TOO_BUSY)
         except Refusing as fault:
@@ -198,13 +198,17 @@ class Relay:
         return avps
 
     def candidate(self, message, avps):
-        """The first peer that is up of those that may get a request."""
+        """The first peer that is up of those that may get a request, and that none of its Route-Records names.
+
+        The AVPs are those of the request as it goes out.
+        """
         host = first(avps, DESTINATION_HOST)
         peer, kind = self.linked.get(folded(host.value), (None, None)) if host else (None, None)
         if kind == CLIENT:
             raise Refusing(UNABLE_TO_DELIVER)
         peers = [peer] if peer else self.routed(first(avps, DESTINATION_REALM).value, message.application)
-        found = next((peer for peer in peers if peer in self.up), None)
+        passed = {folded(avp.value) for avp in avps if avp.has_code(ROUTE_RECORD)}
+        found = next((peer for peer in peers if peer in self.up and folded(peer) not in passed), None)
         if found is None:
             raise Refusing(UNABLE_TO_DELIVER)
         return found

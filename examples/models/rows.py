@@ -11,9 +11,9 @@ from diameter import DESTINATION_REALM, RESULT_CODE, ROUTE_RECORD, SESSION_ID, A
 from messages import (DEBIT, OPENING, again, appended, changed, event, of_session, of_subscriber, request, service,
                       termination, to_host, to_realm, units, update, without)
 from row_site import C1, C2, F1, F2, R1, R2, ROW_SITE
-from scenarios import (Script, client_gone, failover, failover_while_picked, host_gone, loop, lost_answer,
-                       nowhere_to_go, relayed_debit, restarted_relay, session_abandoned, session_kept_up,
-                       session_not_due, session_of_the_latest_moment, session_swept_from_under)
+from scenarios import (Script, client_gone, failover, failover_while_picked, host_gone, loop, loop_detected,
+                       lost_answer, nowhere_to_go, passed_over, relayed_debit, restarted_relay, session_abandoned,
+                       session_kept_up, session_not_due, session_of_the_latest_moment, session_swept_from_under)
 
 DEBIT_OCTETS = (
     "010000f8c0000110000000040000000700000064" "000001074000000e63313b313b310000"
@@ -157,7 +157,16 @@ def overtaken():
 
 
 def looping():
-    yield output(loop().played()), printed([f"recv {C1} 1 {LOOP_REFUSAL}"], "steps 9 skipped 0 entries 0")
+    detected = printed([f"recv {C1} 1 {LOOP_REFUSAL}"], "steps 5 skipped 0 entries 0")
+    yield output(loop_detected().played()), detected
+    foreseen = LOOP_REFUSAL.replace("7231", "7232").replace("00000bbd", "00000bba")
+    yield output(loop().played()), printed([f"recv {C1} 1 {foreseen}"], "steps 9 skipped 2 entries 0")
+
+
+def passing_over():
+    world = passed_over().played()
+    yield [result(answer) for answer in answers(world)], [2001, 3002, 3002, 2001, 3002]
+    yield (world.book.entries, account(world, 1)), (2, (960, 0))
 
 
 def another_front():
@@ -244,11 +253,11 @@ def two_services():
 
 def limits():
     script = Script("").up((C1, R1), (R1, F1))
-    for _ in range(4097):
+    for _ in range(16_385):
         script.send(C1, R1, message=DEBIT)
     world = script.played()
     refused, = world.flight(R1, C1)
-    yield (len(world.flight(R1, F1)), result(refused.octets().hex())), (4096, 3004)
+    yield (len(world.flight(R1, F1)), result(refused.octets().hex())), (16_384, 3004)
     other = of_session(DEBIT, "c1;1;2")
     world = direct(DEBIT, other, again(DEBIT, 8), site=replace(ROW_SITE, limit=1))
     first, full, repeat = answers(world)
@@ -269,6 +278,12 @@ def relay_lines():
         (replace(DEBIT, application=3), (0x60, 3002)),
         (appended(DEBIT, text(ROUTE_RECORD, "R1.example")), (0x60, 3005)),
         (appended(DEBIT, text(ROUTE_RECORD, "r1.example.org")), F1),
+        (appended(DEBIT, text(ROUTE_RECORD, "F1.example")), F2), (appended(DEBIT, text(ROUTE_RECORD, "f1.exampl")), F1),
+        (appended(DEBIT, *[text(ROUTE_RECORD, name) for name in (F1, R2, F2)]), (0x60, 3002)),
+        (appended(to_host(DEBIT, R2), text(ROUTE_RECORD, R2)), (0x60, 3002)),
+        (appended(DEBIT, *[text(ROUTE_RECORD, F1)] * 1000), F2), (appended(DEBIT, Avp(ROUTE_RECORD, b"")), F1),
+        (appended(DEBIT, Avp(ROUTE_RECORD, bytes(300)), text(ROUTE_RECORD, F1)), F2),
+        (appended(DEBIT, text(264, F1)), F1),
         (replace(DEBIT, body=DEBIT.body + bytes(4)), (0x60, 5014)), (replace(DEBIT, flags=0x40), None)]
     for message, wanted in cases:
         world = Script("").up((C1, R1), (C2, R1), (R1, F1), (R1, F2), (R1, R2)).send(C1, R1, message=message).played()
@@ -325,8 +340,8 @@ def swept_sessions():
 
 
 ROWS = [octets_are_told, relayed_request, first_debit, repeated_debit, opened_session, short_accounts, part_of_a_grant,
-        below_zero, overtaken, looping, another_front, one_front_alone, gone_client, unknown_avps, faulty_avps,
-        nothing_or_too_early, events, two_services, limits, relay_lines, lost_and_restarted,
+        below_zero, overtaken, looping, passing_over, another_front, one_front_alone, gone_client, unknown_avps,
+        faulty_avps, nothing_or_too_early, events, two_services, limits, relay_lines, lost_and_restarted,
         swept_sessions]
 
 

@@ -76,10 +76,39 @@ def restarted_relay():
 
 
 def loop():
-    script = Script("""The realm loop.example leads from r1 to r2 and from r2 to r1. r1 finds itself in a Route-Record
-        and refuses the request, LOOP_DETECTED; the refusal goes back by r2 and r1 to the client.""")
+    script = Script("""The realm loop.example leads from r1 to r2 and from r2 to r1. r2 has the debit from r1, and would
+        send it back there: it passes over r1, whose Route-Record it has to append, and refuses the debit,
+        UNABLE_TO_DELIVER. The refusal goes back by r1 to the client; two steps find nothing on its way.""")
     script.up((C1, R1), (R1, R2)).send(C1, R1, R2, R1, message=to_realm(DEBIT, "loop.example"))
     return script.carry(R1, R2, R1, C1)
+
+
+def loop_detected():
+    script = Script("""A debit comes to r1 with a Route-Record of r1: it was there before, and r1 refuses it,
+        LOOP_DETECTED. Relays send no request where it was, so that it is the client that has written this.""")
+    script.up((C1, R1), (R1, R2)).send(C1, R1, message=appended(DEBIT, text(ROUTE_RECORD, R1)))
+    return script.carry(R1, C1)
+
+
+def named(message, *names):
+    """A request that the nodes of these names have already sent."""
+    return appended(message, *(text(ROUTE_RECORD, name) for name in names))
+
+
+def passed_over():
+    script = Script("""r1 passes over peers that a Route-Record names, in either case. A debit names f1, and f2 gets
+        it. One names f1 and has it as Destination-Host: nobody else may get that, UNABLE_TO_DELIVER. One names all of r1's
+        route: UNABLE_TO_DELIVER. One names f2 and is charged at f1 when its connection with r1 is cut: r1 passes
+        over f2, and sends it to r2, and that to f1, which answers as before. The last names f2 and r2, and waits at
+        f1 when the connection is cut again: nobody is left, UNABLE_TO_DELIVER.""")
+    script.up((C1, R1), (R1, F1), (R1, F2), (R1, R2), (R2, F1))
+    script.send(C1, R1, F2, message=named(DEBIT, "F1.Example")).answer(F2, 1000).carry(F2, R1, C1)
+    script.send(C1, R1, message=to_host(named(DEBIT, F1), F1)).carry(R1, C1)
+    script.send(C1, R1, message=named(DEBIT, F2, "R2.EXAMPLE", F1)).carry(R1, C1)
+    script.send(C1, R1, F1, message=named(of_session(DEBIT, "c1;1;2"), F2)).charge(F1, 0, 2000).step("cut", R1, F1)
+    script.carry(R1, R2, F1).answer(F1, 3000, worker=1).carry(F1, R2, R1, C1).step("emit", F1, 0).up((R1, F1))
+    script.send(C1, R1, F1, message=named(of_session(DEBIT, "c1;1;3"), R2, F2)).step("cut", F1, R1)
+    return script.carry(R1, C1)
 
 
 def failover():
@@ -129,10 +158,10 @@ def three_ways():
 
 
 def loop_cut():
-    script = Script("""A debit for loop.example is on its way back from r2 to r1 when their connection is cut. r2 has
-        sent it to where it came from: nobody is left to whom r2 could say anything. r1 has no other peer for that
-        realm, and refuses it, UNABLE_TO_DELIVER, though two fronts are connected. After the connection is made
-        again, nothing is in flight there, so that two steps do not apply.""")
+    script = Script("""r2 has refused a debit for loop.example, which it could only send back to r1, and the refusal
+        is on its way to r1 when their connection is cut. r1 has no other peer for that realm, and refuses the debit
+        itself, UNABLE_TO_DELIVER, though two fronts are connected. After the connection is made again, nothing is
+        in flight there, so that two steps do not apply.""")
     script.up((C1, R1), (R1, R2), (R1, F1), (R2, F2)).send(C1, R1, R2, message=to_realm(DEBIT, "loop.example"))
     return script.step("cut", R2, R1).carry(R1, C1).up((R1, R2)).carry(R1, R2).carry(R2, R1)
 
@@ -290,6 +319,8 @@ SCENARIOS = {
     "failover/restarted-relay": restarted_relay,
     "refusals/loop": loop,
     "refusals/loop-cut": loop_cut,
+    "refusals/loop-detected": loop_detected,
+    "failover/passed-over": passed_over,
     "failover/failover": failover,
     "failover/failover-while-picked": failover_while_picked,
     "failover/failover-of-two": failover_of_two,

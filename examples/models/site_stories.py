@@ -10,7 +10,7 @@ from credit_control import (AUTH_APPLICATION_ID, CC_REQUEST_NUMBER, CC_REQUEST_T
 from diameter import (DESTINATION_REALM, ORIGIN_HOST, ORIGIN_REALM, PROXIABLE, REQUEST, SESSION_ID, Message, group,
                       number, octets_of_kind, spelled, text)
 from messages import DEBIT, OPENING, again, of_session, termination, to_realm, units
-from row_site import C1, F1, R1, R2, example
+from row_site import C1, F1, F2, R1, R2, example
 from scenarios import Script
 from site_data import CREDIT_CONTROL_APPLICATION
 from site_file import site_of
@@ -210,21 +210,29 @@ def round_the_ring():
 
 
 def round_the_loop():
-    script = Script("""The realm loop.example leads round the ring for ever. r1 sends a debit to r2, r2 to r3 and r3 to
-        r1, which finds itself in a Route-Record and refuses it, DIAMETER_LOOP_DETECTED. The refusal goes back all the
-        way: r3, r2, r1 and the client. Nothing is charged.""")
-    script.up((C1, R1), *RING).send(C1, R1, R2, R3, R1, message=to_realm(DEBIT, "loop.example"))
-    return script.carry(R1, R3, R2, R1, C1)
+    script = Script("""The realm loop.example leads round the ring for ever. r1 sends a debit to r2, and r2 to r3, whose
+        only peer for it is r1. The debit's Route-Records name r1: r3 passes it over and refuses the debit,
+        DIAMETER_UNABLE_TO_DELIVER. The refusal goes back all the way: r2, r1 and the client. Nothing is charged.""")
+    script.up((C1, R1), *RING).send(C1, R1, R2, R3, message=to_realm(DEBIT, "loop.example"))
+    return script.carry(R3, R2, R1, C1)
 
 
 def back_to_the_first():
     script = Script("""No front beside r1 or r2 is up, so that a debit of c1 goes by r1 and r2 to r3, and waits at f3.
-        f3 restarts: r3 tries r1 next, which had sent it already, finds itself in a Route-Record and refuses it,
-        DIAMETER_LOOP_DETECTED. Relays pass a refusal on, and try no other peer for it. f3 has forgotten the debit; it
-        is charged when the client sends it again, now by f1.""")
+        f3 restarts: the others of r3's route, r1 and r2, have sent the debit already, and r3 passes them over and
+        refuses it, DIAMETER_UNABLE_TO_DELIVER. Relays pass a refusal on, and try no other peer for it. f3 has
+        forgotten the debit; it is charged when the client sends it again, now by f1.""")
     script.up((C1, R1), *RING, (R3, F3)).send(C1, R1, R2, R3, F3, message=DEBIT).step("restart", F3)
-    script.carry(R3, R1).carry(R1, R3, R2, R1, C1)
+    script.carry(R3, R2, R1, C1)
     return script.up((R1, F1)).send(C1, R1, F1, message=again(DEBIT, 8)).answer(F1, 2000).carry(F1, R1, C1)
+
+
+def past_the_first():
+    script = Script("""r1 and r2 are not connected, and f2 alone is up, beside r2. A debit goes by r1 to r3, whose route
+        has f3, r1 and r2: f3 is not up, and r1 has sent the debit already. r3 passes over r1 and sends it to r2, which
+        sends it to f2: it is charged, and its answer comes back by r2, r3 and r1.""")
+    script.up((C1, R1), (R2, R3), (R3, R1), (R2, F2)).send(C1, R1, R3, R2, F2, message=DEBIT).answer(F2, 1000)
+    return script.carry(F2, R2, R3, R1, C1)
 
 
 def one_entry():
@@ -280,7 +288,7 @@ STORIES = {"small-operator": {"data-and-call": data_and_call, "messages": messag
                               "gateway-lost": gateway_lost},
            "chain": {"passed-along": passed_along, "not-served": not_served, "broken-chain": broken_chain},
            "ring": {"round-the-ring": round_the_ring, "round-the-loop": round_the_loop,
-                    "back-to-the-first": back_to_the_first},
+                    "back-to-the-first": back_to_the_first, "past-the-first": past_the_first},
            "longest": {"longest-names": longest_names},
            "full-book": {"one-entry": one_entry, "no-room-to-sweep": no_room_to_sweep,
                          "no-room-to-end": no_room_to_end}}

@@ -156,6 +156,7 @@ answer-octets error header h = record { command = h.command; application = h.app
 read_back : (error : Bool) (header : Header) (n : ℕ) (avps : List RawAvp) → HasOctets header → n ≤ 65516 → Takes n avps → IsReadBack (record { header = answer_header error header; body = spelling_of avps }) avps
 read_back error header n avps octets le takes = record {
   whole = record { header = answer-octets error header octets; whole = spelling_of-whole avps; most = omega (arith, le, takes.most) };
+  short = omega (arith, le, takes.most);
   body = IsSpelling-written_list avps takes.each;
 }
 

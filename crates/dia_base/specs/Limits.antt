@@ -3,7 +3,7 @@ use Rattle.std.specs.Prelude.{ℕ}
 
 -- the longest message in octets, with its header
 abbrev pub message_limit : ℕ
-message_limit = 65536
+message_limit = 262144
 
 -- the most requests that wait in the queue of a front
 abbrev pub queue_limit : ℕ
@@ -23,7 +23,7 @@ history_limit = 1048576
 
 -- the most requests that a relay has forwarded and that are not answered yet
 abbrev pub pending_limit : ℕ
-pending_limit = 4096
+pending_limit = 16384
 
 -- the longest schedule in octets
 abbrev pub schedule_limit : ℕ

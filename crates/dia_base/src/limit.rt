@@ -1,7 +1,7 @@
 //! The limits of the farm. What is beyond one is refused by name.
 
 /// The longest message in octets, with its header.
-pub const MESSAGE_LIMIT: usize = 65_536;
+pub const MESSAGE_LIMIT: usize = 262_144;
 
 /// The most requests that wait in the queue of a front.
 pub const QUEUE_LIMIT: u32 = 1_024;
@@ -16,7 +16,7 @@ pub const SERVICE_LIMIT: usize = 32;
 pub const HISTORY_LIMIT: u64 = 1_048_576;
 
 /// The most requests that a relay has forwarded and that are not answered yet.
-pub const PENDING_LIMIT: u32 = 4_096;
+pub const PENDING_LIMIT: u32 = 16_384;
 
 /// The longest schedule in octets.
 pub const SCHEDULE_LIMIT: usize = 16_777_216;

@@ -79,12 +79,12 @@ pub fn streams_give_their_whole_messages()
 pub fn stream_faults_are_seen_early()
     ensures version { map (λ octets. fault_alone (stream_of octets)) ((2 ∷ []) ∷ (0 ∷ []) ∷ (1 ∷ []) ∷ []) ≡ Some Version ∷ Some Version ∷ None ∷ [] }
     ensures length { map (λ octets. fault_alone (stream_of octets)) ((1 ∷ 0 ∷ 0 ∷ []) ∷ (1 ∷ 0 ∷ 0 ∷ 16 ∷ []) ∷ (1 ∷ 0 ∷ 0 ∷ 20 ∷ []) ∷ odd_beginning ∷ []) ≡ None ∷ Some Length ∷ None ∷ Some Length ∷ [] }
-    // 65,536 octets and 65,540 of them.
-    ensures too_long { map (λ octets. fault_alone (stream_of octets)) ((1 ∷ 1 ∷ 0 ∷ 0 ∷ []) ∷ (1 ∷ 1 ∷ 0 ∷ 4 ∷ []) ∷ []) ≡ None ∷ Some TooLong ∷ [] }
+    // 65,540 octets, 262,144 and 262,148 of them.
+    ensures too_long { map (λ octets. fault_alone (stream_of octets)) ((1 ∷ 1 ∷ 0 ∷ 4 ∷ []) ∷ (1 ∷ 4 ∷ 0 ∷ 0 ∷ []) ∷ (1 ∷ 4 ∷ 0 ∷ 4 ∷ []) ∷ []) ≡ None ∷ None ∷ Some TooLong ∷ [] }
 {}
 
-/// A message of 65,536 octets is read back whole, and one of 65,540 octets is a fault.
+/// A message of 262,144 octets is read back whole, and one of 262,148 octets is a fault.
 pub fn messages_end_at_their_limit()
-    ensures longest { (body : List ℕ) → length body ≡ 65516 → only_message (octets_of (answer_with body)) ≡ Some (answer_with body) }
-    ensures too_long { (body : List ℕ) → length body ≡ 65520 → fault_alone (stream_of (octets_of (answer_with body))) ≡ Some TooLong }
+    ensures longest { (body : List ℕ) → length body ≡ 262124 → only_message (octets_of (answer_with body)) ≡ Some (answer_with body) }
+    ensures too_long { (body : List ℕ) → length body ≡ 262128 → fault_alone (stream_of (octets_of (answer_with body))) ≡ Some TooLong }
 {}

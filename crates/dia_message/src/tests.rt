@@ -19,13 +19,13 @@ fn a_stream_is_read(rt: HostRuntime) -> Result<(), Fail> {
     Ok(())
 }
 
-// Some 200,000 octets: three of the longest messages, and 170 headers alone.
+// Some 800,000 octets: three of the longest messages, and 170 headers alone.
 #[test]
 fn a_long_stream_is_read(rt: HostRuntime) -> Result<(), Fail> {
     let alloc = rt.alloc();
     let mut stream = Vec::new(alloc);
-    for end in [65_536, 131_072, 196_608] {
-        stream.extend_from_slice(&[1, 1, 0, 0, 0x80, 0, 1, 24])?;
+    for end in [262_144, 524_288, 786_432] {
+        stream.extend_from_slice(&[1, 4, 0, 0, 0x80, 0, 1, 24])?;
         stream.resize(end, 0)?;
     }
     for _ in 0..170 {
@@ -34,7 +34,7 @@ fn a_long_stream_is_read(rt: HostRuntime) -> Result<(), Fail> {
     }
     let mut frames = Frames::new(alloc);
     assert_eq!(rt; frames.feed(alloc, &stream)?.len(), 173);
-    for length in [1_usize, 7, 1_000, 65_537] {
+    for length in [1_usize, 7, 1_000, 262_145] {
         let mut frames = Frames::new(alloc);
         let mut read = 0_usize;
         for piece in stream.chunks(length) {
@@ -57,7 +57,10 @@ fn texts_of_frame_faults(rt: HostRuntime) -> Result<(), Fail> {
             FrameFault::Length,
             "a message length is below 20 or no multiple of 4",
         ),
-        (FrameFault::TooLong, "a message is longer than 65536 octets"),
+        (
+            FrameFault::TooLong,
+            "a message is longer than 262144 octets",
+        ),
         (FrameFault::OutOfMemory, "out of memory"),
     ] {
         assert_eq!(rt; fault.to_string(alloc)?.as_str(), text);

@@ -11,5 +11,6 @@ pub mod Planning
 pub mod Promising
 pub mod Reaching
 pub mod Rules
+pub mod Lengths
 pub mod Running
 pub mod Unanswered

@@ -62,7 +62,7 @@ refusal-hop name realm request refusal = refl
 -- ---- a request comes
 
 short : (record_len whole body : ℕ) → nat_lt message_limit (20 + whole) ≡ false → whole ≡ body + record_len → record_len < 2 ^ 24
-short record_len whole body e f = let le : 20 + whole ≤ 65536 = ltb-false 65536 (20 + whole) e in omega arith
+short record_len whole body e f = let le : 20 + whole ≤ 262144 = ltb-false 262144 (20 + whole) e in omega arith
 
 below : (len whole pad : ℕ) → whole ≡ len + pad → whole < 2 ^ 24 → len < 2 ^ 24
 below len whole pad f lt = omega arith

@@ -13,7 +13,7 @@ use Rattle.relay_peers.specs.PeerTable.{is_of, is_on, conn_in, peer_in, without_
 use Rattle.relay_routes.specs.declared.routes.RouteFault.{RouteFault}
 use Rattle.relay_routes.specs.declared.routes.RouteFault.TheVariants.{RealmUnknown, NoApplication}
 use Rattle.relay_core.specs.declared.node.RelayNode.{RelayNode}
-use Rattle.relay_core.specs.NextHop.{or_later, first_up, deliverable, hop_to_host, hop_by_realm, hop_by_host, candidates_for, peer_for, host_in, realm_in, next_hop}
+use Rattle.relay_core.specs.NextHop.{or_later, is_passed_over, conn_for, first_conn, deliverable, hop_to_host, hop_by_realm, hop_by_host, candidates_for, peer_for, host_in, realm_in, next_hop}
 
 its_conn : (b : Bool) (link : Link) (rest : Option Link) (lost : ConnId) → option_map (λ l. l.conn) (cond b (Some link) rest) ≡ Some lost
     → ((link.conn ≡ lost) → ⊥) → (option_map (λ l. l.conn) rest ≡ Some lost → ⊥) → ⊥
@@ -36,31 +36,41 @@ deliverable-is : (o : Option ConnId) (to : ConnId) → deliverable o ≡ Ok to �
 deliverable-is None to e = absurd cc
 deliverable-is (Some conn) to e = cc
 
+-- a candidate that a request goes to is up and not passed over
+pub not_passed : (b : Bool) (o : Option ConnId) (to : ConnId) → cond b None o ≡ Some to → (b ≡ false) × (o ≡ Some to)
+not_passed true o to e = absurd cc
+not_passed false o to e = (refl, e)
+
+conn_for-never : (node : RelayNode) (lost : ConnId) → peer_in node.peers.links lost ≡ None → (avps : List RawAvp) (peer : NodeNo) → conn_for node avps peer ≡ Some lost → ⊥
+conn_for-never node lost none avps peer e =
+    conn_in-never node.peers.links peer lost none (not_passed (is_passed_over node avps peer) (conn_in node.peers.links peer) lost e).1
+
 or_later-is : (o later : Option ConnId) (to : ConnId) → or_later o later ≡ Some to → (o ≡ Some to → ⊥) → (later ≡ Some to → ⊥) → ⊥
 or_later-is None later to e first rest = rest e
 or_later-is (Some conn) later to e first rest = first e
 
-first_up-never : (links : List Link) (lost : ConnId) → peer_in links lost ≡ None → (peers : List NodeNo) → first_up links peers ≡ Some lost → ⊥
-first_up-never links lost none [] e = absurd cc
-first_up-never links lost none (peer ∷ peers) e =
-    or_later-is (conn_in links peer) (first_up links peers) lost e (conn_in-never links peer lost none) (first_up-never links lost none peers)
+first_conn-never : (node : RelayNode) (lost : ConnId) → peer_in node.peers.links lost ≡ None → (avps : List RawAvp) (peers : List NodeNo) → first_conn node avps peers ≡ Some lost → ⊥
+first_conn-never node lost none avps [] e = absurd cc
+first_conn-never node lost none avps (peer ∷ peers) e =
+    or_later-is (conn_for node avps peer) (first_conn node avps peers) lost e (conn_for-never node lost none avps peer) (first_conn-never node lost none avps peers)
 
-host-never : (links : List Link) (lost : ConnId) → peer_in links lost ≡ None → (peer : NodeNo) (kind : NodeKind) → hop_to_host links peer kind ≡ Ok lost → ⊥
-host-never links lost none peer Client e = absurd cc
-host-never links lost none peer Relay e = conn_in-never links peer lost none (deliverable-is (conn_in links peer) lost e)
-host-never links lost none peer Front e = conn_in-never links peer lost none (deliverable-is (conn_in links peer) lost e)
+host-never : (node : RelayNode) (lost : ConnId) → peer_in node.peers.links lost ≡ None → (avps : List RawAvp) (peer : NodeNo) (kind : NodeKind) → hop_to_host node avps peer kind ≡ Ok lost → ⊥
+host-never node lost none avps peer Client e = absurd cc
+host-never node lost none avps peer Relay e = conn_for-never node lost none avps peer (deliverable-is (conn_for node avps peer) lost e)
+host-never node lost none avps peer Front e = conn_for-never node lost none avps peer (deliverable-is (conn_for node avps peer) lost e)
 
-realm-never : (links : List Link) (lost : ConnId) → peer_in links lost ≡ None → (found : Result (List NodeNo) RouteFault) → hop_by_realm links found ≡ Ok lost → ⊥
-realm-never links lost none (Err RealmUnknown) e = absurd cc
-realm-never links lost none (Err NoApplication) e = absurd cc
-realm-never links lost none (Ok peers) e = first_up-never links lost none peers (deliverable-is (first_up links peers) lost e)
+realm-never : (node : RelayNode) (lost : ConnId) → peer_in node.peers.links lost ≡ None → (avps : List RawAvp) (found : Result (List NodeNo) RouteFault) → hop_by_realm node avps found ≡ Ok lost → ⊥
+realm-never node lost none avps (Err RealmUnknown) e = absurd cc
+realm-never node lost none avps (Err NoApplication) e = absurd cc
+realm-never node lost none avps (Ok peers) e = first_conn-never node lost none avps peers (deliverable-is (first_conn node avps peers) lost e)
 
-by_host-never : (node : RelayNode) (lost : ConnId) → peer_in node.peers.links lost ≡ None → (peer : Option LinkedPeer) (realm : Option (List ℕ)) (app : ℕ) → hop_by_host node peer realm app ≡ Ok lost → ⊥
-by_host-never node lost none None realm app e = realm-never node.peers.links lost none (candidates_for node realm app) e
-by_host-never node lost none (Some peer) realm app e = host-never node.peers.links lost none peer.peer peer.kind e
+by_host-never : (node : RelayNode) (lost : ConnId) → peer_in node.peers.links lost ≡ None → (avps : List RawAvp) (peer : Option LinkedPeer) (realm : Option (List ℕ)) (app : ℕ)
+    → hop_by_host node avps peer realm app ≡ Ok lost → ⊥
+by_host-never node lost none avps None realm app e = realm-never node lost none avps (candidates_for node realm app) e
+by_host-never node lost none avps (Some peer) realm app e = host-never node lost none avps peer.peer peer.kind e
 
 pub next_hop-never : (node : RelayNode) (lost : ConnId) → peer_in node.peers.links lost ≡ None → (avps : List RawAvp) (app : ℕ) → next_hop node avps app ≡ Ok lost → ⊥
-next_hop-never node lost none avps app e = by_host-never node lost none (peer_for node (host_in avps)) (realm_in avps) app e
+next_hop-never node lost none avps app e = by_host-never node lost none avps (peer_for node (host_in avps)) (realm_in avps) app e
 
 -- ---- the peer of a connection that has ended is down
 

@@ -29,6 +29,7 @@ use Rattle.relay_core.specs.Acts.{Act, happened, sent, acts_with, ends, is_under
 use Rattle.relay_core.specs.Connecting.{up_fault, after_up}
 use Rattle.relay_core.specs.Failover.{RequestFailover, forgotten, sent_again, given_up, avps_in, after_end, without_origins}
 use Rattle.relay_core.specs.Forwarding.{with_record}
+use Rattle.relay_core.specs.NextHop.{outgoing}
 use Rattle.relay_core.specs.RelayState.{RelayState, peer_on, with_links}
 use Rattle.relay_core.specs.RelayStep.{OnRequest, OnAnswer, refused, forwarded, sent_back, dropped, ignored, row_of, held_for}
 use Rattle.relay_core.proofs.Holding.{Holding, cause_of}
@@ -251,7 +252,7 @@ unanswered-request relay next conn sender request items acts flag step map u = g
         record {
           linked = u.linked;
           waiting = pending-more (IsWaiting relay.node (sent to message ∷ now)) row relay.pending.rows rows w m
-              (record { in_use = in_use-now to message now flag; up = reached_linked relay.node u.linked to (λ none. next_hop-never relay.node to none way.0 request.header.application way.3) })
+              (record { in_use = in_use-now to message now flag; up = reached_linked relay.node u.linked to (λ none. next_hop-never relay.node to none (outgoing (Some sender) way.0) request.header.application way.3) })
               more.waiting;
         }
 

@@ -22,7 +22,7 @@ abbrev pub avps_in : Result (List RawAvp) Refusal → List RawAvp
 avps_in (Ok avps) = avps
 avps_in (Err refusal) = []
 
--- where a request that was sent goes now: it has its Route-Record, and what a relay refuses whoever is up it refused before
+-- where a request that was sent goes now: it has its Route-Record, and no peer of which it has one is a candidate again; what a relay refuses whoever is up it refused before
 abbrev pub next_hop_again : RelayNode → Message → Result ConnId ResultCode
 next_hop_again node request = next_hop node (avps_in (avps_of request.body)) request.header.application
 

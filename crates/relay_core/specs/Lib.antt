@@ -1,6 +1,7 @@
 pub mod RelayState
 pub mod Forwarding
 pub mod NextHop
+pub mod Outgoing
 pub mod Verdict
 pub mod RelayStep
 pub mod Failover

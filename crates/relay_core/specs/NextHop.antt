@@ -1,5 +1,5 @@
--- Which connection a request goes out on (RFC 6733, sections 6.1.4 to 6.1.6). A relay asks this when a request comes, and again when the connection that it went out on has ended.
-use Rattle.std.specs.Prelude.{ℕ, List, [], ◌∷◌, find, Option, Some, None, option_map, Result, Ok, Err}
+-- Which connection a request goes out on (RFC 6733, sections 6.1.3 to 6.1.6). A relay asks this when a request comes, and again when the connection that it went out on has ended.
+use Rattle.std.specs.Prelude.{ℕ, Bool, false, List, [], ◌∷◌, ◌++◌, find, Option, Some, None, option_map, if◌then◌else◌, Result, Ok, Err}
 use Rattle.dia_base.specs.declared.number.ConnId.{ConnId}
 use Rattle.dia_base.specs.declared.number.NodeNo.{NodeNo}
 use Rattle.dia_avp.specs.declared.avp.RawAvp.{RawAvp}
@@ -11,10 +11,10 @@ use Rattle.relay_peers.specs.declared.peers.Link.{Link}
 use Rattle.relay_peers.specs.declared.peers.LinkedPeer.{LinkedPeer}
 use Rattle.dia_base.specs.declared.node.NodeKind.{NodeKind}
 use Rattle.dia_base.specs.declared.node.NodeKind.TheVariants.{Relay, Front, Client}
-use Rattle.relay_peers.specs.PeerTable.{conn_in, peer_named}
+use Rattle.relay_peers.specs.PeerTable.{conn_in, peer_named, peer_numbered}
 use Rattle.relay_routes.specs.declared.routes.RouteFault.{RouteFault}
 use Rattle.relay_routes.specs.declared.routes.RouteFault.TheVariants.{RealmUnknown, NoApplication}
-use Rattle.relay_routes.specs.Routing.{candidates_of}
+use Rattle.relay_routes.specs.Routing.{candidates_of, names_node, record_of}
 use Rattle.relay_core.specs.declared.node.RelayNode.{RelayNode}
 
 -- ---- what a relay reads in a request
@@ -42,15 +42,36 @@ abbrev pub candidates_for : RelayNode → Option (List ℕ) → ℕ → Result (
 candidates_for node (Some realm) app = candidates_of node.routes realm app
 candidates_for node None app = Err RealmUnknown
 
--- ---- the first of them that is up
+-- ---- candidates that are passed over
+
+-- The AVPs of a request as it goes out: behind those that came stands the Route-Record of the peer that it has just come from (6.1.9).
+-- Where it went out before, that is among them.
+abbrev pub outgoing : Option (List ℕ) → List RawAvp → List RawAvp
+outgoing (Some sender) avps = avps ++ record_of sender ∷ []
+outgoing None avps = avps
+
+abbrev pub names_peer : List RawAvp → Option LinkedPeer → Bool
+names_peer avps (Some peer) = names_node peer.name avps
+names_peer avps None = false
+
+-- A Route-Record of the request as it goes out is the peer's identity: the request was there, and would be refused there as a loop
+-- (6.1.3).
+abbrev pub is_passed_over : RelayNode → List RawAvp → NodeNo → Bool
+is_passed_over node avps peer = names_peer avps (peer_numbered node.peers.linked peer)
+
+-- ---- the first of them that is up and not passed over
+
+-- the connection of a candidate, if it is up and not passed over
+abbrev pub conn_for : RelayNode → List RawAvp → NodeNo → Option ConnId
+conn_for node avps peer = if is_passed_over node avps peer then None else conn_in node.peers.links peer
 
 abbrev pub or_later : Option ConnId → Option ConnId → Option ConnId
 or_later (Some conn) later = Some conn
 or_later None later = later
 
-abbrev pub first_up : List Link → List NodeNo → Option ConnId
-first_up links [] = None
-first_up links (peer ∷ peers) = or_later (conn_in links peer) (first_up links peers)
+abbrev pub first_conn : RelayNode → List RawAvp → List NodeNo → Option ConnId
+first_conn node avps [] = None
+first_conn node avps (peer ∷ peers) = or_later (conn_for node avps peer) (first_conn node avps peers)
 
 abbrev pub deliverable : Option ConnId → Result ConnId ResultCode
 deliverable (Some conn) = Ok conn
@@ -59,22 +80,22 @@ deliverable None = Err UnableToDeliver
 -- ---- where a request goes
 
 -- to a linked peer that is named as the host, which is a relay or a front: no request goes to a client
-abbrev pub hop_to_host : List Link → NodeNo → NodeKind → Result ConnId ResultCode
-hop_to_host links peer Client = Err UnableToDeliver
-hop_to_host links peer Relay = deliverable (conn_in links peer)
-hop_to_host links peer Front = deliverable (conn_in links peer)
+abbrev pub hop_to_host : RelayNode → List RawAvp → NodeNo → NodeKind → Result ConnId ResultCode
+hop_to_host node avps peer Client = Err UnableToDeliver
+hop_to_host node avps peer Relay = deliverable (conn_for node avps peer)
+hop_to_host node avps peer Front = deliverable (conn_for node avps peer)
 
 -- by realm and application
-abbrev pub hop_by_realm : List Link → Result (List NodeNo) RouteFault → Result ConnId ResultCode
-hop_by_realm links (Err RealmUnknown) = Err RealmNotServed
-hop_by_realm links (Err NoApplication) = Err UnableToDeliver
-hop_by_realm links (Ok peers) = deliverable (first_up links peers)
+abbrev pub hop_by_realm : RelayNode → List RawAvp → Result (List NodeNo) RouteFault → Result ConnId ResultCode
+hop_by_realm node avps (Err RealmUnknown) = Err RealmNotServed
+hop_by_realm node avps (Err NoApplication) = Err UnableToDeliver
+hop_by_realm node avps (Ok peers) = deliverable (first_conn node avps peers)
 
 -- a linked peer that is the host decides first
-abbrev pub hop_by_host : RelayNode → Option LinkedPeer → Option (List ℕ) → ℕ → Result ConnId ResultCode
-hop_by_host node (Some peer) realm app = hop_to_host node.peers.links peer.peer peer.kind
-hop_by_host node None realm app = hop_by_realm node.peers.links (candidates_for node realm app)
+abbrev pub hop_by_host : RelayNode → List RawAvp → Option LinkedPeer → Option (List ℕ) → ℕ → Result ConnId ResultCode
+hop_by_host node avps (Some peer) realm app = hop_to_host node avps peer.peer peer.kind
+hop_by_host node avps None realm app = hop_by_realm node avps (candidates_for node realm app)
 
--- where a request with these AVPs goes, by the peers that are up, or why it goes nowhere
+-- where a request goes that has these AVPs as it goes out, by the peers that are up, or why it goes nowhere
 abbrev pub next_hop : RelayNode → List RawAvp → ℕ → Result ConnId ResultCode
-next_hop node avps app = hop_by_host node (peer_for node (host_in avps)) (realm_in avps) app
+next_hop node avps app = hop_by_host node avps (peer_for node (host_in avps)) (realm_in avps) app

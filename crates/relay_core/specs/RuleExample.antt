@@ -1,6 +1,6 @@
 -- Worked examples: the relay r1.example between two clients, another relay and two fronts, and requests of which a rule
 -- decides. Codes of AVPs and Result-Codes stand as numbers.
-use Rattle.std.specs.Prelude.{ℕ, List, [], ◌∷◌, ◌++◌, replicate, codes, false, Result, Ok, Err}
+use Rattle.std.specs.Prelude.{ℕ, List, [], ◌∷◌, ◌++◌, codes, false, Result, Ok, Err}
 use Rattle.dia_base.specs.declared.number.ConnId.{ConnId}
 use Rattle.dia_base.specs.declared.number.NodeNo.{NodeNo}
 use Rattle.dia_base.specs.declared.node.NodeKind.TheVariants.{Client, Front, Relay}
@@ -97,9 +97,9 @@ cut_off request = record { header = request.header; body = request.body ++ 0 ∷
 abbrev pub of_vendor : ℕ → List ℕ → RawAvp
 of_vendor code value = raw_avp code 192 10415 value
 
--- an AVP with so many octets
-abbrev pub filler : ℕ → RawAvp
-filler octets = avp 33 (replicate octets 0)
+-- of credit control, with P, and with this body
+abbrev pub of_body : List ℕ → Message
+of_body body = record { header = debit_header; body = body }
 
 -- ---- what becomes of them
 
@@ -111,7 +111,11 @@ told_by (Err refusal) = Err (number_of refusal.code)
 abbrev pub way_of : RelayState → Message → Result ℕ ℕ
 way_of relay request = told_by (decision relay (codes "c1.example") request)
 
--- the same of one with these AVPs, where all are up
+-- the same of a request of another peer, where all are up
+abbrev pub way_from : List ℕ → List RawAvp → Result ℕ ℕ
+way_from sender avps = told_by (decision all_up sender (request_with avps))
+
+-- the same of one of c1 with these AVPs, where all are up
 abbrev pub way : List RawAvp → Result ℕ ℕ
 way avps = way_of all_up (request_with avps)
 

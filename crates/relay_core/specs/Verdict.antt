@@ -19,7 +19,7 @@ use Rattle.relay_hops.specs.PendingTable.{is_full}
 use Rattle.relay_core.specs.declared.node.RelayNode.{RelayNode}
 use Rattle.relay_core.specs.RelayState.{RelayState}
 use Rattle.relay_core.specs.Forwarding.{recorded, is_too_long}
-use Rattle.relay_core.specs.NextHop.{host_in, realm_in, peer_for, candidates_for, first_up, deliverable}
+use Rattle.relay_core.specs.NextHop.{host_in, realm_in, peer_for, candidates_for, outgoing, first_conn, deliverable}
 
 -- ---- the words of the rules
 
@@ -57,6 +57,13 @@ abbrev pub listed_candidates : Result (List NodeNo) RouteFault → List NodeNo
 listed_candidates (Ok peers) = peers
 listed_candidates (Err fault) = []
 
+abbrev pub candidates_in : RelayNode → List RawAvp → ℕ → Result (List NodeNo) RouteFault
+candidates_in node avps app = candidates node (peer_for node (host_in avps)) (realm_in avps) app
+
+-- the connection of the first of them that is up and not passed over, with the Route-Record of the sender behind these AVPs
+abbrev pub conn_among : RelayNode → List ℕ → List RawAvp → Result (List NodeNo) RouteFault → Option ConnId
+conn_among node sender avps found = first_conn node (outgoing (Some sender) avps) (listed_candidates found)
+
 abbrev pub with_no_avp : Result ConnId ResultCode → Result ConnId Refusal
 with_no_avp (Ok conn) = Ok conn
 with_no_avp (Err code) = Err (refusal_with code)
@@ -82,15 +89,15 @@ verdict relay sender request (Ok avps) =
     else if is_client (peer_for relay.node (host_in avps)) then Err (refusal_with UnableToDeliver)
     -- 8. Destination-Host is another linked peer: `candidates` is that peer alone (6.1.5), and neither of the next two applies.
     -- 9. No route has the realm: DIAMETER_REALM_NOT_SERVED, 3003 (6.1.6).
-    else if is_of_unknown_realm (candidates relay.node (peer_for relay.node (host_in avps)) (realm_in avps) request.header.application) then Err (refusal_with RealmNotServed)
+    else if is_of_unknown_realm (candidates_in relay.node avps request.header.application) then Err (refusal_with RealmNotServed)
     -- 10. The realm has no route for the application: 3002.
-    else if lacks_application (candidates relay.node (peer_for relay.node (host_in avps)) (realm_in avps) request.header.application) then Err (refusal_with UnableToDeliver)
-    -- 11. No candidate is up: 3002.
-    else if is_none (first_up relay.node.peers.links (listed_candidates (candidates relay.node (peer_for relay.node (host_in avps)) (realm_in avps) request.header.application))) then Err (refusal_with UnableToDeliver)
+    else if lacks_application (candidates_in relay.node avps request.header.application) then Err (refusal_with UnableToDeliver)
+    -- 11. No candidate is up and not passed over: 3002. Passed over is one that a Route-Record names, that of the sender included.
+    else if is_none (conn_among relay.node sender avps (candidates_in relay.node avps request.header.application)) then Err (refusal_with UnableToDeliver)
     -- 12. As many requests are pending as there may be: DIAMETER_TOO_BUSY, 3004.
     else if is_full relay.pending then Err (refusal_with TooBusy)
-    -- 13. It goes to the first candidate that is up.
-    else with_no_avp (deliverable (first_up relay.node.peers.links (listed_candidates (candidates relay.node (peer_for relay.node (host_in avps)) (realm_in avps) request.header.application))))
+    -- 13. It goes to the first candidate that is up and not passed over.
+    else with_no_avp (deliverable (conn_among relay.node sender avps (candidates_in relay.node avps request.header.application)))
 
 -- what becomes of a request of this sender
 abbrev pub decision : RelayState → List ℕ → Message → Result ConnId Refusal

@@ -4,10 +4,12 @@ ghost use Rattle.std.specs.Prelude.{◌≡◌, Ok};
 ghost use Rattle.std.specs.Option.{option_copied};
 ghost use Rattle.relay_peers.specs.PeerTable.{conn_in};
 ghost use Rattle.relay_core.specs.RelayState.{links_but, node_but};
-ghost use Rattle.relay_core.specs.NextHop.{candidates_for, deliverable, first_up, hop_by_host, hop_by_realm, hop_to_host, next_hop};
+ghost use Rattle.relay_core.specs.NextHop.{candidates_for, conn_for, deliverable, first_conn, hop_by_host, hop_by_realm, hop_to_host, host_in, next_hop, peer_for};
+ghost use Rattle.relay_core.specs.Outgoing.{drawn};
 ghost use Rattle.relay_core.specs.Verdict.{is_for_itself, verdict, with_no_avp};
 
 use crate::node::RelayNode;
+use crate::outgoing::Outgoing;
 use crate::reading::value_of;
 use crate::recording::is_too_long;
 use cc_view::ResultCode;
@@ -49,7 +51,11 @@ pub(crate) fn verdict(
     if is_too_long(sender, &request.body) {
         return Err(ResultCode::UnableToDeliver);
     }
-    let conn = next_hop(node, None, avps, request.header.application)?;
+    let going = Outgoing {
+        avps,
+        sender: Some(sender),
+    };
+    let conn = next_hop(node, None, going, request.header.application)?;
     if pending.is_full() {
         return Err(ResultCode::TooBusy);
     }
@@ -66,50 +72,60 @@ fn is_for_itself(name: &Identity, host: Option<&[u8]>, realm: Option<&[u8]>) -> 
     }
 }
 
-/// The connection that a request with these AVPs goes out on, by the peers that are up, but for one on a
-/// connection that ends. It takes no memory.
+/// The connection that a request goes out on, by the peers that are up, but for one on a connection that
+/// ends. A peer that one of its Route-Records names is passed over. It takes no memory.
 pub(crate) fn next_hop(
     node: &RelayNode,
     ended: Option<ConnId>,
-    avps: &[RawAvp],
+    going: Outgoing,
     app: u32,
 ) -> Result<ConnId, ResultCode>
-    ensures { result ≡ next_hop (node_but ended node.now) avps.now app }
+    ensures { result ≡ next_hop (node_but ended node.now) (drawn going.entry) app }
 {
-    let host = match value_of(avps, DESTINATION_HOST) {
+    let host = host_of(node, going.avps);
+    let realm = value_of(going.avps, DESTINATION_REALM);
+    hop_by_host(node, ended, going, host, realm, app)
+}
+
+/// The linked peer that a request names as its host.
+fn host_of<'a>(node: &'a RelayNode, avps: &[RawAvp]) -> Option<&'a LinkedPeer>
+    ensures { option_copied result ≡ peer_for node.now (host_in avps.now) }
+{
+    match value_of(avps, DESTINATION_HOST) {
         Some(host) => node.peers.named(host),
         None => None,
-    };
-    hop_by_host(node, ended, host, value_of(avps, DESTINATION_REALM), app)
+    }
 }
 
 fn hop_by_host(
     node: &RelayNode,
     ended: Option<ConnId>,
+    going: Outgoing,
     host: Option<&LinkedPeer>,
     realm: Option<&[u8]>,
     app: u32,
 ) -> Result<ConnId, ResultCode>
-    ensures { result ≡ hop_by_host (node_but ended node.now) (option_copied host.entry) (option_copied realm.entry) app }
+    ensures { result ≡ hop_by_host (node_but ended node.now) (drawn going.entry) (option_copied host.entry) (option_copied realm.entry) app }
 {
     match host {
-        Some(peer) => hop_to_host(&node.peers, ended, peer.peer, peer.kind),
-        None => hop_by_realm(node, ended, realm, app),
+        Some(peer) => hop_to_host(node, ended, going, peer.peer, peer.kind),
+        None => hop_by_realm(node, ended, going, realm, app),
     }
 }
 
 /// A linked peer is named as the host: no request goes to a client.
 fn hop_to_host(
-    peers: &Peers,
+    node: &RelayNode,
     ended: Option<ConnId>,
+    going: Outgoing,
     peer: NodeNo,
     kind: NodeKind,
 ) -> Result<ConnId, ResultCode>
-    ensures { result ≡ hop_to_host (links_but ended peers.now.links) peer kind }
+    ensures { result ≡ hop_to_host (node_but ended node.now) (drawn going.entry) peer kind }
 {
     match kind {
         NodeKind::Client => Err(ResultCode::UnableToDeliver),
-        NodeKind::Relay | NodeKind::Front => deliverable(conn_to(peers, ended, peer)),
+        NodeKind::Relay | NodeKind::Front => deliverable(conn_for(node, ended, going, peer)),
     }
 }
 
@@ -117,10 +133,11 @@ fn hop_to_host(
 fn hop_by_realm(
     node: &RelayNode,
     ended: Option<ConnId>,
+    going: Outgoing,
     realm: Option<&[u8]>,
     app: u32,
 ) -> Result<ConnId, ResultCode>
-    ensures { result ≡ hop_by_realm (links_but ended node.now.peers.links) (candidates_for node.now (option_copied realm.entry) app) }
+    ensures { result ≡ hop_by_realm (node_but ended node.now) (drawn going.entry) (candidates_for node.now (option_copied realm.entry) app) }
 {
     let Some(realm) = realm else {
         return Err(ResultCode::RealmNotServed);
@@ -128,7 +145,7 @@ fn hop_by_realm(
     match node.routes.candidates(realm, app) {
         Err(RouteFault::RealmUnknown) => Err(ResultCode::RealmNotServed),
         Err(RouteFault::NoApplication) => Err(ResultCode::UnableToDeliver),
-        Ok(peers) => deliverable(first_up(&node.peers, ended, peers)),
+        Ok(peers) => deliverable(first_conn(node, ended, going, peers)),
     }
 }
 
@@ -141,16 +158,38 @@ fn deliverable(conn: Option<ConnId>) -> Result<ConnId, ResultCode>
     }
 }
 
-/// The connection of the first of these peers that is up.
-fn first_up(peers: &Peers, ended: Option<ConnId>, candidates: &[NodeNo]) -> Option<ConnId>
-    ensures { result ≡ first_up (links_but ended peers.now.links) candidates.now }
+/// The connection of the first of these peers that is up and not passed over.
+fn first_conn(
+    node: &RelayNode,
+    ended: Option<ConnId>,
+    going: Outgoing,
+    candidates: &[NodeNo],
+) -> Option<ConnId>
+    ensures { result ≡ first_conn (node_but ended node.now) (drawn going.entry) candidates.now }
 {
     for peer in candidates {
-        if let Some(conn) = conn_to(peers, ended, *peer) {
+        if let Some(conn) = conn_for(node, ended, going, *peer) {
             return Some(conn);
         }
     }
     None
+}
+
+/// The connection of a peer, if it is up and not passed over.
+fn conn_for(
+    node: &RelayNode,
+    ended: Option<ConnId>,
+    going: Outgoing,
+    peer: NodeNo,
+) -> Option<ConnId>
+    ensures { result ≡ conn_for (node_but ended node.now) (drawn going.entry) peer }
+{
+    let conn = conn_to(&node.peers, ended, peer)?;
+    if going.passes_over(&node.peers, peer) {
+        None
+    } else {
+        Some(conn)
+    }
 }
 
 fn conn_to(peers: &Peers, ended: Option<ConnId>, peer: NodeNo) -> Option<ConnId>

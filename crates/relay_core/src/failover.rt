@@ -11,6 +11,7 @@ ghost use Rattle.relay_core.specs.FailoverPlan.{IsPlan, choice_of};
 
 use crate::deciding::next_hop;
 use crate::node::RelayNode;
+use crate::outgoing::Outgoing;
 use cc_view::{Refusal, ResultCode, ViewError, avps_of, refusal_bytes};
 use dia_avp::Wire;
 use dia_base::{ConnId, Listing};
@@ -124,7 +125,11 @@ fn next_hop_again<W: Wire>(
         Err(ViewError::Refused(_refusal)) => Vec::new(alloc),
         Err(ViewError::OutOfMemory) => return Err(AllocError),
     };
-    Ok(next_hop(node, Some(lost), &avps, request.header.application))
+    let going = Outgoing {
+        avps: &avps,
+        sender: None,
+    };
+    Ok(next_hop(node, Some(lost), going, request.header.application))
 }
 
 /// The plan is carried out, one request after the other; nothing is pending on the lost connection then. It takes no

@@ -37,6 +37,7 @@ mod failover;
 mod forwarding;
 mod laws;
 mod node;
+mod outgoing;
 mod reading;
 mod recording;
 mod relay;
@@ -54,8 +55,9 @@ pub use node::{RelayNode, RelaySite};
 pub use relay::Relay;
 pub use rule_examples::{
     a_full_relay_refuses_last, a_linked_host_is_the_only_candidate,
-    bodies_that_are_cut_off_are_refused_first, hosts_without_a_realm_are_refused_fourth,
-    loops_are_refused_second, no_request_goes_to_a_client,
+    bodies_that_are_cut_off_are_refused_first, candidates_that_were_passed_are_passed_over,
+    hosts_that_were_passed_are_passed_over, hosts_without_a_realm_are_refused_fourth,
+    loops_are_refused_second, no_request_goes_back_to_its_sender, no_request_goes_to_a_client,
     requests_for_the_relay_itself_are_refused_fifth,
     requests_without_a_candidate_are_refused_eleventh, requests_without_p_are_refused_third,
     requests_without_room_for_a_record_are_refused_sixth, the_first_candidate_that_is_up_is_taken,

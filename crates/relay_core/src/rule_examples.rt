@@ -2,9 +2,10 @@
 //! clients, another relay and two fronts. Of two rules that apply the first decides.
 #![tactic(auto, unfolding(dia_avp::specs::AvpReading::split_of, dia_avp::specs::AvpReading::split_from,))]
 
-ghost use Rattle.std.specs.Prelude.{◌≡◌, ◌∷◌, ◌++◌, List, [], length, map, codes, Ok, Err};
+ghost use Rattle.std.specs.Prelude.{◌≡◌, ◌∷◌, ◌++◌, ℕ, List, [], length, map, replicate, codes, Ok, Err};
+ghost use Rattle.cc_view.specs.Refusal.{avps_of};
 ghost use Rattle.relay_hops.specs.declared.row.Row.{Row};
-ghost use Rattle.relay_core.specs.RuleExample.{all_up, avp, but_for, client_up, cut_off, filler, host, no_front_up, nowhere, ocs, of_application, of_vendor, realm, record_by, request_with, way, way_beside, way_of, without_p};
+ghost use Rattle.relay_core.specs.RuleExample.{all_up, avp, but_for, client_up, cut_off, host, no_front_up, nowhere, ocs, of_application, of_body, of_vendor, realm, record_by, request_with, way, way_beside, way_from, way_of, without_p};
 ghost use Rattle.relay_core.specs.RelayState.{with_rows};
 
 /// The body is no list of AVPs: DIAMETER_INVALID_AVP_LENGTH, though it loops and P is clear.
@@ -38,15 +39,15 @@ pub fn requests_for_the_relay_itself_are_refused_fifth()
     ensures nobody { way [] ≡ Err 3007 }
     ensures itself { way (host (codes "r1.example") ∷ ocs ∷ []) ≡ Err 3007 }
     ensures without_case { way (ocs ∷ host (codes "R1.EXAMPLE") ∷ []) ≡ Err 3007 }
-    ensures fifth { way (filler 65473 ∷ []) ≡ Err 3007 }
+    ensures fifth { (body value : List ℕ) → avps_of body ≡ Ok (avp 33 value ∷ []) → length body ≡ 262108 → way_of all_up (of_body body) ≡ Err 3007 }
 {}
 
 /// With its Route-Record the request would be longer than a message is: DIAMETER_UNABLE_TO_DELIVER, though its realm is
-/// unknown. The longest that is forwarded has 65,536 octets then.
+/// unknown. The longest that is forwarded has 262,144 octets then, 20 of them the header and 20 the Route-Record.
 pub fn requests_without_room_for_a_record_are_refused_sixth()
-    ensures longest { way (ocs ∷ filler 65452 ∷ []) ≡ Ok 2 }
-    ensures too_long { way (ocs ∷ filler 65453 ∷ []) ≡ Err 3002 }
-    ensures sixth { way (nowhere ∷ filler 65453 ∷ []) ≡ Err 3002 }
+    ensures longest { (body value : List ℕ) → avps_of body ≡ Ok (ocs ∷ avp 33 value ∷ []) → length body ≡ 262104 → way_of all_up (of_body body) ≡ Ok 2 }
+    ensures too_long { (body value : List ℕ) → avps_of body ≡ Ok (ocs ∷ avp 33 value ∷ []) → length body ≡ 262108 → way_of all_up (of_body body) ≡ Err 3002 }
+    ensures sixth { (body value : List ℕ) → avps_of body ≡ Ok (nowhere ∷ avp 33 value ∷ []) → length body ≡ 262108 → way_of all_up (of_body body) ≡ Err 3002 }
 {}
 
 /// Destination-Host is a linked client: DIAMETER_UNABLE_TO_DELIVER, be it up or not and whatever the realm.
@@ -72,33 +73,66 @@ pub fn unknown_realms_are_refused_ninth()
     ensures unknown { way (nowhere ∷ []) ≡ Err 3003 }
     ensures longer { way (realm (codes "ocs.example.") ∷ []) ≡ Err 3003 }
     ensures host { way (host (codes "f9.example") ∷ nowhere ∷ []) ≡ Err 3003 }
-    ensures ninth { (rows : List Row) → length rows ≡ 4096 → way_beside rows (nowhere ∷ []) ≡ Err 3003 }
+    ensures ninth { (rows : List Row) → length rows ≡ 16384 → way_beside rows (nowhere ∷ []) ≡ Err 3003 }
 {}
 
 /// The realm has no route for the application: DIAMETER_UNABLE_TO_DELIVER, though the relay is full.
 pub fn unknown_applications_are_refused_tenth()
     ensures unknown { way_of all_up (of_application 3 (request_with (ocs ∷ []))) ≡ Err 3002 }
-    ensures tenth { (rows : List Row) → length rows ≡ 4096 → way_of (with_rows rows all_up) (of_application 3 (request_with (ocs ∷ []))) ≡ Err 3002 }
+    ensures tenth { (rows : List Row) → length rows ≡ 16384 → way_of (with_rows rows all_up) (of_application 3 (request_with (ocs ∷ []))) ≡ Err 3002 }
 {}
 
-/// No candidate is up: DIAMETER_UNABLE_TO_DELIVER, though the relay is full.
+/// No candidate is up and not passed over: DIAMETER_UNABLE_TO_DELIVER, though the relay is full.
 pub fn requests_without_a_candidate_are_refused_eleventh()
     ensures down { way_of client_up (request_with (ocs ∷ [])) ≡ Err 3002 }
-    ensures eleventh { (rows : List Row) → length rows ≡ 4096 → way_of (with_rows rows client_up) (request_with (ocs ∷ [])) ≡ Err 3002 }
+    ensures passed_over { way (realm (codes "loop.example") ∷ record_by (codes "r2.example") ∷ []) ≡ Err 3002 }
+    ensures eleventh { (rows : List Row) → length rows ≡ 16384 → way_of (with_rows rows client_up) (request_with (ocs ∷ [])) ≡ Err 3002 }
 {}
 
-/// As many requests are pending as there may be, 4,096: DIAMETER_TOO_BUSY.
+/// As many requests are pending as there may be, 16,384: DIAMETER_TOO_BUSY.
 pub fn a_full_relay_refuses_last()
-    ensures last_place { (rows : List Row) → length rows ≡ 4095 → way_beside rows (ocs ∷ []) ≡ Ok 2 }
-    ensures full { (rows : List Row) → length rows ≡ 4096 → way_beside rows (ocs ∷ []) ≡ Err 3004 }
+    ensures last_place { (rows : List Row) → length rows ≡ 16383 → way_beside rows (ocs ∷ []) ≡ Ok 2 }
+    ensures full { (rows : List Row) → length rows ≡ 16384 → way_beside rows (ocs ∷ []) ≡ Err 3004 }
 {}
 
-/// Else it goes to the first candidate of the realm that is up. Realms are compared whole, without ASCII case.
+/// Else it goes to the first candidate of the realm that is up and not passed over. Realms are compared whole, without ASCII case.
 pub fn the_first_candidate_that_is_up_is_taken()
     ensures first { way (ocs ∷ []) ≡ Ok 2 }
     ensures second { way_of (but_for 2 all_up) (request_with (ocs ∷ [])) ≡ Ok 3 }
     ensures third { way_of no_front_up (request_with (ocs ∷ [])) ≡ Ok 4 }
     ensures other_realm { way (realm (codes "LOOP.example") ∷ []) ≡ Ok 4 }
+{}
+
+/// A candidate is passed over where a Route-Record of the request is its identity, whole and in either case, wherever it
+/// stands. Other names, AVPs of a vendor and the Origin-Host are none.
+pub fn candidates_that_were_passed_are_passed_over()
+    ensures first { way (ocs ∷ record_by (codes "f1.example") ∷ []) ≡ Ok 3 }
+    ensures without_case { way (record_by (codes "F1.Example") ∷ ocs ∷ []) ≡ Ok 3 }
+    ensures both { way (record_by (codes "f2.example") ∷ ocs ∷ record_by (codes "f1.example") ∷ []) ≡ Ok 4 }
+    ensures all { way (map (λ name. record_by (codes name ++ codes ".example")) ("f1" ∷ "r2" ∷ "f2" ∷ []) ++ ocs ∷ []) ≡ Err 3002 }
+    // The one that is not passed over is down.
+    ensures down { way_of (but_for 3 all_up) (request_with (ocs ∷ record_by (codes "f1.example") ∷ record_by (codes "r2.example") ∷ [])) ≡ Err 3002 }
+    ensures other_names { map (λ name. way (ocs ∷ record_by (codes name) ∷ [])) ("f1.exampl" ∷ "f1.example." ∷ "f1" ∷ "" ∷ "r9.example" ∷ []) ≡ replicate 5 (Ok 2) }
+    ensures other_avps { map way ((ocs ∷ of_vendor 282 (codes "f1.example") ∷ []) ∷ (ocs ∷ avp 264 (codes "f1.example") ∷ []) ∷ []) ≡ Ok 2 ∷ Ok 2 ∷ [] }
+{}
+
+/// A peer that is named as the host is passed over too, and no other one takes its place.
+pub fn hosts_that_were_passed_are_passed_over()
+    ensures front { way (host (codes "f2.example") ∷ ocs ∷ record_by (codes "f2.example") ∷ []) ≡ Err 3002 }
+    ensures relay { way (record_by (codes "r2.example") ∷ ocs ∷ host (codes "R2.EXAMPLE") ∷ []) ≡ Err 3002 }
+    ensures another { way (host (codes "f2.example") ∷ ocs ∷ record_by (codes "f1.example") ∷ []) ≡ Ok 3 }
+    // One that is not linked is passed on by its realm.
+    ensures not_linked { way (host (codes "f9.example") ∷ ocs ∷ record_by (codes "f9.example") ∷ []) ≡ Ok 2 }
+{}
+
+/// The Route-Record that is appended counts like those that came: no request goes back to the peer that sent it. What
+/// the other relay sends for loop.example is refused, since that realm leads to it alone.
+pub fn no_request_goes_back_to_its_sender()
+    ensures back { way_from (codes "r2.example") (realm (codes "loop.example") ∷ []) ≡ Err 3002 }
+    ensures without_case { way_from (codes "R2.Example") (realm (codes "loop.example") ∷ []) ≡ Err 3002 }
+    ensures host { way_from (codes "r2.example") (host (codes "r2.example") ∷ ocs ∷ []) ≡ Err 3002 }
+    ensures front { way_from (codes "f1.example") (ocs ∷ []) ≡ Ok 3 }
+    ensures others { way_from (codes "r2.example") (ocs ∷ []) ≡ Ok 2 }
 {}
 
 /// Of several Destination-Hosts and Destination-Realms the first counts, and none of a vendor.

@@ -16,8 +16,9 @@ use Rattle.relay_routes.specs.declared.routes.RouteFault.TheVariants.{RealmUnkno
 use Rattle.relay_routes.specs.declared.routes.Route.{Route as RelayRoute}
 use Rattle.relay_routes.specs.Routing.{has_realm, has_realm_and_app, peers_of}
 use Rattle.relay_core.specs.declared.node.RelayNode.{RelayNode}
-use Rattle.relay_core.specs.NextHop.{or_later, first_up, deliverable, hop_to_host, hop_by_realm, hop_by_host, candidates_for, peer_for, host_in}
-use Rattle.relay_core.specs.NextHop.{realm_in, next_hop}
+use Rattle.relay_core.specs.NextHop.{or_later, is_passed_over, conn_for, first_conn, deliverable, hop_to_host, hop_by_realm, hop_by_host, candidates_for}
+use Rattle.relay_core.specs.NextHop.{peer_for, host_in, realm_in, next_hop}
+use Rattle.relay_core.proofs.Reaching.{not_passed}
 use Rattle.farm_law.specs.Lists.{Has, here, there}
 use Rattle.farm_base.specs.declared.site.Route.{Route}
 use Rattle.farm_base.specs.declared.site.Site.{Site}
@@ -41,15 +42,19 @@ deliverable-some : (o : Option ConnId) (to : ConnId) → deliverable o ≡ Ok to
 deliverable-some None to e = absurd cc
 deliverable-some (Some conn) to e = cc
 
-up_among : (links : List Link) (peers : List NodeNo) (to : ConnId) → first_up links peers ≡ Some to → (peer : NodeNo) × Has peer peers ×
-    (conn_in links peer ≡ Some to)
-up_among links [] to e = absurd cc
-up_among links (peer ∷ peers) to e = go (conn_in links peer) refl e (up_among links peers to)
+-- a candidate that a request goes to is up
+conn_for-some : (node : RelayNode) (avps : List RawAvp) (peer : NodeNo) (to : ConnId) → conn_for node avps peer ≡ Some to → conn_in node.peers.links peer ≡ Some to
+conn_for-some node avps peer to e = (not_passed (is_passed_over node avps peer) (conn_in node.peers.links peer) to e).1
+
+up_among : (node : RelayNode) (avps : List RawAvp) (peers : List NodeNo) (to : ConnId) → first_conn node avps peers ≡ Some to → (peer : NodeNo) × Has peer peers ×
+    (conn_in node.peers.links peer ≡ Some to)
+up_among node avps [] to e = absurd cc
+up_among node avps (peer ∷ peers) to e = go (conn_for node avps peer) refl e (up_among node avps peers to)
   where
-    go : (o : Option ConnId) → conn_in links peer ≡ o → or_later o (first_up links peers) ≡ Some to →
-        (first_up links peers ≡ Some to → (p : NodeNo) × Has p peers × (conn_in links p ≡ Some to))
-        → (p : NodeNo) × Has p (peer ∷ peers) × (conn_in links p ≡ Some to)
-    go (Some conn) is k more = (peer, here, is ∙ k)
+    go : (o : Option ConnId) → conn_for node avps peer ≡ o → or_later o (first_conn node avps peers) ≡ Some to →
+        (first_conn node avps peers ≡ Some to → (p : NodeNo) × Has p peers × (conn_in node.peers.links p ≡ Some to))
+        → (p : NodeNo) × Has p (peer ∷ peers) × (conn_in node.peers.links p ≡ Some to)
+    go (Some conn) is k more = (peer, here, conn_for-some node avps peer to (is ∙ k))
     go None is k more = let m = more k in (m.0, there m.1, m.2)
 
 -- ---- routes
@@ -76,13 +81,13 @@ module _ (site : Site) (node : NodeNo) (relay : RelayNode) (linked : relay.peers
       let fit = all_has (is_candidate site its.at) parts.1 there_too in
       server_no_client (kind_at site peer) (and_parts (is_linked site its.at peer) (is_relay site peer || is_front site peer) fit).1
 
-  by_realm : (found : Result (List NodeNo) RouteFault) (to : ConnId) →
-      ((peers : List NodeNo) → found ≡ Ok peers → (peer : NodeNo) → Has peer peers → is_client site peer ≡ false) → hop_by_realm relay.peers.links found ≡ Ok
+  by_realm : (avps : List RawAvp) (found : Result (List NodeNo) RouteFault) (to : ConnId) →
+      ((peers : List NodeNo) → found ≡ Ok peers → (peer : NodeNo) → Has peer peers → is_client site peer ≡ false) → hop_by_realm relay avps found ≡ Ok
       to → LeadsToServer site relay.peers.links to
-  by_realm (Err RealmUnknown) to good e = absurd cc
-  by_realm (Err NoApplication) to good e = absurd cc
-  by_realm (Ok peers) to good e =
-      let up = up_among relay.peers.links peers to (deliverable-some (first_up relay.peers.links peers) to e) in
+  by_realm avps (Err RealmUnknown) to good e = absurd cc
+  by_realm avps (Err NoApplication) to good e = absurd cc
+  by_realm avps (Ok peers) to good e =
+      let up = up_among relay avps peers to (deliverable-some (first_conn relay avps peers) to e) in
       record { peer = up.0; conn = up.2; no_client = good peers refl up.0 up.1 }
 
   for_realm : (realm : Option (List ℕ)) (app : ℕ) (peers : List NodeNo) → candidates_for relay realm app ≡ Ok peers → (peer : NodeNo) → Has peer peers →
@@ -93,17 +98,19 @@ module _ (site : Site) (node : NodeNo) (relay : RelayNode) (linked : relay.peers
       (find (has_realm_and_app realm app) relay.routes) refl e in
       candidate_no_client r.0 r.1 peer (subst (Has peer) (sym r.2) h)
 
-  kind_no_client : (peer : NodeNo) (kind : NodeKind) (to : ConnId) → kind_at site peer ≡ Some kind → hop_to_host relay.peers.links peer kind ≡ Ok to →
+  kind_no_client : (avps : List RawAvp) (peer : NodeNo) (kind : NodeKind) (to : ConnId) → kind_at site peer ≡ Some kind → hop_to_host relay avps peer kind ≡ Ok to →
       LeadsToServer site relay.peers.links to
-  kind_no_client peer Client to is e = absurd cc
-  kind_no_client peer Relay to is e = record { peer = peer; conn = deliverable-some (conn_in relay.peers.links peer) to e; no_client = ap means_client is }
-  kind_no_client peer Front to is e = record { peer = peer; conn = deliverable-some (conn_in relay.peers.links peer) to e; no_client = ap means_client is }
+  kind_no_client avps peer Client to is e = absurd cc
+  kind_no_client avps peer Relay to is e =
+      record { peer = peer; conn = conn_for-some relay avps peer to (deliverable-some (conn_for relay avps peer) to e); no_client = ap means_client is }
+  kind_no_client avps peer Front to is e =
+      record { peer = peer; conn = conn_for-some relay avps peer to (deliverable-some (conn_for relay avps peer) to e); no_client = ap means_client is }
 
-  by_host : (host : Option LinkedPeer) (realm : Option (List ℕ)) (app : ℕ) (to : ConnId) →
-      ((peer : LinkedPeer) → host ≡ Some peer → Has peer relay.peers.linked) → hop_by_host relay host realm app ≡ Ok to → LeadsToServer site relay.peers.links
+  by_host : (avps : List RawAvp) (host : Option LinkedPeer) (realm : Option (List ℕ)) (app : ℕ) (to : ConnId) →
+      ((peer : LinkedPeer) → host ≡ Some peer → Has peer relay.peers.linked) → hop_by_host relay avps host realm app ≡ Ok to → LeadsToServer site relay.peers.links
       to
-  by_host None realm app to among e = by_realm (candidates_for relay realm app) to (for_realm realm app) e
-  by_host (Some peer) realm app to among e = kind_no_client peer.peer peer.kind to (linked_node site node peer (subst (Has peer) linked (among peer refl))).0 e
+  by_host avps None realm app to among e = by_realm avps (candidates_for relay realm app) to (for_realm realm app) e
+  by_host avps (Some peer) realm app to among e = kind_no_client avps peer.peer peer.kind to (linked_node site node peer (subst (Has peer) linked (among peer refl))).0 e
 
   named : (host : Option (List ℕ)) (peer : LinkedPeer) → peer_for relay host ≡ Some peer → Has peer relay.peers.linked
   named None peer e = absurd cc
@@ -111,4 +118,4 @@ module _ (site : Site) (node : NodeNo) (relay : RelayNode) (linked : relay.peers
 
   -- it goes to a relay or a front that is up
   pub next_server : (avps : List RawAvp) (app : ℕ) (to : ConnId) → next_hop relay avps app ≡ Ok to → LeadsToServer site relay.peers.links to
-  next_server avps app to e = by_host (peer_for relay (host_in avps)) (realm_in avps) app to (named (host_in avps)) e
+  next_server avps app to e = by_host avps (peer_for relay (host_in avps)) (realm_in avps) app to (named (host_in avps)) e

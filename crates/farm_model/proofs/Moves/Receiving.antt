@@ -17,6 +17,7 @@ use Rattle.relay_core.specs.Forwarding.{with_record}
 use Rattle.relay_core.specs.RelayRun.{IsIdle}
 use Rattle.relay_core.specs.RelayState.{RelayState, peer_on, with_rows}
 use Rattle.relay_core.specs.RelayStep.{OnRequest, refused, forwarded, OnAnswer, sent_back, dropped, ignored, OnMessage, refusal_to, held_for, row_of}
+use Rattle.relay_core.specs.NextHop.{outgoing}
 use Rattle.relay_core.specs.Verdict.{decision}
 use Rattle.farm_law.specs.Farm.{Item, Asker, Pending, Refused, Farm}
 use Rattle.farm_law.specs.Lists.{Has, Without}
@@ -118,8 +119,8 @@ module _ (site : Site) (ends : Ends) (Reason : Refused → Type 0) (checked : Is
   sent_on to hop rows flag free goes_to more last is =
       let sent = under hop (with_record (name_at site from) message) in
       let held = held_for conn message sent in
-      let new = row_sent site ends w.ends node relay own checked relay.node refl refl (λ link h. h) goes_to.avps message.header.application to goes_to.hop held
-      in
+      let new = row_sent site ends w.ends node relay own checked relay.node refl refl (λ link h. h) (outgoing (Some (name_at site from)) goes_to.avps)
+      message.header.application to goes_to.hop held in
       let out = IsWith-without more in
       let same : pending_of ends node (row_of to held) ≡ row_for (parties site ends) to hop item =
       ap (λ (n : NodeNo). record { relay = node; conn = to; asker = Some (record { conn = conn; node = n; hop = message.header.hop }); request = sent })

@@ -15,7 +15,7 @@ use Rattle.relay_peers.specs.declared.peers.LinkedPeer.{LinkedPeer}
 use Rattle.relay_peers.specs.PeerTable.{is_of, is_on, conn_in, peer_in, peer_numbered}
 use Rattle.relay_hops.specs.declared.row.Held.{Held}
 use Rattle.relay_core.specs.declared.node.RelayNode.{RelayNode}
-use Rattle.relay_core.specs.NextHop.{next_hop}
+use Rattle.relay_core.specs.NextHop.{next_hop, outgoing}
 use Rattle.relay_core.specs.RelayState.{RelayState, peer_on}
 use Rattle.relay_core.specs.RelayStep.{row_of}
 use Rattle.relay_core.specs.Verdict.{decision}
@@ -74,7 +74,7 @@ read_first octets avps (Err fault) e = absurd cc
 pub record IsForwardedTo (relay : RelayState) (sender : List ℕ) (request : Message) (to : ConnId) : Type 0 where
   pub avps : List RawAvp
   pub split : split_of request.body ≡ Ok avps
-  pub hop : next_hop relay.node avps request.header.application ≡ Ok to
+  pub hop : next_hop relay.node (outgoing (Some sender) avps) request.header.application ≡ Ok to
 
 pub is_forwarded : (relay : RelayState) (sender : List ℕ) (request : Message) (to : ConnId) → decision relay sender request ≡ Ok to → IsForwardedTo relay
     sender request to

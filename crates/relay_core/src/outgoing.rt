@@ -1,0 +1,49 @@
+//! A request as it goes out, and the peers that it has already passed (RFC 6733, sections 6.1.3 and 6.1.9).
+
+ghost use Rattle.std.specs.Prelude.{◌≡◌};
+ghost use Rattle.relay_peers.specs.PeerTable.{peer_numbered};
+ghost use Rattle.relay_core.specs.NextHop.{names_peer};
+ghost use Rattle.relay_routes.specs.Routing.{names_node};
+ghost use Rattle.std.specs.Option.{option_copied};
+ghost use Rattle.relay_core.specs.Outgoing.{drawn, is_from};
+
+use dia_avp::RawAvp;
+use dia_base::{Identity, NodeNo};
+use relay_peers::{LinkedPeer, Peers};
+use relay_routes::loop_check::names_me;
+
+/// The AVPs of a request, and the peer that it has just come from, whose Route-Record goes out behind them.
+/// Of a request that goes out again there is none: its Route-Record is among the AVPs.
+#[derive(Clone, Copy)]
+pub struct Outgoing<'a> {
+    pub avps: &'a [RawAvp],
+    pub sender: Option<&'a Identity>,
+}
+
+impl Outgoing<'_> {
+    /// Whether a Route-Record of the request as it goes out is the identity of the peer of this number. It
+    /// takes no memory.
+    pub(crate) fn passes_over(self, peers: &Peers, peer: NodeNo) -> bool
+        ensures { result ≡ names_peer (drawn self.entry) (peer_numbered peers.now.linked peer) }
+    {
+        match peers.numbered(peer) {
+            Some(peer) => self.names(peer),
+            None => false,
+        }
+    }
+
+    fn names(self, peer: &LinkedPeer) -> bool
+        ensures { result ≡ names_node peer.now.name (drawn self.entry) }
+    {
+        is_sender(self.sender, &peer.name) || names_me(&peer.name, self.avps)
+    }
+}
+
+fn is_sender(sender: Option<&Identity>, name: &Identity) -> bool
+    ensures { result ≡ is_from name.now (option_copied sender.entry) }
+{
+    match sender {
+        Some(sender) => sender == name,
+        None => false,
+    }
+}
