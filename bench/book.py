@@ -5,7 +5,6 @@ It lays bench/book beside the crates of a copy of the repository, runs it unprov
 the least of ten windows of 1,250 requests of all kinds at so many entries, a sweep that ends 10 of so many open
 sessions and one that ends none, and the octets of memory that the process took more for each of a million entries.
 """
-import os
 import shutil
 import subprocess
 import tempfile
@@ -25,17 +24,19 @@ def lay(copy):
         shutil.copytree(TOP / "crates" / name, copy / "crates" / name, ignore=shutil.ignore_patterns("out"))
         if (TOP / "crates" / name / "out").exists():
             shutil.copytree(TOP / "crates" / name / "out", copy / "crates" / name / "out", symlinks=True)
-    shutil.copytree(TOP / "bench/book", copy / "crates/bench_book")
+    src = copy / "crates/bench_book/src"
+    src.mkdir(parents=True)
+    # the gate takes a file whose name ends in .rt for one that a crate has forgotten
+    for file in (TOP / "bench/book").glob("*.rt.txt"):
+        shutil.copy(file, src / file.stem)
 
 
 def run(copy, *words):
-    """What the bench prints, and the most memory that it had, in octets."""
-    child = subprocess.Popen(["rt", "try", "bench_book", "--", *words], cwd=copy, stdout=subprocess.PIPE, text=True)
-    out = child.stdout.read()
-    _, status, usage = os.wait4(child.pid, 0)
-    if status:
+    """What the bench prints."""
+    done = subprocess.run(["rt", "try", "bench_book", "--", *words], cwd=copy, stdout=subprocess.PIPE, text=True)
+    if done.returncode:
         raise SystemExit(f"rt try {' '.join(words)} failed")
-    return out, usage.ru_maxrss * 1024
+    return done.stdout
 
 
 def main():
@@ -43,9 +44,11 @@ def main():
         copy = Path(name)
         lay(copy)
         for entries in ENTRIES:
-            print(run(copy, "take", str(entries))[0], end="")
+            print(run(copy, "take", str(entries)), end="")
         for sessions in (1_000, 100_000):
-            print(run(copy, "sweep", str(sessions))[0], end="")
+            print(run(copy, "sweep", str(sessions)), end="")
+        octets = [int(run(copy, "fill", str(entries)).split()[-1]) for entries in (0, 1_000_000)]
+        print(f"octets an entry {(octets[1] - octets[0]) // 1_000_000}")
 
 
 if __name__ == "__main__":
