@@ -5,14 +5,14 @@ use Rattle.cc_shared.proofs.open.OpenBook.new.Goals as goal
 
 pub invariant_of-result : goal.invariant_of-result
 invariant_of-result g c = (
-      record {
-        terms = ap (λ (l : Ledger). l.terms) c.requires.book;
-        limit = ap (λ (l : Ledger). l.limit) c.requires.book;
-        more = [];
-        grown = ap (λ (l : Ledger). l.history) c.requires.book ∙ sym (append-nil _);
-        takes = refl;
-      },
-      c.requires.counted,
-      c.requires.rest.0,
-      c.requires.rest.1,
-    )
+  record {
+    terms = ap (λ (l : Ledger). l.terms) c.requires.book;
+    limit = ap (λ (l : Ledger). l.limit) c.requires.book;
+    more = [];
+    grown = ap (λ (l : Ledger). l.history) c.requires.book ∙ sym (append-nil _);
+    takes = refl;
+  },
+  c.requires.counted,
+  c.requires.rest.0,
+  c.requires.rest.1,
+)
