@@ -93,7 +93,7 @@ charged site ledger message receipt legal within view fits same =
     let done : IsCharge site (as_of ledger place) moment message expected (with_take (as_of ledger place) moment request) =
     takes request view new room in
     let Q : List Entry → Type 0 =
-    λ h. IsCharge site (as_of ledger place) moment message (answer_to site.name site.realm message request (reply_to terms before request)) (record ledger { history = h }) in
+    λ h. IsCharge site (as_of ledger place) moment message expected (record ledger { history = h }) in
     let R : CcReply → Type 0 =
     λ r. IsCharge site (as_of ledger place) moment message (answer_to site.name site.realm message request r) (as_of ledger (place + 1)) in
     let more : take (place + 1) ledger.history ≡ before ++ Take moment request ∷ [] = rw add-one a.next in
