@@ -50,7 +50,7 @@ all-orphaned P (as_it_was o) f all row (there h) = all-orphaned P o f (λ z g. a
 all-orphaned P (orphan {row = was} o) f all row here = f was (all was here)
 all-orphaned P (orphan o) f all row (there h) = all-orphaned P o f (λ z g. all z (there g)) row h
 
-module _ (p : Parties) {has_ended : ConnId → Bool} {items : List Item} {rows : List Pending} {book : Ledger} {refused : List Refused} {sent received : Traffic} (v : Keeps p has_ended items rows book refused sent received) where
+module _ (p : Parties) {has_ended : NodeNo → ConnId → Bool} {items : List Item} {rows : List Pending} {book : Ledger} {refused : List Refused} {sent received : Traffic} (v : Keeps p has_ended items rows book refused sent received) where
   pub keep_orphans : {next_rows : List Pending} → Orphaned rows next_rows → Keeps p has_ended items next_rows book refused sent received
   keep_orphans {next_rows} o = record {
     clients = λ conn hop end k. let a = held-orphaned (with_both conn (p.client_on conn) hop end) o in let b = v.clients conn hop end k in omega arith;
@@ -70,9 +70,9 @@ module _ (p : Parties) {has_ended : ConnId → Bool} {items : List Item} {rows :
   }
     where
       over : {conn : ConnId} {node : NodeNo} {P : Message → Type 0} → Asks p has_ended rows sent conn node P → Asks p has_ended next_rows sent conn node P
-      over {P = P} a = Asks-grows p (λ item h. h) (λ c e. e) (λ live row h u w t. let z = Has-orphaned o h in (z.0, z.1, z.2 ∙ u, z.3 ∙ w, subst P (sym z.4) t)) a
+      over {P = P} a = Asks-grows p (λ item h. h) (λ n c e. e) (λ live row h u w t. let z = Has-orphaned o h in (z.0, z.1, z.2 ∙ u, z.3 ∙ w, subst P (sym z.4) t)) a
 
-  pub keep_drops : {next_rows : List Pending} → Left (λ (row : Pending). has_ended row.conn ≡ true) rows next_rows → Keeps p has_ended items next_rows book refused sent received
+  pub keep_drops : {next_rows : List Pending} → Left (λ (row : Pending). has_ended row.relay row.conn ≡ true) rows next_rows → Keeps p has_ended items next_rows book refused sent received
   keep_drops {next_rows} left = record {
     clients = λ conn hop end k. let a = count-left (held_in (with_both conn (p.client_on conn) hop end)) left in let b = v.clients conn hop end k in omega arith;
     relays = λ conn node hop k live.
@@ -94,17 +94,17 @@ module _ (p : Parties) {has_ended : ConnId → Bool} {items : List Item} {rows :
   }
     where
       over : {conn : ConnId} {node : NodeNo} {P : Message → Type 0} → Asks p has_ended rows sent conn node P → Asks p has_ended next_rows sent conn node P
-      over a = Asks-rows p (λ live z h at. Has-stays (λ gone. clash (ap has_ended (sym at) ∙ gone) live) left h) a
+      over {conn = conn} {node = node} a = Asks-rows p (λ live z h at of. Has-stays (λ gone. clash (ap (λ (m : NodeNo). has_ended m conn) (sym of) ∙ ap (λ (x : ConnId). has_ended z.relay x) (sym at) ∙ gone) live) left h) a
 
   -- a row of a connection that has ended is gone: no other claim rests on it
-  Asks-but : {row : Pending} {next_rows : List Pending} {conn : ConnId} {node : NodeNo} {P : Message → Type 0} → Without row rows next_rows → has_ended row.conn ≡ true →
+  Asks-but : {row : Pending} {next_rows : List Pending} {conn : ConnId} {node : NodeNo} {P : Message → Type 0} → Without row rows next_rows → has_ended row.relay row.conn ≡ true →
       Asks p has_ended rows sent conn node P → Asks p has_ended next_rows sent conn node P
-  Asks-but {row = row} wr gone a = Asks-rows p (λ live z h at. elim (Has-split wr h) [
-    | inl e ↦ absurd (clash (ap has_ended (sym at ∙ ap (λ (y : Pending). y.conn) e) ∙ gone) live)
+  Asks-but {row = row} {conn = conn} wr gone a = Asks-rows p (λ live z h at of. elim (Has-split wr h) [
+    | inl e ↦ absurd (clash (ap (λ (m : NodeNo). has_ended m conn) (sym of ∙ ap (λ (y : Pending). y.relay) e) ∙ ap (λ (x : ConnId). has_ended row.relay x) (sym at ∙ ap (λ (y : Pending). y.conn) e) ∙ gone) live)
     | inr g ↦ g
   ]) a
 
-  pub keep_sends_again : {row : Pending} {left next_rows : List Pending} {next : List Item} (conn : ConnId) (peer : NodeNo) (hop : ℕ) → Without row rows left → has_ended row.conn ≡ true →
+  pub keep_sends_again : {row : Pending} {left next_rows : List Pending} {next : List Item} (conn : ConnId) (peer : NodeNo) (hop : ℕ) → Without row rows left → has_ended row.relay row.conn ≡ true →
       p.is_client peer ≡ false → count_by (row_in (with_hop conn row.relay hop)) left ≡ 0 →
       Without (record { conn = conn; from = row.relay; to = peer; message = again hop row.request }) next items → Without (row_again conn hop row) next_rows left →
       Keeps p has_ended next next_rows book refused sent received
@@ -158,9 +158,9 @@ module _ (p : Parties) {has_ended : ConnId → Bool} {items : List Item} {rows :
       descended = let d = v.rows_come row (Has-without wr) in record { conn = d.conn; first = d.first; was_sent = d.was_sent; request = d.request; avps = d.avps; splits = d.splits; descends = sent_again hop d.descends }
 
       over : {c : ConnId} {node : NodeNo} {P : Message → Type 0} → Asks p has_ended rows sent c node P → Asks p has_ended next_rows sent c node P
-      over a = Asks-rows p (λ live z h at. Has-more wn h) (Asks-but wr gone a)
+      over a = Asks-rows p (λ live z h at of. Has-more wn h) (Asks-but wr gone a)
 
-  pub keep_gives_up : (l : Premises) {row : Pending} {next_rows : List Pending} {next : List Item} (asker : Asker) (answer : Message) → Without row rows next_rows → has_ended row.conn ≡ true →
+  pub keep_gives_up : (l : Premises) {row : Pending} {next_rows : List Pending} {next : List Item} (asker : Asker) (answer : Message) → Without row rows next_rows → has_ended row.relay row.conn ≡ true →
       row.asker ≡ Some asker → p.is_relay row.relay ≡ true → HasIdentifiers row.request answer → Answers p book refused row.relay row.conn row.request answer →
       Without (record { conn = asker.conn; from = row.relay; to = asker.node; message = under asker.hop answer }) next items →
       Keeps p has_ended next next_rows book refused sent received

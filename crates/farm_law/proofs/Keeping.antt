@@ -57,11 +57,11 @@ IsTaken-sent : (p : Parties) (sent more : Traffic) (entry : Entry) → IsTaken p
 IsTaken-sent p sent more (Take moment request) t = (t.0, t.1, Has-append more t.2, t.3, t.4)
 IsTaken-sent p sent more (Sweep moment) t = t
 
-module _ (p : Parties) {has_ended : ConnId → Bool} {items : List Item} {rows : List Pending} {book : Ledger} {refused : List Refused} {sent received : Traffic} (v : Keeps p has_ended items rows book refused sent received) where
-  pub keep_ends : (ends : ConnId → Bool) → ((conn : ConnId) → has_ended conn ≡ true → ends conn ≡ true) → Keeps p ends items rows book refused sent received
+module _ (p : Parties) {has_ended : NodeNo → ConnId → Bool} {items : List Item} {rows : List Pending} {book : Ledger} {refused : List Refused} {sent received : Traffic} (v : Keeps p has_ended items rows book refused sent received) where
+  pub keep_ends : (ends : NodeNo → ConnId → Bool) → ((node : NodeNo) (conn : ConnId) → has_ended node conn ≡ true → ends node conn ≡ true) → Keeps p ends items rows book refused sent received
   keep_ends ends more = record {
     clients = v.clients;
-    relays = λ conn node hop k live. v.relays conn node hop k (still conn live);
+    relays = λ conn node hop k live. v.relays conn node hop k (still node conn live);
     single = v.single;
     sound = λ item h k. Asks-ends p still (v.sound item h k);
     asked = λ row h. IsAsked-map p row.asker (λ asker e a. Asks-ends p still a) (v.asked row h);
@@ -76,11 +76,11 @@ module _ (p : Parties) {has_ended : ConnId → Bool} {items : List Item} {rows :
     within = v.within;
   }
     where
-      still : (conn : ConnId) → ends conn ≡ false → has_ended conn ≡ false
-      still conn live = go (has_ended conn) refl
+      still : (node : NodeNo) (conn : ConnId) → ends node conn ≡ false → has_ended node conn ≡ false
+      still node conn live = go (has_ended node conn) refl
         where
-          go : (b : Bool) → has_ended conn ≡ b → has_ended conn ≡ false
-          go true e = absurd (clash (more conn e) live)
+          go : (b : Bool) → has_ended node conn ≡ b → has_ended node conn ≡ false
+          go true e = absurd (clash (more node conn e) live)
           go false e = e
 
   pub keep_grows : (next_book : Ledger) (next_refused : List Refused) → Grows book refused next_book next_refused → ((entry : Entry) → Has entry next_book.history → IsTaken p sent entry) →

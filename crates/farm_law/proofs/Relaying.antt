@@ -27,13 +27,13 @@ use Rattle.farm_law.proofs.Answering.{HasFrom, Fits-self, Fits-answer, answers_b
 use Rattle.farm_law.proofs.Asking.{Asks-map, Asks-rows, IsAsked-map}
 
 -- the answer to what a relay has sent goes to the asker
-pub to_asker : (l : Premises) (p : Parties) {has_ended : ConnId → Bool} {rows : List Pending} {book : Ledger} {refused : List Refused} {sent : Traffic} {node relay : NodeNo} {conn : ConnId} {asker : Asker} {request answer : Message} →
+pub to_asker : (l : Premises) (p : Parties) {has_ended : NodeNo → ConnId → Bool} {rows : List Pending} {book : Ledger} {refused : List Refused} {sent : Traffic} {node relay : NodeNo} {conn : ConnId} {asker : Asker} {request answer : Message} →
     p.is_relay relay ≡ true → HasFrom p relay node → answer.header.request ≡ false → Answers p book refused node conn request answer →
     Asks p has_ended rows sent asker.conn asker.node (Stems asker request) → Asks p has_ended rows sent asker.conn asker.node (Fits p book refused relay asker.conn (under asker.hop answer))
 to_asker l p {book = book} {refused = refused} {relay = relay} {asker = asker} {answer = answer} is_relay from flag a asks = Asks-map p (λ asked s.
     Fits-answer flag (subst (λ (h : ℕ). Answers p book refused relay asker.conn asked (under h answer)) s.hop (answers_back l p s.avps is_relay from s.splits s.descends a))) asks
 
-module _ (p : Parties) {has_ended : ConnId → Bool} {items : List Item} {rows : List Pending} {book : Ledger} {refused : List Refused} {sent received : Traffic} (v : Keeps p has_ended items rows book refused sent received) where
+module _ (p : Parties) {has_ended : NodeNo → ConnId → Bool} {items : List Item} {rows : List Pending} {book : Ledger} {refused : List Refused} {sent received : Traffic} (v : Keeps p has_ended items rows book refused sent received) where
   pub keep_forwards : {item : Item} {rest next : List Item} {next_rows : List Pending} (conn : ConnId) (peer : NodeNo) (hop : ℕ) (avps : List RawAvp) →
       Without item items rest → item.message.header.request ≡ true → split_of item.message.body ≡ Ok avps → HasSpelling (record_of (p.name_of item.from)) →
       p.is_client item.to ≡ false → p.is_client peer ≡ false → count_by (row_in (with_hop conn item.to hop)) rows ≡ 0 →
@@ -84,8 +84,8 @@ module _ (p : Parties) {has_ended : ConnId → Bool} {items : List Item} {rows :
       IsRowAsked : Pending → Type 0
       IsRowAsked z = IsAsked p has_ended next_rows sent z.request z.asker
 
-      more : {c : ConnId} → has_ended c ≡ false → (z : Pending) → Has z rows → z.conn ≡ c → Has z next_rows
-      more live z h at = Has-more wr h
+      more : {c : ConnId} {n : NodeNo} → has_ended n c ≡ false → (z : Pending) → Has z rows → z.conn ≡ c → z.relay ≡ n → Has z next_rows
+      more live z h at of = Has-more wr h
 
       stems : Stems asker row.request item.message
       stems = record { hop = refl; avps = avps; splits = splits; descends = renumbered hop (recorded_by (p.name_of item.from) spelled same) }

@@ -21,14 +21,14 @@ use Rattle.farm_law.proofs.Asking.{Asks-less, IsAsked-map}
 use Rattle.farm_law.proofs.Relaying.{to_asker}
 
 -- what is known of an answer under the identifier of a row
-record Matches (p : Parties) (has_ended : ConnId → Bool) (rest : List Item) (rows left : List Pending) (book : Ledger) (refused : List Refused) (sent : Traffic) (item : Item) (row : Pending) : Type 0 where
+record Matches (p : Parties) (has_ended : NodeNo → ConnId → Bool) (rest : List Item) (rows left : List Pending) (book : Ledger) (refused : List Refused) (sent : Traffic) (item : Item) (row : Pending) : Type 0 where
   pub answers : Answers p book refused item.from item.conn row.request item.message
   pub weighs : (class : Class) → item_in p class item ≡ row_in class row
   pub sound : (other : Item) → Has other rest → IsSound p has_ended left book refused sent other
   pub asked : (other : Pending) → Has other rows → IsAsked p has_ended left sent other.request other.asker
 
-module _ (p : Parties) {has_ended : ConnId → Bool} {items rest : List Item} {rows left : List Pending} {book : Ledger} {refused : List Refused} {sent received : Traffic} {item : Item} {row : Pending}
-    (wo : Without item items rest) (flag : item.message.header.request ≡ false) (server : p.is_client item.from ≡ false) (live : has_ended item.conn ≡ false)
+module _ (p : Parties) {has_ended : NodeNo → ConnId → Bool} {items rest : List Item} {rows left : List Pending} {book : Ledger} {refused : List Refused} {sent received : Traffic} {item : Item} {row : Pending}
+    (wo : Without item items rest) (flag : item.message.header.request ≡ false) (server : p.is_client item.from ≡ false) (live : has_ended item.to item.conn ≡ false)
     (wr : Without row rows left) (at_conn : row.conn ≡ item.conn) (at_relay : row.relay ≡ item.to) (at_hop : row.request.header.hop ≡ item.message.header.hop)
     (v : Keeps p has_ended items rows book refused sent received) where
   matched : Matches p has_ended rest rows left book refused sent item row
@@ -48,7 +48,7 @@ module _ (p : Parties) {has_ended : ConnId → Bool} {items rest : List Item} {r
       alone = let a = v.single row.conn row.relay row.request.header.hop in let b = count-without (row_in class_of) wr in let c = ap one own in omega arith
 
       found : (z : Pending) × Has z rows × (z.conn ≡ item.conn) × (z.relay ≡ waiting_node item) × Fits p book refused item.from item.conn item.message z.request
-      found = (v.sound item (Has-without wo) (inr server)).relay (ap p.is_client (waiting_answer item flag ∙ sym at_relay) ∙ relay) live
+      found = (v.sound item (Has-without wo) (inr server)).relay (ap p.is_client (waiting_answer item flag ∙ sym at_relay) ∙ relay) (ap (λ (n : NodeNo). has_ended n item.conn) (waiting_answer item flag) ∙ live)
 
       found_is : found.0 ≡ row
       found_is = elim (Has-split wr found.1) [
@@ -72,7 +72,7 @@ module _ (p : Parties) {has_ended : ConnId → Bool} {items rest : List Item} {r
           ∙ ap (λ (d : ℕ). class row.conn row.relay row.request.header.hop d) (identifiers answers).end
 
       bound : open_in p class_of items rows ≤ count_by (row_in class_of) rows
-      bound = v.relays row.conn row.relay row.request.header.hop relay (ap has_ended at_conn ∙ live)
+      bound = v.relays row.conn row.relay row.request.header.hop relay (ap (λ (n : NodeNo). has_ended n row.conn) at_relay ∙ ap (λ (c : ConnId). has_ended item.to c) at_conn ∙ live)
 
       no_rest : count_by (item_in p class_of) rest ≡ 0
       no_rest =

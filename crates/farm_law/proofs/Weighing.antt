@@ -78,8 +78,8 @@ other_node p conn node hop end c n h e client no_client = none_if _ (λ t.
     clash (ap p.is_client b.1 ∙ client) no_client)
 
 -- what stands on a connection that has ended counts for none that has not
-pub other_conn : (has_ended : ConnId → Bool) (conn : ConnId) (node : NodeNo) (hop : ℕ) (c : ConnId) (n : NodeNo) (h e : ℕ) → has_ended conn ≡ false → has_ended c ≡ true → one (with_hop conn node hop c n h e) ≡ 0
-other_conn has_ended conn node hop c n h e live gone = none_if _ (λ t. clash (ap has_ended (sym (with_hop-is conn node hop c n h e t).0) ∙ gone) live)
+pub other_conn : (has_ended : NodeNo → ConnId → Bool) (conn : ConnId) (node : NodeNo) (hop : ℕ) (c : ConnId) (n : NodeNo) (h e : ℕ) → has_ended node conn ≡ false → has_ended n c ≡ true → one (with_hop conn node hop c n h e) ≡ 0
+other_conn has_ended conn node hop c n h e live gone = none_if _ (λ t. let k = with_hop-is conn node hop c n h e t in clash (ap (λ (m : NodeNo). has_ended m conn) (sym k.1) ∙ ap (λ (x : ConnId). has_ended n x) (sym k.0) ∙ gone) live)
 
 -- an identifier that was free is in use once
 pub single-more : (rows : List Pending) (conn : ConnId) (node : NodeNo) (hop : ℕ) (c : ConnId) (n : NodeNo) (h e : ℕ) →

@@ -38,8 +38,9 @@ pub record Refused : Type 0 where
 pub record Farm : Type 0 where
   pub items : List Item
   pub rows : List Pending
-  -- the connections that have ended; one that is not made yet has not
-  pub has_ended : ConnId → Bool
+  -- Where connections have ended: each of the two nodes learns it by itself, and until it has, its end stands. One that is
+  -- not made yet has not ended.
+  pub has_ended : NodeNo → ConnId → Bool
   pub book : Ledger
   -- what nodes have refused so far
   pub refused : List Refused

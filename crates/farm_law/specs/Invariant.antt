@@ -22,10 +22,10 @@ use Rattle.farm_law.specs.Parties.{Parties}
 -- ---- who has asked what
 
 -- The node has asked something on the connection, such that P: a client has sent it, and a relay awaits its answer
--- unless the connection has ended.
-pub record Asks (p : Parties) (has_ended : ConnId → Bool) (rows : List Pending) (sent : Traffic) (conn : ConnId) (node : NodeNo) (P : Message → Type 0) : Type 0 where
+-- unless the connection has ended for it; whether it has for the other node is not asked.
+pub record Asks (p : Parties) (has_ended : NodeNo → ConnId → Bool) (rows : List Pending) (sent : Traffic) (conn : ConnId) (node : NodeNo) (P : Message → Type 0) : Type 0 where
   pub client : p.is_client node ≡ true → (message : Message) × Has (conn, message) sent × (message.header.request ≡ true) × P message
-  pub relay : p.is_client node ≡ false → has_ended conn ≡ false → (row : Pending) × Has row rows × (row.conn ≡ conn) × (row.relay ≡ node) × P row.request
+  pub relay : p.is_client node ≡ false → has_ended node conn ≡ false → (row : Pending) × Has row rows × (row.conn ≡ conn) × (row.relay ≡ node) × P row.request
 
 -- a message that a node tells is what was asked, or answers it
 pub record Fits (p : Parties) (book : Ledger) (refused : List Refused) (node : NodeNo) (conn : ConnId) (message asked : Message) : Type 0 where
@@ -39,12 +39,12 @@ pub record Stems (asker : Asker) (request asked : Message) : Type 0 where
   pub splits : split_of asked.body ≡ Ok avps
   pub descends : Descends asked request
 
-abbrev pub IsAsked : Parties → (ConnId → Bool) → List Pending → Traffic → Message → Option Asker → Type 0
+abbrev pub IsAsked : Parties → (NodeNo → ConnId → Bool) → List Pending → Traffic → Message → Option Asker → Type 0
 IsAsked p has_ended rows sent request None = Unit {0}
 IsAsked p has_ended rows sent request (Some asker) = Asks p has_ended rows sent asker.conn asker.node (Stems asker request)
 
 -- a message on its way was asked, or answers what was; answers that a client sends stand for nothing
-abbrev pub IsSound : Parties → (ConnId → Bool) → List Pending → Ledger → List Refused → Traffic → Item → Type 0
+abbrev pub IsSound : Parties → (NodeNo → ConnId → Bool) → List Pending → Ledger → List Refused → Traffic → Item → Type 0
 IsSound p has_ended rows book refused sent item =
     (item.message.header.request ≡ true) ⊎ (p.is_client item.from ≡ false) → Asks p has_ended rows sent item.conn (waiting_node item) (Fits p book refused item.from item.conn item.message)
 
@@ -80,12 +80,12 @@ IsTaken p sent (Sweep moment) = Unit {0}
 
 -- ---- the whole
 
-pub record Keeps (p : Parties) (has_ended : ConnId → Bool) (items : List Item) (rows : List Pending) (book : Ledger) (refused : List Refused) (sent received : Traffic) : Type 0 where
+pub record Keeps (p : Parties) (has_ended : NodeNo → ConnId → Bool) (items : List Item) (rows : List Pending) (book : Ledger) (refused : List Refused) (sent received : Traffic) : Type 0 where
   -- no more open or answered than sent
   pub clients : (conn : ConnId) (hop end : ℕ) → p.is_client (p.client_on conn) ≡ true →
       open_in p (with_both conn (p.client_on conn) hop end) items rows + answers_with received conn hop end ≤ requests_with sent conn hop end
   -- at most one place goes on from a request that a relay has sent, and none without one
-  pub relays : (conn : ConnId) (node : NodeNo) (hop : ℕ) → p.is_client node ≡ false → has_ended conn ≡ false → open_in p (with_hop conn node hop) items rows ≤ count_by (row_in (with_hop conn node hop)) rows
+  pub relays : (conn : ConnId) (node : NodeNo) (hop : ℕ) → p.is_client node ≡ false → has_ended node conn ≡ false → open_in p (with_hop conn node hop) items rows ≤ count_by (row_in (with_hop conn node hop)) rows
   -- no identifier is in use twice
   pub single : (conn : ConnId) (node : NodeNo) (hop : ℕ) → count_by (row_in (with_hop conn node hop)) rows ≤ 1
   -- what stands there is what was asked, or answers it
@@ -108,4 +108,4 @@ IsKept p f = Keeps p f.has_ended f.items f.rows f.book f.refused f.sent f.receiv
 
 -- a farm in which nothing has happened
 abbrev pub new_farm : Ledger → Farm
-new_farm book = record { items = []; rows = []; has_ended = λ conn. false; book = book; refused = []; sent = []; received = [] }
+new_farm book = record { items = []; rows = []; has_ended = λ node conn. false; book = book; refused = []; sent = []; received = [] }

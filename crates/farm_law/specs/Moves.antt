@@ -83,33 +83,33 @@ pub data Move (p : Parties) : Farm → Farm → Type 0 where
       p.is_relay item.to ≡ true → p.is_client item.to ≡ false → p.is_client peer ≡ false → count_by (row_in (with_hop conn item.to hop)) f.rows ≡ 0 →
       Without (record { conn = conn; from = item.to; to = peer; message = forwarded p hop item }) items rest → Without (row_for p conn hop item) rows f.rows →
       Move p f (record f { items = items; rows = rows })
-  -- a relay sends an answer back to the asker of its request
+  -- a relay, for which the connection stands, sends an answer back to the asker of its request
   returns : {f : Farm} {item : Item} {row : Pending} {rest items : List Item} {rows : List Pending} (asker : Asker) → Without item f.items rest → item.message.header.request ≡ false →
-      p.is_client item.from ≡ false → p.is_relay item.to ≡ true → p.is_linked item.to item.from ≡ true → f.has_ended item.conn ≡ false →
+      p.is_client item.from ≡ false → p.is_relay item.to ≡ true → p.is_linked item.to item.from ≡ true → f.has_ended item.to item.conn ≡ false →
       Without row f.rows rows → row.conn ≡ item.conn → row.relay ≡ item.to → row.request.header.hop ≡ item.message.header.hop → row.asker ≡ Some asker →
       Without (record { conn = asker.conn; from = item.to; to = asker.node; message = under asker.hop item.message }) items rest →
       Move p f (record f { items = items; rows = rows })
   -- a relay gets an answer that nobody waits for any more
   forgets : {f : Farm} {item : Item} {row : Pending} {rest : List Item} {rows : List Pending} → Without item f.items rest → item.message.header.request ≡ false →
-      p.is_client item.from ≡ false → f.has_ended item.conn ≡ false →
+      p.is_client item.from ≡ false → f.has_ended item.to item.conn ≡ false →
       Without row f.rows rows → row.conn ≡ item.conn → row.relay ≡ item.to → row.request.header.hop ≡ item.message.header.hop →
       Move p f (record f { items = rest; rows = rows })
   -- the connections of some askers have ended
   orphans : {f : Farm} {rows : List Pending} → Orphaned f.rows rows → Move p f (record f { rows = rows })
-  -- requests on connections that have ended are given up without an answer
-  drops : {f : Farm} {rows : List Pending} → Left (λ row. f.has_ended row.conn ≡ true) f.rows rows → Move p f (record f { rows = rows })
-  -- a request on a connection that has ended is sent again on another one
-  sends_again : {f : Farm} {row : Pending} {left rows : List Pending} {items : List Item} (conn : ConnId) (peer : NodeNo) (hop : ℕ) → Without row f.rows left → f.has_ended row.conn ≡ true →
+  -- requests on connections that have ended for the relay are given up without an answer
+  drops : {f : Farm} {rows : List Pending} → Left (λ row. f.has_ended row.relay row.conn ≡ true) f.rows rows → Move p f (record f { rows = rows })
+  -- a request on a connection that has ended for the relay is sent again on another one
+  sends_again : {f : Farm} {row : Pending} {left rows : List Pending} {items : List Item} (conn : ConnId) (peer : NodeNo) (hop : ℕ) → Without row f.rows left → f.has_ended row.relay row.conn ≡ true →
       p.is_client peer ≡ false → count_by (row_in (with_hop conn row.relay hop)) left ≡ 0 →
       Without (record { conn = conn; from = row.relay; to = peer; message = again hop row.request }) items f.items → Without (row_again conn hop row) rows left →
       Move p f (record f { items = items; rows = rows })
-  -- a relay refuses a request on a connection that has ended
-  gives_up : {f : Farm} {row : Pending} {rows : List Pending} {items : List Item} (asker : Asker) (refusal : Refusal) → Without row f.rows rows → f.has_ended row.conn ≡ true →
+  -- a relay refuses a request on a connection that has ended for it
+  gives_up : {f : Farm} {row : Pending} {rows : List Pending} {items : List Item} (asker : Asker) (refusal : Refusal) → Without row f.rows rows → f.has_ended row.relay row.conn ≡ true →
       row.asker ≡ Some asker → p.is_relay row.relay ≡ true →
       Without (record { conn = asker.conn; from = row.relay; to = asker.node; message = under asker.hop (refusal_of (p.name_of row.relay) p.realm row.request refusal) }) items f.items →
       Move p f (record f { items = items; rows = rows; refused = f.refused ++ record { node = row.relay; conn = row.conn; request = row.request; refusal = refusal } ∷ [] })
-  -- connections end; one that has ended does not come back
-  ends : {f : Farm} (has_ended : ConnId → Bool) → ((conn : ConnId) → f.has_ended conn ≡ true → has_ended conn ≡ true) → Move p f (record f { has_ended = has_ended })
+  -- connections end, for one node or for both; one that has ended for a node does not come back
+  ends : {f : Farm} (has_ended : NodeNo → ConnId → Bool) → ((node : NodeNo) (conn : ConnId) → f.has_ended node conn ≡ true → has_ended node conn ≡ true) → Move p f (record f { has_ended = has_ended })
 
 -- one after the other
 pub data Moves (p : Parties) : Farm → Farm → Type 0 where

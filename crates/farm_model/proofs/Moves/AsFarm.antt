@@ -103,9 +103,13 @@ rows_of ends relays = flat_map (rows_at ends) relays
 
 -- ---- the farm
 
--- the connection was made, and does not stand
-abbrev pub has_ended_in : Ends → List Direction → ConnId → Bool
-has_ended_in made directions conn = nat_le 1 conn.0 && nat_le conn.0 (length made) && not (list_any (is_on conn) directions)
+-- whether a node's messages on a connection come in this direction
+abbrev pub is_inward : NodeNo → ConnId → Direction → Bool
+is_inward node conn direction = is_node direction.to node && is_on conn direction
+
+-- the connection was made, and nothing on it comes to the node any more
+abbrev pub has_ended_in : Ends → List Direction → NodeNo → ConnId → Bool
+has_ended_in made directions node conn = nat_le 1 conn.0 && nat_le conn.0 (length made) && not (list_any (is_inward node conn) directions)
 
 abbrev pub farm_of : Ends → List Refused → WorldState → Farm
 farm_of ends refused w = record {

@@ -29,7 +29,7 @@ use Rattle.farm_model.proofs.Wiring.Linked.{beside_client, client_beside}
 use Rattle.farm_model.proofs.Moves.Moving.{one_move, settled}
 use Rattle.farm_model.proofs.Lists.Placing.{Without-last, Without-left, Without-map, Left-without, parts_gain}
 use Rattle.farm_model.proofs.Lists.Replacing.{map_replaced}
-use Rattle.farm_model.proofs.Wiring.Sides.{same_on, side_of}
+use Rattle.farm_model.proofs.Wiring.Sides.{same_inward, side_of}
 use Rattle.farm_model.proofs.OwnCauses.Refusing.{as_before}
 use Rattle.farm_model.proofs.Moves.StepGoes.{Reason, Goes, StepGoes, outcome_goes}
 use Rattle.farm_model.proofs.Wiring.Taken.{taken, after_taken}
@@ -69,12 +69,12 @@ module _ (site : Site) (made : Ends) (refused : List Refused) (HasReason : Refus
       one_move (sends direction.conn direction.to message (ap (is_client site) client_on ∙ from_client) to_none
       (subst (λ (n : NodeNo). Without (record { conn = direction.conn; from = n; to = direction.to; message = message }) (items_of made sent_on w.fronts)
       (items_of made w.directions w.fronts)) (sym client_on) new)) in
-      let stands = λ (c : ConnId). same_on w.directions sent_on c (map_replaced side_of (is_between client to) direction more w.directions found refl) in
+      let stands = λ (n : NodeNo) (c : ConnId). same_inward w.directions sent_on n c (map_replaced side_of (is_between client to) direction more w.directions found refl) in
       record {
         leads = record {
           refused = refused;
           moves = settled (parties site made) made refused old after (has_ended_in w.ends w.directions) moves
-              (λ c e. same_ended w.ends w.directions sent_on c (stands c) ∙ e);
+              (λ n c e. same_ended w.ends w.directions sent_on n c (stands n c) ∙ e);
           caused = as_before HasReason refused;
         };
         wired = record {

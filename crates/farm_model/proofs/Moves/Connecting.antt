@@ -4,6 +4,7 @@ use Rattle.std.proofs.Common.{refl, sym, subst, ap, ◌∙◌, arith, append-nil
 use Rattle.std.specs.Prelude.{◌&&◌, ◌||◌, ◌==◌, nat_le, flat_map, count_by, slice_get}
 use Rattle.std.specs.List.{list_any}
 use Rattle.std.proofs.lemmas.Bool.{and_parts}
+use Rattle.std.proofs.Math.Bool.{and-false}
 use Rattle.std.proofs.lemmas.Grind.{flat_map-append}
 use Rattle.std.proofs.lemmas.List.Folds.{list_any-append}
 use Rattle.dia_base.specs.declared.number.ConnId.{ConnId}
@@ -23,10 +24,10 @@ use Rattle.farm_model.specs.declared.state.RelayAt.{RelayAt}
 use Rattle.farm_base.specs.CheckedSite.{IsChecked}
 use Rattle.farm_model.specs.FarmStep.{next_conn, with_connection_of, with_connection_at, after_up_by, with_link_of, with_link_at, empty_direction}
 use Rattle.farm_model.specs.FarmStep.{with_new_connection}
-use Rattle.farm_base.specs.Nodes.{is_linked, joins}
+use Rattle.farm_base.specs.Nodes.{is_node, is_linked, joins}
 use Rattle.farm_model.specs.World.{Ends, WorldState, is_on, front_at, is_relay_at, relay_at}
 use Rattle.farm_model.proofs.Lists.Among.{Has-parts, Has-cons}
-use Rattle.farm_model.proofs.Moves.AsFarm.{parties, flights, flights_in, items_at, items_of, rows_of, has_ended_in, farm_of, LeadsTo}
+use Rattle.farm_model.proofs.Moves.AsFarm.{parties, flights, flights_in, items_at, items_of, rows_of, is_inward, has_ended_in, farm_of, LeadsTo}
 use Rattle.farm_model.proofs.Wiring.Joined.{Joins-turned}
 use Rattle.farm_model.proofs.Wiring.Linked.{linked_are_two, linked_turned}
 use Rattle.farm_model.proofs.OwnCauses.Refusing.{at_most_once, as_before}
@@ -100,18 +101,21 @@ module _ (site : Site) (all : Ends) where
 other_conn : (a b : ℕ) → a < b → (b == a) ≡ false
 other_conn a b lt = ne_eqb b a (λ (e : b ≡ a). absurd (omega arith))
 
-still_ended : (w : WorldState) (a b : NodeNo) (conn : ConnId) → has_ended_in w.ends w.directions conn ≡ true → has_ended_in (with_new_connection w a b).ends
-    (with_new_connection w a b).directions conn ≡ true
-still_ended w a b conn e =
-    let one = and_parts (nat_le 1 conn.0 && nat_le conn.0 (length w.ends)) (not (list_any (is_on conn) w.directions)) e in
+still_ended : (w : WorldState) (a b node : NodeNo) (conn : ConnId) → has_ended_in w.ends w.directions node conn ≡ true → has_ended_in
+    (with_new_connection w a b).ends (with_new_connection w a b).directions node conn ≡ true
+still_ended w a b node conn e =
+    let one = and_parts (nat_le 1 conn.0 && nat_le conn.0 (length w.ends)) (not (list_any (is_inward node conn) w.directions)) e in
     let two = and_parts (nat_le 1 conn.0) (nat_le conn.0 (length w.ends)) one.0 in
     let most : conn.0 ≤ length w.ends = leb-true conn.0 (length w.ends) two.1 in
     let more : length w.ends ≤ length (w.ends ++ (a, b) ∷ []) = (let l = length-append w.ends ((a, b) ∷ []) in omega (arith, l)) in
     let new : is_on conn (empty_direction (next_conn w) a b) ≡ false = other_conn conn.0 (length w.ends + 1) (omega (arith, most)) in
-    let none : list_any (is_on conn) (w.directions ++ empty_direction (next_conn w) a b ∷ empty_direction (next_conn w) b a ∷ []) ≡ list_any (is_on conn)
-    w.directions =
-    list_any-append (is_on conn) w.directions _ ∙ ap (λ (c : Bool). list_any (is_on conn) w.directions || (c || (c || false))) new ∙ or_false
-    (list_any (is_on conn) w.directions) in
+    let none : list_any (is_inward node conn) (w.directions ++ empty_direction (next_conn w) a b ∷ empty_direction (next_conn w) b a ∷ []) ≡ list_any
+    (is_inward node conn) w.directions =
+    list_any-append (is_inward node conn) w.directions _
+    ∙ ap (λ (c : Bool). list_any (is_inward node conn) w.directions || ((is_node b node && c) || ((is_node a node && c) || false))) new
+    ∙ ap (λ (c : Bool). list_any (is_inward node conn) w.directions || (c || ((is_node a node && false) || false))) (and-false (is_node b node))
+    ∙ ap (λ (c : Bool). list_any (is_inward node conn) w.directions || (false || (c || false))) (and-false (is_node a node))
+    ∙ or_false (list_any (is_inward node conn) w.directions) in
     both two.0 (le-leb conn.0 (length (w.ends ++ (a, b) ∷ [])) (omega (arith, most, more))) (ap not none ∙ one.1)
   where
     or_false : (b : Bool) → (b || (false || (false || false))) ≡ b

@@ -52,7 +52,7 @@ use Rattle.farm_model.proofs.Wiring.WorldLemmas.{with_traffic_from-more}
 
 module _ (site : Site) (ends : Ends) (Reason : Refused → Type 0) (checked : IsChecked site) (w : WorldState) (wired : IsWired site ends w) (node : NodeNo)
     (lost : ConnId) (relay : RelayState)
-    (stands : relay_at node w.relays ≡ Some relay) (ended : has_ended_in w.ends w.directions lost ≡ true)
+    (stands : relay_at node w.relays ≡ Some relay) (ended : has_ended_in w.ends w.directions node lost ≡ true)
     (single : IsSingle ends w) (causes : (message : Message) (code : ResultCode) → IsStranded relay lost message → next_hop_again (after_end lost relay.node)
     message ≡ Err code → Reason (record { node = node; conn = lost; request = message; refusal = refusal_with code })) where
   abbrev p : Parties
@@ -229,7 +229,7 @@ module _ (site : Site) (ends : Ends) (Reason : Refused → Type 0) (checked : Is
 -- what a relay does when it learns that a connection has ended is moves of the farm, and the farm hangs together as before
 pub relay_loses : (site : Site) (ends : Ends) (Reason : Refused → Type 0) → IsChecked site → (w : WorldState) → IsWired site ends w → (loss : Loss)
     (relay : RelayState) → relay_at loss.node w.relays ≡ Some relay
-    → has_ended_in w.ends w.directions loss.conn ≡ true → IsSingle ends w → (refusals : List Refused) (last : WorldState) → RelayTurn w loss.node relay
+    → has_ended_in w.ends w.directions loss.node loss.conn ≡ true → IsSingle ends w → (refusals : List Refused) (last : WorldState) → RelayTurn w loss.node relay
     (Lost loss.conn) last
     → ((message : Message) (code : ResultCode) → IsStranded relay loss.conn message → next_hop_again (after_end loss.conn relay.node) message ≡ Err code →
     Reason (record { node = loss.node; conn = loss.conn; request = message; refusal = refusal_with code }))

@@ -38,7 +38,7 @@ use Rattle.farm_model.proofs.Wiring.WiredLemmas.{same_items, relay_wired, with_f
 abbrev pub RelayLoses : Site → Ends → Type 1
 RelayLoses site all =
     (HasReason : Refused → Type 0) (refused : List Refused) (w : WorldState) (loss : Loss) (relay : RelayState) (after : WorldState) → IsWired site all w →
-    relay_at loss.node w.relays ≡ Some relay → has_ended_in w.ends w.directions loss.conn ≡ true → IsSingle all w →
+    relay_at loss.node w.relays ≡ Some relay → has_ended_in w.ends w.directions loss.node loss.conn ≡ true → IsSingle all w →
     RelayTurn w loss.node relay (Lost loss.conn) after →
     ((message : Message) (code : ResultCode) → IsStranded relay loss.conn message → next_hop_again (after_end loss.conn relay.node) message ≡ Err code →
     HasReason (record { node = loss.node; conn = loss.conn; request = message; refusal = refusal_with code })) →
@@ -91,7 +91,7 @@ module _ (site : Site) (all : Ends) (relay_loses : RelayLoses site all) (moves_k
   )
 
   one_learns : (refused : List Refused) (w : WorldState) (loss : Loss) (after : WorldState) (front : Option FrontState) → front_at loss.node w.fronts ≡ front →
-      IsWired site all w → has_ended_in w.ends w.directions loss.conn ≡ true → IsSingle all w → LearnsLoss w loss front after
+      IsWired site all w → has_ended_in w.ends w.directions loss.node loss.conn ≡ true → IsSingle all w → LearnsLoss w loss front after
       → ((relay : RelayState) (message : Message) (code : ResultCode) → relay_at loss.node w.relays ≡ Some relay → is_relay site loss.node ≡ true → IsStranded
       relay loss.conn message → next_hop_again (after_end loss.conn relay.node) message ≡ Err code →
       HasReason (record { node = loss.node; conn = loss.conn; request = message; refusal = refusal_with code }))
@@ -107,19 +107,19 @@ module _ (site : Site) (all : Ends) (relay_loses : RelayLoses site all) (moves_k
           (λ message code s h. reasons relay message code at (relay_wired wired.relays at).is_relay s h)
 
   -- what has ended before has ended afterwards
-  ended_later : (w : WorldState) (loss : Loss) (after : WorldState) (front : Option FrontState) → LearnsLoss w loss front after → (conn : ConnId) →
-      has_ended_in w.ends w.directions conn ≡ true → has_ended_in after.ends after.directions conn ≡ true
-  ended_later w loss after (Some front) is conn e = subst (λ (v : WorldState). has_ended_in v.ends v.directions conn ≡ true) (sym is) e
-  ended_later w loss after None is conn e = by_relay (relay_at loss.node w.relays) is
+  ended_later : (w : WorldState) (loss : Loss) (after : WorldState) (front : Option FrontState) → LearnsLoss w loss front after → (end : NodeNo) (conn : ConnId) →
+      has_ended_in w.ends w.directions end conn ≡ true → has_ended_in after.ends after.directions end conn ≡ true
+  ended_later w loss after (Some front) is end conn e = subst (λ (v : WorldState). has_ended_in v.ends v.directions end conn ≡ true) (sym is) e
+  ended_later w loss after None is end conn e = by_relay (relay_at loss.node w.relays) is
     where
-      by_relay : (relay : Option RelayState) → AtRelay w loss.node (Lost loss.conn) relay after → has_ended_in after.ends after.directions conn ≡ true
-      by_relay None same = subst (λ (v : WorldState). has_ended_in v.ends v.directions conn ≡ true) (sym same) e
-      by_relay (Some relay) turn = subst (λ (v : WorldState). has_ended_in v.ends v.directions conn ≡ true) (sym turn.next_is)
-          (traffic_ended w.ends loss.node w.directions turn.sent conn e)
+      by_relay : (relay : Option RelayState) → AtRelay w loss.node (Lost loss.conn) relay after → has_ended_in after.ends after.directions end conn ≡ true
+      by_relay None same = subst (λ (v : WorldState). has_ended_in v.ends v.directions end conn ≡ true) (sym same) e
+      by_relay (Some relay) turn = subst (λ (v : WorldState). has_ended_in v.ends v.directions end conn ≡ true) (sym turn.next_is)
+          (traffic_ended w.ends loss.node w.directions turn.sent end conn e)
 
   -- one after the other
   pub all_learn : {losses : List Loss} {w after : WorldState} {later : List LossAt} (refused : List Refused) → LearnLosses losses w later after → IsKept
-      (parties site all) (farm_of all refused w) → IsWired site all w → ((loss : Loss) → Has loss losses → has_ended_in w.ends w.directions loss.conn ≡ true) →
+      (parties site all) (farm_of all refused w) → IsWired site all w → ((loss : Loss) → Has loss losses → has_ended_in w.ends w.directions loss.node loss.conn ≡ true) →
       GivesReasons site HasReason later
       → Leads (learned losses) refused w after
   all_learn refused all_know kept wired ended reasons = nothing_moves (learned []) refused _ wired
@@ -127,7 +127,7 @@ module _ (site : Site) (all : Ends) (relay_loses : RelayLoses site all) (moves_k
       let first_one = one_learns refused w loss mid (front_at loss.node w.fronts) refl wired (ended loss here) kept.single one
       (λ relay message code at is s h. reasons w loss relay message code here at is s h) in
       let others = all_learn (first_one.0).refused more (moves_keep _ _ (first_one.0).moves kept) first_one.1
-      (λ l h. ended_later w loss mid (front_at loss.node w.fronts) one l.conn (ended l (there h)))
+      (λ l h. ended_later w loss mid (front_at loss.node w.fronts) one l.node l.conn (ended l (there h)))
       (λ v l relay message code h. reasons v l relay message code (there h)) in (
         record {
           refused = (others.0).refused;
@@ -155,7 +155,7 @@ module _ (site : Site) (all : Ends) (relay_loses : RelayLoses site all) (moves_k
       next (loses (Left-parts (Left-filter flights (λ direction. not (is_on conn direction)) w.directions (λ d h e b g. tt))
       (Left-all (flat_map (items_at all) w.fronts))))
       (next (ends (has_ended_in w.ends (without_conn conn w.directions))
-      (λ c e. still_ended w.ends w.directions (without_conn conn w.directions) c
+      (λ n c e. still_ended w.ends w.directions (without_conn conn w.directions) n c
       (λ d h. (Has-filter (λ direction. not (is_on conn direction)) w.directions h).0) e)) done)
 
   pub cut_goes : (refused : List Refused) (w : WorldState) (a b : NodeNo) (direction : Direction) (after : WorldState) (later : List LossAt) → Has direction
@@ -163,13 +163,13 @@ module _ (site : Site) (all : Ends) (relay_loses : RelayLoses site all) (moves_k
       (after_cut w direction.conn) later after
       → GivesReasons site HasReason later → Leads (learned (losses_of_cut a b direction.conn)) refused w after
   cut_goes refused w a b direction after later among kept wired learn reasons =
-      let ended = ended_by_cut w.directions direction (wired.directions direction among) in
+      let ended = λ (end : NodeNo). ended_by_cut w.directions direction end (wired.directions direction among) in
       let rest = all_learn refused learn (moves_keep _ _ (cut_moves refused w direction.conn) kept) (cut_wired w direction.conn wired)
       (λ loss h. both loss h ended) reasons in
       (record { refused = (rest.0).refused; moves = join (cut_moves refused w direction.conn) (rest.0).moves; caused = (rest.0).caused }, rest.1)
     where
-      both : (loss : Loss) → Has loss (losses_of_cut a b direction.conn) → has_ended_in w.ends (without_conn direction.conn w.directions) direction.conn ≡ true
-          → has_ended_in w.ends (without_conn direction.conn w.directions) loss.conn ≡ true
-      both loss here e = e
-      both loss (there here) e = e
+      both : (loss : Loss) → Has loss (losses_of_cut a b direction.conn) → ((end : NodeNo) → has_ended_in w.ends (without_conn direction.conn w.directions) end
+          direction.conn ≡ true) → has_ended_in w.ends (without_conn direction.conn w.directions) loss.node loss.conn ≡ true
+      both loss here e = e loss.node
+      both loss (there here) e = e loss.node
       both loss (there (there h)) e = elim h [ ]

@@ -1,6 +1,7 @@
 -- Moves of the farm: one of them, several one after the other, and by which an item comes or connections end.
 use Rattle.std.proofs.Common.{◌≡◌, Bool, true, List, ◌∷◌, inl, inr, sym, subst}
 use Rattle.dia_base.specs.declared.number.ConnId.{ConnId}
+use Rattle.dia_base.specs.declared.number.NodeNo.{NodeNo}
 use Rattle.farm_law.specs.Farm.{Farm, Item, Refused}
 use Rattle.farm_law.specs.Moves.{Moves, next, done, Move, loses, ends as have_ended}
 use Rattle.farm_law.specs.Parties.{Parties}
@@ -25,7 +26,7 @@ put {p} f g item rest items (inr e) move = subst (λ (is : List Item). Moves p f
     (next (move (item ∷ rest) first) (next (loses (goes tt (Left-all rest))) done))
 
 -- the same connections stand, by another test
-pub settled : (p : Parties) (made : Ends) (refused : List Refused) (f : Farm) (w : WorldState) (has_ended : ConnId → Bool)
-    → Moves p f (record (farm_of made refused w) { has_ended = has_ended }) → ((c : ConnId) → has_ended c ≡ true → has_ended_in w.ends w.directions c ≡ true) →
+pub settled : (p : Parties) (made : Ends) (refused : List Refused) (f : Farm) (w : WorldState) (has_ended : NodeNo → ConnId → Bool)
+    → Moves p f (record (farm_of made refused w) { has_ended = has_ended }) → ((n : NodeNo) (c : ConnId) → has_ended n c ≡ true → has_ended_in w.ends w.directions n c ≡ true) →
     Moves p f (farm_of made refused w)
 settled p made refused f w has_ended moves same = join moves (one_move (have_ended (has_ended_in w.ends w.directions) same))

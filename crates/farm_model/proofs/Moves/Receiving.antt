@@ -47,7 +47,7 @@ module _ (site : Site) (ends : Ends) (Reason : Refused → Type 0) (checked : Is
     (conn : ConnId) (message : Message) (relay : RelayState)
     (stands : relay_at node w.relays ≡ Some relay) (joins : Joins ends conn from node) (items : List Item)
     (taken : Without (record { conn = conn; from = from; to = node; message = message }) items (items_of ends w.directions w.fronts))
-    (lasts : has_ended_in w.ends w.directions conn ≡ false) (linked : is_linked site node from ≡ true) (refusals : List Refused) where
+    (lasts : has_ended_in w.ends w.directions node conn ≡ false) (linked : is_linked site node from ≡ true) (refusals : List Refused) where
   abbrev old : Farm
   old = record (farm_of ends refusals w) { items = items }
 
@@ -222,7 +222,7 @@ module _ (site : Site) (ends : Ends) (Reason : Refused → Type 0) (checked : Is
 pub relay_receives : (site : Site) (ends : Ends) (Reason : Refused → Type 0) → IsChecked site → (w : WorldState) → IsWired site ends w → (node from : NodeNo)
     (conn : ConnId) (message : Message) (relay : RelayState) → relay_at node w.relays ≡ Some relay
     → Joins ends conn from node → (items : List Item) → Without (record { conn = conn; from = from; to = node; message = message }) items
-    (items_of ends w.directions w.fronts) → has_ended_in w.ends w.directions conn ≡ false → is_linked site node from ≡ true
+    (items_of ends w.directions w.fronts) → has_ended_in w.ends w.directions node conn ≡ false → is_linked site node from ≡ true
     → (refusals : List Refused) (last : WorldState) → RelayTurn w node relay (Received conn message) last
     → ((sender : LinkedPeer) (refusal : Refusal) → message.header.request ≡ true → peer_on relay.node conn ≡ Some sender → decision relay sender.name message ≡
     Err refusal → Reason (record { node = node; conn = conn; request = message; refusal = refusal }))

@@ -53,7 +53,7 @@ module _ (site : Site) (all : Ends) (w : WorldState) (node : NodeNo) (wired : Is
       (Left-none held (λ item h. tt))) w.fronts (front_stands node w.fronts front e)
 
   -- its rows were sent on connections that have ended
-  relay_rows : (relay : Option RelayState) → relay_at node w.relays ≡ relay → Left (λ (row : Pending). has_ended_in w.ends left row.conn ≡ true)
+  relay_rows : (relay : Option RelayState) → relay_at node w.relays ≡ relay → Left (λ (row : Pending). has_ended_in w.ends left row.relay row.conn ≡ true)
       (rows_of all w.relays) (rows_of all (with_restart_of_relay node w.relays relay))
   relay_rows None e = Left-all (rows_of all w.relays)
   relay_rows (Some relay) e =
@@ -61,8 +61,8 @@ module _ (site : Site) (all : Ends) (w : WorldState) (node : NodeNo) (wired : Is
       parts_left (rows_at all) (is_relay_at node) (Left-none (rows_at all (record { node = node; relay = relay })) (λ row h.
       let t = Has-unmap (pending_of all node) relay.pending.rows h in
       let r = k.rows t.0 t.1 in
-      subst (λ (p : Pending). has_ended_in w.ends left p.conn ≡ true) t.2
-      (ended_without node (other_end all (t.0).conn node) w.directions (t.0).conn wired.directions r.joins r.below))) w.relays
+      subst (λ (p : Pending). has_ended_in w.ends left p.relay p.conn ≡ true) t.2
+      (ended_without node (other_end all (t.0).conn node) node w.directions (t.0).conn wired.directions r.joins r.below))) w.relays
       (relay_stands node w.relays relay e)
 
   -- ---- moves
@@ -71,7 +71,7 @@ module _ (site : Site) (all : Ends) (w : WorldState) (node : NodeNo) (wired : Is
   restart_moves refused =
       next (loses (Left-parts (Left-filter flights (λ direction. not (touches node direction)) w.directions (λ d h e b g. tt))
       (front_items (front_at node w.fronts) refl)))
-      (next (ends (has_ended_in w.ends left) (λ c e. still_ended w.ends w.directions left c
+      (next (ends (has_ended_in w.ends left) (λ n c e. still_ended w.ends w.directions left n c
       (λ d h. (Has-filter (λ direction. not (touches node direction)) w.directions h).0) e))
       (next (drops (relay_rows (relay_at node w.relays) refl)) done))
 
@@ -104,14 +104,14 @@ module _ (site : Site) (all : Ends) (w : WorldState) (node : NodeNo) (wired : Is
     alone = relay_alone (relay_at node w.relays) refl;
   }
 
-  losses_ended : (loss : Loss) → Has loss (losses_of_restart node w.directions) → has_ended_in w.ends left loss.conn ≡ true
+  losses_ended : (loss : Loss) → Has loss (losses_of_restart node w.directions) → has_ended_in w.ends left loss.node loss.conn ≡ true
   losses_ended loss h =
       let t = Has-unmap (λ (direction : Direction). record { node = direction.to; conn = direction.conn })
       (filter (λ direction. is_node direction.from node) w.directions) h in
       let f = Has-filter (λ direction. is_node direction.from node) w.directions t.1 in
       let k = wired.directions t.0 f.0 in
-      subst (λ (l : Loss). has_ended_in w.ends left l.conn ≡ true) t.2
-      (ended_without node (t.0).to w.directions (t.0).conn wired.directions
+      subst (λ (l : Loss). has_ended_in w.ends left l.node l.conn ≡ true) t.2
+      (ended_without node (t.0).to (t.0).to w.directions (t.0).conn wired.directions
       (subst (λ (n : NodeNo). Joins all (t.0).conn n (t.0).to) (same_node (t.0).from node f.1) k.joins) k.below)
 
   pub restart_goes : (relay_loses : RelayLoses site all) (moves_keep : MovesKeep site all) (HasReason : Refused → Type 0) (refused : List Refused)

@@ -18,7 +18,7 @@ use Rattle.farm_model.proofs.Lists.Finding.{Has-found}
 use Rattle.farm_model.proofs.Wiring.Joined.{Joins-other}
 use Rattle.farm_model.proofs.Lists.Placing.{Without-left}
 use Rattle.farm_model.proofs.Moves.Posting.{Posted, posted}
-use Rattle.farm_model.proofs.Wiring.Sides.{same_on, sides_sent}
+use Rattle.farm_model.proofs.Wiring.Sides.{same_inward, sides_sent}
 use Rattle.farm_model.proofs.Wiring.Wired.{Joins, DirectionIsWired}
 use Rattle.farm_model.proofs.Wiring.WorldLemmas.{outward_is}
 
@@ -54,7 +54,7 @@ posted_across site ends made node conn message directions fronts wired = go (fin
         (subst (λ (n : NodeNo). Joins ends conn node n) (sym (Joins-other joins)) joins) directions fronts wired
 
 -- what is sent ends no connection
-pub traffic_ended : (made : Ends) (node : NodeNo) (directions : List Direction) (sent : Traffic) (conn : ConnId) → has_ended_in made directions conn ≡ true →
-    has_ended_in made (with_traffic_from node directions sent) conn ≡ true
-traffic_ended made node directions sent conn e = same_ended made directions (with_traffic_from node directions sent) conn
-    (same_on directions (with_traffic_from node directions sent) conn (sides_sent node directions sent)) ∙ e
+pub traffic_ended : (made : Ends) (node : NodeNo) (directions : List Direction) (sent : Traffic) (end : NodeNo) (conn : ConnId) → has_ended_in made directions
+    end conn ≡ true → has_ended_in made (with_traffic_from node directions sent) end conn ≡ true
+traffic_ended made node directions sent end conn e = same_ended made directions (with_traffic_from node directions sent) end conn
+    (same_inward directions (with_traffic_from node directions sent) end conn (sides_sent node directions sent)) ∙ e

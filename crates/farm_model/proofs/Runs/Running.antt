@@ -102,7 +102,7 @@ module _ (premises : Premises) (site : Site) (all : Ends) (checked : IsChecked s
         requests = requests;
       })
       go (Some relay) at turn =
-          let stands = same_ended t.before.ends t.before.directions flight.directions flight.conn (k.stands flight.conn) ∙ k.lives in
+          let stands = same_ended t.before.ends t.before.directions flight.directions to flight.conn (k.stands to flight.conn) ∙ k.lives in
           let g = relay_receives site all (Reason t) checked w k.wired to from flight.conn flight.message relay at k.joins
           (items_of all t.before.directions t.before.fronts) k.out stands (linked_turned site from to k.linked) refused t.after turn
           (λ sender refusal flag peer refuses. at_relay relay sender refusal

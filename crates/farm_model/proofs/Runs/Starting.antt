@@ -204,4 +204,4 @@ start_moves site all =
     (sym (no_items site all 0 site.nodes))
     (subst (λ (rs : List Pending). Moves (parties site all) (new_farm (empty_book site)) (record (farm_of all [] (start site)) { items = []; rows = rs }))
     (sym (no_rows site all 0 site.nodes))
-    (next (ends (has_ended_in [] []) (λ conn e. absurd cc)) done))
+    (next (ends (has_ended_in [] []) (λ node conn e. absurd cc)) done))

@@ -1,6 +1,6 @@
 -- The sides of directions: what a direction is but for its messages.
 use Rattle.std.proofs.Common.{◌≡◌, Bool, true, List, [], ◌∷◌, ◌++◌, map, Option, Some, None, refl, sym, subst, ap, ◌∙◌}
-use Rattle.std.specs.Prelude.{filter, ◌==◌, ◌||◌}
+use Rattle.std.specs.Prelude.{filter, ◌==◌, ◌&&◌, ◌||◌}
 use Rattle.std.specs.List.{find, list_any}
 use Rattle.std.proofs.lemmas.Bool.{and_from}
 use Rattle.dia_base.specs.declared.number.ConnId.{ConnId}
@@ -11,11 +11,12 @@ use Rattle.farm_law.specs.Lists.{Has}
 use Rattle.farm_law.proofs.Lists.{Has-append}
 use Rattle.farm_model.specs.declared.state.Direction.{Direction}
 use Rattle.farm_base.specs.Nodes.{is_node}
-use Rattle.farm_model.specs.World.{is_between, is_connected, is_outward, with_message, with_message_in, with_message_from, with_traffic_from, is_on}
+use Rattle.farm_model.specs.World.{is_between, is_connected, is_outward, with_message, with_message_in, with_message_from, with_traffic_from}
 use Rattle.farm_model.proofs.Lists.Among.{Has-unmap, Has-filter, Has-map, Has-kept}
 use Rattle.farm_model.proofs.Lists.Finding.{any_has}
 use Rattle.farm_model.proofs.Lists.Numbering.{node_itself}
 use Rattle.farm_model.proofs.Lists.Replacing.{map_replaced}
+use Rattle.farm_model.proofs.Moves.AsFarm.{is_inward}
 
 -- the connection, and from which node to which
 abbrev pub Side : Type 0
@@ -83,10 +84,16 @@ pub sides_sent : (node : NodeNo) (directions : List Direction) (items : Traffic)
 sides_sent node directions [] = refl
 sides_sent node directions (item ∷ items) = sides_sent node (with_message_from node directions item.0 item.1) items ∙ sides_posted node directions item.0 item.1
 
-any_on : (conn : ConnId) (directions : List Direction) → list_any (is_on conn) directions ≡ list_any (λ (side : Side). side.0.0 == conn.0) (sides directions)
-any_on conn [] = refl
-any_on conn (direction ∷ directions) = ap (λ (b : Bool). is_on conn direction || b) (any_on conn directions)
+-- whether what is on this side comes to a node on a connection
+abbrev comes_to : NodeNo → ConnId → Side → Bool
+comes_to node conn side = is_node side.2 node && side.0.0 == conn.0
 
--- with the same sides the same connections stand
-pub same_on : (old new : List Direction) (conn : ConnId) → sides new ≡ sides old → list_any (is_on conn) new ≡ list_any (is_on conn) old
-same_on old new conn same = any_on conn new ∙ ap (list_any (λ (side : Side). side.0.0 == conn.0)) same ∙ sym (any_on conn old)
+any_inward : (node : NodeNo) (conn : ConnId) (directions : List Direction) → list_any (is_inward node conn) directions ≡ list_any (comes_to node conn)
+    (sides directions)
+any_inward node conn [] = refl
+any_inward node conn (direction ∷ directions) = ap (λ (b : Bool). is_inward node conn direction || b) (any_inward node conn directions)
+
+-- with the same sides the same ends stand
+pub same_inward : (old new : List Direction) (node : NodeNo) (conn : ConnId) → sides new ≡ sides old → list_any (is_inward node conn) new ≡ list_any
+    (is_inward node conn) old
+same_inward old new node conn same = any_inward node conn new ∙ ap (list_any (comes_to node conn)) same ∙ sym (any_inward node conn old)

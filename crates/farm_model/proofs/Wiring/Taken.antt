@@ -2,6 +2,7 @@
 use Rattle.std.proofs.Common.{◌≡◌, ℕ, true, false, List, Option, Some, None, refl, subst, ap, ◌∙◌, eq-eqb}
 use Rattle.std.specs.Prelude.{flat_map, slice_get, remove}
 use Rattle.std.specs.List.{find, list_any}
+use Rattle.std.proofs.lemmas.Bool.{and_from}
 use Rattle.std.proofs.lemmas.Option.{same_Some}
 use Rattle.dia_base.specs.declared.number.ConnId.{ConnId}
 use Rattle.dia_base.specs.declared.number.NodeNo.{NodeNo}
@@ -14,14 +15,15 @@ use Rattle.farm_base.specs.declared.site.Site.{Site}
 use Rattle.farm_model.specs.declared.state.Direction.{Direction}
 use Rattle.farm_model.specs.FarmStep.{Flight, flight_of, flight_in, flight_at}
 use Rattle.farm_base.specs.Lists.{replace_first}
-use Rattle.farm_base.specs.Nodes.{is_linked}
+use Rattle.farm_base.specs.Nodes.{is_node, is_linked}
 use Rattle.farm_model.specs.World.{Ends, WorldState, is_between, is_on}
-use Rattle.farm_model.proofs.Moves.AsFarm.{in_flight, flights, items_at, items_of, has_ended_in, farm_of}
+use Rattle.farm_model.proofs.Moves.AsFarm.{in_flight, flights, items_at, items_of, is_inward, has_ended_in, farm_of}
 use Rattle.farm_model.proofs.Wiring.Ending.{same_ended, stands_if}
 use Rattle.farm_model.proofs.Lists.Finding.{Has-found, any_has}
+use Rattle.farm_model.proofs.Lists.Numbering.{node_itself}
 use Rattle.farm_model.proofs.Lists.Placing.{Without-left, Without-map, Without-removed, parts_lose}
 use Rattle.farm_model.proofs.Lists.Replacing.{map_replaced}
-use Rattle.farm_model.proofs.Wiring.Sides.{same_on, side_of}
+use Rattle.farm_model.proofs.Wiring.Sides.{same_inward, side_of}
 use Rattle.farm_model.proofs.Moves.StepGoes.{Goes}
 use Rattle.farm_model.proofs.Wiring.Wired.{Joins, IsWired}
 use Rattle.farm_model.proofs.Wiring.WiredLemmas.{directions_wired}
@@ -33,8 +35,8 @@ pub record IsTaken (site : Site) (made : Ends) (w : WorldState) (from to : NodeN
   pub joins : Joins made flight.conn from to
   pub linked : is_linked site from to ≡ true
   pub wired : IsWired site made (record w { directions = flight.directions })
-  pub stands : (c : ConnId) → list_any (is_on c) flight.directions ≡ list_any (is_on c) w.directions
-  pub lives : has_ended_in w.ends w.directions flight.conn ≡ false
+  pub stands : (n : NodeNo) (c : ConnId) → list_any (is_inward n c) flight.directions ≡ list_any (is_inward n c) w.directions
+  pub lives : has_ended_in w.ends w.directions to flight.conn ≡ false
 
 module _ (site : Site) (made : Ends) (w : WorldState) (from to : NodeNo) (place : ℕ) (wired : IsWired site made w) where
   taken_as : (direction : Direction) (message : Message) → find (is_between from to) w.directions ≡ Some direction → slice_get direction.messages place ≡ Some
@@ -69,8 +71,10 @@ module _ (site : Site) (made : Ends) (w : WorldState) (from to : NodeNo) (place 
           relays = wired.relays;
           alone = wired.alone;
         };
-        stands = λ c. same_on w.directions left c (map_replaced side_of (is_between from to) direction less w.directions found refl);
-        lives = stands_if w.ends w.directions direction.conn (any_has (is_on direction.conn) has (eq-eqb direction.conn.0 direction.conn.0 refl));
+        stands = λ n c. same_inward w.directions left n c (map_replaced side_of (is_between from to) direction less w.directions found refl);
+        lives = stands_if w.ends w.directions to direction.conn (any_has (is_inward to direction.conn) has
+            (and_from (is_node direction.to to) (is_on direction.conn direction) (ap (λ (n : NodeNo). is_node n to) is.1 ∙ node_itself to)
+            (eq-eqb direction.conn.0 direction.conn.0 refl)));
       }
 
   taken_of : (direction : Direction) (flight : Flight) (got : Option Message) → find (is_between from to) w.directions ≡ Some direction → slice_get
@@ -95,7 +99,7 @@ pub after_taken : (site : Site) (made : Ends) (refused : List Refused) (HasReaso
 after_taken site made refused HasReason w after from to flight t g = record {
   leads = record {
     refused = g.leads.refused;
-    moves = next (have_ended (has_ended_in w.ends flight.directions) (λ c e. same_ended w.ends w.directions flight.directions c (t.stands c) ∙ e))
+    moves = next (have_ended (has_ended_in w.ends flight.directions) (λ n c e. same_ended w.ends w.directions flight.directions n c (t.stands n c) ∙ e))
         g.leads.moves;
     caused = g.leads.caused;
   };
