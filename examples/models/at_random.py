@@ -1,8 +1,8 @@
 """Schedules over the whole farm, chosen at random: the steps are chosen where the model's farm stands, one by one.
 
 A relay sends the requests of a lost connection again in the order of Hop-by-Hop Identifiers that it chose itself, and
-may choose them as it likes. So that no output depends on that choice, a connection is cut, or a node at its end
-restarted, only while each relay there has at most one request on it for which somebody still waits.
+may choose them as it likes. So that no output depends on that choice, a connection is cut or dropped, or a node at its
+end restarted, only while each relay there has at most one request on it for which somebody still waits.
 """
 from dataclasses import dataclass, field, replace
 
@@ -174,7 +174,7 @@ class Player:
     def safe(self, step):
         """Whether no relay has to send two requests again at once."""
         word, *arguments = step
-        if word == "cut":
+        if word in ("cut", "drop"):
             return self.waiting(frozenset(arguments)) <= 1
         if word == "restart":
             return all(self.waiting(pair) <= 1 for pair in self.world.connections if arguments[0] in pair)
@@ -191,10 +191,15 @@ class Player:
     def names(self, kind):
         return [name for name, known in self.site.nodes.items() if known == kind]
 
+    def ends(self):
+        """The ends of connections: each node with the one at the other end."""
+        return [pair for connection in self.world.connections.values()
+                for pair in (connection.nodes, connection.nodes[::-1])]
+
     def flights(self):
-        """Each direction of a connection, with what is in flight there."""
-        return [(a, b, connection.flights[a]) for connection in self.world.connections.values()
-                for a, b in (tuple(connection.flights), tuple(connection.flights)[::-1])]
+        """Each direction in which somebody reads, with what is in flight there."""
+        return [(a, connection.other(a), messages) for connection in self.world.connections.values()
+                for a, messages in connection.flights.items()]
 
     def workers(self, state):
         """The workers for which this question of a front has the answer yes."""
@@ -207,13 +212,21 @@ class Player:
             case "up":
                 return [pair for pair in self.site.links if not self.world.connection(*pair)]
             case "send":
-                clients = [(a, b) for a, b, _ in self.flights() if self.site.nodes[a] == CLIENT]
+                clients = [(a, b) for a, b in self.ends() if self.site.nodes[a] == CLIENT and self.world.knows(a, b)]
                 return clients if self.busy() < self.under_way else []
-            case "deliver" | "lose":
+            case "deliver":
+                return [(a, b, place) for a, b, place in self.in_flight() if self.world.knows(b, a)]
+            case "lose":
                 return self.in_flight()
             case "cut":
-                return [(a, b) for a, b, _ in self.flights()]
-            case "restart":
+                return [(a, b) for a, b in self.ends() if self.world.knows(a, b) or self.world.knows(b, a)]
+            case "accept":
+                return [pair for pair in self.site.links if not self.world.connection(*pair)]
+            case "opened":
+                return [(a, b) for a, b in self.ends() if self.world.connection(a, b).knows.get(a) is False]
+            case "drop":
+                return [(a, b) for a, b in self.ends() if a in self.world.connection(a, b).knows]
+            case "restart" | "crash":
                 return [(name,) for name in self.names(RELAY) + self.names(FRONT)]
             case "pick":
                 return self.workers("can_pick")
@@ -263,7 +276,7 @@ class Player:
     def one_of_these(self, word, found):
         """One of the steps of a word that apply; A and B connect in either order."""
         arguments = self.dice.one_of(found)
-        if word == "up" and self.dice.one_in(6):
+        if word in ("up", "accept") and self.dice.one_in(6):
             arguments = arguments[::-1]
         return self.completed(word, arguments)
 
@@ -276,9 +289,9 @@ class Player:
 
     def ends_connections(self, step):
         word, *arguments = step
-        if word == "cut":
+        if word in ("cut", "drop"):
             return self.world.connection(*arguments) is not None
-        return word == "restart" and self.site.nodes[arguments[0]] != CLIENT
+        return word in ("restart", "crash") and self.site.nodes[arguments[0]] != CLIENT
 
     def finish(self):
         """Brings home what is under way."""

@@ -13,15 +13,18 @@
 Its parts: diameter.py has messages, credit_control.py requests and answers, book.py the accounts, site_data.py what a
 site is, row_site.py the row site, site_file.py how a site file is read, nodes.py clients, fronts and relays, world.py
 the farm, its steps and its output, program.py the command line, messages.py, scenarios.py and site_stories.py the
-schedules written by hand, at_random.py those that are chosen, rows.py the worked examples. Three programs stand beside
-it: request.py prints a request for a schedule of one's own, follow.py what a schedule puts in flight at each step, and
-at_large.py compares the program with the model in random runs.
+schedules written by hand, at_random.py those that are chosen, rows.py the worked examples, each_end.py those of
+connections of which the two nodes learn apart, by the steps `accept`, `opened`, `drop` and `crash`, which the program
+does not know yet. Three programs stand beside it: request.py prints a request for a schedule of one's own, follow.py
+what a schedule puts in flight at each step, and at_large.py compares the program with the model in random runs.
 """
 import sys
 from pathlib import Path
 
+import each_end
 import program
 from at_random import KINDS, STORED, STORED_BY_SITE, Dice, schedule, site_of_kind
+from each_end import found_in
 from program import run
 from row_site import ROW_SITE
 from rows import ROWS, failures
@@ -126,12 +129,13 @@ def dependent_runs():
 
 
 def check(folder):
-    faults = [*failures(), *differences(folder), *dependent_runs()]
+    faults = [*failures(), *differences(folder), *dependent_runs(), *each_end.failures(), *found_in(RANDOM_RUNS, 1)[0]]
     for fault in faults:
         print(fault)
     stored = len(list(schedules_in(folder)))
-    print(f"{len(ROWS)} worked examples, {stored} stored schedules, {RANDOM_RUNS} random runs of each of {len(KINDS)} "
-          f"kinds with {len(CHOICES)} choices of identifiers: {len(faults)} faults")
+    print(f"{len(ROWS) + len(each_end.ROWS)} worked examples, {stored} stored schedules, {RANDOM_RUNS} random runs of each "
+          f"of {len(KINDS)} kinds with {len(CHOICES)} choices of identifiers, {RANDOM_RUNS} of nodes that learn apart: "
+          f"{len(faults)} faults")
     return 1 if faults else 0
 
 

@@ -1,10 +1,12 @@
 """The farm as a whole: its connections, what is in flight on them, the steps of a schedule, and what is printed.
 
-A connection is two lists of messages in flight, one for each direction. Connections are numbered from 1 in the order
-in which they are made. A step that does not apply changes nothing and is counted.
+A connection has two ends, and a list of messages in flight for each direction. Each end learns by itself: of two nodes
+the one that is connected to knows a connection first, and one may take it for lost while the other still uses it. It is
+gone once both have dropped it. Between two nodes there is one connection at most. Connections are numbered from 1 in the
+order in which they are made, and no number is used again. A step that does not apply changes nothing and is counted.
 """
 import re
-from dataclasses import dataclass, field
+from dataclasses import dataclass
 
 from book import Book
 from diameter import Message
@@ -15,7 +17,8 @@ SCHEDULE_LIMIT, STEPS_LIMIT = 16_777_216, 1_000_000
 # The words of a schedule, each with what follows it.
 WORDS = {"up": "node node", "send": "node node message", "deliver": "node node number", "lose": "node node number",
          "cut": "node node", "restart": "node", "pick": "node number", "charge": "node number number",
-         "refuse": "node number", "emit": "node number", "sweep": "number"}
+         "refuse": "node number", "emit": "node number", "sweep": "number", "accept": "node node",
+         "opened": "node node", "drop": "node node", "crash": "node"}
 
 
 def lowest_free(used, old):
@@ -25,13 +28,26 @@ def lowest_free(used, old):
 
 @dataclass
 class Connection:
-    """`flights` has a list of messages for each direction, by the name of the node that sends."""
+    """`nodes` are the one that opened it and the other. `knows` has the ends that stand, by the names of their nodes:
+    whether the node has learned of it. `flights` has a list of messages for each direction in which somebody still reads,
+    by the name of the node that sends.
+    """
 
     number: int
-    flights: dict = field(default_factory=dict)
+    nodes: tuple
+    knows: dict
+    flights: dict
 
     def other(self, node):
-        return next(name for name in self.flights if name != node)
+        return self.nodes[self.nodes[0] == node]
+
+    def known_to(self, node):
+        return self.knows.get(node, False)
+
+    def end(self, node):
+        """The node's end is gone, with what is on its way to it."""
+        del self.knows[node]
+        del self.flights[self.other(node)]
 
 
 class World:
@@ -54,40 +70,57 @@ class World:
     def connection(self, a, b):
         return self.connections.get(frozenset((a, b)))
 
-    def flight(self, a, b):
-        """What is in flight from `a` to `b`, or None where they are not connected."""
+    def knows(self, a, b):
+        """Whether `a` knows a connection with `b`."""
         connection = self.connection(a, b)
-        return connection and connection.flights[a]
+        return connection is not None and connection.known_to(a)
+
+    def flight(self, a, b):
+        """What is in flight from `a` to `b`: nothing where there is no connection, or where `b` has dropped it."""
+        connection = self.connection(a, b)
+        return connection.flights.get(a, []) if connection else []
 
     def post(self, sender, outs):
-        """What a node sends joins the ends of the lists of its connections."""
+        """What a node sends joins the ends of the lists of its connections; it is lost where nobody reads any more."""
         for number, message in outs:
             for connection in self.connections.values():
-                if connection.number == number:
+                if connection.number == number and sender in connection.flights:
                     connection.flights[sender].append(message)
 
     def up(self, a, b):
+        return self.accept(b, a) and self.opened(a, b)
+
+    def accept(self, b, a):
+        """A new connection, which `a` opens: `b` knows it, `a` not yet."""
         if frozenset((a, b)) not in self.site.linked or self.connection(a, b):
             return False
         self.made += 1
-        self.connections[frozenset((a, b))] = Connection(self.made, {a: [], b: []})
-        self.nodes[a].conn_up(b, self.made)
+        self.connections[frozenset((a, b))] = Connection(self.made, (a, b), {a: False, b: True}, {a: [], b: []})
         self.nodes[b].conn_up(a, self.made)
         return True
 
+    def opened(self, a, b):
+        """`a` learns that its connection with `b` is made, also where `b` has dropped it by then."""
+        connection = self.connection(a, b)
+        if connection is None or connection.knows.get(a) is not False:
+            return False
+        connection.knows[a] = True
+        self.nodes[a].conn_up(b, connection.number)
+        return True
+
     def send(self, client, node, message):
-        if self.site.nodes[client] != CLIENT or not self.connection(client, node):
+        if self.site.nodes[client] != CLIENT or not self.knows(client, node):
             return False
         self.flight(client, node).append(message)
         return True
 
     def taken(self, a, b, place):
         """The message at this place from `a` to `b`, which leaves the list; None where there is none."""
-        flight = self.flight(a, b) or []
+        flight = self.flight(a, b)
         return flight.pop(place) if place < len(flight) else None
 
     def deliver(self, a, b, place):
-        message = self.taken(a, b, place)
+        message = self.taken(a, b, place) if self.knows(b, a) else None
         if message is None:
             return False
         self.post(b, self.nodes[b].on_message(self.connection(a, b).number, message))
@@ -96,23 +129,51 @@ class World:
     def lose(self, a, b, place):
         return self.taken(a, b, place) is not None
 
-    def cut(self, a, b):
-        connection = self.connections.pop(frozenset((a, b)), None)
-        if connection is None:
+    def end(self, a, b):
+        """The end of `a` is gone, and with the second end the connection."""
+        connection = self.connection(a, b)
+        connection.end(a)
+        if not connection.knows:
+            del self.connections[frozenset((a, b))]
+
+    def drop(self, a, b):
+        """`a` learns that its connection with `b` has ended; one that it has not learned of yet it gives up."""
+        connection = self.connection(a, b)
+        if connection is None or a not in connection.knows:
             return False
-        for node in (a, b):
-            self.post(node, self.nodes[node].conn_lost(connection.number))
+        known = connection.known_to(a)
+        self.end(a, b)
+        if known:
+            self.post(a, self.nodes[a].conn_lost(connection.number))
         return True
 
-    def restart(self, node):
+    def crash(self, node):
+        """A relay or a front forgets everything. Its peers know nothing of it yet."""
         if self.site.nodes[node] == CLIENT:
             return False
         self.nodes[node].restart()
-        for pair, connection in sorted(self.connections.items(), key=lambda item: item[1].number):
-            if node in pair:
-                del self.connections[pair]
-                other = connection.other(node)
-                self.post(other, self.nodes[other].conn_lost(connection.number))
+        for connection in list(self.connections.values()):
+            if node in connection.knows:
+                self.end(node, connection.other(node))
+        return True
+
+    def cut(self, a, b):
+        """All that is in flight between them is lost, and both learn that the connection has ended."""
+        if not self.knows(a, b) and not self.knows(b, a):
+            return False
+        for flight in self.connection(a, b).flights.values():
+            flight.clear()
+        self.drop(a, b)
+        self.drop(b, a)
+        return True
+
+    def restart(self, node):
+        """A node crashes, and all its peers learn it."""
+        connections = [it for pair, it in self.connections.items() if node in pair]
+        if not self.crash(node):
+            return False
+        for connection in sorted(connections, key=lambda it: it.number):
+            self.drop(connection.other(node), node)
         return True
 
     def front(self, name):
