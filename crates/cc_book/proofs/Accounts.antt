@@ -35,21 +35,25 @@ record Belongs (validity : ℕ) (session : List ℕ) (now : Option Opened) (post
   pub closed : (opens posting && is_of session posting.entry) ≡ true → is_some now ≡ false
   pub account : is_of session posting.entry ≡ true → (posting.grants ≡ []) ⊎ (account_in (next_session validity session now posting) ≡ posting.account)
 
-closed_by : (opened known success own : Bool) (kind : RequestKind) → ((settles_by kind opened known && (is_initial_kind kind && success)) && own) ≡ true → opened ≡ false
+closed_by : (opened known success own : Bool) (kind : RequestKind) → ((settles_by kind opened known && (is_initial_kind kind && success)) && own) ≡ true
+    → opened ≡ false
 closed_by false known success own kind e = refl
 closed_by true known success own Initial e = absurd cc
 closed_by true known success own Update e = absurd cc
 closed_by true known success own Termination e = absurd cc
 closed_by true known success own Event e = absurd cc
 
-belongs_by : (validity moment : ℕ) (mine : Option ℕ) (now : Option Opened) (known own : Bool) (holds : List Hold) (kind : RequestKind) (code : ResultCode) → settles_by kind (is_some now) known ≡ true → own ≡ true
+belongs_by : (validity moment : ℕ) (mine : Option ℕ) (now : Option Opened) (known own : Bool) (holds : List Hold) (kind : RequestKind) (code : ResultCode)
+    → settles_by kind (is_some now) known ≡ true → own ≡ true
     → (grants_with kind code holds ≡ [])
-    ⊎ (account_in (cond ((is_initial_kind kind && is_success code) && own) (Some (opened_at validity (account_by kind mine (account_in now)) moment)) (option_and_then (λ (opened : Opened). cond own (session_by validity opened moment kind) (Some opened)) now))
+    ⊎ (account_in (cond ((is_initial_kind kind && is_success code) && own) (Some (opened_at validity (account_by kind mine (account_in now)) moment))
+    (option_and_then (λ (opened : Opened). cond own (session_by validity opened moment kind) (Some opened)) now))
     ≡ account_by kind mine (account_in now))
 belongs_by validity moment mine now known own holds Initial code settles is = by (is_success code) own is where
   by : (b own : Bool) → own ≡ true
       → (cond b holds [] ≡ [])
-      ⊎ (account_in (cond (b && own) (Some (opened_at validity mine moment)) (option_and_then (λ (opened : Opened). cond own (session_by validity opened moment Initial) (Some opened)) now)) ≡ mine)
+      ⊎ (account_in (cond (b && own) (Some (opened_at validity mine moment))
+      (option_and_then (λ (opened : Opened). cond own (session_by validity opened moment Initial) (Some opened)) now)) ≡ mine)
   by true true is = inr refl
   by true false is = absurd cc
   by false own is = inl refl
@@ -70,45 +74,56 @@ unfolding Granted
 granted-own terms before moment request = by (settles_after terms before request) refl where
   by : (b : Bool) → settles_after terms before request ≡ b
       → (grants_by terms before request b ≡ [])
-      ⊎ (account_in (cond ((b && (is_initial_kind request.kind && is_success (reply_after terms before request).code)) && same_session request.session request.session)
+      ⊎ (account_in
+      (cond ((b && (is_initial_kind request.kind && is_success (reply_after terms before request).code)) && same_session request.session request.session)
       (Some (opened_at terms.validity (charged_account terms before request) moment.0))
-      (option_and_then (λ (opened : Opened). cond (same_session request.session request.session) (session_by terms.validity opened moment.0 request.kind) (Some opened)) (session_of terms.validity request.session before)))
+      (option_and_then (λ (opened : Opened). cond (same_session request.session request.session) (session_by terms.validity opened moment.0 request.kind)
+      (Some opened)) (session_of terms.validity request.session before)))
       ≡ charged_account terms before request)
   by true settles =
-      belongs_by terms.validity moment.0 (account_of terms.accounts request.subscriptions) (session_of terms.validity request.session before) (is_some (account_of terms.accounts request.subscriptions))
-      (same_session request.session request.session) (holds_from terms.tariffs (free_to_grant terms before request) request.services) request.kind (reply_after terms before request).code settles (own_session request.session)
+      belongs_by terms.validity moment.0 (account_of terms.accounts request.subscriptions) (session_of terms.validity request.session before)
+      (is_some (account_of terms.accounts request.subscriptions))
+      (same_session request.session request.session) (holds_from terms.tariffs (free_to_grant terms before request) request.services) request.kind
+      (reply_after terms before request).code settles (own_session request.session)
   by false settles = inl refl
 
-belongs : (terms : Terms) (before : List Posting) (session : List ℕ) (entry : Entry) → Belongs terms.validity session (session_of terms.validity session before) (posting_of terms before entry)
+belongs : (terms : Terms) (before : List Posting) (session : List ℕ) (entry : Entry)
+    → Belongs terms.validity session (session_of terms.validity session before) (posting_of terms before entry)
 unfolding Granted
 belongs terms before session (Take moment request) = record {
   closed = λ own. by own;
   account = λ own. subst (Granted terms before moment request) (same_session-equal request.session session own) (granted-own terms before moment request);
 } where
   is_own : (opens (posting_of terms before (Take moment request)) && same_session request.session session) ≡ true → request.session ≡ session
-  is_own own = same_session-equal request.session session (and_parts (opens (posting_of terms before (Take moment request))) (same_session request.session session) own).1
+  is_own own = same_session-equal request.session session
+      (and_parts (opens (posting_of terms before (Take moment request))) (same_session request.session session) own).1
 
   by : (opens (posting_of terms before (Take moment request)) && same_session request.session session) ≡ true → is_open terms.validity session before ≡ false
   by own =
       subst (λ (id : List ℕ). is_open terms.validity id before ≡ false) (is_own own)
-      (closed_by (is_open terms.validity request.session before) (is_some (account_of terms.accounts request.subscriptions)) (is_success (reply_after terms before request).code) (same_session request.session session) request.kind own)
+      (closed_by (is_open terms.validity request.session before) (is_some (account_of terms.accounts request.subscriptions))
+      (is_success (reply_after terms before request).code) (same_session request.session session) request.kind own)
 belongs terms before session (Sweep moment) = record { closed = λ own. absurd cc; account = λ own. absurd cc }
 
 -- postings of which each does, from a state of the session on
 unfoldable AllBelong : ℕ → List ℕ → Option Opened → List Posting → Type 0
 AllBelong validity session now [] = Unit {0}
-AllBelong validity session now (posting ∷ after) = Belongs validity session now posting × AllBelong validity session (next_session validity session now posting) after
+AllBelong validity session now (posting ∷ after) =
+    Belongs validity session now posting × AllBelong validity session (next_session validity session now posting) after
 
 belong_push : (validity : ℕ) (session : List ℕ) (now : Option Opened) (before : List Posting) (posting : Posting) → AllBelong validity session now before
     → Belongs validity session (fold (next_session validity session) now before) posting → AllBelong validity session now (before ++ posting ∷ [])
 unfolding AllBelong
 belong_push validity session now [] posting all one = (one, tt)
-belong_push validity session now (first ∷ before) posting all one = (all.0, belong_push validity session (next_session validity session now first) before posting all.1 one)
+belong_push validity session now (first ∷ before) posting all one =
+    (all.0, belong_push validity session (next_session validity session now first) before posting all.1 one)
 
-belong_fold : (terms : Terms) (session : List ℕ) (before : List Posting) (history : List Entry) → AllBelong terms.validity session None before → AllBelong terms.validity session None (fold (post terms) before history)
+belong_fold : (terms : Terms) (session : List ℕ) (before : List Posting) (history : List Entry) → AllBelong terms.validity session None before
+    → AllBelong terms.validity session None (fold (post terms) before history)
 belong_fold terms session before [] all = all
 belong_fold terms session before (entry ∷ history) all =
-    belong_fold terms session (post terms before entry) history (belong_push terms.validity session None before (posting_of terms before entry) all (belongs terms before session entry))
+    belong_fold terms session (post terms before entry) history
+    (belong_push terms.validity session None before (posting_of terms before entry) all (belongs terms before session entry))
 
 all_belong : (terms : Terms) (session : List ℕ) (history : List Entry) → AllBelong terms.validity session None (postings_of terms history)
 unfolding postings_of AllBelong
@@ -117,9 +132,11 @@ all_belong terms session history = belong_fold terms session [] history tt
 -- ---- it keeps that account while it lasts
 
 module _ (validity : ℕ) (session : List ℕ) where
-  account-after : (opened : Opened) (entry : Entry) → is_some (session_after validity session opened entry) ≡ true → account_in (session_after validity session opened entry) ≡ opened.account
+  account-after : (opened : Opened) (entry : Entry) → is_some (session_after validity session opened entry) ≡ true
+      → account_in (session_after validity session opened entry) ≡ opened.account
   account-after opened (Take moment request) lasts = by (same_session request.session session) request.kind lasts where
-    by : (b : Bool) (kind : RequestKind) → is_some (cond b (session_by validity opened moment.0 kind) (Some opened)) ≡ true → account_in (cond b (session_by validity opened moment.0 kind) (Some opened)) ≡ opened.account
+    by : (b : Bool) (kind : RequestKind) → is_some (cond b (session_by validity opened moment.0 kind) (Some opened)) ≡ true
+        → account_in (cond b (session_by validity opened moment.0 kind) (Some opened)) ≡ opened.account
     by true Initial lasts = refl
     by true Update lasts = refl
     by true Termination lasts = absurd cc
@@ -130,27 +147,32 @@ module _ (validity : ℕ) (session : List ℕ) where
     by true lasts = absurd cc
     by false lasts = refl
 
-  account-next : (left now : Option Opened) (posting : Posting) → Covers left now → Belongs validity session now posting → is_some (left_after validity session left posting) ≡ true
+  account-next : (left now : Option Opened) (posting : Posting) → Covers left now → Belongs validity session now posting
+      → is_some (left_after validity session left posting) ≡ true
       → account_in (next_session validity session now posting) ≡ account_in now
   account-next None now posting covers belongs lasts = absurd cc
   account-next (Some one) None posting covers belongs lasts = absurd covers
   account-next (Some one) (Some other) posting covers belongs lasts = by (opens posting && is_of session posting.entry) refl where
     goes_on : is_some (next_session validity session (Some other) posting) ≡ true
-    goes_on = covers_open (left_after validity session (Some one) posting) (next_session validity session (Some other) posting) (covers_all validity session (Some one) (Some other) (posting ∷ []) covers) lasts
+    goes_on = covers_open (left_after validity session (Some one) posting) (next_session validity session (Some other) posting)
+        (covers_all validity session (Some one) (Some other) (posting ∷ []) covers) lasts
 
     by : (b : Bool) → (opens posting && is_of session posting.entry) ≡ b → account_in (next_session validity session (Some other) posting) ≡ other.account
     by true is = absurd (let no : true ≡ false = belongs.closed is in cc)
     by false is =
         let same : next_session validity session (Some other) posting ≡ session_after validity session other posting.entry =
-        ap (λ (b : Bool). cond b (Some (opened_at validity posting.account (moment_of posting.entry))) (session_after validity session other posting.entry)) is in
+        ap (λ (b : Bool). cond b (Some (opened_at validity posting.account (moment_of posting.entry))) (session_after validity session other posting.entry))
+        is in
         ap account_in same ∙ account-after other posting.entry (sym (ap (λ (o : Option Opened). is_some o) same) ∙ goes_on)
 
-  account-stays : (left now : Option Opened) (after : List Posting) → Covers left now → AllBelong validity session now after → is_some (fold (left_after validity session) left after) ≡ true
+  account-stays : (left now : Option Opened) (after : List Posting) → Covers left now → AllBelong validity session now after
+      → is_some (fold (left_after validity session) left after) ≡ true
       → account_in (fold (next_session validity session) now after) ≡ account_in now
   unfolding AllBelong
   account-stays left now [] covers all lasts = refl
   account-stays left now (posting ∷ after) covers all lasts =
-      account-stays (left_after validity session left posting) (next_session validity session now posting) after (covers_all validity session left now (posting ∷ []) covers) all.1 lasts
+      account-stays (left_after validity session left posting) (next_session validity session now posting) after
+      (covers_all validity session left now (posting ∷ []) covers) all.1 lasts
       ∙ account-next left now posting covers all.0 (by (left_after validity session left posting) lasts)
     where
       by : (next : Option Opened) → is_some (fold (left_after validity session) next after) ≡ true → is_some next ≡ true
@@ -158,9 +180,11 @@ module _ (validity : ℕ) (session : List ℕ) where
       by (Some opened) lives = refl
 
 -- the session of a grant that is alive is open, on the account on which the grant was made
-alive-open : (validity : ℕ) (moment : Moment) (request : CcRequest) (name : ServiceName) (now : Option Opened) (after : List Posting) → Covers (Some (opened_at validity None moment.0)) now
+alive-open : (validity : ℕ) (moment : Moment) (request : CcRequest) (name : ServiceName) (now : Option Opened) (after : List Posting)
+    → Covers (Some (opened_at validity None moment.0)) now
     → AllBelong validity request.session now after → is_alive validity (Take moment request) name after ≡ true
-    → (is_some (fold (next_session validity request.session) now after) ≡ true) × (account_in (fold (next_session validity request.session) now after) ≡ account_in now)
+    → (is_some (fold (next_session validity request.session) now after) ≡ true)
+    × (account_in (fold (next_session validity request.session) now after) ≡ account_in now)
 alive-open validity moment request name now after covers all alive =
     let first : Option Opened = Some (opened_at validity None moment.0) in
     let left = fold (left_after validity request.session) first after in
@@ -172,14 +196,16 @@ alive-open validity moment request name now after covers all alive =
 -- ---- a request ends no reservation of another account
 
 -- a request of an open session ends grants of the account alone that it charges
-spared : (kind : RequestKind) (known same named : Bool) (account : ℕ) (mine opener : Option ℕ) → is_account account opener ≡ true → is_account account (account_by kind mine opener) ≡ false
+spared : (kind : RequestKind) (known same named : Bool) (account : ℕ) (mine opener : Option ℕ) → is_account account opener ≡ true
+    → is_account account (account_by kind mine opener) ≡ false
     → (not (settles_by kind true known && (same && named)) && not (same && is_ending kind)) ≡ true
 spared Initial known same named account mine opener on off = ap not (and_right same false refl)
 spared Update known same named account mine opener on off = absurd (let no : true ≡ false = sym on ∙ off in cc)
 spared Termination known same named account mine opener on off = absurd (let no : true ≡ false = sym on ∙ off in cc)
 spared Event known same named account mine opener on off = ap not (and_right same false refl)
 
-module _ (terms : Terms) (before : List Posting) (moment : Moment) (request : CcRequest) (account : ℕ) (other : is_account account (charged_account terms before request) ≡ false) where
+module _ (terms : Terms) (before : List Posting) (moment : Moment) (request : CcRequest) (account : ℕ)
+    (other : is_account account (charged_account terms before request) ≡ false) where
   abbrev q : Posting
   q = posting_of terms before (Take moment request)
 
@@ -191,7 +217,8 @@ module _ (terms : Terms) (before : List Posting) (moment : Moment) (request : Cc
     pub ends : fold (next_session terms.validity r.session) now after ≡ session_of terms.validity r.session before
     pub own : is_account account (account_in now) ≡ true
 
-  survives-it : (m : Moment) (r : CcRequest) (name : ServiceName) (after : List Posting) → Lasts m r after → is_alive terms.validity (Take m r) name after ≡ true
+  survives-it : (m : Moment) (r : CcRequest) (name : ServiceName) (after : List Posting) → Lasts m r after
+      → is_alive terms.validity (Take m r) name after ≡ true
       → survives request (settles_after terms before request) r.session name ≡ true
   survives-it m r name after lasts alive = by (same_session request.session r.session) refl where
     none : (b : Bool) → (not (b && false) && true) ≡ true
@@ -209,26 +236,33 @@ module _ (terms : Terms) (before : List Posting) (moment : Moment) (request : Cc
         ap (λ (id : List ℕ). is_open terms.validity id before) same ∙ sym (ap (λ (o : Option Opened). is_some o) lasts.ends) ∙ lives.0 in
         let opener : opener_account terms.validity before request.session ≡ account_in lasts.now =
         ap (λ (id : List ℕ). opener_account terms.validity before id) same ∙ sym (ap account_in lasts.ends) ∙ lives.1 in
-        ap (λ (b : Bool). not (settles_by request.kind b (is_some (account_of terms.accounts request.subscriptions)) && (same_session request.session r.session && list_any (has_name name) request.services))
+        ap (λ (b : Bool). not (settles_by request.kind b (is_some (account_of terms.accounts request.subscriptions))
+        && (same_session request.session r.session && list_any (has_name name) request.services))
         && not (same_session request.session r.session && is_ending request.kind)) is_on
-        ∙ spared request.kind (is_some (account_of terms.accounts request.subscriptions)) (same_session request.session r.session) (list_any (has_name name) request.services) account
-        (account_of terms.accounts request.subscriptions) (opener_account terms.validity before request.session) (ap (is_account account) opener ∙ lasts.own) other
+        ∙ spared request.kind (is_some (account_of terms.accounts request.subscriptions)) (same_session request.session r.session)
+        (list_any (has_name name) request.services) account
+        (account_of terms.accounts request.subscriptions) (opener_account terms.validity before request.session) (ap (is_account account) opener ∙ lasts.own)
+        other
 
   alive-same : (m : Moment) (r : CcRequest) (name : ServiceName) (after : List Posting) → Lasts m r after
       → is_alive terms.validity (Take m r) name (after ++ q ∷ []) ≡ is_alive terms.validity (Take m r) name after
-  alive-same m r name after lasts = is_alive-push terms.validity moment request q (Take m r) name after ∙ by (is_alive terms.validity (Take m r) name after) refl where
-    by : (b : Bool) → is_alive terms.validity (Take m r) name after ≡ b → (b && survives request (settles_after terms before request) r.session name) ≡ b
-    by true alive = survives-it m r name after lasts alive
-    by false alive = refl
+  alive-same m r name after lasts = is_alive-push terms.validity moment request q (Take m r) name after
+      ∙ by (is_alive terms.validity (Take m r) name after) refl where
+        by : (b : Bool) → is_alive terms.validity (Take m r) name after ≡ b → (b && survives request (settles_after terms before request) r.session name) ≡ b
+        by true alive = survives-it m r name after lasts alive
+        by false alive = refl
 
   -- the grants of a posting of the account hold what they held
-  held-same : (states : List ℕ → Option Opened) (p : Posting) (after : List Posting) → ((id : List ℕ) → AllKeep terms.validity id (states id) (p ∷ after)) → ((id : List ℕ) → AllBelong terms.validity id (states id) (p ∷ after))
-      → ((id : List ℕ) → fold (next_session terms.validity id) (states id) (p ∷ after) ≡ session_of terms.validity id before) → is_account account p.account ≡ true
+  held-same : (states : List ℕ → Option Opened) (p : Posting) (after : List Posting) → ((id : List ℕ) → AllKeep terms.validity id (states id) (p ∷ after))
+      → ((id : List ℕ) → AllBelong terms.validity id (states id) (p ∷ after))
+      → ((id : List ℕ) → fold (next_session terms.validity id) (states id) (p ∷ after) ≡ session_of terms.validity id before)
+      → is_account account p.account ≡ true
       → held_after terms.validity p.entry p.grants (after ++ q ∷ []) ≡ held_after terms.validity p.entry p.grants after
   unfolding AllKeep AllBelong
   held-same states p after keep belong ends on = by p.entry refl where
     nothing : p.grants ≡ [] → held_after terms.validity p.entry p.grants (after ++ q ∷ []) ≡ held_after terms.validity p.entry p.grants after
-    nothing none = ap (λ (holds : List Hold). held_after terms.validity p.entry holds (after ++ q ∷ [])) none ∙ sym (ap (λ (holds : List Hold). held_after terms.validity p.entry holds after) none)
+    nothing none = ap (λ (holds : List Hold). held_after terms.validity p.entry holds (after ++ q ∷ [])) none
+        ∙ sym (ap (λ (holds : List Hold). held_after terms.validity p.entry holds after) none)
 
     by : (entry : Entry) → p.entry ≡ entry → held_after terms.validity p.entry p.grants (after ++ q ∷ []) ≡ held_after terms.validity p.entry p.grants after
     by (Sweep m) is =
@@ -236,26 +270,30 @@ module _ (terms : Terms) (before : List Posting) (moment : Moment) (request : Cc
         ∙ sym (ap (λ (e : Entry). held_after terms.validity e p.grants after) is)
     by (Take m r) is =
         let own : is_of r.session p.entry ≡ true = ap (λ (e : Entry). is_of r.session e) is ∙ own_session r.session in
-        elim ((keep r.session).0 own) as (λ _. held_after terms.validity p.entry p.grants (after ++ q ∷ []) ≡ held_after terms.validity p.entry p.grants after) [
+        elim ((keep r.session).0 own) as (λ _. held_after terms.validity p.entry p.grants (after ++ q ∷ [])
+        ≡ held_after terms.validity p.entry p.grants after) [
           | inl none ↦ nothing none
-          | inr covers ↦ elim ((belong r.session).0.account own) as (λ _. held_after terms.validity p.entry p.grants (after ++ q ∷ []) ≡ held_after terms.validity p.entry p.grants after) [
-            | inl none ↦ nothing none
-            | inr mine ↦
-                let lasts : Lasts m r after = record {
-                  now = next_session terms.validity r.session (states r.session) p;
-                  covers = subst (λ (e : Entry). Covers (Some (opened_at terms.validity None (moment_of e))) (next_session terms.validity r.session (states r.session) p)) is covers;
-                  belong = (belong r.session).1;
-                  ends = ends r.session;
-                  own = ap (is_account account) mine ∙ on;
-                } in
-                let alike : held_after terms.validity (Take m r) p.grants (after ++ q ∷ []) ≡ held_after terms.validity (Take m r) p.grants after =
-                λ i. sum_by (λ (grant : Hold). cond (alive-same m r grant.service after lasts i) grant.cost 0) p.grants in
-                ap (λ (e : Entry). held_after terms.validity e p.grants (after ++ q ∷ [])) is ∙ alike
-                ∙ sym (ap (λ (e : Entry). held_after terms.validity e p.grants after) is)
-          ]
+          | inr covers ↦ elim ((belong r.session).0.account own) as (λ _. held_after terms.validity p.entry p.grants (after ++ q ∷ [])
+              ≡ held_after terms.validity p.entry p.grants after) [
+                | inl none ↦ nothing none
+                | inr mine ↦
+                    let lasts : Lasts m r after = record {
+                      now = next_session terms.validity r.session (states r.session) p;
+                      covers = subst (λ (e : Entry). Covers (Some (opened_at terms.validity None (moment_of e)))
+                          (next_session terms.validity r.session (states r.session) p)) is covers;
+                      belong = (belong r.session).1;
+                      ends = ends r.session;
+                      own = ap (is_account account) mine ∙ on;
+                    } in
+                    let alike : held_after terms.validity (Take m r) p.grants (after ++ q ∷ []) ≡ held_after terms.validity (Take m r) p.grants after =
+                    λ i. sum_by (λ (grant : Hold). cond (alive-same m r grant.service after lasts i) grant.cost 0) p.grants in
+                    ap (λ (e : Entry). held_after terms.validity e p.grants (after ++ q ∷ [])) is ∙ alike
+                    ∙ sym (ap (λ (e : Entry). held_after terms.validity e p.grants after) is)
+              ]
         ]
 
-  reserved-same : (states : List ℕ → Option Opened) (postings : List Posting) → ((id : List ℕ) → AllKeep terms.validity id (states id) postings) → ((id : List ℕ) → AllBelong terms.validity id (states id) postings)
+  reserved-same : (states : List ℕ → Option Opened) (postings : List Posting) → ((id : List ℕ) → AllKeep terms.validity id (states id) postings)
+      → ((id : List ℕ) → AllBelong terms.validity id (states id) postings)
       → ((id : List ℕ) → fold (next_session terms.validity id) (states id) postings ≡ session_of terms.validity id before)
       → reserved_by terms.validity account (postings ++ q ∷ []) ≡ reserved_by terms.validity account postings
   unfolding AllKeep AllBelong
@@ -265,7 +303,8 @@ module _ (terms : Terms) (before : List Posting) (moment : Moment) (request : Cc
       let more = reserved-same (λ id. next_session terms.validity id (states id) p) after (λ id. (keep id).1) (λ id. (belong id).1) ends in
       omega arith
     where
-      here : (b : Bool) → is_account account p.account ≡ b → cond b (held_after terms.validity p.entry p.grants (after ++ q ∷ [])) 0 ≡ cond b (held_after terms.validity p.entry p.grants after) 0
+      here : (b : Bool) → is_account account p.account ≡ b
+          → cond b (held_after terms.validity p.entry p.grants (after ++ q ∷ [])) 0 ≡ cond b (held_after terms.validity p.entry p.grants after) 0
       here true on = held-same states p after keep belong ends on
       here false on = refl
 
@@ -278,7 +317,8 @@ not_charged account (Some other) differ = by (eqb account other) refl where
   by true is = absurd (differ (ap Some (sym (eqb-true account other is))))
   by false is = is
 
-module _ (terms : Terms) (history : List Entry) (moment : Moment) (request : CcRequest) (account : ℕ) (other : charged_account terms (postings_of terms history) request ≢ Some account) where
+module _ (terms : Terms) (history : List Entry) (moment : Moment) (request : CcRequest) (account : ℕ)
+    (other : charged_account terms (postings_of terms history) request ≢ Some account) where
   off : is_account account (charged_account terms (postings_of terms history) request) ≡ false
   off = not_charged account (charged_account terms (postings_of terms history) request) other
 
@@ -293,17 +333,21 @@ module _ (terms : Terms) (history : List Entry) (moment : Moment) (request : CcR
   unfolding reserved_of
   reserved-beside =
       ap (reserved_by terms.validity account) (postings_of-push terms history (Take moment request))
-      ∙ reserved-same terms (postings_of terms history) moment request account off (λ id. None) (postings_of terms history) (λ id. all_keep terms id history) (λ id. all_belong terms id history) (λ id. refl)
+      ∙ reserved-same terms (postings_of terms history) moment request account off (λ id. None) (postings_of terms history) (λ id. all_keep terms id history)
+      (λ id. all_belong terms id history) (λ id. refl)
 
 -- ---- an EVENT holds and ends nothing of any account
 
 module _ (terms : Terms) (before : List Posting) (moment : Moment) (request : CcRequest) (event : request.kind ≡ Event) where
   settles-none : settles_after terms before request ≡ false
-  settles-none = ap (λ (kind : RequestKind). settles_by kind (is_open terms.validity request.session before) (is_some (account_of terms.accounts request.subscriptions))) event
+  settles-none =
+      ap (λ (kind : RequestKind). settles_by kind (is_open terms.validity request.session before) (is_some (account_of terms.accounts request.subscriptions)))
+      event
 
   event-spares : (id : List ℕ) (name : ServiceName) → survives request (settles_after terms before request) id name ≡ true
   event-spares id name =
-      ap (λ (b : Bool). not (b && (same_session request.session id && list_any (has_name name) request.services)) && not (same_session request.session id && is_ending request.kind)) settles-none
+      ap (λ (b : Bool). not (b && (same_session request.session id && list_any (has_name name) request.services))
+      && not (same_session request.session id && is_ending request.kind)) settles-none
       ∙ ap (λ (kind : RequestKind). not (same_session request.session id && is_ending kind)) event
       ∙ ap not (and_right (same_session request.session id) false refl)
 
@@ -311,23 +355,27 @@ module _ (terms : Terms) (before : List Posting) (moment : Moment) (request : Cc
   and_true true = refl
   and_true false = refl
 
-  event-alive : (entry : Entry) (name : ServiceName) (after : List Posting) → is_alive terms.validity entry name (after ++ posting_of terms before (Take moment request) ∷ []) ≡ is_alive terms.validity entry name after
+  event-alive : (entry : Entry) (name : ServiceName) (after : List Posting)
+      → is_alive terms.validity entry name (after ++ posting_of terms before (Take moment request) ∷ []) ≡ is_alive terms.validity entry name after
   event-alive entry name after =
       is_alive-push terms.validity moment request (posting_of terms before (Take moment request)) entry name after
       ∙ ap (λ (b : Bool). is_alive terms.validity entry name after && b) (event-spares (session_in entry) name)
       ∙ and_true (is_alive terms.validity entry name after)
 
-  event-same : (account : ℕ) (postings : List Posting) → reserved_by terms.validity account (postings ++ posting_of terms before (Take moment request) ∷ []) ≡ reserved_by terms.validity account postings
+  event-same : (account : ℕ) (postings : List Posting)
+      → reserved_by terms.validity account (postings ++ posting_of terms before (Take moment request) ∷ []) ≡ reserved_by terms.validity account postings
   event-same account [] =
       let none : held_after terms.validity (Take moment request) (grants_by terms before request (settles_after terms before request)) [] ≡ 0 =
       ap (λ (b : Bool). held_after terms.validity (Take moment request) (grants_by terms before request b) []) settles-none in
-      ap (λ (n : ℕ). cond (is_account account (charged_account terms before request)) n 0 + 0) none ∙ by (is_account account (charged_account terms before request))
+      ap (λ (n : ℕ). cond (is_account account (charged_account terms before request)) n 0 + 0) none
+      ∙ by (is_account account (charged_account terms before request))
     where
       by : (b : Bool) → cond {A = ℕ} b 0 0 + 0 ≡ 0
       by true = refl
       by false = refl
   event-same account (p ∷ after) =
-      let here : cond (is_account account p.account) (held_after terms.validity p.entry p.grants (after ++ posting_of terms before (Take moment request) ∷ [])) 0
+      let here : cond (is_account account p.account)
+      (held_after terms.validity p.entry p.grants (after ++ posting_of terms before (Take moment request) ∷ [])) 0
       ≡ cond (is_account account p.account) (held_after terms.validity p.entry p.grants after) 0 =
       λ i. cond (is_account account p.account) (sum_by (λ (grant : Hold). cond (event-alive p.entry grant.service after i) grant.cost 0) p.grants) 0 in
       let more = event-same account after in

@@ -65,7 +65,8 @@ module _ (validity : ℕ) (moment : Moment) (request : CcRequest) (posting : Pos
   q = taken moment request posting
 
   -- a session is left unless the request ends it
-  left_by : (b : Bool) (opened : Opened) (kind : RequestKind) → is_some (cond b (session_by validity opened moment.0 kind) (Some opened)) ≡ not (b && is_ending kind)
+  left_by : (b : Bool) (opened : Opened) (kind : RequestKind)
+      → is_some (cond b (session_by validity opened moment.0 kind) (Some opened)) ≡ not (b && is_ending kind)
   left_by true opened Initial = refl
   left_by true opened Update = refl
   left_by true opened Termination = refl
@@ -76,7 +77,8 @@ module _ (validity : ℕ) (moment : Moment) (request : CcRequest) (posting : Pos
   left-push id None = refl
   left-push id (Some opened) = left_by (same_session request.session id) opened request.kind
 
-  outlasts-push : (entry : Entry) (after : List Posting) → outlasts validity entry (after ++ q ∷ []) ≡ (outlasts validity entry after && not (ends request (session_in entry)))
+  outlasts-push : (entry : Entry) (after : List Posting)
+      → outlasts validity entry (after ++ q ∷ []) ≡ (outlasts validity entry after && not (ends request (session_in entry)))
   outlasts-push (Take m r) after =
       ap is_some (fold-append (left_after validity r.session) (Some (opened_at validity None m.0)) after (q ∷ []))
       ∙ left-push r.session (fold (left_after validity r.session) (Some (opened_at validity None m.0)) after)
@@ -88,7 +90,8 @@ module _ (validity : ℕ) (moment : Moment) (request : CcRequest) (posting : Pos
   alive_by false true false d = refl
   alive_by false false c d = refl
 
-  pub is_alive-push : (entry : Entry) (name : ServiceName) (after : List Posting) → is_alive validity entry name (after ++ q ∷ []) ≡ (is_alive validity entry name after && survives request posting.settles (session_in entry) name)
+  pub is_alive-push : (entry : Entry) (name : ServiceName) (after : List Posting)
+      → is_alive validity entry name (after ++ q ∷ []) ≡ (is_alive validity entry name after && survives request posting.settles (session_in entry) name)
   is_alive-push (Take m r) name after =
       ap (λ (b : Bool). not b && outlasts validity (Take m r) (after ++ q ∷ [])) (any-push (replaces r.session name) after q)
       ∙ ap (λ (b : Bool). not (list_any (replaces r.session name) after || replaces r.session name q) && b) (outlasts-push (Take m r) after)
@@ -99,17 +102,21 @@ module _ (validity : ℕ) (moment : Moment) (request : CcRequest) (posting : Pos
   weight_by true b n = refl
   weight_by false b n = refl
 
-  grants_weight-push : (weight : Weight) (p : Posting) (after : List Posting) (holds : List Hold) → grants_weight weight validity p (after ++ q ∷ []) holds ≡ grants_weight (kept request posting.settles weight) validity p after holds
+  grants_weight-push : (weight : Weight) (p : Posting) (after : List Posting) (holds : List Hold)
+      → grants_weight weight validity p (after ++ q ∷ []) holds ≡ grants_weight (kept request posting.settles weight) validity p after holds
   grants_weight-push weight p after [] = refl
   grants_weight-push weight p after (hold ∷ holds) =
       let here : cond (is_alive validity p.entry hold.service (after ++ q ∷ [])) (weight (session_in p.entry) p.account hold) 0
       ≡ cond (is_alive validity p.entry hold.service after) (kept request posting.settles weight (session_in p.entry) p.account hold) 0 =
       ap (λ (b : Bool). cond b (weight (session_in p.entry) p.account hold) 0) (is_alive-push p.entry hold.service after)
-      ∙ weight_by (is_alive validity p.entry hold.service after) (survives request posting.settles (session_in p.entry) hold.service) (weight (session_in p.entry) p.account hold) in
+      ∙ weight_by (is_alive validity p.entry hold.service after) (survives request posting.settles (session_in p.entry) hold.service)
+      (weight (session_in p.entry) p.account hold) in
       let more = grants_weight-push weight p after holds in omega arith
 
   -- what is alive after one more request: what of it survives the request, and what that is granted
-  pub alive_weight-push : (weight : Weight) (before : List Posting) → alive_weight weight validity (before ++ q ∷ []) ≡ alive_weight (kept request posting.settles weight) validity before + grants_weight weight validity q [] posting.grants
+  pub alive_weight-push : (weight : Weight) (before : List Posting)
+      → alive_weight weight validity (before ++ q ∷ []) ≡ alive_weight (kept request posting.settles weight) validity before + grants_weight weight validity q
+      [] posting.grants
   alive_weight-push weight [] = omega arith
   alive_weight-push weight (p ∷ before) =
       let here = grants_weight-push weight p before p.grants in
@@ -126,16 +133,19 @@ module _ (validity : ℕ) (moment : Moment) (request : CcRequest) (posting : Pos
   opened_by false n = omega arith
 
   -- what is open after one more request: what that does not end, and what it opens
-  pub open_weight-push : (weight : List ℕ → ℕ) (before : List Posting) → open_weight weight validity (before ++ q ∷ []) ≡ open_weight (going_on request weight) validity before + cond (opens q) (weight request.session) 0
+  pub open_weight-push : (weight : List ℕ → ℕ) (before : List Posting)
+      → open_weight weight validity (before ++ q ∷ []) ≡ open_weight (going_on request weight) validity before + cond (opens q) (weight request.session) 0
   open_weight-push weight [] = opened_by (opens q) (weight request.session)
   open_weight-push weight (p ∷ before) =
-      let here : cond (opens p && outlasts validity p.entry (before ++ q ∷ [])) (weight (session_in p.entry)) 0 ≡ cond (opens p && outlasts validity p.entry before) (going_on request weight (session_in p.entry)) 0 =
+      let here : cond (opens p && outlasts validity p.entry (before ++ q ∷ [])) (weight (session_in p.entry)) 0
+      ≡ cond (opens p && outlasts validity p.entry before) (going_on request weight (session_in p.entry)) 0 =
       ap (λ (b : Bool). cond (opens p && b) (weight (session_in p.entry)) 0) (outlasts-push p.entry before)
       ∙ open_by (opens p) (outlasts validity p.entry before) (ends request (session_in p.entry)) (weight (session_in p.entry)) in
       let more = open_weight-push weight before in omega arith
 
   -- what a request is granted, by its session and its account
-  pub grants_weight-own : (weight : Weight) (a : ℕ) (holds : List Hold) → posting.account ≡ Some a → grants_weight weight validity q [] holds ≡ holds_weight weight request.session a holds
+  pub grants_weight-own : (weight : Weight) (a : ℕ) (holds : List Hold) → posting.account ≡ Some a
+      → grants_weight weight validity q [] holds ≡ holds_weight weight request.session a holds
   grants_weight-own weight a [] e = refl
   grants_weight-own weight a (hold ∷ holds) e =
       let here : weight request.session posting.account hold ≡ weight request.session (Some a) hold = ap (λ (o : Option ℕ). weight request.session o hold) e in
@@ -143,11 +153,13 @@ module _ (validity : ℕ) (moment : Moment) (request : CcRequest) (posting : Pos
 
 -- ---- sums over sessions
 
-pub holds_weight-append : (weight : Weight) (id : List ℕ) (account : ℕ) (xs ys : List Hold) → holds_weight weight id account (xs ++ ys) ≡ holds_weight weight id account xs + holds_weight weight id account ys
+pub holds_weight-append : (weight : Weight) (id : List ℕ) (account : ℕ) (xs ys : List Hold)
+    → holds_weight weight id account (xs ++ ys) ≡ holds_weight weight id account xs + holds_weight weight id account ys
 holds_weight-append weight id account [] ys = omega arith
 holds_weight-append weight id account (x ∷ xs) ys = let more = holds_weight-append weight id account xs ys in omega arith
 
-pub sessions_weight-append : (weight : Weight) (xs ys : List OpenSession) → sessions_weight weight (xs ++ ys) ≡ sessions_weight weight xs + sessions_weight weight ys
+pub sessions_weight-append : (weight : Weight) (xs ys : List OpenSession)
+    → sessions_weight weight (xs ++ ys) ≡ sessions_weight weight xs + sessions_weight weight ys
 sessions_weight-append weight [] ys = omega arith
 sessions_weight-append weight (x ∷ xs) ys = let more = sessions_weight-append weight xs ys in omega arith
 
@@ -167,7 +179,8 @@ module _ (request : CcRequest) (settles : Bool) where
   left_other session other =
       let apart = same_session-turned session.id request.session other in
       record {
-        all = λ name. ap (λ (b : Bool). not (settles && (b && list_any (has_name name) request.services)) && not (b && is_ending request.kind)) apart ∙ none settles;
+        all = λ name. ap (λ (b : Bool). not (settles && (b && list_any (has_name name) request.services)) && not (b && is_ending request.kind)) apart
+            ∙ none settles;
         goes_on = ap (λ (b : Bool). b && is_ending request.kind) apart;
       } where
         none : (b : Bool) → (not (b && false) && true) ≡ true
@@ -191,23 +204,28 @@ module _ (request : CcRequest) (settles : Bool) where
     left_quiet session =
         let goes_on = ap (λ (b : Bool). same_session request.session session.id && b) stays ∙ nothing (same_session request.session session.id) in
         record {
-          all = λ name. ap (λ (b : Bool). not (b && (same_session request.session session.id && list_any (has_name name) request.services)) && not (ends request session.id)) quiet ∙ ap not goes_on;
+          all = λ name. ap (λ (b : Bool). not (b && (same_session request.session session.id && list_any (has_name name) request.services))
+              && not (ends request session.id)) quiet ∙ ap not goes_on;
           goes_on = goes_on;
         }
 
-  pub holds_weight-left : (weight : Weight) (session : OpenSession) (account : ℕ) (holds : List Hold) → IsLeft session → holds_weight (kept request settles weight) session.id account holds ≡ holds_weight weight session.id account holds
+  pub holds_weight-left : (weight : Weight) (session : OpenSession) (account : ℕ) (holds : List Hold) → IsLeft session
+      → holds_weight (kept request settles weight) session.id account holds ≡ holds_weight weight session.id account holds
   holds_weight-left weight session account [] left = refl
   holds_weight-left weight session account (hold ∷ holds) left =
-      let here : kept request settles weight session.id (Some account) hold ≡ weight session.id (Some account) hold = ap (λ (b : Bool). cond b (weight session.id (Some account) hold) 0) (left.all hold.service) in
+      let here : kept request settles weight session.id (Some account) hold ≡ weight session.id (Some account) hold =
+      ap (λ (b : Bool). cond b (weight session.id (Some account) hold) 0) (left.all hold.service) in
       let more = holds_weight-left weight session account holds left in omega arith
 
-  pub sessions_weight-left : (weight : Weight) (sessions : List OpenSession) → AllByRecursion IsLeft sessions → sessions_weight (kept request settles weight) sessions ≡ sessions_weight weight sessions
+  pub sessions_weight-left : (weight : Weight) (sessions : List OpenSession) → AllByRecursion IsLeft sessions
+      → sessions_weight (kept request settles weight) sessions ≡ sessions_weight weight sessions
   sessions_weight-left weight [] all = refl
   sessions_weight-left weight (s ∷ sessions) all =
       let here = holds_weight-left weight s s.account s.holds all.0 in
       let more = sessions_weight-left weight sessions all.1 in omega arith
 
-  pub ids_weight-left : (weight : List ℕ → ℕ) (sessions : List OpenSession) → AllByRecursion IsLeft sessions → ids_weight (going_on request weight) sessions ≡ ids_weight weight sessions
+  pub ids_weight-left : (weight : List ℕ → ℕ) (sessions : List OpenSession) → AllByRecursion IsLeft sessions
+      → ids_weight (going_on request weight) sessions ≡ ids_weight weight sessions
   ids_weight-left weight [] all = refl
   ids_weight-left weight (s ∷ sessions) all =
       let here : going_on request weight s.id ≡ weight s.id = ap (λ (b : Bool). cond b 0 (weight s.id)) all.0.goes_on in
@@ -215,11 +233,13 @@ module _ (request : CcRequest) (settles : Bool) where
 
   -- of the sessions round that of a request all is left
   pub sessions_weight-at : (weight : Weight) (sessions : List OpenSession) (place : ℕ) (s : OpenSession) (at : IsAt request.session sessions place s)
-      → sessions_weight (kept request settles weight) sessions ≡ sessions_weight weight at.front + (holds_weight (kept request settles weight) s.id s.account s.holds + sessions_weight weight at.back)
+      → sessions_weight (kept request settles weight) sessions
+      ≡ sessions_weight weight at.front + (holds_weight (kept request settles weight) s.id s.account s.holds + sessions_weight weight at.back)
   sessions_weight-at weight sessions place s at =
       let front = sessions_weight-left weight at.front (left-others at.front at.before) in
       let back = sessions_weight-left weight at.back (left-others at.back at.behind) in
-      let all : sessions_weight (kept request settles weight) sessions ≡ sessions_weight (kept request settles weight) (at.front ++ s ∷ at.back) = ap (sessions_weight (kept request settles weight)) at.split in
+      let all : sessions_weight (kept request settles weight) sessions ≡ sessions_weight (kept request settles weight) (at.front ++ s ∷ at.back) =
+      ap (sessions_weight (kept request settles weight)) at.split in
       let parts = sessions_weight-append (kept request settles weight) at.front (s ∷ at.back) in
       omega arith
 
@@ -228,16 +248,19 @@ module _ (request : CcRequest) (settles : Bool) where
   ids_weight-at weight sessions place s at =
       let front = ids_weight-left weight at.front (left-others at.front at.before) in
       let back = ids_weight-left weight at.back (left-others at.back at.behind) in
-      let all : ids_weight (going_on request weight) sessions ≡ ids_weight (going_on request weight) (at.front ++ s ∷ at.back) = ap (ids_weight (going_on request weight)) at.split in
+      let all : ids_weight (going_on request weight) sessions ≡ ids_weight (going_on request weight) (at.front ++ s ∷ at.back) =
+      ap (ids_weight (going_on request weight)) at.split in
       let parts = ids_weight-append (going_on request weight) at.front (s ∷ at.back) in
       omega arith
 
   -- a session that ends holds nothing more
-  pub holds_weight-ended : (weight : Weight) (id : List ℕ) (account : ℕ) (holds : List Hold) → ends request id ≡ true → holds_weight (kept request settles weight) id account holds ≡ 0
+  pub holds_weight-ended : (weight : Weight) (id : List ℕ) (account : ℕ) (holds : List Hold) → ends request id ≡ true
+      → holds_weight (kept request settles weight) id account holds ≡ 0
   holds_weight-ended weight id account [] ended = refl
   holds_weight-ended weight id account (hold ∷ holds) ended =
       let here : kept request settles weight id (Some account) hold ≡ 0 =
-      ap (λ (b : Bool). cond (not (settles && (same_session request.session id && list_any (has_name hold.service) request.services)) && not b) (weight id (Some account) hold) 0) ended
+      ap (λ (b : Bool). cond (not (settles && (same_session request.session id && list_any (has_name hold.service) request.services)) && not b)
+      (weight id (Some account) hold) 0) ended
       ∙ nothing (not (settles && (same_session request.session id && list_any (has_name hold.service) request.services))) (weight id (Some account) hold) in
       let more = holds_weight-ended weight id account holds ended in omega arith where
         nothing : (b : Bool) (n : ℕ) → cond (b && false) n 0 ≡ 0
@@ -245,7 +268,8 @@ module _ (request : CcRequest) (settles : Bool) where
         nothing false n = refl
 
 -- a request that settles services leaves its session what it holds for others
-pub holds_weight-beside : (request : CcRequest) (weight : Weight) (id : List ℕ) (account : ℕ) (holds : List Hold) → request.session ≡ id → is_ending request.kind ≡ false
+pub holds_weight-beside : (request : CcRequest) (weight : Weight) (id : List ℕ) (account : ℕ) (holds : List Hold) → request.session ≡ id
+    → is_ending request.kind ≡ false
     → holds_weight (kept request true weight) id account holds ≡ holds_weight weight id account (holds_beside request.services holds)
 holds_weight-beside request weight id account [] same stays = refl
 holds_weight-beside request weight id account (hold ∷ holds) same stays =
@@ -258,7 +282,11 @@ holds_weight-beside request weight id account (hold ∷ holds) same stays =
       and_true true = refl
       and_true false = refl
 
-      by : (b : Bool) → survives request true id hold.service ≡ b → holds_weight (kept request true weight) id account holds ≡ holds_weight weight id account (holds_beside request.services holds)
-          → holds_weight (kept request true weight) id account (hold ∷ holds) ≡ holds_weight weight id account (cond b (hold ∷ holds_beside request.services holds) (holds_beside request.services holds))
-      by true left more = let here : kept request true weight id (Some account) hold ≡ weight id (Some account) hold = ap (λ (b : Bool). cond b (weight id (Some account) hold) 0) left in omega arith
-      by false left more = let here : kept request true weight id (Some account) hold ≡ 0 = ap (λ (b : Bool). cond b (weight id (Some account) hold) 0) left in omega arith
+      by : (b : Bool) → survives request true id hold.service ≡ b
+          → holds_weight (kept request true weight) id account holds ≡ holds_weight weight id account (holds_beside request.services holds)
+          → holds_weight (kept request true weight) id account (hold ∷ holds)
+          ≡ holds_weight weight id account (cond b (hold ∷ holds_beside request.services holds) (holds_beside request.services holds))
+      by true left more = let here : kept request true weight id (Some account) hold ≡ weight id (Some account) hold =
+          ap (λ (b : Bool). cond b (weight id (Some account) hold) 0) left in omega arith
+      by false left more = let here : kept request true weight id (Some account) hold ≡ 0 =
+          ap (λ (b : Bool). cond b (weight id (Some account) hold) 0) left in omega arith

@@ -39,7 +39,8 @@ module _ (validity : ℕ) (session : List ℕ) (q : Posting) (alone : LeavesAlon
   left-same (Some opened) = alone.goes_on opened
 
   next-same : (now : Option Opened) → next_session validity session now q ≡ now
-  next-same now = ap (λ (b : Bool). cond b (Some (opened_at validity q.account (moment_of q.entry))) (left_after validity session now q)) alone.unopened ∙ left-same now
+  next-same now = ap (λ (b : Bool). cond b (Some (opened_at validity q.account (moment_of q.entry))) (left_after validity session now q)) alone.unopened
+      ∙ left-same now
 
   session-same : (before : List Posting) → session_of validity session (before ++ q ∷ []) ≡ session_of validity session before
   session-same before = fold-append (next_session validity session) None before (q ∷ []) ∙ next-same (session_of validity session before)
@@ -50,10 +51,12 @@ module _ (validity : ℕ) (session : List ℕ) (q : Posting) (alone : LeavesAlon
       ∙ ap (λ (b : Bool). list_any (replaces session name) more || b) (alone.settles_none name)
       ∙ or_false (list_any (replaces session name) more)
 
-  lasts-same : (opened : Option Opened) (more : List Posting) → fold (left_after validity session) opened (more ++ q ∷ []) ≡ fold (left_after validity session) opened more
+  lasts-same : (opened : Option Opened) (more : List Posting)
+      → fold (left_after validity session) opened (more ++ q ∷ []) ≡ fold (left_after validity session) opened more
   lasts-same opened more = fold-append (left_after validity session) opened more (q ∷ []) ∙ left-same (fold (left_after validity session) opened more)
 
-  alive-same : (name : ServiceName) (entry : Entry) (more : List Posting) → is_of session entry ≡ true → is_alive validity entry name (more ++ q ∷ []) ≡ is_alive validity entry name more
+  alive-same : (name : ServiceName) (entry : Entry) (more : List Posting) → is_of session entry ≡ true
+      → is_alive validity entry name (more ++ q ∷ []) ≡ is_alive validity entry name more
   alive-same name (Take m r) more own =
       let first : Option Opened = Some (opened_at validity None m.0) in
       subst (λ (id : List ℕ).
@@ -73,7 +76,8 @@ module _ (validity : ℕ) (session : List ℕ) (q : Posting) (alone : LeavesAlon
         → cond b (sum_by (λ (grant : Hold). cond (same_name grant.service name && is_alive validity p.entry name (more ++ q ∷ [])) grant.cost 0) p.grants) 0
         ≡ cond b (sum_by (λ (grant : Hold). cond (same_name grant.service name && is_alive validity p.entry name more) grant.cost 0) p.grants) 0
     by false own = refl
-    by true own = ap (λ (b : Bool). sum_by (λ (grant : Hold). cond (same_name grant.service name && b) grant.cost 0) p.grants) (alive-same name p.entry more own)
+    by true own = ap (λ (b : Bool). sum_by (λ (grant : Hold). cond (same_name grant.service name && b) grant.cost 0) p.grants)
+        (alive-same name p.entry more own)
 
 -- ---- a request of another session, and an EVENT
 
@@ -104,9 +108,11 @@ module _ (terms : Terms) (before : List Posting) (moment : Moment) (request : Cc
   event-alone : (session : List ℕ) → request.kind ≡ Event → LeavesAlone terms.validity session own
   event-alone session event =
       let none : settles_after terms before request ≡ false =
-      ap (λ (kind : RequestKind). settles_by kind (is_open terms.validity request.session before) (is_some (account_of terms.accounts request.subscriptions))) event in
+      ap (λ (kind : RequestKind). settles_by kind (is_open terms.validity request.session before) (is_some (account_of terms.accounts request.subscriptions)))
+      event in
       record {
-        unopened = ap (λ (b : Bool). (b && (is_initial_kind request.kind && is_success (reply_after terms before request).code)) && same_session request.session session) none;
+        unopened = ap (λ (b : Bool). (b && (is_initial_kind request.kind && is_success (reply_after terms before request).code))
+            && same_session request.session session) none;
         goes_on = λ opened.
             ap (λ (kind : RequestKind). cond (same_session request.session session) (session_by terms.validity opened moment.0 kind) (Some opened)) event
             ∙ cond_same (same_session request.session session) (Some opened);
@@ -122,25 +128,33 @@ module _ (terms : Terms) (history : List Entry) (moment : Moment) (request : CcR
   abbrev pushed : Posting
   pushed = posting_of terms (postings_of terms history) (Take moment request)
 
-  session-after : LeavesAlone terms.validity session pushed → session_of terms.validity session (postings_of terms (history ++ Take moment request ∷ [])) ≡ session_of terms.validity session (postings_of terms history)
-  session-after alone = ap (session_of terms.validity session) (postings_of-push terms history (Take moment request)) ∙ session-same terms.validity session pushed alone (postings_of terms history)
+  session-after : LeavesAlone terms.validity session pushed
+      → session_of terms.validity session (postings_of terms (history ++ Take moment request ∷ []))
+      ≡ session_of terms.validity session (postings_of terms history)
+  session-after alone = ap (session_of terms.validity session) (postings_of-push terms history (Take moment request))
+      ∙ session-same terms.validity session pushed alone (postings_of terms history)
 
   held-after : (name : ServiceName) → LeavesAlone terms.validity session pushed
-      → held_by terms.validity session name (postings_of terms (history ++ Take moment request ∷ [])) ≡ held_by terms.validity session name (postings_of terms history)
+      → held_by terms.validity session name (postings_of terms (history ++ Take moment request ∷ []))
+      ≡ held_by terms.validity session name (postings_of terms history)
   held-after name alone =
       ap (held_by terms.validity session name) (postings_of-push terms history (Take moment request))
       ∙ held-same terms.validity session pushed alone name (postings_of terms history)
 
-  pub session-beside : request.session ≢ session → session_of terms.validity session (postings_of terms (history ++ Take moment request ∷ [])) ≡ session_of terms.validity session (postings_of terms history)
+  pub session-beside : request.session ≢ session → session_of terms.validity session (postings_of terms (history ++ Take moment request ∷ []))
+      ≡ session_of terms.validity session (postings_of terms history)
   session-beside other = session-after (other-alone terms (postings_of terms history) moment request session other)
 
-  pub session-beside_event : request.kind ≡ Event → session_of terms.validity session (postings_of terms (history ++ Take moment request ∷ [])) ≡ session_of terms.validity session (postings_of terms history)
+  pub session-beside_event : request.kind ≡ Event → session_of terms.validity session (postings_of terms (history ++ Take moment request ∷ []))
+      ≡ session_of terms.validity session (postings_of terms history)
   session-beside_event event = session-after (event-alone terms (postings_of terms history) moment request session event)
 
   pub held-beside : (name : ServiceName) → request.session ≢ session
-      → held_by terms.validity session name (postings_of terms (history ++ Take moment request ∷ [])) ≡ held_by terms.validity session name (postings_of terms history)
+      → held_by terms.validity session name (postings_of terms (history ++ Take moment request ∷ []))
+      ≡ held_by terms.validity session name (postings_of terms history)
   held-beside name other = held-after name (other-alone terms (postings_of terms history) moment request session other)
 
   pub held-beside_event : (name : ServiceName) → request.kind ≡ Event
-      → held_by terms.validity session name (postings_of terms (history ++ Take moment request ∷ [])) ≡ held_by terms.validity session name (postings_of terms history)
+      → held_by terms.validity session name (postings_of terms (history ++ Take moment request ∷ []))
+      ≡ held_by terms.validity session name (postings_of terms history)
   held-beside_event name event = held-after name (event-alone terms (postings_of terms history) moment request session event)

@@ -87,13 +87,16 @@ replies-at terms before after entry d =
     ∙ get_or-append_seam (replies_in left) posting.reply [] d
 
 -- a list, parted at a place
-split-at : (history : List Entry) (place : ℕ) (entry : Entry) → slice_get history place ≡ Some entry → history ≡ take place history ++ entry ∷ drop (suc place) history
+split-at : (history : List Entry) (place : ℕ) (entry : Entry) → slice_get history place ≡ Some entry
+    → history ≡ take place history ++ entry ∷ drop (suc place) history
 split-at history place entry there =
     let within = slice_get_within history place entry there in
     sym (take-append-drop place history)
-    ∙ ap (λ (es : List Entry). take place history ++ es) (drop-cons history place entry within ∙ ap (λ (e : Entry). e ∷ drop (suc place) history) (get_or_from_slice_get history place entry entry there))
+    ∙ ap (λ (es : List Entry). take place history ++ es)
+    (drop-cons history place entry within ∙ ap (λ (e : Entry). e ∷ drop (suc place) history) (get_or_from_slice_get history place entry entry there))
 
-pub kept-reply : (terms : Terms) (history : List Entry) (replies : List (Option CcReply)) (key : Key) (place : ℕ) (taken : CcRequest) → replies ≡ map (λ posting. posting.reply) (postings_of terms history)
+pub kept-reply : (terms : Terms) (history : List Entry) (replies : List (Option CcReply)) (key : Key) (place : ℕ) (taken : CcRequest)
+    → replies ≡ map (λ posting. posting.reply) (postings_of terms history)
     → IsKeptAt history key place taken → get_or replies place None ≡ Some (reply_to terms (take place history) taken)
 unfolding reply_to
 kept-reply terms history replies key place taken kept at =
@@ -127,11 +130,22 @@ open_count-within validity (posting ∷ after) =
 
 pub IsBook-empty : (terms : Terms) (limit : ℕ) (balances : List ℤ) → limit ≤ 2 ^ 20 → Stands terms [] balances [] → IsBook terms limit [] [] balances []
 unfolding postings_of sessions_after
-IsBook-empty terms limit balances most stands = record { legal = IsLegal-empty terms; within = omega arith; most = most; replies_kept = refl; stands = stands; sessions_left = refl }
+IsBook-empty terms limit balances most stands = record {
+  legal = IsLegal-empty terms;
+  within = omega arith;
+  most = most;
+  replies_kept = refl;
+  stands =
+      stands;
+  sessions_left = refl;
+}
 
-pub IsBook-push : (terms : Terms) (limit : ℕ) (history : List Entry) (replies : List (Option CcReply)) (balances : List ℤ) (sessions : List OpenSession) (moment : Moment) (request : CcRequest) (outcome : Outcome)
-    → IsBook terms limit history replies balances sessions → IsNew history (key_of request) → length history < limit → IsOutcome terms (postings_of terms history) sessions moment request outcome
-    → IsBook terms limit (history ++ Take moment request ∷ []) (replies ++ Some outcome.reply ∷ []) (after_debit balances outcome.account outcome.debit) (after_change sessions outcome.change)
+pub IsBook-push : (terms : Terms) (limit : ℕ) (history : List Entry) (replies : List (Option CcReply)) (balances : List ℤ) (sessions : List OpenSession)
+    (moment : Moment) (request : CcRequest) (outcome : Outcome)
+    → IsBook terms limit history replies balances sessions → IsNew history (key_of request) → length history < limit
+    → IsOutcome terms (postings_of terms history) sessions moment request outcome
+    → IsBook terms limit (history ++ Take moment request ∷ []) (replies ++ Some outcome.reply ∷ []) (after_debit balances outcome.account outcome.debit)
+    (after_change sessions outcome.change)
 IsBook-push terms limit history replies balances sessions moment request outcome book new room does =
     let before = postings_of terms history in
     let long = length-append history (Take moment request ∷ []) in
@@ -143,7 +157,8 @@ IsBook-push terms limit history replies balances sessions moment request outcome
       replies_kept = ap (λ (rs : List (Option CcReply)). rs ++ Some outcome.reply ∷ []) book.replies_kept
           ∙ ap (λ (r : CcReply). replies_in before ++ Some r ∷ []) does.reply
           ∙ sym (ap replies_in next ∙ map-append (λ (p : Posting). p.reply) before (posting_of terms before (Take moment request) ∷ []));
-      stands = subst (λ (ps : List Posting). Stands terms ps (after_debit balances outcome.account outcome.debit) (after_change sessions outcome.change)) (sym next) (take-stands book.stands does);
+      stands = subst (λ (ps : List Posting). Stands terms ps (after_debit balances outcome.account outcome.debit) (after_change sessions outcome.change))
+          (sym next) (take-stands book.stands does);
       sessions_left = ap (after_change sessions) does.change
           ∙ ap (λ (ss : List OpenSession). after_change ss (change_of ss request moment (posting_of terms before (Take moment request)))) book.sessions_left
           ∙ sym (ap (sessions_after terms.validity) next ∙ sessions_after-push terms.validity before (posting_of terms before (Take moment request)));
@@ -151,7 +166,8 @@ IsBook-push terms limit history replies balances sessions moment request outcome
 
 -- ---- what a book has is what its history has left
 
-module _ {terms : Terms} (history : List Entry) {balances : List ℤ} {sessions : List OpenSession} (s : Stands terms (postings_of terms history) balances sessions) where
+module _ {terms : Terms} (history : List Entry) {balances : List ℤ} {sessions : List OpenSession}
+    (s : Stands terms (postings_of terms history) balances sessions) where
   pub balance_of-is : (account : ℕ) → account < length terms.accounts → slice_index_or balances account (pos 0) ≡ balance_of terms history account
   unfolding balance_of spent_by
   balance_of-is account within = s.balance account within
@@ -164,22 +180,26 @@ module _ {terms : Terms} (history : List Entry) {balances : List ℤ} {sessions 
   unfolding open_sessions_of
   open_sessions_of-is = open_count-stands s
 
-pub small-book : {terms : Terms} {limit : ℕ} {history : List Entry} {replies : List (Option CcReply)} {balances : List ℤ} {sessions : List OpenSession} → IsBook terms limit history replies balances sessions → IsSmall terms balances sessions
+pub small-book : {terms : Terms} {limit : ℕ} {history : List Entry} {replies : List (Option CcReply)} {balances : List ℤ} {sessions : List OpenSession}
+    → IsBook terms limit history replies balances sessions → IsSmall terms balances sessions
 small-book {terms} {limit} {history} book =
     let long = postings_of-length terms history in
     let within = book.within in
     let most = book.most in
     small-stands book.stands (omega arith)
 
-pub sessions-within : {terms : Terms} {limit : ℕ} {history : List Entry} {replies : List (Option CcReply)} {balances : List ℤ} {sessions : List OpenSession} → IsBook terms limit history replies balances sessions → length sessions ≤ length history
+pub sessions-within : {terms : Terms} {limit : ℕ} {history : List Entry} {replies : List (Option CcReply)} {balances : List ℤ} {sessions : List OpenSession}
+    → IsBook terms limit history replies balances sessions → length sessions ≤ length history
 sessions-within {terms} {limit} {history} book =
     let long = postings_of-length terms history in
     let count = open_count-stands book.stands in
     let few = open_count-within terms.validity (postings_of terms history) in
     omega arith
 
-pub replies-long : {terms : Terms} {limit : ℕ} {history : List Entry} {replies : List (Option CcReply)} {balances : List ℤ} {sessions : List OpenSession} → IsBook terms limit history replies balances sessions → length replies ≡ length history
-replies-long {terms} {limit} {history} book = ap length book.replies_kept ∙ length-map (postings_of terms history) (λ (p : Posting). p.reply) ∙ postings_of-length terms history
+pub replies-long : {terms : Terms} {limit : ℕ} {history : List Entry} {replies : List (Option CcReply)} {balances : List ℤ} {sessions : List OpenSession}
+    → IsBook terms limit history replies balances sessions → length replies ≡ length history
+replies-long {terms} {limit} {history} book = ap length book.replies_kept ∙ length-map (postings_of terms history) (λ (p : Posting). p.reply)
+    ∙ postings_of-length terms history
 
 -- ---- what a book answers
 
@@ -187,22 +207,28 @@ abbrev ledger_of : Terms → ℕ → List Entry → Ledger
 ledger_of terms limit history = record { terms = terms; limit = limit; history = history }
 
 -- a request that is kept, or that is new and finds room, is not refused
-pub kept-answered : (terms : Terms) (limit : ℕ) (history : List Entry) (request taken : CcRequest) (place : ℕ) → IsKeptAt history (key_of request) place taken → IsOk (answer_of (ledger_of terms limit history) request)
+pub kept-answered : (terms : Terms) (limit : ℕ) (history : List Entry) (request taken : CcRequest) (place : ℕ) → IsKeptAt history (key_of request) place taken
+    → IsOk (answer_of (ledger_of terms limit history) request)
 kept-answered terms limit history request taken place at =
-    ap (λ (r : Result Answered BookRefusal). is_ok r) (answer_of-kept (ledger_of terms limit history) request taken place (reply_to terms (take place history) taken) at refl)
+    ap (λ (r : Result Answered BookRefusal). is_ok r)
+    (answer_of-kept (ledger_of terms limit history) request taken place (reply_to terms (take place history) taken) at refl)
 
-pub new-answered : (terms : Terms) (limit : ℕ) (history : List Entry) (request : CcRequest) → IsNew history (key_of request) → length history < limit → IsOk (answer_of (ledger_of terms limit history) request)
+pub new-answered : (terms : Terms) (limit : ℕ) (history : List Entry) (request : CcRequest) → IsNew history (key_of request) → length history < limit
+    → IsOk (answer_of (ledger_of terms limit history) request)
 new-answered terms limit history request new room =
-    ap (λ (r : Result Answered BookRefusal). is_ok r) (answer_of-fresh (ledger_of terms limit history) request (length history) (reply_to terms history request) new refl room refl)
+    ap (λ (r : Result Answered BookRefusal). is_ok r)
+    (answer_of-fresh (ledger_of terms limit history) request (length history) (reply_to terms history request) new refl room refl)
 
-pub no_memory : (expected : Result Answered BookRefusal) (result : Result Plan BookRefusal) → IsOk expected → IsErrAnd result (λ e. e ≡ OutOfMemory) → PlansWith expected result
+pub no_memory : (expected : Result Answered BookRefusal) (result : Result Plan BookRefusal) → IsOk expected → IsErrAnd result (λ e. e ≡ OutOfMemory)
+    → PlansWith expected result
 no_memory expected (Ok plan) fine h = absurd h
 no_memory expected (Err e) fine h = let P : BookRefusal → Type 0 = λ f. PlansWith expected (Err f) in subst P (sym h) fine
 
 some_if : {X : Type 0} (P : X → Type 0) (found : Option X) (x : X) → found ≡ Some x → IfSome found P → P x
 some_if {X = X} P found x is so = subst (λ (o : Option X). IfSome o P) is so
 
-module _ {terms : Terms} {limit : ℕ} {history : List Entry} {replies : List (Option CcReply)} {balances : List ℤ} {sessions : List OpenSession} (book : IsBook terms limit history replies balances sessions) where
+module _ {terms : Terms} {limit : ℕ} {history : List Entry} {replies : List (Option CcReply)} {balances : List ℤ} {sessions : List OpenSession}
+    (book : IsBook terms limit history replies balances sessions) where
   -- the reply of a request that is kept
   pub kept-some : (key : Key) (place : ℕ) (taken : CcRequest) → IsKeptAt history key place taken → IsSome (slice_index_or replies place None)
   kept-some key place taken at = subst (λ (o : Option CcReply). IsSome o) (sym (kept-reply terms history replies key place taken book.replies_kept at)) refl
@@ -211,7 +237,8 @@ module _ {terms : Terms} {limit : ℕ} {history : List Entry} {replies : List (O
       → IfSome (slice_index_or replies place None) (λ reply. answered ≡ record { reply = reply; place = place; fresh = false })
       → answered ≡ record { reply = reply_to terms (take place history) taken; place = place; fresh = false }
   answered-kept request taken place answered at is =
-      some_if (λ (r : CcReply). answered ≡ record { reply = r; place = place; fresh = false }) (slice_index_or replies place None) (reply_to terms (take place history) taken)
+      some_if (λ (r : CcReply). answered ≡ record { reply = r; place = place; fresh = false }) (slice_index_or replies place None)
+      (reply_to terms (take place history) taken)
       (kept-reply terms history replies (key_of request) place taken book.replies_kept at) is
 
   pub answer-kept : (request taken : CcRequest) (place : ℕ) (answered : Answered) → IsKeptAt history (key_of request) place taken
@@ -225,33 +252,40 @@ module _ {terms : Terms} {limit : ℕ} {history : List Entry} {replies : List (O
       → IfSome (slice_index_or replies place None) (λ reply. answered ≡ record { reply = reply; place = place; fresh = false }) → answered.fresh ≡ false
   not-fresh request taken place answered at is = ap (λ (a : Answered). a.fresh) (answered-kept request taken place answered at is)
 
-  pub answer-fresh : (moment : Moment) (request : CcRequest) (outcome : Outcome) → IsNew history (key_of request) → length history < limit → IsOutcome terms (postings_of terms history) sessions moment request outcome
+  pub answer-fresh : (moment : Moment) (request : CcRequest) (outcome : Outcome) → IsNew history (key_of request) → length history < limit
+      → IsOutcome terms (postings_of terms history) sessions moment request outcome
       → answer_of (ledger_of terms limit history) request ≡ Ok (record { reply = outcome.reply; place = length history; fresh = true })
   unfolding reply_to
   answer-fresh moment request outcome new room does =
       answer_of-fresh (ledger_of terms limit history) request (length history) outcome.reply new refl room does.reply
 
   -- what a plan does, it does to the sessions that the book has
-  pub taking-outcome : (taken : Taken) → IsTaking (ledger_of terms limit history) taken → IsOutcome terms (postings_of terms history) sessions taken.moment taken.request taken.outcome
+  pub taking-outcome : (taken : Taken) → IsTaking (ledger_of terms limit history) taken
+      → IsOutcome terms (postings_of terms history) sessions taken.moment taken.request taken.outcome
   taking-outcome taken taking =
-      subst (λ (ss : List OpenSession). IsOutcome terms (postings_of terms history) ss taken.moment taken.request taken.outcome) (sym book.sessions_left) taking.outcome
+      subst (λ (ss : List OpenSession). IsOutcome terms (postings_of terms history) ss taken.moment taken.request taken.outcome) (sym book.sessions_left)
+      taking.outcome
 
-  pub planned-outcome : (moment : Moment) (request : CcRequest) (outcome : Outcome) → IsOutcome terms (postings_of terms history) sessions moment request outcome
+  pub planned-outcome : (moment : Moment) (request : CcRequest) (outcome : Outcome)
+      → IsOutcome terms (postings_of terms history) sessions moment request outcome
       → IsOutcome terms (postings_of terms history) (sessions_after terms.validity (postings_of terms history)) moment request outcome
   planned-outcome moment request outcome does =
       subst (λ (ss : List OpenSession). IsOutcome terms (postings_of terms history) ss moment request outcome) book.sessions_left does
 
   -- the account that is debited is one of the book's, and the session that changes too
-  pub account-within : (moment : Moment) (request : CcRequest) (outcome : Outcome) → IsOutcome terms (postings_of terms history) sessions moment request outcome → (place : ℕ) → outcome.account ≡ Some place → place < length balances
+  pub account-within : (moment : Moment) (request : CcRequest) (outcome : Outcome)
+      → IsOutcome terms (postings_of terms history) sessions moment request outcome → (place : ℕ) → outcome.account ≡ Some place → place < length balances
   account-within moment request outcome does place is =
       let known = charged_account-within terms (postings_of terms history) request (all_placed terms history) in
       let here = subst (λ (a : Option ℕ). MatchOption a (Unit {0}) (λ p. p < length terms.accounts)) (sym does.account ∙ is) known in
       let long = book.stands.accounts in
       omega (arith, here)
 
-  pub change-within : (moment : Moment) (request : CcRequest) (outcome : Outcome) → IsOutcome terms (postings_of terms history) sessions moment request outcome → IsPlacedIn outcome.change (length sessions)
+  pub change-within : (moment : Moment) (request : CcRequest) (outcome : Outcome)
+      → IsOutcome terms (postings_of terms history) sessions moment request outcome → IsPlacedIn outcome.change (length sessions)
   change-within moment request outcome does =
-      subst (λ (change : Change). IsPlacedIn change (length sessions)) (sym does.change) (by (place_in sessions request.session) (find (is_session request.session) sessions) refl)
+      subst (λ (change : Change). IsPlacedIn change (length sessions)) (sym does.change)
+      (by (place_in sessions request.session) (find (is_session request.session) sessions) refl)
     where
       posting : Posting
       posting = posting_of terms (postings_of terms history) (Take moment request)
@@ -260,21 +294,25 @@ module _ {terms : Terms} {limit : ℕ} {history : List Entry} {replies : List (O
       shut true session = tt
       shut false session = tt
 
-      open_by : (place : ℕ) (session : OpenSession) (kind : RequestKind) → place < length sessions → IsPlacedIn (change_open request moment posting.grants kind place session) (length sessions)
+      open_by : (place : ℕ) (session : OpenSession) (kind : RequestKind) → place < length sessions
+          → IsPlacedIn (change_open request moment posting.grants kind place session) (length sessions)
       open_by place session Initial lt = lt
       open_by place session Update lt = lt
       open_by place session Termination lt = lt
       open_by place session Event lt = tt
 
-      by : (place : Option ℕ) (found : Option OpenSession) → place_in sessions request.session ≡ place → IsPlacedIn (change_at request moment posting place found) (length sessions)
+      by : (place : Option ℕ) (found : Option OpenSession) → place_in sessions request.session ≡ place
+          → IsPlacedIn (change_at request moment posting place found) (length sessions)
       by (Some place) (Some session) is =
           let at = open_at_place request.session sessions place is in
           open_by place session request.kind (slice_get_within sessions place at.0 at.1)
-      by (Some place) None is = shut (opens posting) (record { id = request.session; account = unwrap_or posting.account 0; last = moment; holds = posting.grants })
+      by (Some place) None is = shut (opens posting)
+          (record { id = request.session; account = unwrap_or posting.account 0; last = moment; holds = posting.grants })
       by None found is = shut (opens posting) (record { id = request.session; account = unwrap_or posting.account 0; last = moment; holds = posting.grants })
 
 -- a book by its parts
-pub same-book : {terms : Terms} {limit : ℕ} (history other_history : List Entry) (replies other_replies : List (Option CcReply)) (balances other_balances : List ℤ) (sessions other_sessions : List OpenSession)
+pub same-book : {terms : Terms} {limit : ℕ} (history other_history : List Entry) (replies other_replies : List (Option CcReply))
+    (balances other_balances : List ℤ) (sessions other_sessions : List OpenSession)
     → history ≡ other_history → replies ≡ other_replies → balances ≡ other_balances → sessions ≡ other_sessions
     → IsBook terms limit history replies balances sessions → IsBook terms limit other_history other_replies other_balances other_sessions
 same-book {terms} {limit} history other_history replies other_replies balances other_balances sessions other_sessions h r b s book =
@@ -288,7 +326,8 @@ abs-below (pos n) bound least most = omega (arith, ints)
 abs-below (negsuc n) bound least most = omega (arith, ints)
 
 -- a balance stays below 2 ^ 124 in size
-pub small-balance : {terms : Terms} {limit : ℕ} {history : List Entry} {replies : List (Option CcReply)} {balances : List ℤ} {sessions : List OpenSession} → IsBook terms limit history replies balances sessions
+pub small-balance : {terms : Terms} {limit : ℕ} {history : List Entry} {replies : List (Option CcReply)} {balances : List ℤ} {sessions : List OpenSession}
+    → IsBook terms limit history replies balances sessions
     → (account : ℕ) (d : ℤ) → account < length balances → nat_abs (slice_index_or balances account d) < 2 ^ 124
 small-balance {terms} {limit} {history} {replies} {balances} book account d lt =
     let long = postings_of-length terms history in

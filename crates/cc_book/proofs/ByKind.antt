@@ -26,36 +26,47 @@ use Rattle.cc_book.proofs.Stands.{closed-stands, free-stands, free_to_grant-clos
 
 -- ---- a request by its kind
 
-settles-by : (terms : Terms) (before : List Posting) (request : CcRequest) (kind : RequestKind) (opened known : Bool) → request.kind ≡ kind → is_open terms.validity request.session before ≡ opened
+settles-by : (terms : Terms) (before : List Posting) (request : CcRequest) (kind : RequestKind) (opened known : Bool) → request.kind ≡ kind
+    → is_open terms.validity request.session before ≡ opened
     → is_some (account_of terms.accounts request.subscriptions) ≡ known → settles_after terms before request ≡ settles_by kind opened known
 settles-by terms before request kind opened known is one other =
     ap (λ (k : RequestKind). settles_by k (is_open terms.validity request.session before) (is_some (account_of terms.accounts request.subscriptions))) is
     ∙ ap (λ (b : Bool). settles_by kind b (is_some (account_of terms.accounts request.subscriptions))) one
     ∙ ap (settles_by kind opened) other
 
-opens-unsettled : (terms : Terms) (before : List Posting) (moment : Moment) (request : CcRequest) → settles_after terms before request ≡ false → opens (posting_of terms before (Take moment request)) ≡ false
-opens-unsettled terms before moment request none = ap (λ (b : Bool). b && (is_initial_kind request.kind && is_success (reply_after terms before request).code)) none
+opens-unsettled : (terms : Terms) (before : List Posting) (moment : Moment) (request : CcRequest) → settles_after terms before request ≡ false
+    → opens (posting_of terms before (Take moment request)) ≡ false
+opens-unsettled terms before moment request none =
+    ap (λ (b : Bool). b && (is_initial_kind request.kind && is_success (reply_after terms before request).code)) none
 
-grants-unsettled : (terms : Terms) (before : List Posting) (request : CcRequest) → settles_after terms before request ≡ false → held_in (grants_after terms before request) ≤ 2 ^ 89
+grants-unsettled : (terms : Terms) (before : List Posting) (request : CcRequest) → settles_after terms before request ≡ false
+    → held_in (grants_after terms before request) ≤ 2 ^ 89
 grants-unsettled terms before request none =
     let is : held_in (grants_after terms before request) ≡ 0 = ap (λ (b : Bool). held_in (grants_by terms before request b)) none in omega arith
 
 grants-by : (terms : Terms) (before : List Posting) (request : CcRequest) (kind : RequestKind) → request.kind ≡ kind → settles_after terms before request ≡ true
-    → grants_after terms before request ≡ grants_with kind (reply_after terms before request).code (holds_from terms.tariffs (free_to_grant terms before request) request.services)
+    → grants_after terms before request ≡ grants_with kind (reply_after terms before request).code
+    (holds_from terms.tariffs (free_to_grant terms before request) request.services)
 grants-by terms before request kind is settled =
     ap (grants_by terms before request) settled
-    ∙ ap (λ (k : RequestKind). grants_with k (reply_after terms before request).code (holds_from terms.tariffs (free_to_grant terms before request) request.services)) is
+    ∙ ap (λ (k : RequestKind). grants_with k (reply_after terms before request).code
+    (holds_from terms.tariffs (free_to_grant terms before request) request.services)) is
 
 -- ---- its session
 
-change-closed : (sessions : List OpenSession) (request : CcRequest) (moment : Moment) (posting : Posting) → place_in sessions request.session ≡ None → change_of sessions request moment posting ≡ change_closed request moment posting
+change-closed : (sessions : List OpenSession) (request : CcRequest) (moment : Moment) (posting : Posting) → place_in sessions request.session ≡ None
+    → change_of sessions request moment posting ≡ change_closed request moment posting
 change-closed sessions request moment posting none = ap (λ (p : Option ℕ). change_at request moment posting p (find (is_session request.session) sessions)) none
 
-change-unsettled : (sessions : List OpenSession) (request : CcRequest) (moment : Moment) (posting : Posting) → place_in sessions request.session ≡ None → opens posting ≡ false → Stays ≡ change_of sessions request moment posting
+change-unsettled : (sessions : List OpenSession) (request : CcRequest) (moment : Moment) (posting : Posting) → place_in sessions request.session ≡ None
+    → opens posting ≡ false → Stays ≡ change_of sessions request moment posting
 change-unsettled sessions request moment posting none shut =
-    sym (change-closed sessions request moment posting none ∙ ap (λ (b : Bool). cond b (Opens (record { id = request.session; account = unwrap_or posting.account 0; last = moment; holds = posting.grants })) Stays) shut)
+    sym (change-closed sessions request moment posting none
+    ∙ ap (λ (b : Bool). cond b (Opens (record { id = request.session; account = unwrap_or posting.account 0; last = moment; holds = posting.grants }))
+    Stays) shut)
 
-change-open : (sessions : List OpenSession) (request : CcRequest) (moment : Moment) (posting : Posting) (kind : RequestKind) (place : ℕ) (session : OpenSession) → request.kind ≡ kind → place_in sessions request.session ≡ Some place → find (is_session request.session) sessions ≡ Some session
+change-open : (sessions : List OpenSession) (request : CcRequest) (moment : Moment) (posting : Posting) (kind : RequestKind) (place : ℕ)
+    (session : OpenSession) → request.kind ≡ kind → place_in sessions request.session ≡ Some place → find (is_session request.session) sessions ≡ Some session
     → change_of sessions request moment posting ≡ change_open request moment posting.grants kind place session
 change-open sessions request moment posting kind place session is at found =
     ap (λ (p : Option ℕ). change_at request moment posting p (find (is_session request.session) sessions)) at
@@ -65,7 +76,8 @@ change-open sessions request moment posting kind place session is at found =
 -- ---- requests that are refused
 
 -- a request that settles nothing charges nothing
-unsettled : {terms : Terms} {before : List Posting} {sessions : List OpenSession} {moment : Moment} {request : CcRequest} (kind : RequestKind) (account : Option ℕ) (code : ResultCode) (change : Change)
+unsettled : {terms : Terms} {before : List Posting} {sessions : List OpenSession} {moment : Moment} {request : CcRequest} (kind : RequestKind)
+    (account : Option ℕ) (code : ResultCode) (change : Change)
     → request.kind ≡ kind → settles_after terms before request ≡ false
     → account ≡ charged_account terms before request
     → debit_by terms before request kind ≡ cond (settles_after terms before request) (pos (used_total terms.tariffs request.services)) (pos 0)
@@ -82,32 +94,48 @@ unsettled {terms} {before} {sessions} {moment} {request} kind account code chang
   grants = grants-unsettled terms before request none;
 }
 
-module _ {terms : Terms} {before : List Posting} {balances : List ℤ} {sessions : List OpenSession} (request : CcRequest) (moment : Moment) (s : Stands terms before balances sessions) where
+module _ {terms : Terms} {before : List Posting} {balances : List ℤ} {sessions : List OpenSession} (request : CcRequest) (moment : Moment)
+    (s : Stands terms before balances sessions) where
   closed : place_in sessions request.session ≡ None → is_open terms.validity request.session before ≡ false
   closed none = ap is_some (closed-stands s request.session none)
 
-  opened : (place : ℕ) (session : OpenSession) → place_in sessions request.session ≡ Some place → slice_get sessions place ≡ Some session → is_open terms.validity request.session before ≡ true
+  opened : (place : ℕ) (session : OpenSession) → place_in sessions request.session ≡ Some place → slice_get sessions place ≡ Some session
+      → is_open terms.validity request.session before ≡ true
   opened place session at there = ap is_some (open-stands s request.session place session at there).0
 
-  charged : (kind : RequestKind) → request.kind ≡ kind → charged_account terms before request ≡ account_by kind (account_of terms.accounts request.subscriptions) (opener_account terms.validity before request.session)
-  charged kind is = ap (λ (k : RequestKind). account_by k (account_of terms.accounts request.subscriptions) (opener_account terms.validity before request.session)) is
+  charged : (kind : RequestKind) → request.kind ≡ kind
+      → charged_account terms before request ≡ account_by kind (account_of terms.accounts request.subscriptions)
+      (opener_account terms.validity before request.session)
+  charged kind is =
+      ap (λ (k : RequestKind). account_by k (account_of terms.accounts request.subscriptions) (opener_account terms.validity before request.session)) is
 
   opener-closed : place_in sessions request.session ≡ None → opener_account terms.validity before request.session ≡ None
   opener-closed none = ap (λ (o : Option Opened). option_and_then (λ (now : Opened). now.account) o) (closed-stands s request.session none)
 
-  opener-open : (place : ℕ) (session : OpenSession) → place_in sessions request.session ≡ Some place → slice_get sessions place ≡ Some session → opener_account terms.validity before request.session ≡ Some session.account
-  opener-open place session at there = ap (λ (o : Option Opened). option_and_then (λ (now : Opened). now.account) o) (open-stands s request.session place session at there).0
+  opener-open : (place : ℕ) (session : OpenSession) → place_in sessions request.session ≡ Some place → slice_get sessions place ≡ Some session
+      → opener_account terms.validity before request.session ≡ Some session.account
+  opener-open place session at there = ap (λ (o : Option Opened). option_and_then (λ (now : Opened). now.account) o)
+      (open-stands s request.session place session at there).0
 
   -- an INITIAL of an open session
-  pub initial-open : (place : ℕ) (session : OpenSession) → request.kind ≡ Initial → place_in sessions request.session ≡ Some place → slice_get sessions place ≡ Some session
-      → IsOutcome terms before sessions moment request (record { account = account_of terms.accounts request.subscriptions; debit = pos 0; reply = code_alone UnableToComply; change = GoesOn place (prolonged session moment session.holds) })
+  pub initial-open : (place : ℕ) (session : OpenSession) → request.kind ≡ Initial → place_in sessions request.session ≡ Some place
+      → slice_get sessions place ≡ Some session
+      → IsOutcome terms before sessions moment request
+      (record {
+        account = account_of terms.accounts request.subscriptions;
+        debit = pos 0;
+        reply = code_alone UnableToComply;
+        change =
+            GoesOn place (prolonged session moment session.holds);
+      })
   initial-open place session is at there =
       let known = is_some (account_of terms.accounts request.subscriptions) in
       let none : settles_after terms before request ≡ false = settles-by terms before request Initial true known is (opened place session at there) refl in
       let found = (open-stands s request.session place session at there).1 in
       unsettled Initial (account_of terms.accounts request.subscriptions) UnableToComply (GoesOn place (prolonged session moment session.holds)) is none
       (sym (charged Initial is)) refl
-      (ap (λ (b : Bool). cond b (granting_reply terms (free_to_grant terms before request) request.services) (code_alone (unsettled_code Initial (is_open terms.validity request.session before)))) none
+      (ap (λ (b : Bool). cond b (granting_reply terms (free_to_grant terms before request) request.services)
+      (code_alone (unsettled_code Initial (is_open terms.validity request.session before)))) none
       ∙ ap (λ (b : Bool). code_alone (unsettled_code Initial b)) (opened place session at there))
       (sym (change-open sessions request moment (posting_of terms before (Take moment request)) Initial place session is at found))
 
@@ -118,7 +146,8 @@ module _ {terms : Terms} {before : List Posting} {balances : List ℤ} {sessions
       let none : settles_after terms before request ≡ false = settles-by terms before request Initial false false is (closed shut) (ap is_some unknown) in
       unsettled Initial None UserUnknown Stays is none
       (sym (charged Initial is ∙ unknown)) refl
-      (ap (λ (b : Bool). cond b (granting_reply terms (free_to_grant terms before request) request.services) (code_alone (unsettled_code Initial (is_open terms.validity request.session before)))) none
+      (ap (λ (b : Bool). cond b (granting_reply terms (free_to_grant terms before request) request.services)
+      (code_alone (unsettled_code Initial (is_open terms.validity request.session before)))) none
       ∙ ap (λ (b : Bool). code_alone (unsettled_code Initial b)) (closed shut))
       (change-unsettled sessions request moment (posting_of terms before (Take moment request)) shut (opens-unsettled terms before moment request none))
 
@@ -148,20 +177,30 @@ module _ {terms : Terms} {before : List Posting} {balances : List ℤ} {sessions
   settled-debit : (kind : RequestKind) → request.kind ≡ kind → settles_after terms before request ≡ true
       → debit_by terms before request kind ≡ cond (settles_after terms before request) (pos (used_total terms.tariffs request.services)) (pos 0)
       → pos (used_total terms.tariffs request.services) ≡ debit_after terms before request
-  settled-debit kind is settled debits = sym (ap (debit_by terms before request) is ∙ debits ∙ ap (λ (b : Bool). cond b (pos (used_total terms.tariffs request.services)) (pos 0)) settled)
+  settled-debit kind is settled debits = sym (ap (debit_by terms before request) is ∙ debits
+      ∙ ap (λ (b : Bool). cond b (pos (used_total terms.tariffs request.services)) (pos 0)) settled)
 
-  pub termination-open : (place : ℕ) (session : OpenSession) → request.kind ≡ Termination → place_in sessions request.session ≡ Some place → slice_get sessions place ≡ Some session
+  pub termination-open : (place : ℕ) (session : OpenSession) → request.kind ≡ Termination → place_in sessions request.session ≡ Some place
+      → slice_get sessions place ≡ Some session
       → used_total terms.tariffs request.services ≤ 2 ^ 103
-      → IsOutcome terms before sessions moment request (record { account = Some session.account; debit = pos (used_total terms.tariffs request.services); reply = closing_reply terms request.services; change = Ends place })
+      → IsOutcome terms before sessions moment request
+      (record {
+        account = Some session.account;
+        debit = pos (used_total terms.tariffs request.services);
+        reply = closing_reply terms request.services;
+        change = Ends place;
+      })
   termination-open place session is at there small =
       let known = is_some (account_of terms.accounts request.subscriptions) in
-      let settled : settles_after terms before request ≡ true = settles-by terms before request Termination true known is (opened place session at there) refl in
+      let settled : settles_after terms before request ≡ true =
+      settles-by terms before request Termination true known is (opened place session at there) refl in
       let found = (open-stands s request.session place session at there).1 in
       let none : held_in (grants_after terms before request) ≡ 0 = ap held_in (grants-by terms before request Termination is settled) in
       record {
         account = sym (charged Termination is ∙ opener-open place session at there);
         debit = settled-debit Termination is settled refl;
-        reply = sym (ap (reply_by terms before request) is ∙ ap (λ (b : Bool). cond b (closing_reply terms request.services) (code_alone UnknownSessionId)) settled);
+        reply = sym (ap (reply_by terms before request) is
+            ∙ ap (λ (b : Bool). cond b (closing_reply terms request.services) (code_alone UnknownSessionId)) settled);
         change = sym (change-open sessions request moment (posting_of terms before (Take moment request)) Termination place session is at found);
         least = omega (arith, ints);
         most = omega (arith, ints);
@@ -171,14 +210,18 @@ module _ {terms : Terms} {before : List Posting} {balances : List ℤ} {sessions
   -- the reply of a request that is granted what is free
   granted-reply : (kind : RequestKind) → request.kind ≡ kind → settles_after terms before request ≡ true
       → reply_by terms before request kind
-      ≡ cond (settles_after terms before request) (granting_reply terms (free_to_grant terms before request) request.services) (code_alone (unsettled_code kind (is_open terms.validity request.session before)))
+      ≡ cond (settles_after terms before request) (granting_reply terms (free_to_grant terms before request) request.services)
+      (code_alone (unsettled_code kind (is_open terms.validity request.session before)))
       → granting_reply terms (free_to_grant terms before request) request.services ≡ reply_after terms before request
   granted-reply kind is settled replies =
       sym (ap (reply_by terms before request) is ∙ replies
-      ∙ ap (λ (b : Bool). cond b (granting_reply terms (free_to_grant terms before request) request.services) (code_alone (unsettled_code kind (is_open terms.validity request.session before)))) settled)
+      ∙ ap (λ (b : Bool). cond b (granting_reply terms (free_to_grant terms before request) request.services)
+      (code_alone (unsettled_code kind (is_open terms.validity request.session before)))) settled)
 
-  pub update-open : (place : ℕ) (session : OpenSession) (free : ℤ) (holds : List Hold) → request.kind ≡ Update → place_in sessions request.session ≡ Some place → slice_get sessions place ≡ Some session
-      → used_total terms.tariffs request.services ≤ 2 ^ 103 → free ≡ free_to_grant terms before request → holds ≡ holds_from terms.tariffs free request.services → held_in holds ≤ 2 ^ 89
+  pub update-open : (place : ℕ) (session : OpenSession) (free : ℤ) (holds : List Hold) → request.kind ≡ Update
+      → place_in sessions request.session ≡ Some place → slice_get sessions place ≡ Some session
+      → used_total terms.tariffs request.services ≤ 2 ^ 103 → free ≡ free_to_grant terms before request
+      → holds ≡ holds_from terms.tariffs free request.services → held_in holds ≤ 2 ^ 89
       → IsOutcome terms before sessions moment request (record {
         account = Some session.account;
         debit = pos (used_total terms.tariffs request.services);
@@ -206,7 +249,8 @@ module _ {terms : Terms} {before : List Posting} {balances : List ℤ} {sessions
   abbrev pub opening-change : Bool → ℕ → List Hold → Change
   opening-change success account holds = cond success (Opens (record { id = request.session; account = account; last = moment; holds = holds })) Stays
 
-  opening-grants : (success : Bool) (account : ℕ) (holds : List Hold) → opening-change success account holds ≡ opening-change success account (cond success holds [])
+  opening-grants : (success : Bool) (account : ℕ) (holds : List Hold)
+      → opening-change success account holds ≡ opening-change success account (cond success holds [])
   opening-grants true account holds = refl
   opening-grants false account holds = refl
 
@@ -214,8 +258,10 @@ module _ {terms : Terms} {before : List Posting} {balances : List ℤ} {sessions
   opening-few true holds few = few
   opening-few false holds few = omega arith
 
-  pub initial-closed : (account : ℕ) (free : ℤ) (holds : List Hold) (change : Change) → request.kind ≡ Initial → place_in sessions request.session ≡ None → account_of terms.accounts request.subscriptions ≡ Some account
-      → used_total terms.tariffs request.services ≤ 2 ^ 103 → free ≡ free_to_grant terms before request → holds ≡ holds_from terms.tariffs free request.services → held_in holds ≤ 2 ^ 89
+  pub initial-closed : (account : ℕ) (free : ℤ) (holds : List Hold) (change : Change) → request.kind ≡ Initial → place_in sessions request.session ≡ None
+      → account_of terms.accounts request.subscriptions ≡ Some account
+      → used_total terms.tariffs request.services ≤ 2 ^ 103 → free ≡ free_to_grant terms before request
+      → holds ≡ holds_from terms.tariffs free request.services → held_in holds ≤ 2 ^ 89
       → change ≡ opening-change (is_success (granting_reply terms free request.services).code) account holds
       → IsOutcome terms before sessions moment request (record {
         account = Some account;
@@ -226,9 +272,11 @@ module _ {terms : Terms} {before : List Posting} {balances : List ℤ} {sessions
   initial-closed account free holds change is shut own small same held few changed =
       let settled : settles_after terms before request ≡ true = settles-by terms before request Initial false true is (closed shut) (ap is_some own) in
       let posting = posting_of terms before (Take moment request) in
-      let reply : granting_reply terms free request.services ≡ reply_after terms before request = ap (λ (z : ℤ). granting_reply terms z request.services) same ∙ granted-reply Initial is settled refl in
+      let reply : granting_reply terms free request.services ≡ reply_after terms before request = ap (λ (z : ℤ). granting_reply terms z request.services) same
+      ∙ granted-reply Initial is settled refl in
       let success : Bool = is_success (reply_after terms before request).code in
-      let all : holds ≡ holds_from terms.tariffs (free_to_grant terms before request) request.services = held ∙ ap (λ (z : ℤ). holds_from terms.tariffs z request.services) same in
+      let all : holds ≡ holds_from terms.tariffs (free_to_grant terms before request) request.services = held
+      ∙ ap (λ (z : ℤ). holds_from terms.tariffs z request.services) same in
       let grants : grants_after terms before request ≡ cond success holds [] =
       grants-by terms before request Initial is settled ∙ sym (ap (λ (hs : List Hold). cond success hs []) all) in
       let account_is : charged_account terms before request ≡ Some account = charged Initial is ∙ own in
@@ -252,9 +300,11 @@ module _ {terms : Terms} {before : List Posting} {balances : List ℤ} {sessions
 
   -- ---- what is free for the first grant
 
-  pub free-update : (place : ℕ) (session : OpenSession) (free : ℤ) (ended : ℕ) → request.kind ≡ Update → place_in sessions request.session ≡ Some place → slice_get sessions place ≡ Some session
+  pub free-update : (place : ℕ) (session : OpenSession) (free : ℤ) (ended : ℕ) → request.kind ≡ Update → place_in sessions request.session ≡ Some place
+      → slice_get sessions place ≡ Some session
       → ended + held_in (holds_beside request.services session.holds) ≡ held_in session.holds
-      → free ≡ ((slice_index_or balances session.account (pos 0) -ℤ pos (reserved_in session.account sessions)) +ℤ pos ended) -ℤ pos (used_total terms.tariffs request.services)
+      → free ≡ ((slice_index_or balances session.account (pos 0) -ℤ pos (reserved_in session.account sessions)) +ℤ pos ended) -ℤ pos
+      (used_total terms.tariffs request.services)
       → free ≡ free_to_grant terms before request
   free-update place session free ended is at there parts value =
       let known = is_some (account_of terms.accounts request.subscriptions) in
@@ -264,7 +314,8 @@ module _ {terms : Terms} {before : List Posting} {balances : List ℤ} {sessions
       let grant = free_to_grant-open s request place session is at there in
       omega (arith, ints)
 
-  pub free-initial : (account : ℕ) (free : ℤ) → request.kind ≡ Initial → place_in sessions request.session ≡ None → account_of terms.accounts request.subscriptions ≡ Some account → account < length terms.accounts
+  pub free-initial : (account : ℕ) (free : ℤ) → request.kind ≡ Initial → place_in sessions request.session ≡ None
+      → account_of terms.accounts request.subscriptions ≡ Some account → account < length terms.accounts
       → free ≡ ((slice_index_or balances account (pos 0) -ℤ pos (reserved_in account sessions)) +ℤ pos 0) -ℤ pos (used_total terms.tariffs request.services)
       → free ≡ free_to_grant terms before request
   free-initial account free is shut own within value =
@@ -276,32 +327,41 @@ module _ {terms : Terms} {before : List Posting} {balances : List ℤ} {sessions
 
   -- ---- an EVENT
 
-  free-event : (account : Option ℕ) → IfSome account (λ place. place < length terms.accounts) → free_in balances sessions account ≡ free_for terms before account
+  free-event : (account : Option ℕ) → IfSome account (λ place. place < length terms.accounts)
+      → free_in balances sessions account ≡ free_for terms before account
   free-event None within = refl
   free-event (Some account) within = sym (free-stands s account within)
 
-  pub event-outcome : (account : Option ℕ) (total : Option ℕ) → request.kind ≡ Event → account ≡ account_of terms.accounts request.subscriptions → IfSome account (λ place. place < length terms.accounts)
+  pub event-outcome : (account : Option ℕ) (total : Option ℕ) → request.kind ≡ Event → account ≡ account_of terms.accounts request.subscriptions
+      → IfSome account (λ place. place < length terms.accounts)
       → total ≡ total_of terms.tariffs request.services
-      → negsuc (2 ^ 103) ≤ℤ action_debit (unwrap_or total 0) (event_reply terms request.services account (free_in balances sessions account) request.action).code request.action
-      → action_debit (unwrap_or total 0) (event_reply terms request.services account (free_in balances sessions account) request.action).code request.action ≤ℤ pos (2 ^ 103)
+      → negsuc (2 ^ 103) ≤ℤ action_debit (unwrap_or total 0)
+      (event_reply terms request.services account (free_in balances sessions account) request.action).code request.action
+      → action_debit (unwrap_or total 0) (event_reply terms request.services account (free_in balances sessions account) request.action).code
+      request.action ≤ℤ pos (2 ^ 103)
       → IsOutcome terms before sessions moment request (record {
         account = account;
-        debit = action_debit (unwrap_or total 0) (event_reply terms request.services account (free_in balances sessions account) request.action).code request.action;
+        debit = action_debit (unwrap_or total 0) (event_reply terms request.services account (free_in balances sessions account) request.action).code
+            request.action;
         reply = event_reply terms request.services account (free_in balances sessions account) request.action;
         change = Stays;
       })
   event-outcome account total is own within costs least most =
-      let none : settles_after terms before request ≡ false = settles-by terms before request Event (is_open terms.validity request.session before) (is_some (account_of terms.accounts request.subscriptions)) is refl refl in
+      let none : settles_after terms before request ≡ false =
+      settles-by terms before request Event (is_open terms.validity request.session before) (is_some (account_of terms.accounts request.subscriptions)) is
+      refl refl in
       let reply : event_reply terms request.services account (free_in balances sessions account) request.action ≡ event_after terms before request =
       ap (λ (z : ℤ). event_reply terms request.services account z request.action) (free-event account within)
       ∙ ap (λ (a : Option ℕ). event_reply terms request.services a (free_for terms before a) request.action) own in
       record {
         account = own ∙ sym (charged Event is);
-        debit = ap (λ (t : Option ℕ). action_debit (unwrap_or t 0) (event_reply terms request.services account (free_in balances sessions account) request.action).code request.action) costs
+        debit = ap (λ (t : Option ℕ). action_debit (unwrap_or t 0)
+            (event_reply terms request.services account (free_in balances sessions account) request.action).code request.action) costs
             ∙ ap (λ (r : CcReply). action_debit (unwrap_or (total_of terms.tariffs request.services) 0) r.code request.action) reply
             ∙ sym (ap (debit_by terms before request) is);
         reply = reply ∙ sym (ap (reply_by terms before request) is);
-        change = event-stays (place_in sessions request.session) (find (is_session request.session) sessions) is (opens-unsettled terms before moment request none);
+        change = event-stays (place_in sessions request.session) (find (is_session request.session) sessions) is
+            (opens-unsettled terms before moment request none);
         least = least;
         most = most;
         grants = grants-unsettled terms before request none;
@@ -309,19 +369,28 @@ module _ {terms : Terms} {before : List Posting} {balances : List ℤ} {sessions
         posting : Posting
         posting = posting_of terms before (Take moment request)
 
-        event-stays : (place : Option ℕ) (found : Option OpenSession) → request.kind ≡ Event → opens posting ≡ false → Stays ≡ change_at request moment posting place found
+        event-stays : (place : Option ℕ) (found : Option OpenSession) → request.kind ≡ Event → opens posting ≡ false
+            → Stays ≡ change_at request moment posting place found
         event-stays (Some place) (Some session) kind shut = sym (ap (λ (k : RequestKind). change_open request moment posting.grants k place session) kind)
-        event-stays (Some place) None kind shut = sym (ap (λ (b : Bool). cond b (Opens (record { id = request.session; account = unwrap_or posting.account 0; last = moment; holds = posting.grants })) Stays) shut)
-        event-stays None found kind shut = sym (ap (λ (b : Bool). cond b (Opens (record { id = request.session; account = unwrap_or posting.account 0; last = moment; holds = posting.grants })) Stays) shut)
+        event-stays (Some place) None kind shut =
+            sym (ap
+            (λ (b : Bool). cond b (Opens (record { id = request.session; account = unwrap_or posting.account 0; last = moment; holds = posting.grants }))
+            Stays) shut)
+        event-stays None found kind shut =
+            sym (ap
+            (λ (b : Bool). cond b (Opens (record { id = request.session; account = unwrap_or posting.account 0; last = moment; holds = posting.grants }))
+            Stays) shut)
 
 -- ---- a outcome by its parts
 
-pub same-outcome : {terms : Terms} {before : List Posting} {sessions : List OpenSession} {moment : Moment} {request : CcRequest} (account : Option ℕ) (debit other_debit : ℤ) (reply other_reply : CcReply) (change other_change : Change)
+pub same-outcome : {terms : Terms} {before : List Posting} {sessions : List OpenSession} {moment : Moment} {request : CcRequest} (account : Option ℕ)
+    (debit other_debit : ℤ) (reply other_reply : CcReply) (change other_change : Change)
     → debit ≡ other_debit → reply ≡ other_reply → change ≡ other_change
     → IsOutcome terms before sessions moment request (record { account = account; debit = debit; reply = reply; change = change })
     → IsOutcome terms before sessions moment request (record { account = account; debit = other_debit; reply = other_reply; change = other_change })
 same-outcome {terms} {before} {sessions} {moment} {request} account debit other_debit reply other_reply change other_change d r c outcome =
-    subst (λ (x : Change). IsOutcome terms before sessions moment request (record { account = account; debit = other_debit; reply = other_reply; change = x })) c
+    subst (λ (x : Change). IsOutcome terms before sessions moment request
+    (record { account = account; debit = other_debit; reply = other_reply; change = x })) c
     (subst (λ (x : CcReply). IsOutcome terms before sessions moment request (record { account = account; debit = other_debit; reply = x; change = change })) r
     (subst (λ (x : ℤ). IsOutcome terms before sessions moment request (record { account = account; debit = x; reply = reply; change = change })) d outcome))
 

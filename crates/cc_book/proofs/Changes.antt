@@ -31,7 +31,8 @@ held_by_all-append : (xs ys : List OpenSession) → held_by_all (xs ++ ys) ≡ h
 held_by_all-append [] ys = omega arith
 held_by_all-append (x ∷ xs) ys = let more = held_by_all-append xs ys in omega arith
 
-module _ {terms : Terms} {before : List Posting} {balances : List ℤ} {sessions : List OpenSession} (s : Stands terms before balances sessions) (moment : Moment) (request : CcRequest) (posting : Posting) where
+module _ {terms : Terms} {before : List Posting} {balances : List ℤ} {sessions : List OpenSession} (s : Stands terms before balances sessions)
+    (moment : Moment) (request : CcRequest) (posting : Posting) where
   abbrev q : Posting
   q = taken moment request posting
 
@@ -41,13 +42,18 @@ module _ {terms : Terms} {before : List Posting} {balances : List ℤ} {sessions
   -- ---- one more posting
 
   session-push : (id : List ℕ) → session_of terms.validity id (before ++ q ∷ []) ≡ next_session terms.validity id (found sessions id) q
-  session-push id = fold-append (next_session terms.validity id) None before (q ∷ []) ∙ ap (λ (o : Option Opened). next_session terms.validity id o q) (s.session id)
+  session-push id = fold-append (next_session terms.validity id) None before (q ∷ [])
+      ∙ ap (λ (o : Option Opened). next_session terms.validity id o q) (s.session id)
 
-  holds-push : (weight : Weight) → alive_weight weight terms.validity (before ++ q ∷ []) ≡ sessions_weight (kept request posting.settles weight) sessions + grants_weight weight terms.validity q [] posting.grants
-  holds-push weight = alive_weight-push terms.validity moment request posting weight before ∙ ap (λ (n : ℕ). n + grants_weight weight terms.validity q [] posting.grants) (s.holds (kept request posting.settles weight))
+  holds-push : (weight : Weight) → alive_weight weight terms.validity (before ++ q ∷ [])
+      ≡ sessions_weight (kept request posting.settles weight) sessions + grants_weight weight terms.validity q [] posting.grants
+  holds-push weight = alive_weight-push terms.validity moment request posting weight before
+      ∙ ap (λ (n : ℕ). n + grants_weight weight terms.validity q [] posting.grants) (s.holds (kept request posting.settles weight))
 
-  count-push : (weight : List ℕ → ℕ) → open_weight weight terms.validity (before ++ q ∷ []) ≡ ids_weight (going_on request weight) sessions + cond (opens q) (weight request.session) 0
-  count-push weight = open_weight-push terms.validity moment request posting weight before ∙ ap (λ (n : ℕ). n + cond (opens q) (weight request.session) 0) (s.count (going_on request weight))
+  count-push : (weight : List ℕ → ℕ) → open_weight weight terms.validity (before ++ q ∷ []) ≡ ids_weight (going_on request weight) sessions + cond (opens q)
+      (weight request.session) 0
+  count-push weight = open_weight-push terms.validity moment request posting weight before
+      ∙ ap (λ (n : ℕ). n + cond (opens q) (weight request.session) 0) (s.count (going_on request weight))
 
   pub no_grants : (weight : Weight) → posting.grants ≡ [] → grants_weight weight terms.validity q [] posting.grants ≡ 0
   no_grants weight none = ap (grants_weight weight terms.validity q []) none
@@ -57,7 +63,8 @@ module _ {terms : Terms} {before : List Posting} {balances : List ℤ} {sessions
   next-other : (id : List ℕ) (opened : Option Opened) → same_session request.session id ≡ false → next_session terms.validity id opened q ≡ opened
   next-other id opened other =
       ap (λ (b : Bool). cond (opens q && b) (Some (opened_at terms.validity posting.account moment.0)) (left_after terms.validity id opened q)) other
-      ∙ ap (λ (b : Bool). cond b (Some (opened_at terms.validity posting.account moment.0)) (left_after terms.validity id opened q)) (and_right (opens q) false refl)
+      ∙ ap (λ (b : Bool). cond b (Some (opened_at terms.validity posting.account moment.0)) (left_after terms.validity id opened q))
+      (and_right (opens q) false refl)
       ∙ left opened where
         left : (o : Option Opened) → left_after terms.validity id o q ≡ o
         left None = refl
@@ -65,12 +72,16 @@ module _ {terms : Terms} {before : List Posting} {balances : List ℤ} {sessions
 
   pub next-unopened : (id : List ℕ) (opened : Option Opened) → opens q ≡ false → next_session terms.validity id opened q ≡ left_after terms.validity id opened q
   next-unopened id opened none =
-      ap (λ (b : Bool). cond (b && same_session request.session id) (Some (opened_at terms.validity posting.account moment.0)) (left_after terms.validity id opened q)) none
+      ap (λ (b : Bool). cond (b && same_session request.session id) (Some (opened_at terms.validity posting.account moment.0))
+      (left_after terms.validity id opened q)) none
 
-  next-opened : (opened : Option Opened) → opens q ≡ true → next_session terms.validity request.session opened q ≡ Some (opened_at terms.validity posting.account moment.0)
+  next-opened : (opened : Option Opened) → opens q ≡ true
+      → next_session terms.validity request.session opened q ≡ Some (opened_at terms.validity posting.account moment.0)
   next-opened opened does =
-      ap (λ (b : Bool). cond (b && same_session request.session request.session) (Some (opened_at terms.validity posting.account moment.0)) (left_after terms.validity request.session opened q)) does
-      ∙ ap (λ (b : Bool). cond b (Some (opened_at terms.validity posting.account moment.0)) (left_after terms.validity request.session opened q)) (same_session-self request.session)
+      ap (λ (b : Bool). cond (b && same_session request.session request.session) (Some (opened_at terms.validity posting.account moment.0))
+      (left_after terms.validity request.session opened q)) does
+      ∙ ap (λ (b : Bool). cond b (Some (opened_at terms.validity posting.account moment.0)) (left_after terms.validity request.session opened q))
+      (same_session-self request.session)
 
   next-open : (now : Opened) → opens q ≡ false → next_session terms.validity request.session (Some now) q ≡ session_by terms.validity now moment.0 request.kind
   next-open now none =
@@ -83,18 +94,21 @@ module _ {terms : Terms} {before : List Posting} {balances : List ℤ} {sessions
       → (id : List ℕ) → session_of terms.validity id (before ++ q ∷ []) ≡ found later id
   session-by later own others id = session-push id ∙ by (same_session request.session id) refl where
     by : (b : Bool) → same_session request.session id ≡ b → next_session terms.validity id (found sessions id) q ≡ found later id
-    by true e = subst (λ (other : List ℕ). next_session terms.validity other (found sessions other) q ≡ found later other) (same_session-equal request.session id e) own
+    by true e = subst (λ (other : List ℕ). next_session terms.validity other (found sessions other) q ≡ found later other)
+        (same_session-equal request.session id e) own
     by false e = next-other id (found sessions id) e ∙ ap (option_map (opened_as terms.validity)) (sym (others id e))
 
   -- ---- no session changes
 
-  pub sits-same : opens q ≡ false → posting.grants ≡ [] → AllByRecursion (IsLeft request posting.settles) sessions → next_session terms.validity request.session (found sessions request.session) q ≡ found sessions request.session
+  pub sits-same : opens q ≡ false → posting.grants ≡ [] → AllByRecursion (IsLeft request posting.settles) sessions
+      → next_session terms.validity request.session (found sessions request.session) q ≡ found sessions request.session
       → Sit terms (before ++ q ∷ []) sessions
   sits-same unopened none left same = record {
     session = session-by sessions same (λ id other. refl);
     own_ids = s.own_ids;
     known = s.known;
-    holds = λ weight. (let push = holds-push weight in let nothing = no_grants weight none in let all = sessions_weight-left request posting.settles weight sessions left in omega arith);
+    holds = λ weight. (let push = holds-push weight in let nothing = no_grants weight none in
+        let all = sessions_weight-left request posting.settles weight sessions left in omega arith);
     count = λ weight. (
         let push = count-push weight in
         let nothing : cond (opens q) (weight request.session) 0 ≡ 0 = ap (λ (b : Bool). cond b (weight request.session) 0) unopened in
@@ -107,7 +121,8 @@ module _ {terms : Terms} {before : List Posting} {balances : List ℤ} {sessions
   abbrev opened : ℕ → OpenSession
   opened a = record { id = request.session; account = a; last = moment; holds = posting.grants }
 
-  pub sits-opened : (a : ℕ) → opens q ≡ true → posting.account ≡ Some a → a < length terms.accounts → Others request.session sessions → held_in posting.grants ≤ 2 ^ 89
+  pub sits-opened : (a : ℕ) → opens q ≡ true → posting.account ≡ Some a → a < length terms.accounts → Others request.session sessions
+      → held_in posting.grants ≤ 2 ^ 89
       → Sit terms (before ++ q ∷ []) (sessions ++ opened a ∷ [])
   sits-opened a does charged lt others most = record {
     session = session-by (sessions ++ opened a ∷ [])
@@ -132,7 +147,8 @@ module _ {terms : Terms} {before : List Posting} {balances : List ℤ} {sessions
 
   -- ---- the session of the request goes on, or ends
 
-  module _ (place : ℕ) (session : OpenSession) (there : slice_get sessions place ≡ Some session) (at : IsAt request.session sessions place session) (unopened : opens q ≡ false) where
+  module _ (place : ℕ) (session : OpenSession) (there : slice_get sessions place ≡ Some session) (at : IsAt request.session sessions place session)
+      (unopened : opens q ≡ false) where
     -- the session is none of another id
     apart : (id : List ℕ) → same_session request.session id ≡ false → same_session session.id id ≡ false
     apart id other = ap (λ (own : List ℕ). same_session own id) at.own ∙ other
@@ -140,9 +156,11 @@ module _ {terms : Terms} {before : List Posting} {balances : List ℤ} {sessions
     beside : (id : List ℕ) → same_session request.session id ≡ false → find (is_session id) (at.front ++ at.back) ≡ find (is_session id) sessions
     beside id other = sym (ap (find (is_session id)) at.split ∙ find-beside id at.front session at.back (apart id other))
 
-    pub next-there : next_session terms.validity request.session (found sessions request.session) q ≡ session_by terms.validity (opened_as terms.validity session) moment.0 request.kind
+    pub next-there : next_session terms.validity request.session (found sessions request.session) q
+        ≡ session_by terms.validity (opened_as terms.validity session) moment.0 request.kind
     next-there =
-        ap (λ (o : Option OpenSession). next_session terms.validity request.session (option_map (opened_as terms.validity) o) q) (find-at request.session sessions place session at)
+        ap (λ (o : Option OpenSession). next_session terms.validity request.session (option_map (opened_as terms.validity) o) q)
+        (find-at request.session sessions place session at)
         ∙ next-open (opened_as terms.validity session) unopened
 
     none_opened : (weight : List ℕ → ℕ) → cond (opens q) (weight request.session) 0 ≡ 0
@@ -153,7 +171,8 @@ module _ {terms : Terms} {before : List Posting} {balances : List ℤ} {sessions
 
     pub sits-going_on : (holds : List Hold) → is_ending request.kind ≡ false
         → ((now : Opened) → session_by terms.validity now moment.0 request.kind ≡ Some (opened_at terms.validity now.account moment.0))
-        → ((weight : Weight) → holds_weight (kept request posting.settles weight) session.id session.account session.holds + grants_weight weight terms.validity q [] posting.grants ≡ holds_weight weight session.id session.account holds)
+        → ((weight : Weight) → holds_weight (kept request posting.settles weight) session.id session.account session.holds + grants_weight weight
+        terms.validity q [] posting.grants ≡ holds_weight weight session.id session.account holds)
         → held_in holds ≤ held_in session.holds + 2 ^ 89
         → Sit terms (before ++ q ∷ []) (slice_set sessions place (prolonged session moment holds))
     sits-going_on holds stays prolongs weigh most =
@@ -161,24 +180,30 @@ module _ {terms : Terms} {before : List Posting} {balances : List ℤ} {sessions
         record {
           session = session-by (slice_set sessions place now)
               (next-there ∙ prolongs (opened_as terms.validity session)
-              ∙ ap (option_map (opened_as terms.validity)) (sym (ap (find (is_session request.session)) (at.set_there now) ∙ find-behind request.session at.front now at.back at.before (same_session-met session.id request.session at.own))))
+              ∙ ap (option_map (opened_as terms.validity))
+              (sym (ap (find (is_session request.session)) (at.set_there now)
+              ∙ find-behind request.session at.front now at.back at.before (same_session-met session.id request.session at.own))))
               (λ id other. ap (find (is_session id)) (at.set_there now) ∙ find-beside id at.front now at.back (apart id other) ∙ beside id other);
           own_ids = own_ids-set request.session sessions place session now there refl s.own_ids;
           known = All-set (λ (x : OpenSession). x.account < length terms.accounts) sessions place now
-              (subst (λ (x : OpenSession). x.account < length terms.accounts) (session_there sessions place session session there).0 (s.known place session at.within)) s.known;
+              (subst (λ (x : OpenSession). x.account < length terms.accounts) (session_there sessions place session session there).0
+              (s.known place session at.within)) s.known;
           holds = λ weight. (
               let push = holds-push weight in
               let around = sessions_weight-at request posting.settles weight sessions place session at in
               let weighed = weigh weight in
-              let later : sessions_weight weight (slice_set sessions place now) ≡ sessions_weight weight (at.front ++ now ∷ at.back) = ap (sessions_weight weight) (at.set_there now) in
+              let later : sessions_weight weight (slice_set sessions place now) ≡ sessions_weight weight (at.front ++ now ∷ at.back) =
+              ap (sessions_weight weight) (at.set_there now) in
               let parts = sessions_weight-append weight at.front (now ∷ at.back) in omega arith);
           count = λ weight. (
               let push = count-push weight in
               let nothing = none_opened weight in
               let around = ids_weight-at request posting.settles weight sessions place session at in
               let goes_on : going_on request weight session.id ≡ weight session.id =
-              ap (λ (b : Bool). cond (same_session request.session session.id && b) 0 (weight session.id)) stays ∙ ap (λ (b : Bool). cond b 0 (weight session.id)) (and_right (same_session request.session session.id) false refl) in
-              let later : ids_weight weight (slice_set sessions place now) ≡ ids_weight weight (at.front ++ now ∷ at.back) = ap (ids_weight weight) (at.set_there now) in
+              ap (λ (b : Bool). cond (same_session request.session session.id && b) 0 (weight session.id)) stays
+              ∙ ap (λ (b : Bool). cond b 0 (weight session.id)) (and_right (same_session request.session session.id) false refl) in
+              let later : ids_weight weight (slice_set sessions place now) ≡ ids_weight weight (at.front ++ now ∷ at.back) =
+              ap (ids_weight weight) (at.set_there now) in
               let parts = ids_weight-append weight at.front (now ∷ at.back) in omega arith);
           held =
               let held = s.held in
@@ -193,7 +218,9 @@ module _ {terms : Terms} {before : List Posting} {balances : List ℤ} {sessions
         record {
           session = session-by (remove sessions place)
               (next-there ∙ ap (session_by terms.validity (opened_as terms.validity session) moment.0) kind
-              ∙ ap (option_map (opened_as terms.validity)) (sym (ap (find (is_session request.session)) at.removed ∙ find-others request.session (at.front ++ at.back) (others-append request.session at.front at.back at.before at.behind))))
+              ∙ ap (option_map (opened_as terms.validity))
+              (sym (ap (find (is_session request.session)) at.removed
+              ∙ find-others request.session (at.front ++ at.back) (others-append request.session at.front at.back at.before at.behind))))
               (λ id other. ap (find (is_session id)) at.removed ∙ beside id other);
           own_ids = own_ids-remove sessions place at.within s.own_ids;
           known = let P = λ (x : OpenSession). x.account < length terms.accounts in
@@ -203,7 +230,8 @@ module _ {terms : Terms} {before : List Posting} {balances : List ℤ} {sessions
               let nothing = no_grants weight none in
               let around = sessions_weight-at request posting.settles weight sessions place session at in
               let gone = holds_weight-ended request posting.settles weight session.id session.account session.holds ended in
-              let later : sessions_weight weight (remove sessions place) ≡ sessions_weight weight (at.front ++ at.back) = ap (sessions_weight weight) at.removed in
+              let later : sessions_weight weight (remove sessions place) ≡ sessions_weight weight (at.front ++ at.back) =
+              ap (sessions_weight weight) at.removed in
               let parts = sessions_weight-append weight at.front at.back in omega arith);
           count = λ weight. (
               let push = count-push weight in

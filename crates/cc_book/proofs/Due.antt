@@ -67,7 +67,8 @@ module _ (validity : ℕ) (moment : Moment) where
   abbrev due_behind : Entry → Option Opened → List Posting → Bool
   due_behind entry now after = due_in moment (fold (next_session validity (session_in entry)) now after)
 
-  outlasts-swept : (entry : Entry) (now : Option Opened) (after : List Posting) → Opens entry now → outlasts validity entry (after ++ q ∷ []) ≡ (outlasts validity entry after && not (due_behind entry now after))
+  outlasts-swept : (entry : Entry) (now : Option Opened) (after : List Posting) → Opens entry now
+      → outlasts validity entry (after ++ q ∷ []) ≡ (outlasts validity entry after && not (due_behind entry now after))
   outlasts-swept (Take m r) now after opened =
       let covers = covers_all validity r.session (first (Take m r)) now after (opened (own_session r.session)) in
       ap is_some (fold-append (left_after validity r.session) (first (Take m r)) after (q ∷ []))
@@ -78,7 +79,8 @@ module _ (validity : ℕ) (moment : Moment) where
   alive_by true b c = refl
   alive_by false b c = refl
 
-  pub is_alive-swept : (entry : Entry) (now : Option Opened) (name : ServiceName) (after : List Posting) → Opens entry now → is_alive validity entry name (after ++ q ∷ []) ≡ (is_alive validity entry name after && not (due_behind entry now after))
+  pub is_alive-swept : (entry : Entry) (now : Option Opened) (name : ServiceName) (after : List Posting) → Opens entry now
+      → is_alive validity entry name (after ++ q ∷ []) ≡ (is_alive validity entry name after && not (due_behind entry now after))
   is_alive-swept (Take m r) now name after opened =
       ap (λ (b : Bool). not b && outlasts validity (Take m r) (after ++ q ∷ [])) (any-push (replaces r.session name) after q)
       ∙ ap (λ (b : Bool). not (list_any (replaces r.session name) after || false) && b) (outlasts-swept (Take m r) now after opened)
@@ -93,7 +95,8 @@ module _ (validity : ℕ) (moment : Moment) where
   weight_by false b n = refl
 
   grants_weight-swept : (states : States) (weight : Weight) (p : Posting) (after : List Posting) (holds : List Hold)
-      → ((name : ServiceName) → is_alive validity p.entry name (after ++ q ∷ []) ≡ (is_alive validity p.entry name after && not (due_in moment (states (session_in p.entry)))))
+      → ((name : ServiceName) → is_alive validity p.entry name (after ++ q ∷ [])
+      ≡ (is_alive validity p.entry name after && not (due_in moment (states (session_in p.entry)))))
       → grants_weight weight validity p (after ++ q ∷ []) holds ≡ grants_weight (lasting moment states weight) validity p after holds
   grants_weight-swept states weight p after [] alive = refl
   grants_weight-swept states weight p after (hold ∷ holds) alive =
@@ -110,17 +113,22 @@ module _ (validity : ℕ) (moment : Moment) where
 
   grants_weight-here : (states : States) (weight : Weight) (p : Posting) (after : List Posting)
       → (is_of (session_in p.entry) p.entry ≡ true → (p.grants ≡ []) ⊎ Covers (first p.entry) (next states p (session_in p.entry)))
-      → grants_weight weight validity p (after ++ q ∷ []) p.grants ≡ grants_weight (lasting moment (behind (next states p) after) weight) validity p after p.grants
+      → grants_weight weight validity p (after ++ q ∷ []) p.grants ≡ grants_weight (lasting moment (behind (next states p) after) weight) validity p after
+      p.grants
   grants_weight-here states weight p after keeps = elim (owned p.entry) as (λ _. Same) [
     | inl own ↦ elim (keeps own) as (λ _. Same) [
-      | inl none ↦ ap (grants_weight weight validity p (after ++ q ∷ [])) none ∙ sym (ap (grants_weight (lasting moment (behind (next states p) after) weight) validity p after) none)
-      | inr covers ↦ grants_weight-swept (behind (next states p) after) weight p after p.grants (λ name. is_alive-swept p.entry (next states p (session_in p.entry)) name after (λ own. covers))
+      | inl none ↦ ap (grants_weight weight validity p (after ++ q ∷ [])) none
+          ∙ sym (ap (grants_weight (lasting moment (behind (next states p) after) weight) validity p after) none)
+      | inr covers ↦ grants_weight-swept (behind (next states p) after) weight p after p.grants
+          (λ name. is_alive-swept p.entry (next states p (session_in p.entry)) name after (λ own. covers))
     ]
     | inr dead ↦ grants_weight-swept (behind (next states p) after) weight p after p.grants
-        (λ name. dead name (after ++ q ∷ []) ∙ sym (ap (λ (b : Bool). b && not (due_in moment (behind (next states p) after (session_in p.entry)))) (dead name after)))
+        (λ name. dead name (after ++ q ∷ [])
+        ∙ sym (ap (λ (b : Bool). b && not (due_in moment (behind (next states p) after (session_in p.entry)))) (dead name after)))
   ] where
     Same : Type 0
-    Same = grants_weight weight validity p (after ++ q ∷ []) p.grants ≡ grants_weight (lasting moment (behind (next states p) after) weight) validity p after p.grants
+    Same = grants_weight weight validity p (after ++ q ∷ []) p.grants ≡ grants_weight (lasting moment (behind (next states p) after) weight) validity p after
+        p.grants
 
   -- what is alive after a sweep: what of it is not due
   pub alive_weight-swept : (states : States) (weight : Weight) (before : List Posting) → ((id : List ℕ) → AllKeep validity id (states id) before)

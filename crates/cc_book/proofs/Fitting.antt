@@ -19,12 +19,14 @@ held-last : (sessions : List OpenSession) (session : OpenSession) → held_in se
 held-last [] session = omega arith
 held-last (x ∷ sessions) session = let more = held-last sessions session in omega arith
 
-held-set : (sessions : List OpenSession) (place : ℕ) (session : OpenSession) → place < length sessions → held_in session.holds ≤ held_by_all (slice_set sessions place session)
+held-set : (sessions : List OpenSession) (place : ℕ) (session : OpenSession) → place < length sessions
+    → held_in session.holds ≤ held_by_all (slice_set sessions place session)
 held-set [] place session lt = absurd (omega arith)
 held-set (x ∷ sessions) zero session lt = omega arith
 held-set (x ∷ sessions) (suc place) session lt = let more = held-set sessions place session (omega arith) in omega arith
 
-last-known : (count : ℕ) (sessions : List OpenSession) (session : OpenSession) → All (λ s. s.account < count) (sessions ++ session ∷ []) → session.account < count
+last-known : (count : ℕ) (sessions : List OpenSession) (session : OpenSession) → All (λ s. s.account < count) (sessions ++ session ∷ [])
+    → session.account < count
 last-known count sessions session known =
     let long = length-append sessions (session ∷ []) in
     subst (λ (s : OpenSession). s.account < count) (get_or-append_seam sessions session [] session) (known (length sessions) session (omega arith))
@@ -32,7 +34,8 @@ last-known count sessions session known =
 module _ (now : Sessions) (request : CcRequest) (moment : Moment) (posting : Posting) (own : OwnIds now.items) where
   -- where the sessions that a change leaves are small and of known accounts, the change fits
   abbrev pub Fits : Change → Type 0
-  Fits change = held_by_all (after_change now.items change) ≤ 2 ^ 110 → All (λ s. s.account < now.accounts) (after_change now.items change) → FitsIn now request.session change
+  Fits change = held_by_all (after_change now.items change) ≤ 2 ^ 110 → All (λ s. s.account < now.accounts) (after_change now.items change)
+      → FitsIn now request.session change
 
   closed_by : (b : Bool) (account : ℕ) → place_in now.items request.session ≡ None
       → Fits (cond b (Opens (record { id = request.session; account = account; last = moment; holds = posting.grants })) Stays)
@@ -42,7 +45,8 @@ module _ (now : Sessions) (request : CcRequest) (moment : Moment) (posting : Pos
       (refl, is, last-known now.accounts now.items session known, omega arith)
   closed_by false account is most known = tt
 
-  open_by : (place : ℕ) (session : OpenSession) (kind : RequestKind) → slice_get now.items place ≡ Some session → Fits (change_open request moment posting.grants kind place session)
+  open_by : (place : ℕ) (session : OpenSession) (kind : RequestKind) → slice_get now.items place ≡ Some session
+      → Fits (change_open request moment posting.grants kind place session)
   open_by place session Initial there most known =
       let here = held-set now.items place (prolonged session moment session.holds) (slice_get_within now.items place session there) in
       (record { before = session; there = there; id = refl; account = refl }, omega arith)
@@ -60,5 +64,6 @@ module _ (now : Sessions) (request : CcRequest) (moment : Moment) (posting : Pos
     by (Some place) found is finds =
         let at = open_at_place request.session now.items place is in
         let met = find-at request.session now.items place at.0 (is_at_place request.session now.items place at.0 is at.1 own) in
-        subst (λ (other : Option OpenSession). Fits (change_at request moment posting (Some place) other)) (sym met ∙ finds) (open_by place at.0 request.kind at.1)
+        subst (λ (other : Option OpenSession). Fits (change_at request moment posting (Some place) other)) (sym met ∙ finds)
+        (open_by place at.0 request.kind at.1)
     by None found is finds = closed_by (opens posting) (unwrap_or posting.account 0) is

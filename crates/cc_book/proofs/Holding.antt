@@ -50,15 +50,18 @@ has_name-is name service e =
 pub has_name-same : (name : ServiceName) (service : Service) → same_name (name_of service) name ≡ true → has_name name service ≡ true
 has_name-same name service e =
     let parts = and_parts (option_eq eqb service.group name.group) (option_eq eqb service.ident name.ident) e in
-    and_from (option_eq eqb name.group service.group) (option_eq eqb name.ident service.ident) (option_eq-sym service.group name.group parts.0) (option_eq-sym service.ident name.ident parts.1)
+    and_from (option_eq eqb name.group service.group) (option_eq eqb name.ident service.ident) (option_eq-sym service.group name.group parts.0)
+    (option_eq-sym service.ident name.ident parts.1)
 
 abbrev OwnNames : List Service → Type 0
 OwnNames services = AllPairs (λ service other. name_of service ≢ name_of other) services
 
-others_named : (name : ServiceName) (first : Service) (services : List Service) → OwnNames (first ∷ services) → has_name name first ≡ true → count_by (has_name name) services ≡ 0
+others_named : (name : ServiceName) (first : Service) (services : List Service) → OwnNames (first ∷ services) → has_name name first ≡ true
+    → count_by (has_name name) services ≡ 0
 others_named name first services own is =
     (none_any (has_name name) services (list_any_none (has_name name) services
-    (All-weaker (λ service. name_of first ≢ name_of service) (λ service. has_name name service ≡ false) differs services (λ k d lt. own zero (suc k) d (omega arith) (omega arith))))).0
+    (All-weaker (λ service. name_of first ≢ name_of service) (λ service. has_name name service ≡ false) differs services
+    (λ k d lt. own zero (suc k) d (omega arith) (omega arith))))).0
   where
     differs : (service : Service) → name_of first ≢ name_of service → has_name name service ≡ false
     differs service other = by (has_name name service) refl where
@@ -68,17 +71,19 @@ others_named name first services own is =
 
 named-once : (name : ServiceName) (services : List Service) → OwnNames services → count_by (has_name name) services ≤ 1
 named-once name [] own = omega arith
-named-once name (service ∷ services) own = by (has_name name service) refl (named-once name services (λ i j d lt within. own (suc i) (suc j) d (omega arith) (omega arith))) where
-  by : (b : Bool) → has_name name service ≡ b → count_by (has_name name) services ≤ 1 → count_by (has_name name) (service ∷ services) ≤ 1
-  by true is more = let rest = others_named name service services own is in omega (arith, count-cons (has_name name) service services, ap one is)
-  by false is more = omega (arith, count-cons (has_name name) service services, ap one is)
+named-once name (service ∷ services) own = by (has_name name service) refl
+    (named-once name services (λ i j d lt within. own (suc i) (suc j) d (omega arith) (omega arith))) where
+      by : (b : Bool) → has_name name service ≡ b → count_by (has_name name) services ≤ 1 → count_by (has_name name) (service ∷ services) ≤ 1
+      by true is more = let rest = others_named name service services own is in omega (arith, count-cons (has_name name) service services, ap one is)
+      by false is more = omega (arith, count-cons (has_name name) service services, ap one is)
 
 -- ---- so its grants are of services with names of their own
 
 unfoldable pub held : ServiceName → List Hold → ℕ
 held name holds = count_by (λ hold. same_name hold.service name) holds
 
-hold-named : (name : ServiceName) (service : Service) (made : Option Grant) (rest : List Hold) → held name (hold_of service made ++ rest) ≤ one (has_name name service) + held name rest
+hold-named : (name : ServiceName) (service : Service) (made : Option Grant) (rest : List Hold)
+    → held name (hold_of service made ++ rest) ≤ one (has_name name service) + held name rest
 unfolding held
 hold-named name service None rest = omega arith
 hold-named name service (Some grant) rest =
@@ -86,7 +91,8 @@ hold-named name service (Some grant) rest =
     let here = one-le (same_name (name_of service) name) (has_name name service) (has_name-same name service) in
     omega (arith, count-cons (λ (hold : Hold). same_name hold.service name) own rest)
 
-holds-named : (name : ServiceName) (tariffs : List Tariff) (free : ℤ) (services : List Service) → held name (holds_from tariffs free services) ≤ count_by (has_name name) services
+holds-named : (name : ServiceName) (tariffs : List Tariff) (free : ℤ) (services : List Service)
+    → held name (holds_from tariffs free services) ≤ count_by (has_name name) services
 unfolding held
 holds-named name tariffs free [] = omega arith
 holds-named name tariffs free (service ∷ services) =
@@ -110,12 +116,14 @@ with-le name Update code holds = omega arith
 with-le name Termination code holds = omega arith
 with-le name Event code holds = omega arith
 
-pub grants-named : (terms : Terms) (before : List Posting) (request : CcRequest) (name : ServiceName) → held name (grants_after terms before request) ≤ count_by (has_name name) request.services
+pub grants-named : (terms : Terms) (before : List Posting) (request : CcRequest) (name : ServiceName)
+    → held name (grants_after terms before request) ≤ count_by (has_name name) request.services
 unfolding held
 grants-named terms before request name = by (settles_after terms before request) where
   by : (b : Bool) → count_by (λ (hold : Hold). same_name hold.service name) (grants_by terms before request b) ≤ count_by (has_name name) request.services
   by true =
-      let part = with-le name request.kind (reply_after terms before request).code (holds_from terms.tariffs (free_to_grant terms before request) request.services) in
+      let part = with-le name request.kind (reply_after terms before request).code
+      (holds_from terms.tariffs (free_to_grant terms before request) request.services) in
       let all = holds-named name terms.tariffs (free_to_grant terms before request) request.services in
       omega arith
   by false = omega arith
@@ -125,21 +133,25 @@ not_named true true named p q e = e
 not_named true false named p q e = absurd cc
 not_named false own named p q e = absurd cc
 
-holds_once : (terms : Terms) (before : List Posting) (session : List ℕ) (name : ServiceName) (entry : Entry) → HasLimits entry → HoldsOnce session name (posting_of terms before entry)
+holds_once : (terms : Terms) (before : List Posting) (session : List ℕ) (name : ServiceName) (entry : Entry) → HasLimits entry
+    → HoldsOnce session name (posting_of terms before entry)
 unfolding held
 holds_once terms before session name (Sweep moment) limits = record { once = λ own. absurd cc; ends = λ own ends. refl }
-holds_once terms before session name (Take moment request) limits = record { once = λ own. most; ends = λ own none. by (settles_after terms before request) refl own none } where
-  most : count_by (λ (hold : Hold). same_name hold.service name) (grants_after terms before request) ≤ 1
-  most = let once = named-once name request.services limits.own_names in let some = grants-named terms before request name in omega arith
+holds_once terms before session name (Take moment request) limits =
+    record { once = λ own. most; ends = λ own none. by (settles_after terms before request) refl own none } where
+      most : count_by (λ (hold : Hold). same_name hold.service name) (grants_after terms before request) ≤ 1
+      most = let once = named-once name request.services limits.own_names in let some = grants-named terms before request name in omega arith
 
-  by : (b : Bool) → settles_after terms before request ≡ b → same_session request.session session ≡ true
-      → (settles_after terms before request && (same_session request.session session && list_any (has_name name) request.services)) ≡ false
-      → count_by (λ (hold : Hold). same_name hold.service name) (grants_after terms before request) ≡ 0
-  by true is own none =
-      let others = (none_any (has_name name) request.services (not_named (settles_after terms before request) (same_session request.session session) (list_any (has_name name) request.services) is own none)).0 in
-      let some = grants-named terms before request name in
-      omega arith
-  by false is own none = ap (λ (b : Bool). count_by (λ (hold : Hold). same_name hold.service name) (grants_by terms before request b)) is
+      by : (b : Bool) → settles_after terms before request ≡ b → same_session request.session session ≡ true
+          → (settles_after terms before request && (same_session request.session session && list_any (has_name name) request.services)) ≡ false
+          → count_by (λ (hold : Hold). same_name hold.service name) (grants_after terms before request) ≡ 0
+      by true is own none =
+          let others =
+          (none_any (has_name name) request.services
+          (not_named (settles_after terms before request) (same_session request.session session) (list_any (has_name name) request.services) is own none)).0 in
+          let some = grants-named terms before request name in
+          omega arith
+      by false is own none = ap (λ (b : Bool). count_by (λ (hold : Hold). same_name hold.service name) (grants_by terms before request b)) is
 
 -- ---- a later grant takes the place of an earlier one
 
@@ -152,7 +164,8 @@ alive-le validity name posting after =
     count-le (λ (hold : Hold). same_name hold.service name && is_alive validity posting.entry name after) (λ (hold : Hold). same_name hold.service name)
     (λ hold e. (and_parts (same_name hold.service name) (is_alive validity posting.entry name after) e).0) posting.grants
 
-replaced-dead : (validity : ℕ) (session : List ℕ) (name : ServiceName) (entry : Entry) (after : List Posting) → is_of session entry ≡ true → list_any (replaces session name) after ≡ true → is_alive validity entry name after ≡ false
+replaced-dead : (validity : ℕ) (session : List ℕ) (name : ServiceName) (entry : Entry) (after : List Posting) → is_of session entry ≡ true
+    → list_any (replaces session name) after ≡ true → is_alive validity entry name after ≡ false
 replaced-dead validity session name (Sweep moment) after own ends = refl
 replaced-dead validity session name (Take moment request) after own ends =
     ap (λ (b : Bool). not b && outlasts validity (Take moment request) after)
@@ -161,7 +174,8 @@ replaced-dead validity session name (Take moment request) after own ends =
 no_count : (holds : List Hold) (test : Hold → Bool) (alive : Bool) → alive ≡ false → count_by (λ hold. test hold && alive) holds ≡ 0
 no_count holds test true e = absurd cc
 no_count holds test false e =
-    (none_any (λ (hold : Hold). test hold && false) holds (list_any_none (λ (hold : Hold). test hold && false) holds (λ k d lt. fails (test (slice_index_or holds k d))))).0
+    (none_any (λ (hold : Hold). test hold && false) holds
+    (list_any_none (λ (hold : Hold). test hold && false) holds (λ k d lt. fails (test (slice_index_or holds k d))))).0
   where
     fails : (b : Bool) → (b && false) ≡ false
     fails true = refl
@@ -176,13 +190,16 @@ neither : (a b : Bool) → (a || b) ≡ false → (a ≡ false) × (b ≡ false)
 neither true b e = absurd cc
 neither false b e = (refl, e)
 
-alive_more : (validity : ℕ) (session : List ℕ) (name : ServiceName) (posting : Posting) (after : List Posting) → HoldsOnce session name posting → AliveOnce validity session name after → AliveOnce validity session name (posting ∷ after)
+alive_more : (validity : ℕ) (session : List ℕ) (name : ServiceName) (posting : Posting) (after : List Posting) → HoldsOnce session name posting
+    → AliveOnce validity session name after → AliveOnce validity session name (posting ∷ after)
 unfolding alive_here
 alive_more validity session name posting after holds more = by (is_of session posting.entry) (list_any (replaces session name) after) refl refl where
-  own_term : (b : Bool) → is_of session posting.entry ≡ b → cond (is_of session posting.entry) (alive_here validity name posting after) 0 ≡ cond b (alive_here validity name posting after) 0
+  own_term : (b : Bool) → is_of session posting.entry ≡ b
+      → cond (is_of session posting.entry) (alive_here validity name posting after) 0 ≡ cond b (alive_here validity name posting after) 0
   own_term b is = ap (λ (c : Bool). cond c (alive_here validity name posting after) 0) is
 
-  no_more : (replaces session name posting || list_any (replaces session name) after) ≡ false → (replaces session name posting ≡ false) × (list_any (replaces session name) after ≡ false)
+  no_more : (replaces session name posting || list_any (replaces session name) after) ≡ false
+      → (replaces session name posting ≡ false) × (list_any (replaces session name) after ≡ false)
   no_more = neither (replaces session name posting) (list_any (replaces session name) after)
 
   by : (own ends : Bool) → is_of session posting.entry ≡ own → list_any (replaces session name) after ≡ ends → AliveOnce validity session name (posting ∷ after)
@@ -192,7 +209,8 @@ alive_more validity session name posting after holds more = by (is_of session po
   by true true is e =
       let term = own_term true is in
       let dead : alive_here validity name posting after ≡ 0 =
-      no_count posting.grants (λ (hold : Hold). same_name hold.service name) (is_alive validity posting.entry name after) (replaced-dead validity session name posting.entry after is e) in
+      no_count posting.grants (λ (hold : Hold). same_name hold.service name) (is_alive validity posting.entry name after)
+      (replaced-dead validity session name posting.entry after is e) in
       record { once = let some = more.once in omega arith; none = λ no. absurd (let not_true = (no_more no).1 in cc) }
   by true false is e =
       let term = own_term true is in
@@ -200,12 +218,17 @@ alive_more validity session name posting after holds more = by (is_of session po
       let most = alive-le validity name posting after in
       record { once = let some = holds.once is in omega arith; none = λ no. let nothing = holds.ends is (no_more no).0 in omega arith }
 
-alive_once : (validity : ℕ) (session : List ℕ) (name : ServiceName) (postings : List Posting) → AllByRecursion (HoldsOnce session name) postings → AliveOnce validity session name postings
+alive_once : (validity : ℕ) (session : List ℕ) (name : ServiceName) (postings : List Posting) → AllByRecursion (HoldsOnce session name) postings
+    → AliveOnce validity session name postings
 alive_once validity session name [] all = record { once = omega arith; none = λ e. refl }
 alive_once validity session name (posting ∷ after) all = alive_more validity session name posting after all.0 (alive_once validity session name after all.1)
 
-all_once : (terms : Terms) (history : List Entry) (session : List ℕ) (name : ServiceName) → All HasLimits history → AllByRecursion (HoldsOnce session name) (postings_of terms history)
-all_once terms history session name limits = postings_all (HoldsOnce session name) HasLimits terms history (λ before entry all within. holds_once terms before session name entry within) limits
+all_once : (terms : Terms) (history : List Entry) (session : List ℕ) (name : ServiceName) → All HasLimits history
+    → AllByRecursion (HoldsOnce session name) (postings_of terms history)
+all_once terms history session name limits = postings_all (HoldsOnce session name) HasLimits terms history
+    (λ before entry all within. holds_once terms before session name entry within) limits
 
-pub held-once : (terms : Terms) (history : List Entry) (session : List ℕ) (name : ServiceName) → All HasLimits history → grants_alive terms.validity session name (postings_of terms history) ≤ 1
-held-once terms history session name limits = (alive_once terms.validity session name (postings_of terms history) (all_once terms history session name limits)).once
+pub held-once : (terms : Terms) (history : List Entry) (session : List ℕ) (name : ServiceName) → All HasLimits history
+    → grants_alive terms.validity session name (postings_of terms history) ≤ 1
+held-once terms history session name limits =
+    (alive_once terms.validity session name (postings_of terms history) (all_once terms history session name limits)).once

@@ -18,13 +18,16 @@ abbrev pub no_service : Service
 no_service = record { group = None; ident = None; bare = false; asked = None; used = [] }
 
 pub replies_from-next : (terms : Terms) (free : ℤ) (services : List Service) (i : ℕ) → i < length services
-    → replies_from terms free (drop i services) ≡ settled_reply terms (get_or services i no_service) (grant_to terms.tariffs free (get_or services i no_service)) ∷ replies_from terms (free_behind free (grant_to terms.tariffs free (get_or services i no_service))) (drop (i + 1) services)
+    → replies_from terms free (drop i services) ≡ settled_reply terms (get_or services i no_service)
+    (grant_to terms.tariffs free (get_or services i no_service)) ∷ replies_from terms
+    (free_behind free (grant_to terms.tariffs free (get_or services i no_service))) (drop (i + 1) services)
 replies_from-next terms free services i lt =
     ap (replies_from terms free) (drop-cons services i no_service lt)
     ∙ ap (λ (j : ℕ). replies_from terms free (get_or services i no_service ∷ drop j services)) (sym (add-one i))
 
 pub holds_from-next : (tariffs : List Tariff) (free : ℤ) (services : List Service) (i : ℕ) → i < length services
-    → holds_from tariffs free (drop i services) ≡ hold_of (get_or services i no_service) (made_grant (grant_to tariffs free (get_or services i no_service))) ++ holds_from tariffs (free_behind free (grant_to tariffs free (get_or services i no_service))) (drop (i + 1) services)
+    → holds_from tariffs free (drop i services) ≡ hold_of (get_or services i no_service) (made_grant (grant_to tariffs free (get_or services i no_service)))
+    ++ holds_from tariffs (free_behind free (grant_to tariffs free (get_or services i no_service))) (drop (i + 1) services)
 holds_from-next tariffs free services i lt =
     ap (holds_from tariffs free) (drop-cons services i no_service lt)
     ∙ ap (λ (j : ℕ). holds_from tariffs free (get_or services i no_service ∷ drop j services)) (sym (add-one i))
@@ -34,14 +37,16 @@ held_in-append [] ys = omega arith
 held_in-append (x ∷ xs) ys = let more = held_in-append xs ys in omega arith
 
 -- a grant that is made holds no more than it says
-pub held_in-made : (service : Service) (grant : Option Grant) → IfSome grant (λ made. made.held < 2 ^ 84) → held_in (hold_of service (made_grant grant)) ≤ 2 ^ 84
+pub held_in-made : (service : Service) (grant : Option Grant) → IfSome grant (λ made. made.held < 2 ^ 84)
+    → held_in (hold_of service (made_grant grant)) ≤ 2 ^ 84
 held_in-made service None small = omega arith
 held_in-made service (Some grant) small = by (is_refused grant) where
   by : (refused : Bool) → held_in (hold_of service (cond refused None (Some grant))) ≤ 2 ^ 84
   by true = omega arith
   by false = omega (arith, small)
 
-pub free_behind-least : (debt : ℕ) (free : ℤ) (grant : Option Grant) → negsuc debt ≤ℤ free → IfSome grant (λ made. made.held < 2 ^ 84) → negsuc (debt + 2 ^ 84) ≤ℤ free_behind free grant
+pub free_behind-least : (debt : ℕ) (free : ℤ) (grant : Option Grant) → negsuc debt ≤ℤ free → IfSome grant (λ made. made.held < 2 ^ 84)
+    → negsuc (debt + 2 ^ 84) ≤ℤ free_behind free grant
 free_behind-least debt free None least small = omega (arith, ints)
 free_behind-least debt free (Some grant) least small = omega (arith, ints, least, small)
 
@@ -77,8 +82,12 @@ holds-more tariffs free after services i holds next all lt so_far is left =
 
 -- ---- all services
 
-pub replies-all : (terms : Terms) (free : ℤ) (services : List Service) (i : ℕ) (replies all : List ServiceReply) → length services ≤ i → replies ++ replies_from terms free (drop i services) ≡ all → replies ≡ all
-replies-all terms free services i replies all past is = sym (append-nil replies) ∙ sym (ap (λ (ss : List Service). replies ++ replies_from terms free ss) (drop_all i services past)) ∙ is
+pub replies-all : (terms : Terms) (free : ℤ) (services : List Service) (i : ℕ) (replies all : List ServiceReply) → length services ≤ i
+    → replies ++ replies_from terms free (drop i services) ≡ all → replies ≡ all
+replies-all terms free services i replies all past is = sym (append-nil replies)
+    ∙ sym (ap (λ (ss : List Service). replies ++ replies_from terms free ss) (drop_all i services past)) ∙ is
 
-pub holds-all : (tariffs : List Tariff) (free : ℤ) (services : List Service) (i : ℕ) (holds all : List Hold) → length services ≤ i → holds ++ holds_from tariffs free (drop i services) ≡ all → holds ≡ all
-holds-all tariffs free services i holds all past is = sym (append-nil holds) ∙ sym (ap (λ (ss : List Service). holds ++ holds_from tariffs free ss) (drop_all i services past)) ∙ is
+pub holds-all : (tariffs : List Tariff) (free : ℤ) (services : List Service) (i : ℕ) (holds all : List Hold) → length services ≤ i
+    → holds ++ holds_from tariffs free (drop i services) ≡ all → holds ≡ all
+holds-all tariffs free services i holds all past is = sym (append-nil holds)
+    ∙ sym (ap (λ (ss : List Service). holds ++ holds_from tariffs free ss) (drop_all i services past)) ∙ is

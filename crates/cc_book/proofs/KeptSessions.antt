@@ -72,7 +72,8 @@ pub values-filter : (test : OpenSession → Bool) (es : Rows) → values_of (fil
 values-filter test [] = refl
 values-filter test (e ∷ es) = by (test e.1) (values-filter test es) where
   by : (b : Bool) → values_of (filter (λ (x : List ℕ × OpenSession). test x.1) es) ≡ filter test (values_of es)
-      → values_of (cond b (e ∷ filter (λ (x : List ℕ × OpenSession). test x.1) es) (filter (λ (x : List ℕ × OpenSession). test x.1) es)) ≡ cond b (e.1 ∷ filter test (values_of es)) (filter test (values_of es))
+      → values_of (cond b (e ∷ filter (λ (x : List ℕ × OpenSession). test x.1) es) (filter (λ (x : List ℕ × OpenSession). test x.1) es))
+      ≡ cond b (e.1 ∷ filter test (values_of es)) (filter test (values_of es))
   by true more = ap (λ (ss : List OpenSession). e.1 ∷ ss) more
   by false more = more
 
@@ -137,7 +138,8 @@ insert_others id s (e ∷ es) others own =
     ap (λ (b : Bool). cond b ((e.0, s) ∷ es) (e ∷ insert_entry same_session es id s)) (own_test id e.0 e.1 own.0 ∙ others.0)
     ∙ ap (λ (xs : Rows). e ∷ xs) (insert_others id s es others.1 own.1)
 
-pub insert-new : (id : List ℕ) (s : OpenSession) (es : Rows) → place_in (values_of es) id ≡ None → Own es → insert_entry same_session es id s ≡ es ++ (id, s) ∷ []
+pub insert-new : (id : List ℕ) (s : OpenSession) (es : Rows) → place_in (values_of es) id ≡ None → Own es
+    → insert_entry same_session es id s ≡ es ++ (id, s) ∷ []
 insert-new id s es closed own = insert_others id s es (others-closed id (values_of es) closed) own
 
 -- ---- totals
@@ -146,12 +148,14 @@ pub reserved-push : (a : ℕ) (ss : List OpenSession) (s : OpenSession) → rese
 reserved-push a [] s = omega arith
 reserved-push a (x ∷ ss) s = let more = reserved-push a ss s in omega arith
 
-pub reserved-set : (a : ℕ) (ss : List OpenSession) (place : ℕ) (s o : OpenSession) → slice_get ss place ≡ Some o → reserved_in a (slice_set ss place s) + held_of a o ≡ reserved_in a ss + held_of a s
+pub reserved-set : (a : ℕ) (ss : List OpenSession) (place : ℕ) (s o : OpenSession) → slice_get ss place ≡ Some o
+    → reserved_in a (slice_set ss place s) + held_of a o ≡ reserved_in a ss + held_of a s
 reserved-set a [] place s o there = absurd cc
 reserved-set a (x ∷ ss) zero s o there = let same : x ≡ o = cc in let held = ap (held_of a) same in omega arith
 reserved-set a (x ∷ ss) (suc place) s o there = let more = reserved-set a ss place s o there in omega arith
 
-pub reserved-remove : (a : ℕ) (ss : List OpenSession) (place : ℕ) (o : OpenSession) → slice_get ss place ≡ Some o → reserved_in a (remove ss place) + held_of a o ≡ reserved_in a ss
+pub reserved-remove : (a : ℕ) (ss : List OpenSession) (place : ℕ) (o : OpenSession) → slice_get ss place ≡ Some o
+    → reserved_in a (remove ss place) + held_of a o ≡ reserved_in a ss
 reserved-remove a [] place o there = absurd cc
 reserved-remove a (x ∷ ss) zero o there = let same : x ≡ o = cc in let held = ap (held_of a) same in omega arith
 reserved-remove a (x ∷ ss) (suc place) o there = let more = reserved-remove a ss place o there in omega arith
@@ -194,8 +198,10 @@ nothing : (b : Bool) → cond {A = ℕ} b 0 0 ≡ 0
 nothing true = refl
 nothing false = refl
 
-pub IsKept-add : (es later : Rows) (ts : List ℕ) (id : List ℕ) (s : OpenSession) (v : ℕ) → IsKept es ts → id ≡ s.id → place_in (values_of es) s.id ≡ None → s.account < length ts
-    → v ≡ get_or ts s.account 0 + held_in s.holds → later ≡ insert_entry same_session es id s → (values_of later ≡ values_of es ++ s ∷ []) × IsKept later (slice_set ts s.account v)
+pub IsKept-add : (es later : Rows) (ts : List ℕ) (id : List ℕ) (s : OpenSession) (v : ℕ) → IsKept es ts → id ≡ s.id → place_in (values_of es) s.id ≡ None
+    → s.account < length ts
+    → v ≡ get_or ts s.account 0 + held_in s.holds → later ≡ insert_entry same_session es id s
+    → (values_of later ≡ values_of es ++ s ∷ []) × IsKept later (slice_set ts s.account v)
 IsKept-add es later ts id s v kept own closed lt sum is =
     let entries : later ≡ es ++ (id, s) ∷ [] = is ∙ insert-new id s es (ap (place_in (values_of es)) own ∙ closed) kept.own in
     let sessions : values_of later ≡ values_of es ++ s ∷ [] = ap (λ (xs : Rows). values_of xs) entries ∙ values-push es id s in
@@ -203,7 +209,8 @@ IsKept-add es later ts id s v kept own closed lt sum is =
       sessions,
       record {
         own = subst Own (sym entries) (own-push es id s own kept.own);
-        known = subst (λ (n : ℕ). Known n (values_of later)) (sym long) (subst (Known (length ts)) (sym sessions) (known-push (length ts) (values_of es) s lt kept.known));
+        known = subst (λ (n : ℕ). Known n (values_of later)) (sym long)
+            (subst (Known (length ts)) (sym sessions) (known-push (length ts) (values_of es) s lt kept.known));
         summed = subst (AreTotals (slice_set ts s.account v)) (sym sessions)
             (totals-set ts (values_of es) (values_of es ++ s ∷ []) s.account v (held_in s.holds) 0 kept.summed lt (omega arith)
             (λ a. let none : cond {A = ℕ} (eqb s.account a) 0 0 ≡ 0 = nothing (eqb s.account a) in let more = reserved-push a (values_of es) s in omega arith));
@@ -213,7 +220,8 @@ IsKept-add es later ts id s v kept own closed lt sum is =
 pub IsKept-go_on : (es : Rows) (ts : List ℕ) (place : ℕ) (s : OpenSession) (v : ℕ) → IsKept es ts → (at : GoesOnAt (values_of es) place s)
     → v + held_in at.before.holds ≡ get_or ts s.account 0 + held_in s.holds → IsKept (set_value_at es place s) (slice_set ts s.account v)
 IsKept-go_on es ts place s v kept at sum =
-    let lt : s.account < length ts = subst (λ (n : ℕ). n < length ts) (sym at.account) (known-at (length ts) (values_of es) place at.before at.there kept.known) in
+    let lt : s.account < length ts = subst (λ (n : ℕ). n < length ts) (sym at.account)
+    (known-at (length ts) (values_of es) place at.before at.there kept.known) in
     let long = length-set ts s.account v in
     record {
       own = own-set es place s at.before at.there at.id kept.own;
@@ -237,10 +245,12 @@ IsKept-end es ts place e v kept there sum =
           (subst (Known (length ts)) (sym (values-remove es place)) (known-remove (length ts) (values_of es) place kept.known));
       summed = subst (AreTotals (slice_set ts e.1.account v)) (sym (values-remove es place))
           (totals-set ts (values_of es) (remove (values_of es) place) e.1.account v 0 (held_in e.1.holds) kept.summed lt (omega arith)
-          (λ a. let none : cond {A = ℕ} (eqb e.1.account a) 0 0 ≡ 0 = nothing (eqb e.1.account a) in let moved = reserved-remove a (values_of es) place e.1 at in omega arith));
+          (λ a. let none : cond {A = ℕ} (eqb e.1.account a) 0 0 ≡ 0 = nothing (eqb e.1.account a) in
+          let moved = reserved-remove a (values_of es) place e.1 at in omega arith));
     }
 
-pub IsKept-sweep : (test : OpenSession → Bool) (es : Rows) (ts totals : List ℕ) → IsKept es ts → AreTotals totals (filter test (values_of es)) → length totals ≡ length ts
+pub IsKept-sweep : (test : OpenSession → Bool) (es : Rows) (ts totals : List ℕ) → IsKept es ts → AreTotals totals (filter test (values_of es))
+    → length totals ≡ length ts
     → IsKept (filter (λ (e : List ℕ × OpenSession). test e.1) es) totals
 IsKept-sweep test es ts totals kept summed long =
     let same = values-filter test es in
@@ -255,7 +265,8 @@ pub same_value : (x y : OpenSession) → Some x ≡ Some y → x ≡ y
 same_value x y e = cc
 
 -- the session at a place holds what the one does that is read there
-pub held-there : (ss : List OpenSession) (place : ℕ) (read s : OpenSession) → slice_get ss place ≡ Some read → slice_get ss place ≡ Some s → held_in read.holds ≡ held_in s.holds
+pub held-there : (ss : List OpenSession) (place : ℕ) (read s : OpenSession) → slice_get ss place ≡ Some read → slice_get ss place ≡ Some s
+    → held_in read.holds ≡ held_in s.holds
 held-there ss place read s one other = ap (λ (x : OpenSession). held_in x.holds) (same_value read s (sym one ∙ other))
 
 -- ---- sessions that are looked at one after the other, and end where they are due
@@ -271,17 +282,20 @@ module _ (validity : ℕ) (moment : Moment) where
   onto true x xs ys = refl
   onto false x xs ys = refl
 
-  pub left-kept : (ss : List OpenSession) (place : ℕ) (s : OpenSession) → slice_get ss place ≡ Some s → is_due validity moment s ≡ false → left_at validity moment (suc place) ss ≡ left_at validity moment place ss
+  pub left-kept : (ss : List OpenSession) (place : ℕ) (s : OpenSession) → slice_get ss place ≡ Some s → is_due validity moment s ≡ false
+      → left_at validity moment (suc place) ss ≡ left_at validity moment place ss
   left-kept [] place s there lasts = absurd cc
   left-kept (x ∷ ss) zero s there lasts =
       let same : x ≡ s = same_value x s there in
       ap (λ (b : Bool). cond (not b) (x ∷ []) [] ++ ss) (ap (is_due validity moment) same ∙ lasts)
   left-kept (x ∷ ss) (suc place) s there lasts =
       onto (not (is_due validity moment x)) x (without_due validity moment (take (suc place) ss)) (drop (suc place) ss)
-      ∙ due_then x (not (is_due validity moment x)) (left_at validity moment (suc place) ss) (left_at validity moment place ss) (left-kept ss place s there lasts)
+      ∙ due_then x (not (is_due validity moment x)) (left_at validity moment (suc place) ss) (left_at validity moment place ss)
+      (left-kept ss place s there lasts)
       ∙ sym (onto (not (is_due validity moment x)) x (without_due validity moment (take place ss)) (drop place ss))
 
-  reserved_by_first : (a : ℕ) (b : Bool) (x : OpenSession) (xs ys : List OpenSession) (more : ℕ) → reserved_in a xs + more ≡ reserved_in a ys → reserved_in a (cond b (x ∷ xs) xs) + more ≡ reserved_in a (cond b (x ∷ ys) ys)
+  reserved_by_first : (a : ℕ) (b : Bool) (x : OpenSession) (xs ys : List OpenSession) (more : ℕ) → reserved_in a xs + more ≡ reserved_in a ys
+      → reserved_in a (cond b (x ∷ xs) xs) + more ≡ reserved_in a (cond b (x ∷ ys) ys)
   reserved_by_first a true x xs ys more same = omega arith
   reserved_by_first a false x xs ys more same = same
 
@@ -291,13 +305,15 @@ module _ (validity : ℕ) (moment : Moment) where
   left-due a (x ∷ ss) zero s there due =
       let same : x ≡ s = same_value x s there in
       let held = ap (held_of a) same in
-      let gone : cond (not (is_due validity moment x)) (x ∷ []) [] ++ ss ≡ ss = ap (λ (b : Bool). cond (not b) (x ∷ []) [] ++ ss) (ap (is_due validity moment) same ∙ due) in
+      let gone : cond (not (is_due validity moment x)) (x ∷ []) [] ++ ss ≡ ss =
+      ap (λ (b : Bool). cond (not b) (x ∷ []) [] ++ ss) (ap (is_due validity moment) same ∙ due) in
       let all = ap (reserved_in a) gone in
       omega arith
   left-due a (x ∷ ss) (suc place) s there due =
       let later = ap (reserved_in a) (onto (not (is_due validity moment x)) x (without_due validity moment (take (suc place) ss)) (drop (suc place) ss)) in
       let before = ap (reserved_in a) (onto (not (is_due validity moment x)) x (without_due validity moment (take place ss)) (drop place ss)) in
-      let more = reserved_by_first a (not (is_due validity moment x)) x (left_at validity moment (suc place) ss) (left_at validity moment place ss) (held_of a s) (left-due a ss place s there due) in
+      let more = reserved_by_first a (not (is_due validity moment x)) x (left_at validity moment (suc place) ss) (left_at validity moment place ss)
+      (held_of a s) (left-due a ss place s there due) in
       omega arith
 
   pub left-all : (ss : List OpenSession) (place : ℕ) → place ≡ length ss → left_at validity moment place ss ≡ without_due validity moment ss
@@ -307,15 +323,18 @@ module _ (validity : ℕ) (moment : Moment) where
       ∙ ap (λ (xs : List OpenSession). without_due validity moment ss ++ xs) (drop_all (length ss) ss (omega arith))
       ∙ append-nil (without_due validity moment ss)
 
-  pub released : (ts : List ℕ) (ss : List OpenSession) (place : ℕ) (s : OpenSession) (v : ℕ) → AreTotals ts (left_at validity moment place ss) → s.account < length ts → slice_get ss place ≡ Some s
-      → is_due validity moment s ≡ true → v + held_in s.holds ≡ get_or ts s.account 0 → AreTotals (slice_set ts s.account v) (left_at validity moment (place + 1) ss)
+  pub released : (ts : List ℕ) (ss : List OpenSession) (place : ℕ) (s : OpenSession) (v : ℕ) → AreTotals ts (left_at validity moment place ss)
+      → s.account < length ts → slice_get ss place ≡ Some s
+      → is_due validity moment s ≡ true → v + held_in s.holds ≡ get_or ts s.account 0
+      → AreTotals (slice_set ts s.account v) (left_at validity moment (place + 1) ss)
   released ts ss place s v totals lt there due sum =
       subst (λ (n : ℕ). AreTotals (slice_set ts s.account v) (left_at validity moment n ss)) (sym (add-one place))
       (totals-set ts (left_at validity moment place ss) (left_at validity moment (suc place) ss) s.account v 0 (held_in s.holds) totals lt (omega arith)
       (λ a. let none : cond {A = ℕ} (eqb s.account a) 0 0 ≡ 0 = nothing (eqb s.account a) in let moved = left-due a ss place s there due in omega arith))
 
   -- what a session holds that is due is a part of what is left
-  pub due-part : (ss : List OpenSession) (place : ℕ) (s : OpenSession) → slice_get ss place ≡ Some s → is_due validity moment s ≡ true → held_in s.holds ≤ reserved_in s.account (left_at validity moment place ss)
+  pub due-part : (ss : List OpenSession) (place : ℕ) (s : OpenSession) → slice_get ss place ≡ Some s → is_due validity moment s ≡ true
+      → held_in s.holds ≤ reserved_in s.account (left_at validity moment place ss)
   due-part ss place s there due =
       let all = left-due s.account ss place s there due in
       let own : held_of s.account s ≡ held_in s.holds = ap (λ (b : Bool). cond {A = ℕ} b (held_in s.holds) 0) (same_number s.account) in

@@ -22,7 +22,8 @@ not_true false e = refl
 
 -- ---- a kept request
 
-kept_here : (terms : Terms) (before after : List Entry) (key : Key) (entry : Entry) (moment : Moment) (request : CcRequest) → Some entry ≡ Some (Take moment request) → same_key (key_of request) key ≡ true
+kept_here : (terms : Terms) (before after : List Entry) (key : Key) (entry : Entry) (moment : Moment) (request : CcRequest)
+    → Some entry ≡ Some (Take moment request) → same_key (key_of request) key ≡ true
     → kept_from terms before (entry ∷ after) key ≡ Some (reply_to terms (before ++ []) request)
 kept_here terms before after key entry moment request is same =
     let taken : entry ≡ Take moment request = cc in
@@ -30,10 +31,12 @@ kept_here terms before after key entry moment request is same =
     (ap (λ (b : Bool). cond b (Some (reply_to terms before request)) (kept_from terms (before ++ Take moment request ∷ []) after key)) same
     ∙ ap (λ (h : List Entry). Some (reply_to terms h request)) (sym (append-nil before)))
 
-kept_later : (terms : Terms) (before after : List Entry) (key : Key) (entry : Entry) → has_key key entry ≡ false → kept_from terms before (entry ∷ after) key ≡ kept_from terms (before ++ entry ∷ []) after key
+kept_later : (terms : Terms) (before after : List Entry) (key : Key) (entry : Entry) → has_key key entry ≡ false
+    → kept_from terms before (entry ∷ after) key ≡ kept_from terms (before ++ entry ∷ []) after key
 kept_later terms before after key entry other = ap (λ (b : Bool). cond b (reply_at terms before entry) (kept_from terms (before ++ entry ∷ []) after key)) other
 
-kept_from-at : (terms : Terms) (before history : List Entry) (key : Key) (place : ℕ) (moment : Moment) (request : CcRequest) → IsNew (take place history) key → slice_get history place ≡ Some (Take moment request) → same_key (key_of request) key ≡ true
+kept_from-at : (terms : Terms) (before history : List Entry) (key : Key) (place : ℕ) (moment : Moment) (request : CcRequest) → IsNew (take place history) key
+    → slice_get history place ≡ Some (Take moment request) → same_key (key_of request) key ≡ true
     → kept_from terms before history key ≡ Some (reply_to terms (before ++ take place history) request)
 kept_from-at terms before [] key place moment request new is same = absurd cc
 kept_from-at terms before (entry ∷ after) key zero moment request new is same = kept_here terms before after key entry moment request is same
@@ -43,9 +46,11 @@ kept_from-at terms before (entry ∷ after) key (suc place) moment request new i
     ∙ kept_from-at terms (before ++ entry ∷ []) after key place moment request parts.1 is same
     ∙ ap (λ (h : List Entry). Some (reply_to terms h request)) (append_assoc before (entry ∷ []) (take place after))
 
-pub kept_reply-at : (terms : Terms) (history : List Entry) (request : CcRequest) (place : ℕ) (taken : CcRequest) → IsKeptAt history (key_of request) place taken → kept_reply terms history request ≡ Some (reply_to terms (take place history) taken)
+pub kept_reply-at : (terms : Terms) (history : List Entry) (request : CcRequest) (place : ℕ) (taken : CcRequest)
+    → IsKeptAt history (key_of request) place taken → kept_reply terms history request ≡ Some (reply_to terms (take place history) taken)
 unfolding kept_reply
-kept_reply-at terms history request place taken kept = kept_from-at terms [] history (key_of request) place kept.moment taken kept.new_before kept.entry kept.same
+kept_reply-at terms history request place taken kept =
+    kept_from-at terms [] history (key_of request) place kept.moment taken kept.new_before kept.entry kept.same
 
 kept_from-new : (terms : Terms) (before history : List Entry) (key : Key) → IsNew history key → kept_from terms before history key ≡ None
 kept_from-new terms before [] key new = refl
@@ -58,7 +63,8 @@ unfolding kept_reply
 kept_reply-new terms history request new = kept_from-new terms [] history (key_of request) new
 
 -- no reply is kept
-new_by : (b : Bool) (entry : Option CcReply) (more : Bool) (later : Option CcReply) → (b ≡ true → entry ≢ None) → (later ≡ None → more ≡ true) → cond b entry later ≡ None → (not b && more) ≡ true
+new_by : (b : Bool) (entry : Option CcReply) (more : Bool) (later : Option CcReply) → (b ≡ true → entry ≢ None) → (later ≡ None → more ≡ true)
+    → cond b entry later ≡ None → (not b && more) ≡ true
 new_by true entry more later some next e = absurd (some refl e)
 new_by false entry more later some next e = next e
 
@@ -69,7 +75,8 @@ takes_reply terms before key (Sweep moment) has e = absurd cc
 new_from : (terms : Terms) (before history : List Entry) (key : Key) → kept_from terms before history key ≡ None → IsNew history key
 new_from terms before [] key e = refl
 new_from terms before (entry ∷ after) key e =
-    new_by (has_key key entry) (reply_at terms before entry) (list_all (λ (other : Entry). not (has_key key other)) after) (kept_from terms (before ++ entry ∷ []) after key)
+    new_by (has_key key entry) (reply_at terms before entry) (list_all (λ (other : Entry). not (has_key key other)) after)
+    (kept_from terms (before ++ entry ∷ []) after key)
     (takes_reply terms before key entry) (new_from terms (before ++ entry ∷ []) after key) e
 
 pub new-without_reply : (terms : Terms) (history : List Entry) (request : CcRequest) → kept_reply terms history request ≡ None → IsNew history (key_of request)
@@ -78,33 +85,41 @@ new-without_reply terms history request e = new_from terms [] history (key_of re
 
 -- ---- a kept reply is that to an entry
 
-of_here : (terms : Terms) (before after : List Entry) (request : CcRequest) (entry : Entry) (reply : CcReply) → has_key (key_of request) entry ≡ true → reply_at terms before entry ≡ Some reply
+of_here : (terms : Terms) (before after : List Entry) (request : CcRequest) (entry : Entry) (reply : CcReply) → has_key (key_of request) entry ≡ true
+    → reply_at terms before entry ≡ Some reply
     → RepliesToEntry terms (before ++ entry ∷ after) request reply
-of_here terms before after request (Take moment taken) reply same e = record { before = before; moment = moment; taken = taken; after = after; among = refl; same = same; is_reply = cc }
+of_here terms before after request (Take moment taken) reply same e =
+    record { before = before; moment = moment; taken = taken; after = after; among = refl; same = same; is_reply = cc }
 of_here terms before after request (Sweep moment) reply same e = absurd cc
 
 of_by : (terms : Terms) (before after : List Entry) (request : CcRequest) (entry : Entry) (reply : CcReply) (b : Bool) → has_key (key_of request) entry ≡ b
     → (kept_from terms (before ++ entry ∷ []) after (key_of request) ≡ Some reply → RepliesToEntry terms (before ++ entry ∷ after) request reply)
-    → cond b (reply_at terms before entry) (kept_from terms (before ++ entry ∷ []) after (key_of request)) ≡ Some reply → RepliesToEntry terms (before ++ entry ∷ after) request reply
+    → cond b (reply_at terms before entry) (kept_from terms (before ++ entry ∷ []) after (key_of request)) ≡ Some reply
+    → RepliesToEntry terms (before ++ entry ∷ after) request reply
 of_by terms before after request entry reply true has later e = of_here terms before after request entry reply has e
 of_by terms before after request entry reply false has later e = later e
 
-kept_from-of : (terms : Terms) (before history : List Entry) (request : CcRequest) (reply : CcReply) → kept_from terms before history (key_of request) ≡ Some reply → RepliesToEntry terms (before ++ history) request reply
+kept_from-of : (terms : Terms) (before history : List Entry) (request : CcRequest) (reply : CcReply)
+    → kept_from terms before history (key_of request) ≡ Some reply → RepliesToEntry terms (before ++ history) request reply
 kept_from-of terms before [] request reply e = absurd cc
 kept_from-of terms before (entry ∷ after) request reply e =
     of_by terms before after request entry reply (has_key (key_of request) entry) refl
-    (λ later. subst (λ (h : List Entry). RepliesToEntry terms h request reply) (append_assoc before (entry ∷ []) after) (kept_from-of terms (before ++ entry ∷ []) after request reply later)) e
+    (λ later. subst (λ (h : List Entry). RepliesToEntry terms h request reply) (append_assoc before (entry ∷ []) after)
+    (kept_from-of terms (before ++ entry ∷ []) after request reply later)) e
 
-pub kept_reply-of : (terms : Terms) (history : List Entry) (request : CcRequest) (reply : CcReply) → kept_reply terms history request ≡ Some reply → RepliesToEntry terms history request reply
+pub kept_reply-of : (terms : Terms) (history : List Entry) (request : CcRequest) (reply : CcReply) → kept_reply terms history request ≡ Some reply
+    → RepliesToEntry terms history request reply
 unfolding kept_reply
 kept_reply-of terms history request reply e = kept_from-of terms [] history request reply e
 
 -- ---- its place
 
-has_key-taken : (key : Key) (entry : Entry) (moment : Moment) (request : CcRequest) → Some entry ≡ Some (Take moment request) → same_key (key_of request) key ≡ true → has_key key entry ≡ true
+has_key-taken : (key : Key) (entry : Entry) (moment : Moment) (request : CcRequest) → Some entry ≡ Some (Take moment request)
+    → same_key (key_of request) key ≡ true → has_key key entry ≡ true
 has_key-taken key entry moment request is same = let taken : entry ≡ Take moment request = cc in ap (has_key key) taken ∙ same
 
-position-at : (history : List Entry) (key : Key) (place : ℕ) (moment : Moment) (request : CcRequest) → IsNew (take place history) key → slice_get history place ≡ Some (Take moment request) → same_key (key_of request) key ≡ true
+position-at : (history : List Entry) (key : Key) (place : ℕ) (moment : Moment) (request : CcRequest) → IsNew (take place history) key
+    → slice_get history place ≡ Some (Take moment request) → same_key (key_of request) key ≡ true
     → position_or_len (has_key key) history ≡ place
 position-at [] key place moment request new is same = absurd cc
 position-at (entry ∷ after) key zero moment request new is same =
@@ -126,18 +141,23 @@ place_of-at history key place request kept =
 
 -- ---- distinct keys
 
-others_push : (key : Key) (history : List Entry) (moment : Moment) (request : CcRequest) → AllByRecursion (λ (k : Key). same_key key k ≡ false) (keys_of history) → same_key key (key_of request) ≡ false
+others_push : (key : Key) (history : List Entry) (moment : Moment) (request : CcRequest)
+    → AllByRecursion (λ (k : Key). same_key key k ≡ false) (keys_of history) → same_key key (key_of request) ≡ false
     → AllByRecursion (λ (k : Key). same_key key k ≡ false) (keys_of (history ++ Take moment request ∷ []))
 others_push key [] moment request all other = (other, tt)
 others_push key (Take m r ∷ history) moment request all other = (all.0, others_push key history moment request all.1 other)
 others_push key (Sweep m ∷ history) moment request all other = others_push key history moment request all other
 
-distinct_push : (history : List Entry) (moment : Moment) (request : CcRequest) → IsDistinct same_key (keys_of history) → IsNew history (key_of request) → IsDistinct same_key (keys_of (history ++ Take moment request ∷ []))
+distinct_push : (history : List Entry) (moment : Moment) (request : CcRequest) → IsDistinct same_key (keys_of history) → IsNew history (key_of request)
+    → IsDistinct same_key (keys_of (history ++ Take moment request ∷ []))
 unfolding IsDistinct
 distinct_push [] moment request all new = (tt, tt)
 distinct_push (Take m r ∷ history) moment request all new =
-    let parts = and_parts (not (same_key (key_of r) (key_of request))) (list_all (λ (e : Entry). not (has_key (key_of request) e)) history) new in
-    (others_push (key_of r) history moment request all.0 (not_true (same_key (key_of r) (key_of request)) parts.0), distinct_push history moment request all.1 parts.1)
+    let parts = and_parts (not (same_key (key_of r) (key_of request))) (list_all (λ (e : Entry). not (has_key (key_of request) e)) history) new in (
+      others_push (key_of r) history moment request all.0 (not_true (same_key (key_of r) (key_of request)) parts.0),
+      distinct_push history moment request all.1
+          parts.1,
+    )
 distinct_push (Sweep m ∷ history) moment request all new = distinct_push history moment request all new
 
 distinct_sweep : (history : List Entry) (moment : Moment) → keys_of (history ++ Sweep moment ∷ []) ≡ keys_of history
@@ -165,12 +185,14 @@ among_push [] (b ∷ before) after last entry e = absurd (not_empty before after
 among_push (h ∷ history) [] after last entry e = inr (history, ap (λ (x : Entry). x ∷ history) (head_same h entry (history ++ last ∷ []) after e))
 among_push (h ∷ history) (b ∷ before) after last entry e =
     let first = head_same h b (history ++ last ∷ []) (before ++ entry ∷ after) e in
-    elim (among_push history before after last entry (tail_same h b (history ++ last ∷ []) (before ++ entry ∷ after) e)) as (λ _. ((last ≡ entry) × (b ∷ before ≡ h ∷ history)) ⊎ ((rest : List Entry) × (h ∷ history ≡ (b ∷ before) ++ entry ∷ rest))) [
+    elim (among_push history before after last entry (tail_same h b (history ++ last ∷ []) (before ++ entry ∷ after) e)) as (λ _.
+    ((last ≡ entry) × (b ∷ before ≡ h ∷ history)) ⊎ ((rest : List Entry) × (h ∷ history ≡ (b ∷ before) ++ entry ∷ rest))) [
       | inl p ↦ inl (p.0, cc)
       | inr p ↦ inr (p.0, cc)
     ]
 
-pub IsLegal-push : (terms : Terms) (history : List Entry) (moment : Moment) (request : CcRequest) → IsLegal terms history → IsNew history (key_of request) → IsLegal terms (history ++ Take moment request ∷ [])
+pub IsLegal-push : (terms : Terms) (history : List Entry) (moment : Moment) (request : CcRequest) → IsLegal terms history → IsNew history (key_of request)
+    → IsLegal terms (history ++ Take moment request ∷ [])
 IsLegal-push terms history moment request legal new = record {
   distinct = distinct_push history moment request legal.distinct new;
   sweeps = λ before after m e. elim (among_push history before after (Take moment request) (Sweep m) e) as (λ _. 0 < ended_sessions terms before m) [
@@ -182,11 +204,13 @@ IsLegal-push terms history moment request legal new = record {
 same_moment : (m n : Moment) → Sweep m ≡ Sweep n → m ≡ n
 same_moment m n e = cc
 
-pub IsLegal-sweep : (terms : Terms) (history : List Entry) (moment : Moment) → IsLegal terms history → 0 < ended_sessions terms history moment → IsLegal terms (history ++ Sweep moment ∷ [])
+pub IsLegal-sweep : (terms : Terms) (history : List Entry) (moment : Moment) → IsLegal terms history → 0 < ended_sessions terms history moment
+    → IsLegal terms (history ++ Sweep moment ∷ [])
 IsLegal-sweep terms history moment legal ends = record {
   distinct = subst (λ (keys : List Key). IsDistinct same_key keys) (sym (distinct_sweep history moment)) legal.distinct;
   sweeps = λ before after m e. elim (among_push history before after (Sweep moment) (Sweep m) e) as (λ _. 0 < ended_sessions terms before m) [
-    | inl p ↦ subst (λ (n : Moment). 0 < ended_sessions terms before n) (same_moment moment m p.0) (subst (λ (h : List Entry). 0 < ended_sessions terms h moment) (sym p.1) ends)
+    | inl p ↦ subst (λ (n : Moment). 0 < ended_sessions terms before n) (same_moment moment m p.0)
+        (subst (λ (h : List Entry). 0 < ended_sessions terms h moment) (sym p.1) ends)
     | inr p ↦ legal.sweeps before p.0 m p.1
   ];
 }
@@ -213,33 +237,40 @@ key-same one other = (parts, met) where
       and_from (eqb one.number other.number) (same_session one.session other.session)
       (subst (λ (n : ℕ). eqb one.number n ≡ true) e.1 (same_number one.number)) (same_session-met one.session other.session e.0)
 
-kept_stays_by : (b : Bool) (here later grown : Option CcReply) (reply : CcReply) → (later ≡ Some reply → grown ≡ Some reply) → cond b here later ≡ Some reply → cond b here grown ≡ Some reply
+kept_stays_by : (b : Bool) (here later grown : Option CcReply) (reply : CcReply) → (later ≡ Some reply → grown ≡ Some reply) → cond b here later ≡ Some reply
+    → cond b here grown ≡ Some reply
 kept_stays_by true here later grown reply more e = e
 kept_stays_by false here later grown reply more e = more e
 
-kept_from-stays : (terms : Terms) (before history more : List Entry) (key : Key) (reply : CcReply) → kept_from terms before history key ≡ Some reply → kept_from terms before (history ++ more) key ≡ Some reply
+kept_from-stays : (terms : Terms) (before history more : List Entry) (key : Key) (reply : CcReply) → kept_from terms before history key ≡ Some reply
+    → kept_from terms before (history ++ more) key ≡ Some reply
 kept_from-stays terms before [] more key reply e = absurd cc
 kept_from-stays terms before (entry ∷ after) more key reply e =
-    kept_stays_by (has_key key entry) (reply_at terms before entry) (kept_from terms (before ++ entry ∷ []) after key) (kept_from terms (before ++ entry ∷ []) (after ++ more) key) reply
+    kept_stays_by (has_key key entry) (reply_at terms before entry) (kept_from terms (before ++ entry ∷ []) after key)
+    (kept_from terms (before ++ entry ∷ []) (after ++ more) key) reply
     (kept_from-stays terms (before ++ entry ∷ []) after more key reply) e
 
-pub kept_reply-stays : (terms : Terms) (history more : List Entry) (request : CcRequest) (reply : CcReply) → kept_reply terms history request ≡ Some reply → kept_reply terms (history ++ more) request ≡ Some reply
+pub kept_reply-stays : (terms : Terms) (history more : List Entry) (request : CcRequest) (reply : CcReply) → kept_reply terms history request ≡ Some reply
+    → kept_reply terms (history ++ more) request ≡ Some reply
 unfolding kept_reply
 kept_reply-stays terms history more request reply e = kept_from-stays terms [] history more (key_of request) reply e
 
 -- a key that no later request has
-others_at : (key : Key) (history after : List Entry) (moment : Moment) (request : CcRequest) → AllByRecursion (λ (k : Key). same_key key k ≡ false) (keys_of (history ++ Take moment request ∷ after)) → same_key key (key_of request) ≡ false
+others_at : (key : Key) (history after : List Entry) (moment : Moment) (request : CcRequest)
+    → AllByRecursion (λ (k : Key). same_key key k ≡ false) (keys_of (history ++ Take moment request ∷ after)) → same_key key (key_of request) ≡ false
 others_at key [] after moment request all = all.0
 others_at key (Take m r ∷ history) after moment request all = others_at key history after moment request all.1
 others_at key (Sweep m ∷ history) after moment request all = others_at key history after moment request all
 
-pub keys-distinct : (before between after : List Entry) (m n : Moment) (one other : CcRequest) → IsDistinct same_key (keys_of (before ++ Take m one ∷ (between ++ Take n other ∷ after))) → same_key (key_of one) (key_of other) ≡ false
+pub keys-distinct : (before between after : List Entry) (m n : Moment) (one other : CcRequest)
+    → IsDistinct same_key (keys_of (before ++ Take m one ∷ (between ++ Take n other ∷ after))) → same_key (key_of one) (key_of other) ≡ false
 unfolding IsDistinct
 keys-distinct [] between after m n one other all = others_at (key_of one) between after n other all.0
 keys-distinct (Take l r ∷ before) between after m n one other all = keys-distinct before between after m n one other all.1
 keys-distinct (Sweep l ∷ before) between after m n one other all = keys-distinct before between after m n one other all
 
-pub keys-apart : (terms : Terms) (before between after : List Entry) (m n : Moment) (one other : CcRequest) → IsLegal terms (before ++ Take m one ∷ (between ++ Take n other ∷ after)) → key_of one ≢ key_of other
+pub keys-apart : (terms : Terms) (before between after : List Entry) (m n : Moment) (one other : CcRequest)
+    → IsLegal terms (before ++ Take m one ∷ (between ++ Take n other ∷ after)) → key_of one ≢ key_of other
 keys-apart terms before between after m n one other legal same =
     let apart = keys-distinct before between after m n one other legal.distinct in
     let met : same_key (key_of one) (key_of other) ≡ true = subst (λ (k : Key). same_key (key_of one) k ≡ true) same (same_key-self (key_of one)) in
@@ -248,7 +279,8 @@ keys-apart terms before between after m n one other legal same =
 not_false : (b : Bool) → b ≡ false → not b ≡ true
 not_false b e = ap not e
 
-new_before : (before after : List Entry) (moment : Moment) (request : CcRequest) → IsDistinct same_key (keys_of (before ++ Take moment request ∷ after)) → IsNew before (key_of request)
+new_before : (before after : List Entry) (moment : Moment) (request : CcRequest) → IsDistinct same_key (keys_of (before ++ Take moment request ∷ after))
+    → IsNew before (key_of request)
 unfolding IsDistinct
 new_before [] after moment request all = refl
 new_before (Take m r ∷ before) after moment request all =
@@ -264,12 +296,14 @@ take_front : (before after : List Entry) → take (length before) (before ++ aft
 take_front [] after = refl
 take_front (b ∷ before) after = ap (λ (xs : List Entry). b ∷ xs) (take_front before after)
 
-pub kept_reply-first : (terms : Terms) (before after : List Entry) (moment : Moment) (request : CcRequest) → IsLegal terms (before ++ Take moment request ∷ after)
+pub kept_reply-first : (terms : Terms) (before after : List Entry) (moment : Moment) (request : CcRequest)
+    → IsLegal terms (before ++ Take moment request ∷ after)
     → kept_reply terms (before ++ Take moment request ∷ after) request ≡ Some (reply_to terms before request)
 unfolding kept_reply
 kept_reply-first terms before after moment request legal =
     let front = take_front before (Take moment request ∷ after) in
     let new : IsNew (take (length before) (before ++ Take moment request ∷ after)) (key_of request) =
     subst (λ (h : List Entry). IsNew h (key_of request)) (sym front) (new_before before after moment request legal.distinct) in
-    kept_from-at terms [] (before ++ Take moment request ∷ after) (key_of request) (length before) moment request new (get_behind before after (Take moment request)) (same_key-self (key_of request))
+    kept_from-at terms [] (before ++ Take moment request ∷ after) (key_of request) (length before) moment request new
+    (get_behind before after (Take moment request)) (same_key-self (key_of request))
     ∙ ap (λ (h : List Entry). Some (reply_to terms h request)) front

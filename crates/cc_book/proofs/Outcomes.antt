@@ -30,10 +30,12 @@ use Rattle.cc_book.proofs.InOrder.{held_in-append}
 
 -- a debit moves the balance of its account, and no other one
 after_debit-at : (balances : List ℤ) (charged : Option ℕ) (debit : ℤ) (account : ℕ) → account < length balances
-    → slice_index_or (after_debit balances charged debit) account (pos 0) ≡ slice_index_or balances account (pos 0) -ℤ cond (is_account account charged) debit (pos 0)
+    → slice_index_or (after_debit balances charged debit) account (pos 0) ≡ slice_index_or balances account (pos 0) -ℤ cond (is_account account charged) debit
+    (pos 0)
 after_debit-at balances None debit account lt = omega (arith, ints)
 after_debit-at balances (Some other) debit account lt = by (eqb account other) refl where
-  by : (b : Bool) → eqb account other ≡ b → slice_index_or (after_debit balances (Some other) debit) account (pos 0) ≡ slice_index_or balances account (pos 0) -ℤ cond b debit (pos 0)
+  by : (b : Bool) → eqb account other ≡ b → slice_index_or (after_debit balances (Some other) debit) account (pos 0)
+      ≡ slice_index_or balances account (pos 0) -ℤ cond b debit (pos 0)
   by true e =
       let same : account ≡ other = equal_number account other e in
       subst (λ (k : ℕ). slice_index_or (after_debit balances (Some k) debit) account (pos 0) ≡ slice_index_or balances account (pos 0) -ℤ debit) same
@@ -83,7 +85,9 @@ module _ (terms : Terms) (before : List Posting) (moment : Moment) (request : Cc
   none-ending : request.kind ≡ Termination → grants_after terms before request ≡ []
   none-ending kind = by settles where
     by : (b : Bool) → grants_by terms before request b ≡ []
-    by true = ap (λ (k : RequestKind). grants_with k (reply_after terms before request).code (holds_from terms.tariffs (free_to_grant terms before request) request.services)) kind
+    by true =
+        ap (λ (k : RequestKind). grants_with k (reply_after terms before request).code
+        (holds_from terms.tariffs (free_to_grant terms before request) request.services)) kind
     by false = refl
 
   -- what does not open its session, where that is not open, is granted nothing
@@ -92,10 +96,12 @@ module _ (terms : Terms) (before : List Posting) (moment : Moment) (request : Cc
     known : Bool
     known = is_some (account_of terms.accounts request.subscriptions)
 
-    by : (kind : RequestKind) → request.kind ≡ kind → (b : Bool) → b ≡ settles_by kind false known → (b && (is_initial_kind kind && is_success (reply_after terms before request).code)) ≡ false → grants_by terms before request b ≡ []
+    by : (kind : RequestKind) → request.kind ≡ kind → (b : Bool) → b ≡ settles_by kind false known
+        → (b && (is_initial_kind kind && is_success (reply_after terms before request).code)) ≡ false → grants_by terms before request b ≡ []
     by kind is false settled none = refl
     by Initial is true settled none =
-        ap (λ (k : RequestKind). grants_with k (reply_after terms before request).code (holds_from terms.tariffs (free_to_grant terms before request) request.services)) is
+        ap (λ (k : RequestKind). grants_with k (reply_after terms before request).code
+        (holds_from terms.tariffs (free_to_grant terms before request) request.services)) is
         ∙ ap (λ (b : Bool). cond b (holds_from terms.tariffs (free_to_grant terms before request) request.services) []) none
     by Update is true settled none = absurd cc
     by Termination is true settled none = absurd cc
@@ -109,12 +115,14 @@ module _ (terms : Terms) (before : List Posting) (moment : Moment) (request : Cc
       let opened = is_open terms.validity request.session before in
       let own = account_of terms.accounts request.subscriptions in
       let settled : (not opened && is_some own) ≡ true = sym (ap (λ (k : RequestKind). settles_by k opened (is_some own)) kind) ∙ parts.0 in
-      let known = known_account (length terms.accounts) own (and_parts (not opened) (is_some own) settled).1 (account_of-within terms.accounts request.subscriptions) in
+      let known = known_account (length terms.accounts) own (and_parts (not opened) (is_some own) settled).1
+      (account_of-within terms.accounts request.subscriptions) in
       (known.0, ap (λ (k : RequestKind). account_by k own (opener_account terms.validity before request.session)) kind ∙ known.1, known.2)
 
 -- ---- the sessions after a request
 
-module _ {terms : Terms} {before : List Posting} {balances : List ℤ} {sessions : List OpenSession} (s : Stands terms before balances sessions) (moment : Moment) (request : CcRequest) (most : held_in (grants_after terms before request) ≤ 2 ^ 89) where
+module _ {terms : Terms} {before : List Posting} {balances : List ℤ} {sessions : List OpenSession} (s : Stands terms before balances sessions)
+    (moment : Moment) (request : CcRequest) (most : held_in (grants_after terms before request) ≤ 2 ^ 89) where
   abbrev posted : Posting
   posted = posting_of terms before (Take moment request)
 
@@ -136,10 +144,12 @@ module _ {terms : Terms} {before : List Posting} {balances : List ℤ} {sessions
     nowhere : found ≡ None
     nowhere = ap (option_map (opened_as terms.validity)) (find-others request.session sessions others)
 
-    by : (b : Bool) → opens posted ≡ b → SitsAfter (cond b (Opens (record { id = request.session; account = unwrap_or charged 0; last = moment; holds = grants_after terms before request })) Stays)
+    by : (b : Bool) → opens posted ≡ b → SitsAfter
+        (cond b (Opens (record { id = request.session; account = unwrap_or charged 0; last = moment; holds = grants_after terms before request })) Stays)
     by true does =
         let known = opener_known terms before moment request does in
-        subst (λ (a : ℕ). SitsAfter (Opens (record { id = request.session; account = a; last = moment; holds = grants_after terms before request }))) (sym (ap (λ (o : Option ℕ). unwrap_or o 0) known.1))
+        subst (λ (a : ℕ). SitsAfter (Opens (record { id = request.session; account = a; last = moment; holds = grants_after terms before request })))
+        (sym (ap (λ (o : Option ℕ). unwrap_or o 0) known.1))
         (sits-opened s moment request posted known.0 does known.1 known.2 others most)
     by false unopened =
         let closed : is_open terms.validity request.session before ≡ false = ap is_some (closed-stands s request.session none) in
@@ -154,14 +164,17 @@ module _ {terms : Terms} {before : List Posting} {balances : List ℤ} {sessions
     at : IsAt request.session sessions place session
     at = is_at_place request.session sessions place session some there s.own_ids
 
-    settled-by : (kind : RequestKind) → request.kind ≡ kind → settles_after terms before request ≡ settles_by kind true (is_some (account_of terms.accounts request.subscriptions))
+    settled-by : (kind : RequestKind) → request.kind ≡ kind
+        → settles_after terms before request ≡ settles_by kind true (is_some (account_of terms.accounts request.subscriptions))
     settled-by kind is =
         ap (λ (k : RequestKind). settles_by k (is_open terms.validity request.session before) (is_some (account_of terms.accounts request.subscriptions))) is
-        ∙ ap (λ (b : Bool). settles_by kind b (is_some (account_of terms.accounts request.subscriptions))) (ap is_some (open-stands s request.session place session some there).0)
+        ∙ ap (λ (b : Bool). settles_by kind b (is_some (account_of terms.accounts request.subscriptions)))
+        (ap is_some (open-stands s request.session place session some there).0)
 
     -- an INITIAL is refused, and yet prolongs its session
     initial_weight : request.kind ≡ Initial → (weight : Weight)
-        → holds_weight (kept request (settles_after terms before request) weight) session.id session.account session.holds + grants_weight weight terms.validity posted [] (grants_after terms before request)
+        → holds_weight (kept request (settles_after terms before request) weight) session.id session.account session.holds + grants_weight weight
+        terms.validity posted [] (grants_after terms before request)
         ≡ holds_weight weight session.id session.account session.holds
     initial_weight kind weight =
         let settled = settled-by Initial kind in
@@ -180,26 +193,32 @@ module _ {terms : Terms} {before : List Posting} {balances : List ℤ} {sessions
 
     -- an UPDATE ends the holds of the services that it names, and adds what is granted to it
     update_weight : request.kind ≡ Update → (weight : Weight)
-        → holds_weight (kept request (settles_after terms before request) weight) session.id session.account session.holds + grants_weight weight terms.validity posted [] (grants_after terms before request)
+        → holds_weight (kept request (settles_after terms before request) weight) session.id session.account session.holds + grants_weight weight
+        terms.validity posted [] (grants_after terms before request)
         ≡ holds_weight weight session.id session.account (holds_beside request.services session.holds ++ grants_after terms before request)
     update_weight kind weight =
         let a = session.account in
         let does = update_settles s request session kind (open-stands s request.session place session some there).0 in
-        let settled : holds_weight (kept request (settles_after terms before request) weight) session.id a session.holds ≡ holds_weight (kept request true weight) session.id a session.holds =
+        let settled : holds_weight (kept request (settles_after terms before request) weight) session.id a session.holds
+        ≡ holds_weight (kept request true weight) session.id a session.holds =
         ap (λ (b : Bool). holds_weight (kept request b weight) session.id a session.holds) does.1 in
         let beside = holds_weight-beside request weight session.id a session.holds (sym at.own) (ap is_ending kind) in
         let own = grants_weight-own terms.validity moment request posted weight a (grants_after terms before request) does.0 in
-        let named : holds_weight weight session.id a (grants_after terms before request) ≡ holds_weight weight request.session a (grants_after terms before request) = ap (λ (id : List ℕ). holds_weight weight id a (grants_after terms before request)) at.own in
+        let named : holds_weight weight session.id a (grants_after terms before request)
+        ≡ holds_weight weight request.session a (grants_after terms before request) =
+        ap (λ (id : List ℕ). holds_weight weight id a (grants_after terms before request)) at.own in
         let parts = holds_weight-append weight session.id a (holds_beside request.services session.holds) (grants_after terms before request) in
         omega arith
 
     sits-update : request.kind ≡ Update → SitsAfter (change_open request moment (grants_after terms before request) Update place session)
     sits-update kind =
         sits-going_on s moment request posted place session there at
-        (unopened-by_kind terms before moment request (ap is_initial_kind kind)) (holds_beside request.services session.holds ++ grants_after terms before request) (ap is_ending kind)
+        (unopened-by_kind terms before moment request (ap is_initial_kind kind))
+        (holds_beside request.services session.holds ++ grants_after terms before request) (ap is_ending kind)
         (λ now. ap (session_by terms.validity now moment.0) kind)
         (update_weight kind)
-        (let parts = held_in-append (holds_beside request.services session.holds) (grants_after terms before request) in let less = held_in-beside request.services session.holds in omega arith)
+        (let parts = held_in-append (holds_beside request.services session.holds) (grants_after terms before request) in
+        let less = held_in-beside request.services session.holds in omega arith)
 
     -- a TERMINATION ends its session, and all that it holds
     sits-termination : request.kind ≡ Termination → SitsAfter (change_open request moment (grants_after terms before request) Termination place session)
@@ -215,7 +234,8 @@ module _ {terms : Terms} {before : List Posting} {balances : List ℤ} {sessions
         let settles = settles_after terms before request in
         let same : next_session terms.validity request.session found posted ≡ found =
         next-there s moment request posted place session there at unopened
-        ∙ ap (session_by terms.validity (opened_as terms.validity session) moment.0) kind ∙ sym (ap (option_map (opened_as terms.validity)) (find-at request.session sessions place session at)) in
+        ∙ ap (session_by terms.validity (opened_as terms.validity session) moment.0) kind
+        ∙ sym (ap (option_map (opened_as terms.validity)) (find-at request.session sessions place session at)) in
         sits-same s moment request posted unopened
         (none-unsettled terms before moment request settled) (left-quiet request settles sessions settled (ap is_ending kind)) same
 
@@ -228,21 +248,25 @@ module _ {terms : Terms} {before : List Posting} {balances : List ℤ} {sessions
   -- the session of a request is open at a place, or is not open
   sits-changed : SitsAfter (change_of sessions request moment posted)
   sits-changed = by (place_in sessions request.session) refl where
-    by : (place : Option ℕ) → place_in sessions request.session ≡ place → SitsAfter (change_at request moment posted place (find (is_session request.session) sessions))
+    by : (place : Option ℕ) → place_in sessions request.session ≡ place
+        → SitsAfter (change_at request moment posted place (find (is_session request.session) sessions))
     by None e = sits-closed e
     by (Some place) e =
         let there = open_at_place request.session sessions place e in
         let has = find-at request.session sessions place there.0 (at place there.0 e there.1) in
-        subst (λ (o : Option OpenSession). SitsAfter (change_at request moment posted (Some place) o)) (sym has) (sits-open place there.0 e there.1 request.kind refl)
+        subst (λ (o : Option OpenSession). SitsAfter (change_at request moment posted (Some place) o)) (sym has)
+        (sits-open place there.0 e there.1 request.kind refl)
 
 -- ---- what stands after a request
 
 -- the debit of an account is small
-small_debit : (b : Bool) (debit : ℤ) → negsuc (2 ^ 103) ≤ℤ debit → debit ≤ℤ pos (2 ^ 103) → (negsuc (2 ^ 103) ≤ℤ cond b debit (pos 0)) × (cond b debit (pos 0) ≤ℤ pos (2 ^ 103))
+small_debit : (b : Bool) (debit : ℤ) → negsuc (2 ^ 103) ≤ℤ debit → debit ≤ℤ pos (2 ^ 103)
+    → (negsuc (2 ^ 103) ≤ℤ cond b debit (pos 0)) × (cond b debit (pos 0) ≤ℤ pos (2 ^ 103))
 small_debit true debit least most = (least, most)
 small_debit false debit least most = (omega (arith, ints), omega (arith, ints))
 
-pub take-stands : {terms : Terms} {before : List Posting} {balances : List ℤ} {sessions : List OpenSession} {moment : Moment} {request : CcRequest} {outcome : Outcome}
+pub take-stands : {terms : Terms} {before : List Posting} {balances : List ℤ} {sessions : List OpenSession} {moment : Moment} {request : CcRequest}
+    {outcome : Outcome}
     → Stands terms before balances sessions → IsOutcome terms before sessions moment request outcome
     → Stands terms (post terms before (Take moment request)) (after_debit balances outcome.account outcome.debit) (after_change sessions outcome.change)
 take-stands {terms} {before} {balances} {sessions} {moment} {request} {outcome} s d = record {
@@ -280,8 +304,11 @@ take-stands {terms} {before} {balances} {sessions} {moment} {request} {outcome} 
       ap (λ (o : Option ℕ). cond (is_account account o) outcome.debit (pos 0)) d.account
       ∙ ap (λ (z : ℤ). cond (is_account account (charged_account terms before request)) z (pos 0)) d.debit
 
-  moves : (account : ℕ) → account < length terms.accounts → slice_index_or (after_debit balances outcome.account outcome.debit) account (pos 0) ≡ slice_index_or balances account (pos 0) -ℤ debit_to account posting
-  moves account lt = after_debit-at balances outcome.account outcome.debit account (omega (arith, s.accounts)) ∙ ap (λ (z : ℤ). slice_index_or balances account (pos 0) -ℤ z) (same_debit account)
+  moves : (account : ℕ) → account < length terms.accounts
+      → slice_index_or (after_debit balances outcome.account outcome.debit) account (pos 0) ≡ slice_index_or balances account (pos 0) -ℤ debit_to account
+      posting
+  moves account lt = after_debit-at balances outcome.account outcome.debit account (omega (arith, s.accounts))
+      ∙ ap (λ (z : ℤ). slice_index_or balances account (pos 0) -ℤ z) (same_debit account)
 
   sits : Sit terms (before ++ posting ∷ []) (after_change sessions outcome.change)
   sits = subst (λ (change : Change). Sit terms (before ++ posting ∷ []) (after_change sessions change)) (sym d.change) (sits-changed s moment request d.grants)

@@ -39,11 +39,13 @@ use Rattle.cc_book.proofs.Sums.{checks_nothing, prices_nothing}
 -- ---- costs
 
 -- what a service is granted costs what it asks
-granted-asked : (tariffs : List Tariff) (service : Service) (cost : ℕ) → service_cost tariffs service ≡ Some cost → granted_cost tariffs (granted tariffs service) ≡ cost
+granted-asked : (tariffs : List Tariff) (service : Service) (cost : ℕ) → service_cost tariffs service ≡ Some cost
+    → granted_cost tariffs (granted tariffs service) ≡ cost
 granted-asked tariffs service cost e = by_tariff (tariff_of tariffs service) e
   where
     by_tariff : (found : Option Tariff) → option_map (λ (tariff : Tariff). asking_cost tariff service) found ≡ Some cost
-        → unwrap_or (option_and_then (λ (tariff : Tariff). option_map (cost_of tariff) (option_and_then (λ (other : Tariff). asked_of other service) found)) found) 0 ≡ cost
+        → unwrap_or (option_and_then (λ (tariff : Tariff). option_map (cost_of tariff) (option_and_then (λ (other : Tariff). asked_of other service) found))
+        found) 0 ≡ cost
     by_tariff (Some tariff) e = cc
     by_tariff None e = absurd cc
 
@@ -52,7 +54,8 @@ add-both None b total e = absurd cc
 add-both (Some x) None total e = absurd cc
 add-both (Some x) (Some y) total e = (x, y, refl, refl, cc)
 
-granted-costs : (tariffs : List Tariff) (services : List Service) (total : ℕ) → sum_of_costs tariffs services ≡ Some total → sum_by (granted_cost tariffs) (map (granted tariffs) services) ≡ total
+granted-costs : (tariffs : List Tariff) (services : List Service) (total : ℕ) → sum_of_costs tariffs services ≡ Some total
+    → sum_by (granted_cost tariffs) (map (granted tariffs) services) ≡ total
 granted-costs tariffs [] total e = cc
 granted-costs tariffs (service ∷ services) total e =
     let both = add-both (service_cost tariffs service) (sum_of_costs tariffs services) total e in
@@ -60,7 +63,8 @@ granted-costs tariffs (service ∷ services) total e =
     let later = granted-costs tariffs services both.1 both.3 in
     omega (arith, here, later, both.4, sum_by-cons (granted_cost tariffs) (granted tariffs service) (map (granted tariffs) services))
 
-granted-total : (tariffs : List Tariff) (services : List Service) (total : ℕ) → total_of tariffs services ≡ Some total → sum_by (granted_cost tariffs) (map (granted tariffs) services) ≡ total
+granted-total : (tariffs : List Tariff) (services : List Service) (total : ℕ) → total_of tariffs services ≡ Some total
+    → sum_by (granted_cost tariffs) (map (granted tariffs) services) ≡ total
 granted-total tariffs [] total e = absurd cc
 granted-total tariffs (service ∷ services) total e = granted-costs tariffs (service ∷ services) total e
 
@@ -74,20 +78,24 @@ paid-room : (tariffs : List Tariff) (services : List Service) (room : Bool) (tot
 paid-room tariffs services true total e = ap (λ (n : ℕ). pos n) (sym (granted-total tariffs services total e))
 paid-room tariffs services false total e = refl
 
-paid-total : (terms : Terms) (services : List Service) (free : ℤ) (total : Option ℕ) → total_of terms.tariffs services ≡ total → paid_for terms.tariffs (unwrap_or total 0) (rated_reply terms services total free DirectDebiting)
+paid-total : (terms : Terms) (services : List Service) (free : ℤ) (total : Option ℕ) → total_of terms.tariffs services ≡ total
+    → paid_for terms.tariffs (unwrap_or total 0) (rated_reply terms services total free DirectDebiting)
 paid-total terms services free None e = refl
 paid-total terms services free (Some total) e = paid-room terms.tariffs services (int_le (pos total) free) total e
 
-paid-account : (terms : Terms) (services : List Service) (account : Option ℕ) (free : ℤ) → paid_for terms.tariffs (unwrap_or (total_of terms.tariffs services) 0) (event_reply terms services account free (Some DirectDebiting))
+paid-account : (terms : Terms) (services : List Service) (account : Option ℕ) (free : ℤ)
+    → paid_for terms.tariffs (unwrap_or (total_of terms.tariffs services) 0) (event_reply terms services account free (Some DirectDebiting))
 paid-account terms services None free = refl
 paid-account terms services (Some account) free = paid-total terms services free (total_of terms.tariffs services) refl
 
 -- the reply to an EVENT with this action
 replied : Terms → List Posting → CcRequest → Option RequestedAction → CcReply
 replied terms before request action =
-    event_reply terms request.services (account_of terms.accounts request.subscriptions) (free_for terms before (account_of terms.accounts request.subscriptions)) action
+    event_reply terms request.services (account_of terms.accounts request.subscriptions)
+    (free_for terms before (account_of terms.accounts request.subscriptions)) action
 
-debit_of-event : (terms : Terms) (before : List Posting) (request : CcRequest) (action : Option RequestedAction) → request.kind ≡ Event → request.action ≡ action
+debit_of-event : (terms : Terms) (before : List Posting) (request : CcRequest) (action : Option RequestedAction) → request.kind ≡ Event
+    → request.action ≡ action
     → debit_after terms before request ≡ action_debit (unwrap_or (total_of terms.tariffs request.services) 0) (replied terms before request action).code action
 unfolding replied
 debit_of-event terms before request action event is =
@@ -99,7 +107,8 @@ reply-event : (terms : Terms) (before : List Posting) (request : CcRequest) (act
 unfolding replied
 reply-event terms before request action event is = ap (reply_by terms before request) event ∙ ap (replied terms before request) is
 
-pub paid : (terms : Terms) (history : List Entry) (request : CcRequest) → request.kind ≡ Event → request.action ≡ Some DirectDebiting → debit_of terms history request ≡ pos (cost_of_reply terms.tariffs (reply_to terms history request))
+pub paid : (terms : Terms) (history : List Entry) (request : CcRequest) → request.kind ≡ Event → request.action ≡ Some DirectDebiting
+    → debit_of terms history request ≡ pos (cost_of_reply terms.tariffs (reply_to terms history request))
 unfolding debit_of reply_to replied
 paid terms history request event debits =
     let before = postings_of terms history in
@@ -113,15 +122,18 @@ paid terms history request event debits =
 test_le : (a b : ℤ) → int_le a b ≡ true → a ≤ℤ b
 test_le a b h = grind (arith, ints)
 
-covered-room : (tariffs : List Tariff) (services : List Service) (room : Bool) → (cond room (granted_all tariffs services) (code_alone CreditLimitReached)).code ≡ Success → room ≡ true
+covered-room : (tariffs : List Tariff) (services : List Service) (room : Bool)
+    → (cond room (granted_all tariffs services) (code_alone CreditLimitReached)).code ≡ Success → room ≡ true
 covered-room tariffs services true e = refl
 covered-room tariffs services false e = absurd cc
 
-covered-total : (terms : Terms) (services : List Service) (free : ℤ) (total : Option ℕ) → (rated_reply terms services total free DirectDebiting).code ≡ Success → pos (unwrap_or total 0) ≤ℤ free
+covered-total : (terms : Terms) (services : List Service) (free : ℤ) (total : Option ℕ)
+    → (rated_reply terms services total free DirectDebiting).code ≡ Success → pos (unwrap_or total 0) ≤ℤ free
 covered-total terms services free None e = absurd cc
 covered-total terms services free (Some total) e = test_le (pos total) free (covered-room terms.tariffs services (int_le (pos total) free) e)
 
-pub covered : (terms : Terms) (history : List Entry) (request : CcRequest) (account : ℕ) → request.kind ≡ Event → request.action ≡ Some DirectDebiting → account_of terms.accounts request.subscriptions ≡ Some account
+pub covered : (terms : Terms) (history : List Entry) (request : CcRequest) (account : ℕ) → request.kind ≡ Event → request.action ≡ Some DirectDebiting
+    → account_of terms.accounts request.subscriptions ≡ Some account
     → (reply_to terms history request).code ≡ Success → debit_of terms history request ≤ℤ free_after terms (postings_of terms history) account
 unfolding debit_of reply_to replied
 covered terms history request account event debits is_account e =
@@ -148,14 +160,17 @@ test_no : (a b : ℤ) → b <ℤ a → int_le a b ≡ false
 test_no a b h = grind (arith, ints)
 
 -- the reply to an EVENT on a known account whose services have a cost
-answered : (terms : Terms) (before : List Posting) (request : CcRequest) (action : RequestedAction) (account total : ℕ) → request.kind ≡ Event → request.action ≡ Some action
+answered : (terms : Terms) (before : List Posting) (request : CcRequest) (action : RequestedAction) (account total : ℕ) → request.kind ≡ Event
+    → request.action ≡ Some action
     → account_of terms.accounts request.subscriptions ≡ Some account → total_of terms.tariffs request.services ≡ Some total
     → reply_after terms before request ≡ action_reply terms request.services total (free_after terms before account) action
 unfolding replied
 answered terms before request action account total event is is_account is_total =
     reply-event terms before request (Some action) event is
     ∙ ap (λ (a : Option ℕ). event_reply terms request.services a (free_for terms before a) (Some action)) is_account
-    ∙ ap (λ (b : Bool). cond b (code_alone UserUnknown) (rated_reply terms request.services (total_of terms.tariffs request.services) (free_after terms before account) action)) (and_right (needs_account action) false refl)
+    ∙ ap (λ (b : Bool). cond b (code_alone UserUnknown)
+    (rated_reply terms request.services (total_of terms.tariffs request.services) (free_after terms before account) action))
+    (and_right (needs_account action) false refl)
     ∙ ap (λ (t : Option ℕ). rated_reply terms request.services t (free_after terms before account) action) is_total
 
 module _ (terms : Terms) (history : List Entry) (request : CcRequest) (account total : ℕ) (event : request.kind ≡ Event)
@@ -190,26 +205,31 @@ module _ (terms : Terms) (history : List Entry) (request : CcRequest) (account t
 -- ---- refunds, and what moves nothing
 
 pub refunded : (terms : Terms) (history : List Entry) (request : CcRequest) (total : ℕ) → request.kind ≡ Event → request.action ≡ Some RefundAccount
-    → (reply_to terms history request).code ≡ Success → total_of terms.tariffs request.services ≡ Some total → debit_of terms history request ≡ pos 0 -ℤ pos total
+    → (reply_to terms history request).code ≡ Success → total_of terms.tariffs request.services ≡ Some total
+    → debit_of terms history request ≡ pos 0 -ℤ pos total
 unfolding debit_of reply_to
 refunded terms history request total event refunds e is =
     let before = postings_of terms history in
-    let success : (replied terms before request (Some RefundAccount)).code ≡ Success = sym (ap (λ (r : CcReply). r.code) (reply-event terms before request (Some RefundAccount) event refunds)) ∙ e in
+    let success : (replied terms before request (Some RefundAccount)).code ≡ Success =
+    sym (ap (λ (r : CcReply). r.code) (reply-event terms before request (Some RefundAccount) event refunds)) ∙ e in
     debit_of-event terms before request (Some RefundAccount) event refunds
     ∙ ap (λ (code : ResultCode). action_debit (unwrap_or (total_of terms.tariffs request.services) 0) code (Some RefundAccount)) success
     ∙ ap (λ (t : Option ℕ). pos 0 -ℤ pos (unwrap_or t 0)) is
 
-pub checked : (terms : Terms) (history : List Entry) (request : CcRequest) → request.kind ≡ Event → request.action ≡ Some CheckBalance → debit_of terms history request ≡ pos 0
+pub checked : (terms : Terms) (history : List Entry) (request : CcRequest) → request.kind ≡ Event → request.action ≡ Some CheckBalance
+    → debit_of terms history request ≡ pos 0
 unfolding debit_of
 checked terms history request event checks = debit_of-event terms (postings_of terms history) request (Some CheckBalance) event checks
     ∙ checks_nothing (unwrap_or (total_of terms.tariffs request.services) 0) (replied terms (postings_of terms history) request (Some CheckBalance)).code
 
-pub enquired : (terms : Terms) (history : List Entry) (request : CcRequest) → request.kind ≡ Event → request.action ≡ Some PriceEnquiry → debit_of terms history request ≡ pos 0
+pub enquired : (terms : Terms) (history : List Entry) (request : CcRequest) → request.kind ≡ Event → request.action ≡ Some PriceEnquiry
+    → debit_of terms history request ≡ pos 0
 unfolding debit_of
 enquired terms history request event asks = debit_of-event terms (postings_of terms history) request (Some PriceEnquiry) event asks
     ∙ prices_nothing (unwrap_or (total_of terms.tariffs request.services) 0) (replied terms (postings_of terms history) request (Some PriceEnquiry)).code
 
-pub unnamed : (terms : Terms) (history : List Entry) (request : CcRequest) → request.kind ≡ Event → request.action ≡ None → debit_of terms history request ≡ pos 0
+pub unnamed : (terms : Terms) (history : List Entry) (request : CcRequest) → request.kind ≡ Event → request.action ≡ None
+    → debit_of terms history request ≡ pos 0
 unfolding debit_of replied
 unnamed terms history request event none = debit_of-event terms (postings_of terms history) request None event none
 
@@ -217,7 +237,8 @@ refuses_nothing : (amount : ℕ) (code : ResultCode) (action : Option RequestedA
 refuses_nothing amount Success action refused = absurd (refused refl)
 refuses_nothing amount _ action refused = refl
 
-pub refused : (terms : Terms) (history : List Entry) (request : CcRequest) → request.kind ≡ Event → (reply_to terms history request).code ≢ Success → debit_of terms history request ≡ pos 0
+pub refused : (terms : Terms) (history : List Entry) (request : CcRequest) → request.kind ≡ Event → (reply_to terms history request).code ≢ Success
+    → debit_of terms history request ≡ pos 0
 unfolding debit_of reply_to
 refused terms history request event failed =
     let before = postings_of terms history in
@@ -250,8 +271,13 @@ granted-units tariffs (service ∷ services) =
 fits-alone : (code : _) → GrantsFew (code_alone code)
 fits-alone code = record { few = lit≤ tt; units = All-nil HasUnits }
 
-fits-room : (tariffs : List Tariff) (services : List Service) (room : Bool) → length services ≤ 32 → GrantsFew (cond room (granted_all tariffs services) (code_alone CreditLimitReached))
-fits-room tariffs services true few = record { few = subst (λ (n : ℕ). n ≤ 32) (sym (length-map services (granted tariffs))) few; units = granted-units tariffs services }
+fits-room : (tariffs : List Tariff) (services : List Service) (room : Bool) → length services ≤ 32
+    → GrantsFew (cond room (granted_all tariffs services) (code_alone CreditLimitReached))
+fits-room tariffs services true few = record {
+  few = subst (λ (n : ℕ). n ≤ 32) (sym (length-map services (granted tariffs))) few;
+  units =
+      granted-units tariffs services;
+}
 fits-room tariffs services false few = fits-alone CreditLimitReached
 
 fits-check : (total : ℕ) (free : ℤ) → GrantsFew (check_reply total free)
@@ -259,11 +285,19 @@ fits-check total free = record { few = lit≤ tt; units = All-nil HasUnits }
 
 fits-price : (money : Money) (total : ℕ) → GrantsFew (price_reply money total)
 fits-price money total = by (ltb total (2 ^ 63)) where
-  by : (b : Bool) → GrantsFew (cond b (record { code = Success; services = []; cost = Some (record { digits = pos total; exponent = money.exponent; currency = money.currency }); check = None }) (code_alone RatingFailed))
+  by : (b : Bool)
+      → GrantsFew
+      (cond b (record {
+        code = Success;
+        services = [];
+        cost = Some (record { digits = pos total; exponent = money.exponent; currency = money.currency });
+        check = None;
+      }) (code_alone RatingFailed))
   by true = record { few = lit≤ tt; units = All-nil HasUnits }
   by false = fits-alone RatingFailed
 
-fits-rated : (terms : Terms) (services : List Service) (free : ℤ) (total : Option ℕ) (action : RequestedAction) → length services ≤ 32 → GrantsFew (rated_reply terms services total free action)
+fits-rated : (terms : Terms) (services : List Service) (free : ℤ) (total : Option ℕ) (action : RequestedAction) → length services ≤ 32
+    → GrantsFew (rated_reply terms services total free action)
 fits-rated terms services free None action few = fits-alone RatingFailed
 fits-rated terms services free (Some total) DirectDebiting few = fits-room terms.tariffs services (int_le (pos total) free) few
 fits-rated terms services free (Some total) RefundAccount few = fits-alone Success
@@ -274,7 +308,8 @@ fits-test : (b : Bool) (one other : CcReply) → GrantsFew one → GrantsFew oth
 fits-test true one other p q = p
 fits-test false one other p q = q
 
-fits-event : (terms : Terms) (services : List Service) (account : Option ℕ) (free : ℤ) (action : Option RequestedAction) → length services ≤ 32 → GrantsFew (event_reply terms services account free action)
+fits-event : (terms : Terms) (services : List Service) (account : Option ℕ) (free : ℤ) (action : Option RequestedAction) → length services ≤ 32
+    → GrantsFew (event_reply terms services account free action)
 fits-event terms services account free None few = fits-alone UnableToComply
 fits-event terms services account free (Some action) few =
     fits-test (needs_account action && is_none account) (code_alone UserUnknown) (rated_reply terms services (total_of terms.tariffs services) free action)
@@ -315,17 +350,20 @@ grants_few terms history request limits = by request.kind where
   before : List Posting
   before = postings_of terms history
 
-  granting : (code : ResultCode) → GrantsFew (cond (settles_after terms before request) (granting_reply terms (free_to_grant terms before request) request.services) (code_alone code))
+  granting : (code : ResultCode)
+      → GrantsFew (cond (settles_after terms before request) (granting_reply terms (free_to_grant terms before request) request.services) (code_alone code))
   granting code =
       fits-test (settles_after terms before request) (granting_reply terms (free_to_grant terms before request) request.services) (code_alone code)
       (fits-granting terms (free_to_grant terms before request) request.services limits.few) (fits-alone code)
 
   by : (kind : RequestKind) → GrantsFew (reply_by terms before request kind)
-  by Event = fits-event terms request.services (account_of terms.accounts request.subscriptions) (free_for terms before (account_of terms.accounts request.subscriptions)) request.action limits.few
+  by Event = fits-event terms request.services (account_of terms.accounts request.subscriptions)
+      (free_for terms before (account_of terms.accounts request.subscriptions)) request.action limits.few
   by Initial = granting (unsettled_code Initial (is_open terms.validity request.session before))
   by Update = granting UnknownSessionId
   by Termination =
-      fits-test (settles_after terms before request) (closing_reply terms request.services) (code_alone UnknownSessionId) (fits-closing terms request.services limits.few) (fits-alone UnknownSessionId)
+      fits-test (settles_after terms before request) (closing_reply terms request.services) (code_alone UnknownSessionId)
+      (fits-closing terms request.services limits.few) (fits-alone UnknownSessionId)
 
 pub grants_units : (terms : Terms) (history : List Entry) (request : CcRequest) → WithinLimits request.services → GrantsUnits (reply_to terms history request)
 grants_units terms history request limits = (grants_few terms history request limits).units

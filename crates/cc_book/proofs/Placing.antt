@@ -47,7 +47,8 @@ module _ {X : Type 0} (p : X → Bool) where
       let met : eqb (position_or_len p xs) (length xs) ≡ true = search rules in
       let long = length-append xs (y ∷ []) in
       let same : position_or_len p (xs ++ y ∷ []) ≡ length xs + 0 =
-      position_or_len_push p xs y ∙ ap (λ (b : Bool). cond b (length xs + cond (p y) 0 1) (position_or_len p xs)) met ∙ ap (λ (b : Bool). length xs + cond b 0 1) e in
+      position_or_len_push p xs y ∙ ap (λ (b : Bool). cond b (length xs + cond (p y) 0 1) (position_or_len p xs)) met
+      ∙ ap (λ (b : Bool). length xs + cond b 0 1) e in
       let there : position_or_len p (xs ++ y ∷ []) ≡ length xs = omega arith in
       let later : ltb (length xs) (length (xs ++ y ∷ [])) ≡ true = search rules in
       ap (λ (n : ℕ). placed n (length (xs ++ y ∷ []))) there
@@ -59,7 +60,8 @@ module _ {X : Type 0} (p : X → Bool) where
       let met : eqb (position_or_len p xs) (length xs) ≡ true = search rules in
       let long = length-append xs (y ∷ []) in
       let same : position_or_len p (xs ++ y ∷ []) ≡ length xs + 1 =
-      position_or_len_push p xs y ∙ ap (λ (b : Bool). cond b (length xs + cond (p y) 0 1) (position_or_len p xs)) met ∙ ap (λ (b : Bool). length xs + cond b 0 1) e in
+      position_or_len_push p xs y ∙ ap (λ (b : Bool). cond b (length xs + cond (p y) 0 1) (position_or_len p xs)) met
+      ∙ ap (λ (b : Bool). length xs + cond b 0 1) e in
       let nowhere : ltb (position_or_len p (xs ++ y ∷ [])) (length (xs ++ y ∷ [])) ≡ false = search rules in
       ap (λ (b : Bool). cond b (Some (position_or_len p (xs ++ y ∷ []))) None) nowhere
       ∙ sym (ap (λ (b : Bool). option_or (cond b (Some (position_or_len p xs)) None) None) h)
@@ -71,7 +73,8 @@ module _ {X : Type 0} (p : X → Bool) where
   all_by : (xs : List X) → length xs ≤ position_or_len p xs → list_all (λ (x : X). not (p x)) xs ≡ true
   all_by [] le = refl
   all_by (x ∷ xs) le = by (p x) refl (all_by xs) where
-    by : (b : Bool) → p x ≡ b → (length xs ≤ position_or_len p xs → list_all (λ (y : X). not (p y)) xs ≡ true) → (not (p x) && list_all (λ (y : X). not (p y)) xs) ≡ true
+    by : (b : Bool) → p x ≡ b → (length xs ≤ position_or_len p xs → list_all (λ (y : X). not (p y)) xs ≡ true)
+        → (not (p x) && list_all (λ (y : X). not (p y)) xs) ≡ true
     by true e more = absurd (let first : position_or_len p (x ∷ xs) ≡ 0 = ap (λ (b : Bool). cond {A = ℕ} (not b) (1 + position_or_len p xs) 0) e in omega arith)
     by false e more =
         let first : position_or_len p (x ∷ xs) ≡ 1 + position_or_len p xs = ap (λ (b : Bool). cond {A = ℕ} (not b) (1 + position_or_len p xs) 0) e in
@@ -116,7 +119,8 @@ module _ {X : Type 0} (p : X → Bool) where
     by false e more =
         let first : position_or_len p (x ∷ xs) ≡ suc (position_or_len p xs) =
         ap (λ (b : Bool). cond {A = ℕ} (not b) (1 + position_or_len p xs) 0) e ∙ one-add (position_or_len p xs) in
-        subst (λ (n : ℕ). All (take n (x ∷ xs))) (sym first) (and_from (not (p x)) (list_all (λ (y : X). not (p y)) (take (position_or_len p xs) xs)) (ap not e) more)
+        subst (λ (n : ℕ). All (take n (x ∷ xs))) (sym first)
+        (and_from (not (p x)) (list_all (λ (y : X). not (p y)) (take (position_or_len p xs) xs)) (ap not e) more)
 
 -- ---- what is found is kept
 
@@ -132,20 +136,24 @@ pub new-unplaced : (history : List Entry) (key : Key) → place_of history key �
 new-unplaced history key none = none-placed (has_key key) history none
 
 pub new-before_place : (history : List Entry) (key : Key) (place : ℕ) → place_of history key ≡ Some place → IsNew (take place history) key
-new-before_place history key place some = subst (λ (n : ℕ). IsNew (take n history) key) (some-placed (has_key key) history place some) (none-before (has_key key) history)
+new-before_place history key place some = subst (λ (n : ℕ). IsNew (take n history) key) (some-placed (has_key key) history place some)
+    (none-before (has_key key) history)
 
-pub place-within : (history : List Entry) (key : Key) (place : ℕ) (d : Entry) → place_of history key ≡ Some place → (place < length history) × (has_key key (get_or history place d) ≡ true)
+pub place-within : (history : List Entry) (key : Key) (place : ℕ) (d : Entry) → place_of history key ≡ Some place
+    → (place < length history) × (has_key key (get_or history place d) ≡ true)
 place-within history key place d some = let at = position-Some (has_key key) history place d some in (at.0, at.1)
 
 -- no request of a session has a key of it
-unknown_by : (history : List Entry) (id : List ℕ) (number : ℕ) → list_all (λ (e : Entry). not (is_of id e)) history ≡ true → IsNew history (record { session = id; number = number })
+unknown_by : (history : List Entry) (id : List ℕ) (number : ℕ) → list_all (λ (e : Entry). not (is_of id e)) history ≡ true
+    → IsNew history (record { session = id; number = number })
 unknown_by [] id number all = refl
 unknown_by (Take m r ∷ history) id number all =
     let parts = and_parts (not (same_session r.session id)) (list_all (λ (e : Entry). not (is_of id e)) history) all in
     let other : same_session r.session id ≡ false = not_true (same_session r.session id) parts.0 in
     let apart : same_key (key_of r) (record { session = id; number = number }) ≡ false =
     ap (λ (b : Bool). eqb r.number number && b) other ∙ and_false (eqb r.number number) in
-    and_from (not (same_key (key_of r) (record { session = id; number = number }))) (list_all (λ (e : Entry). not (has_key (record { session = id; number = number }) e)) history)
+    and_from (not (same_key (key_of r) (record { session = id; number = number })))
+    (list_all (λ (e : Entry). not (has_key (record { session = id; number = number }) e)) history)
     (ap not apart) (unknown_by history id number parts.1)
 unknown_by (Sweep m ∷ history) id number all = unknown_by history id number all
 
@@ -165,7 +173,8 @@ found-kept history places key indexed = by (first_of history key.session) refl w
 
 -- ---- one entry more
 
-pub IsIndexed-empty : (places : Places) → ((id : List ℕ) → get same_session places.firsts id ≡ None) → ((q : ℕ × ℕ) → get same_numbered places.numbered q ≡ None) → IsIndexed [] places
+pub IsIndexed-empty : (places : Places) → ((id : List ℕ) → get same_session places.firsts id ≡ None)
+    → ((q : ℕ × ℕ) → get same_numbered places.numbered q ≡ None) → IsIndexed [] places
 IsIndexed-empty places firsts numbered = record {
   firsts = firsts;
   numbered = λ id first number some. absurd cc;
@@ -174,12 +183,14 @@ IsIndexed-empty places firsts numbered = record {
 
 pub IsIndexed-sweep : (history : List Entry) (places : Places) (moment : Moment) → IsIndexed history places → IsIndexed (history ++ Sweep moment ∷ []) places
 IsIndexed-sweep history places moment indexed =
-    let same : (id : List ℕ) → first_of (history ++ Sweep moment ∷ []) id ≡ first_of history id = λ id. position-push (is_of id) history (Sweep moment) ∙ or_none (first_of history id) in
+    let same : (id : List ℕ) → first_of (history ++ Sweep moment ∷ []) id ≡ first_of history id = λ id. position-push (is_of id) history (Sweep moment)
+    ∙ or_none (first_of history id) in
     let long = length-append history (Sweep moment ∷ []) in
     record {
       firsts = λ id. indexed.firsts id ∙ sym (same id);
       numbered = λ id first number some. indexed.numbered id first number (sym (same id) ∙ some)
-          ∙ sym (position-push (has_key (record { session = id; number = number })) history (Sweep moment) ∙ or_none (place_of history (record { session = id; number = number })));
+          ∙ sym (position-push (has_key (record { session = id; number = number })) history (Sweep moment)
+          ∙ or_none (place_of history (record { session = id; number = number })));
       untaken = λ first number le. indexed.untaken first number (omega arith);
     }
 
@@ -195,7 +206,8 @@ module _ (history : List Entry) (old new : Places) (place first : ℕ) (moment :
     (indexed : IsIndexed history old) (at : place ≡ length history) (is_new : IsNew history (key_of request))
     (is_first : first ≡ unwrap_or (get same_session old.firsts request.session) place)
     (firsts : (id : List ℕ) → get same_session new.firsts id ≡ cond (same_session request.session id) (Some first) (get same_session old.firsts id))
-    (numbered : (q : ℕ × ℕ) → get same_numbered new.numbered q ≡ cond (same_numbered (first, request.number) q) (Some place) (get same_numbered old.numbered q)) where
+    (numbered : (q : ℕ × ℕ) → get same_numbered new.numbered q ≡ cond (same_numbered (first, request.number) q) (Some place)
+    (get same_numbered old.numbered q)) where
   -- the session is known, or it begins here
   abbrev pub IsFirst : Type 0
   IsFirst = (first_of history request.session ≡ Some first) ⊎ ((first_of history request.session ≡ None) × (first ≡ length history))
@@ -229,40 +241,48 @@ module _ (history : List Entry) (old new : Places) (place first : ℕ) (moment :
     by : (b : Bool) → same_session request.session id ≡ b → get same_session new.firsts id ≡ first_of (history ++ Take moment request ∷ []) id
     by true e =
         firsts id ∙ ap (λ (b : Bool). cond b (Some first) (get same_session old.firsts id)) e
-        ∙ sym (subst (λ (known : List ℕ). first_of (history ++ Take moment request ∷ []) known ≡ Some first) (same_session-equal request.session id e) (own_by is_first_in))
+        ∙ sym (subst (λ (known : List ℕ). first_of (history ++ Take moment request ∷ []) known ≡ Some first) (same_session-equal request.session id e)
+        (own_by is_first_in))
     by false e =
         firsts id ∙ ap (λ (b : Bool). cond b (Some first) (get same_session old.firsts id)) e
         ∙ indexed.firsts id ∙ sym (other id e)
 
-  place_next : (key : Key) → place_of (history ++ Take moment request ∷ []) key ≡ option_or (place_of history key) (cond (same_key (key_of request) key) (Some (length history)) None)
+  place_next : (key : Key) → place_of (history ++ Take moment request ∷ []) key
+      ≡ option_or (place_of history key) (cond (same_key (key_of request) key) (Some (length history)) None)
   place_next key = position-push (has_key key) history (Take moment request)
 
   -- another number of the session is found as before
-  number_before : IsFirst → (number : ℕ) → get same_numbered old.numbered (first, number) ≡ place_of history (record { session = request.session; number = number })
+  number_before : IsFirst → (number : ℕ) → get same_numbered old.numbered (first, number)
+      ≡ place_of history (record { session = request.session; number = number })
   number_before (inl known) number = indexed.numbered request.session first number known
   number_before (inr begins) number =
       let late : length history ≤ first = omega (arith, begins.1) in
       indexed.untaken first number late ∙ sym (unknown history request.session number begins.0)
 
-  numbered_own : (number : ℕ) → get same_numbered new.numbered (first, number) ≡ place_of (history ++ Take moment request ∷ []) (record { session = request.session; number = number })
+  numbered_own : (number : ℕ) → get same_numbered new.numbered (first, number)
+      ≡ place_of (history ++ Take moment request ∷ []) (record { session = request.session; number = number })
   numbered_own number = by (eqb request.number number) refl where
     by : (b : Bool) → eqb request.number number ≡ b
-        → get same_numbered new.numbered (first, number) ≡ place_of (history ++ Take moment request ∷ []) (record { session = request.session; number = number })
+        → get same_numbered new.numbered (first, number)
+        ≡ place_of (history ++ Take moment request ∷ []) (record { session = request.session; number = number })
     by true e =
         let same : request.number ≡ number = equal_number request.number number e in
         let met : same_numbered (first, request.number) (first, number) ≡ true = and_from (eqb first first) (eqb request.number number) (same_number first) e in
         let one : same_key (key_of request) (record { session = request.session; number = number }) ≡ true =
         and_from (eqb request.number number) (same_session request.session request.session) e (same_session-self request.session) in
         let none : place_of history (record { session = request.session; number = number }) ≡ None =
-        subst (λ (n : ℕ). place_of history (record { session = request.session; number = n }) ≡ None) same (none-from (has_key (key_of request)) history is_new) in
+        subst (λ (n : ℕ). place_of history (record { session = request.session; number = n }) ≡ None) same
+        (none-from (has_key (key_of request)) history is_new) in
         numbered (first, number) ∙ ap (λ (b : Bool). cond b (Some place) (get same_numbered old.numbered (first, number))) met
         ∙ ap (λ (n : ℕ). Some n) at
         ∙ sym (place_next (record { session = request.session; number = number })
-        ∙ ap (λ (found : Option ℕ). option_or found (cond (same_key (key_of request) (record { session = request.session; number = number })) (Some (length history)) None)) none
+        ∙ ap (λ (found : Option ℕ). option_or found
+        (cond (same_key (key_of request) (record { session = request.session; number = number })) (Some (length history)) None)) none
         ∙ ap (λ (b : Bool). cond b (Some (length history)) None) one)
     by false e =
         let apart : same_numbered (first, request.number) (first, number) ≡ false = ap (λ (b : Bool). eqb first first && b) e ∙ and_false (eqb first first) in
-        let two : same_key (key_of request) (record { session = request.session; number = number }) ≡ false = ap (λ (b : Bool). b && same_session request.session request.session) e in
+        let two : same_key (key_of request) (record { session = request.session; number = number }) ≡ false =
+        ap (λ (b : Bool). b && same_session request.session request.session) e in
         numbered (first, number) ∙ ap (λ (b : Bool). cond b (Some place) (get same_numbered old.numbered (first, number))) apart
         ∙ number_before is_first_in number
         ∙ sym (place_next (record { session = request.session; number = number })
@@ -303,8 +323,10 @@ module _ (history : List Entry) (old new : Places) (place first : ℕ) (moment :
     by false e =
         let before : first_of history id ≡ Some begun = sym (other id e) ∙ some in
         let apart = apart_by is_first_in id begun e before in
-        let two : same_key (key_of request) (record { session = id; number = number }) ≡ false = ap (λ (b : Bool). eqb request.number number && b) e ∙ and_false (eqb request.number number) in
-        numbered (begun, number) ∙ ap (λ (b : Bool). cond b (Some place) (get same_numbered old.numbered (begun, number))) (unlike first begun request.number number apart)
+        let two : same_key (key_of request) (record { session = id; number = number }) ≡ false = ap (λ (b : Bool). eqb request.number number && b) e
+        ∙ and_false (eqb request.number number) in
+        numbered (begun, number) ∙ ap (λ (b : Bool). cond b (Some place) (get same_numbered old.numbered (begun, number)))
+        (unlike first begun request.number number apart)
         ∙ indexed.numbered id begun number before
         ∙ sym (place_next (record { session = id; number = number })
         ∙ ap (λ (b : Bool). option_or (place_of history (record { session = id; number = number })) (cond b (Some (length history)) None)) two
@@ -319,6 +341,7 @@ module _ (history : List Entry) (old new : Places) (place first : ℕ) (moment :
         numbered = numbered_next;
         untaken = λ late number le.
             let apart : first ≢ late = λ same. omega (arith, same) in
-            numbered (late, number) ∙ ap (λ (b : Bool). cond b (Some place) (get same_numbered old.numbered (late, number))) (unlike first late request.number number apart)
+            numbered (late, number) ∙ ap (λ (b : Bool). cond b (Some place) (get same_numbered old.numbered (late, number)))
+            (unlike first late request.number number apart)
             ∙ indexed.untaken late number (omega arith);
       }

@@ -15,7 +15,8 @@ use Rattle.cc_book.specs.AccountMachine.{charged_account, post, posting_of, post
 use Rattle.cc_book.specs.Balance.{debit_of, balance_of, spent_by}
 use Rattle.cc_book.specs.Posting.{Posting, is_account, debit_to, debits_to}
 
-pub postings_of-push : (terms : Terms) (history : List Entry) (entry : Entry) → postings_of terms (history ++ entry ∷ []) ≡ post terms (postings_of terms history) entry
+pub postings_of-push : (terms : Terms) (history : List Entry) (entry : Entry)
+    → postings_of terms (history ++ entry ∷ []) ≡ post terms (postings_of terms history) entry
 unfolding postings_of
 postings_of-push terms history entry = fold-append (post terms) [] history (entry ∷ [])
 
@@ -24,7 +25,8 @@ push P [] posting all one = (one, tt)
 push P (first ∷ before) posting all one = (all.0, push P before posting all.1 one)
 
 fold_all : (P : Posting → Type 0) (Q : Entry → Type 0) (terms : Terms) (before : List Posting) (history : List Entry)
-    → ((before : List Posting) (entry : Entry) → AllByRecursion P before → Q entry → P (posting_of terms before entry)) → AllByRecursion P before → All Q history → AllByRecursion P (fold (post terms) before history)
+    → ((before : List Posting) (entry : Entry) → AllByRecursion P before → Q entry → P (posting_of terms before entry)) → AllByRecursion P before
+    → All Q history → AllByRecursion P (fold (post terms) before history)
 fold_all P Q terms before [] each all entries = all
 fold_all P Q terms before (entry ∷ history) each all entries =
     fold_all P Q terms (post terms before entry) history each
@@ -32,26 +34,32 @@ fold_all P Q terms before (entry ∷ history) each all entries =
 
 -- what is true of each posting: it follows from the postings before it, and from what is true of each entry
 pub postings_all : (P : Posting → Type 0) (Q : Entry → Type 0) (terms : Terms) (history : List Entry)
-    → ((before : List Posting) (entry : Entry) → AllByRecursion P before → Q entry → P (posting_of terms before entry)) → All Q history → AllByRecursion P (postings_of terms history)
+    → ((before : List Posting) (entry : Entry) → AllByRecursion P before → Q entry → P (posting_of terms before entry)) → All Q history
+    → AllByRecursion P (postings_of terms history)
 unfolding postings_of
 postings_all P Q terms history each entries = fold_all P Q terms [] history each tt entries
 
 -- ---- balances, entry by entry
 
-pub debits_to-push : (account : ℕ) (postings : List Posting) (p : Posting) → debits_to account (postings ++ p ∷ []) ≡ debits_to account postings +ℤ debit_to account p
+pub debits_to-push : (account : ℕ) (postings : List Posting) (p : Posting)
+    → debits_to account (postings ++ p ∷ []) ≡ debits_to account postings +ℤ debit_to account p
 debits_to-push account [] p = omega (arith, ints)
 debits_to-push account (q ∷ postings) p = let more = debits_to-push account postings p in omega (arith, ints)
 
-pub balance_of-push : (terms : Terms) (history : List Entry) (entry : Entry) (account : ℕ) → balance_of terms (history ++ entry ∷ []) account ≡ balance_of terms history account -ℤ debit_to account (posting_of terms (postings_of terms history) entry)
+pub balance_of-push : (terms : Terms) (history : List Entry) (entry : Entry) (account : ℕ)
+    → balance_of terms (history ++ entry ∷ []) account
+    ≡ balance_of terms history account -ℤ debit_to account (posting_of terms (postings_of terms history) entry)
 unfolding balance_of spent_by
 balance_of-push terms history entry account =
     let all = postings_of-push terms history entry in
-    let sum : debits_to account (postings_of terms (history ++ entry ∷ [])) ≡ debits_to account (postings_of terms history) +ℤ debit_to account (posting_of terms (postings_of terms history) entry) =
+    let sum : debits_to account (postings_of terms (history ++ entry ∷ [])) ≡ debits_to account (postings_of terms history) +ℤ debit_to account
+    (posting_of terms (postings_of terms history) entry) =
     ap (debits_to account) all ∙ debits_to-push account (postings_of terms history) (posting_of terms (postings_of terms history) entry) in
     omega (arith, ints)
 
 pub balance_of-next : (terms : Terms) (history : List Entry) (i : ℕ) (d : Entry) (account : ℕ) → i < length history
-    → balance_of terms (take (i + 1) history) account ≡ balance_of terms (take i history) account -ℤ debit_to account (posting_of terms (postings_of terms (take i history)) (get_or history i d))
+    → balance_of terms (take (i + 1) history) account ≡ balance_of terms (take i history) account -ℤ debit_to account
+    (posting_of terms (postings_of terms (take i history)) (get_or history i d))
 balance_of-next terms history i d account lt =
     ap (λ (h : List Entry). balance_of terms h account) (take_more history i d lt) ∙ balance_of-push terms (take i history) (get_or history i d) account
 
@@ -62,9 +70,12 @@ balance_of-empty terms account = omega (arith, ints)
 -- ---- laws
 
 pub balance_of-take : (terms : Terms) (history : List Entry) (moment : Moment) (request : CcRequest) (account : ℕ)
-    → balance_of terms (history ++ Take moment request ∷ []) account ≡ balance_of terms history account -ℤ cond (is_account account (charged_account terms (postings_of terms history) request)) (debit_of terms history request) (pos 0)
+    → balance_of terms (history ++ Take moment request ∷ []) account
+    ≡ balance_of terms history account -ℤ cond (is_account account (charged_account terms (postings_of terms history) request))
+    (debit_of terms history request) (pos 0)
 unfolding debit_of
 balance_of-take terms history moment request account = balance_of-push terms history (Take moment request) account
 
-pub balance_of-sweep : (terms : Terms) (history : List Entry) (moment : Moment) (account : ℕ) → balance_of terms (history ++ Sweep moment ∷ []) account ≡ balance_of terms history account
+pub balance_of-sweep : (terms : Terms) (history : List Entry) (moment : Moment) (account : ℕ)
+    → balance_of terms (history ++ Sweep moment ∷ []) account ≡ balance_of terms history account
 balance_of-sweep terms history moment account = let next = balance_of-push terms history (Sweep moment) account in omega (arith, ints)

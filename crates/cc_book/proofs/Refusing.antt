@@ -33,30 +33,36 @@ settles-kind terms history request kind is = ap (λ (k : RequestKind). settles_b
 
 pub used-each : (tariffs : List Tariff) (services : List Service) → used_total tariffs services ≡ sum_by (used_cost tariffs) services
 used-each tariffs [] = refl
-used-each tariffs (service ∷ services) = let more = used-each tariffs services in let sum = sum_by-cons (used_cost tariffs) service services in omega (arith, more, sum)
+used-each tariffs (service ∷ services) = let more = used-each tariffs services in let sum = sum_by-cons (used_cost tariffs) service services in
+    omega (arith, more, sum)
 
 used-kind : (terms : Terms) (history : List Entry) (request : CcRequest) (kind : RequestKind) → request.kind ≡ kind
-    → debit_by terms (postings_of terms history) request kind ≡ cond (settles_after terms (postings_of terms history) request) (pos (used_total terms.tariffs request.services)) (pos 0)
-    → settles_by kind (opened terms history request) (known terms request) ≡ true → debit_of terms history request ≡ pos (used_total terms.tariffs request.services)
+    → debit_by terms (postings_of terms history) request kind ≡ cond (settles_after terms (postings_of terms history) request)
+    (pos (used_total terms.tariffs request.services)) (pos 0)
+    → settles_by kind (opened terms history request) (known terms request) ≡ true
+    → debit_of terms history request ≡ pos (used_total terms.tariffs request.services)
 unfolding debit_of
 used-kind terms history request kind is used settles =
     ap (debit_by terms (postings_of terms history) request) is
     ∙ used
     ∙ ap (λ (b : Bool). cond b (pos (used_total terms.tariffs request.services)) (pos 0)) (settles-kind terms history request kind is ∙ settles)
 
-pub used-initial : (terms : Terms) (history : List Entry) (request : CcRequest) (account : ℕ) → request.kind ≡ Initial → is_open terms.validity request.session (postings_of terms history) ≡ false
+pub used-initial : (terms : Terms) (history : List Entry) (request : CcRequest) (account : ℕ) → request.kind ≡ Initial
+    → is_open terms.validity request.session (postings_of terms history) ≡ false
     → account_of terms.accounts request.subscriptions ≡ Some account → debit_of terms history request ≡ pos (used_total terms.tariffs request.services)
 unfolding opened known
 used-initial terms history request account is closed named =
     used-kind terms history request Initial is refl
     (ap (λ (b : Bool). not b && is_some (account_of terms.accounts request.subscriptions)) closed ∙ ap (λ (a : Option ℕ). is_some a) named)
 
-pub used-update : (terms : Terms) (history : List Entry) (request : CcRequest) → request.kind ≡ Update → is_open terms.validity request.session (postings_of terms history) ≡ true
+pub used-update : (terms : Terms) (history : List Entry) (request : CcRequest) → request.kind ≡ Update
+    → is_open terms.validity request.session (postings_of terms history) ≡ true
     → debit_of terms history request ≡ pos (used_total terms.tariffs request.services)
 unfolding opened
 used-update terms history request is lasts = used-kind terms history request Update is refl lasts
 
-pub used-termination : (terms : Terms) (history : List Entry) (request : CcRequest) → request.kind ≡ Termination → is_open terms.validity request.session (postings_of terms history) ≡ true
+pub used-termination : (terms : Terms) (history : List Entry) (request : CcRequest) → request.kind ≡ Termination
+    → is_open terms.validity request.session (postings_of terms history) ≡ true
     → debit_of terms history request ≡ pos (used_total terms.tariffs request.services)
 unfolding opened
 used-termination terms history request is lasts = used-kind terms history request Termination is refl lasts
@@ -76,35 +82,45 @@ refused-kind terms history request kind code is reply debit unsettled =
       grants = ap (grants_by terms (postings_of terms history) request) not_settled;
     }
 
-nothing_used : (terms : Terms) (request : CcRequest) (settles : Bool) → settles ≡ false → cond settles (pos (used_total terms.tariffs request.services)) (pos 0) ≡ pos 0
+nothing_used : (terms : Terms) (request : CcRequest) (settles : Bool) → settles ≡ false
+    → cond settles (pos (used_total terms.tariffs request.services)) (pos 0) ≡ pos 0
 nothing_used terms request settles e = ap (λ (b : Bool). cond b (pos (used_total terms.tariffs request.services)) (pos 0)) e
 
-refused-initial : (terms : Terms) (history : List Entry) (request : CcRequest) (b : Bool) → is_open terms.validity request.session (postings_of terms history) ≡ b → request.kind ≡ Initial
-    → settles_by Initial b (is_some (account_of terms.accounts request.subscriptions)) ≡ false → IsRefused terms history request (cond b UnableToComply UserUnknown)
+refused-initial : (terms : Terms) (history : List Entry) (request : CcRequest) (b : Bool)
+    → is_open terms.validity request.session (postings_of terms history) ≡ b → request.kind ≡ Initial
+    → settles_by Initial b (is_some (account_of terms.accounts request.subscriptions)) ≡ false
+    → IsRefused terms history request (cond b UnableToComply UserUnknown)
 unfolding opened known
 refused-initial terms history request b lasts is unsettled =
     refused-kind terms history request Initial (cond b UnableToComply UserUnknown) is
     (λ e. ap (λ (s : Bool). cond s (granting_reply terms (free_to_grant terms (postings_of terms history) request) request.services)
-    (code_alone (unsettled_code Initial (is_open terms.validity request.session (postings_of terms history))))) e ∙ ap (λ (o : Bool). code_alone (cond o UnableToComply UserUnknown)) lasts)
+    (code_alone (unsettled_code Initial (is_open terms.validity request.session (postings_of terms history))))) e
+    ∙ ap (λ (o : Bool). code_alone (cond o UnableToComply UserUnknown)) lasts)
     (nothing_used terms request (settles_after terms (postings_of terms history) request))
     (ap (λ (o : Bool). settles_by Initial o (is_some (account_of terms.accounts request.subscriptions))) lasts ∙ unsettled)
 
-pub refused-open : (terms : Terms) (history : List Entry) (request : CcRequest) → request.kind ≡ Initial → is_open terms.validity request.session (postings_of terms history) ≡ true → IsRefused terms history request UnableToComply
+pub refused-open : (terms : Terms) (history : List Entry) (request : CcRequest) → request.kind ≡ Initial
+    → is_open terms.validity request.session (postings_of terms history) ≡ true → IsRefused terms history request UnableToComply
 refused-open terms history request is lasts = refused-initial terms history request true lasts is refl
 
-pub refused-stranger : (terms : Terms) (history : List Entry) (request : CcRequest) → request.kind ≡ Initial → is_open terms.validity request.session (postings_of terms history) ≡ false
+pub refused-stranger : (terms : Terms) (history : List Entry) (request : CcRequest) → request.kind ≡ Initial
+    → is_open terms.validity request.session (postings_of terms history) ≡ false
     → account_of terms.accounts request.subscriptions ≡ None → IsRefused terms history request UserUnknown
 refused-stranger terms history request is closed none = refused-initial terms history request false closed is (ap (λ (a : Option ℕ). is_some a) none)
 
-pub refused-update : (terms : Terms) (history : List Entry) (request : CcRequest) → request.kind ≡ Update → is_open terms.validity request.session (postings_of terms history) ≡ false → IsRefused terms history request UnknownSessionId
+pub refused-update : (terms : Terms) (history : List Entry) (request : CcRequest) → request.kind ≡ Update
+    → is_open terms.validity request.session (postings_of terms history) ≡ false → IsRefused terms history request UnknownSessionId
 unfolding opened
 refused-update terms history request is closed =
     refused-kind terms history request Update UnknownSessionId is
-    (λ e. ap (λ (s : Bool). cond s (granting_reply terms (free_to_grant terms (postings_of terms history) request) request.services) (code_alone UnknownSessionId)) e)
+    (λ e. ap (λ (s : Bool). cond s (granting_reply terms (free_to_grant terms (postings_of terms history) request) request.services)
+    (code_alone UnknownSessionId)) e)
     (nothing_used terms request (settles_after terms (postings_of terms history) request)) closed
 
-pub refused-termination : (terms : Terms) (history : List Entry) (request : CcRequest) → request.kind ≡ Termination → is_open terms.validity request.session (postings_of terms history) ≡ false → IsRefused terms history request UnknownSessionId
+pub refused-termination : (terms : Terms) (history : List Entry) (request : CcRequest) → request.kind ≡ Termination
+    → is_open terms.validity request.session (postings_of terms history) ≡ false → IsRefused terms history request UnknownSessionId
 unfolding opened
 refused-termination terms history request is closed =
-    refused-kind terms history request Termination UnknownSessionId is (λ e. ap (λ (s : Bool). cond s (closing_reply terms request.services) (code_alone UnknownSessionId)) e)
+    refused-kind terms history request Termination UnknownSessionId is
+    (λ e. ap (λ (s : Bool). cond s (closing_reply terms request.services) (code_alone UnknownSessionId)) e)
     (nothing_used terms request (settles_after terms (postings_of terms history) request)) closed

@@ -29,11 +29,14 @@ use Rattle.cc_book.proofs.InOrder.{held_in-append}
 
 -- what the units cost that a grant makes, by a tariff that was found or not
 abbrev made_cost : Option Tariff → Option Grant → ℕ
-made_cost found grant = unwrap_or (option_and_then (λ (tariff : Tariff). option_map (cost_of tariff) (option_map (λ (made : Grant). made.units) (made_grant grant))) found) 0
+made_cost found grant =
+    unwrap_or (option_and_then (λ (tariff : Tariff). option_map (cost_of tariff) (option_map (λ (made : Grant). made.units) (made_grant grant))) found) 0
 
-held-made : (tariff : Tariff) (service : Service) (grant : Grant) → grant.held ≡ cost_of tariff grant.units → held_in (hold_of service (made_grant (Some grant))) ≡ made_cost (Some tariff) (Some grant)
+held-made : (tariff : Tariff) (service : Service) (grant : Grant) → grant.held ≡ cost_of tariff grant.units
+    → held_in (hold_of service (made_grant (Some grant))) ≡ made_cost (Some tariff) (Some grant)
 held-made tariff service grant is = by (is_refused grant) where
-  by : (b : Bool) → held_in (hold_of service (cond b None (Some grant))) ≡ unwrap_or (option_map (cost_of tariff) (option_map (λ (made : Grant). made.units) (cond b None (Some grant)))) 0
+  by : (b : Bool) → held_in (hold_of service (cond b None (Some grant)))
+      ≡ unwrap_or (option_map (cost_of tariff) (option_map (λ (made : Grant). made.units) (cond b None (Some grant)))) 0
   by true = refl
   by false = omega (arith, is)
 
@@ -41,20 +44,24 @@ held-made tariff service grant is = by (is_refused grant) where
 abbrev given : ℤ → Service → Option Tariff → Option Grant
 given free service found = option_and_then (λ (tariff : Tariff). option_map (grant_of tariff free) (asked_of tariff service)) found
 
-held-given : (free : ℤ) (service : Service) (found : Option Tariff) → held_in (hold_of service (made_grant (given free service found))) ≡ made_cost found (given free service found)
+held-given : (free : ℤ) (service : Service) (found : Option Tariff)
+    → held_in (hold_of service (made_grant (given free service found))) ≡ made_cost found (given free service found)
 held-given free service None = refl
 held-given free service (Some tariff) = by (asked_of tariff service) where
-  by : (asked : Option ℕ) → held_in (hold_of service (made_grant (option_map (grant_of tariff free) asked))) ≡ made_cost (Some tariff) (option_map (grant_of tariff free) asked)
+  by : (asked : Option ℕ) → held_in (hold_of service (made_grant (option_map (grant_of tariff free) asked)))
+      ≡ made_cost (Some tariff) (option_map (grant_of tariff free) asked)
   by None = refl
   by (Some units) = held-made tariff service (grant_of tariff free units) (held-is tariff free units)
 
 held-service : (terms : Terms) (free : ℤ) (service : Service)
-    → held_in (hold_of service (made_grant (grant_to terms.tariffs free service))) ≡ granted_cost terms.tariffs (settled_reply terms service (grant_to terms.tariffs free service))
+    → held_in (hold_of service (made_grant (grant_to terms.tariffs free service)))
+    ≡ granted_cost terms.tariffs (settled_reply terms service (grant_to terms.tariffs free service))
 held-service terms free service = held-given free service (tariff_of terms.tariffs service)
 
 -- ---- all services
 
-held-services : (terms : Terms) (free : ℤ) (services : List Service) → held_in (holds_from terms.tariffs free services) ≡ sum_by (granted_cost terms.tariffs) (replies_from terms free services)
+held-services : (terms : Terms) (free : ℤ) (services : List Service)
+    → held_in (holds_from terms.tariffs free services) ≡ sum_by (granted_cost terms.tariffs) (replies_from terms free services)
 held-services terms free [] = refl
 held-services terms free (service ∷ services) =
     let grant = grant_to terms.tariffs free service in
@@ -70,12 +77,14 @@ none-granted terms service = by (tariff_of terms.tariffs service) where
   by None = refl
   by (Some tariff) = refl
 
-closed-services : (terms : Terms) (services : List Service) → sum_by (granted_cost terms.tariffs) (map (λ (service : Service). settled_reply terms service None) services) ≡ 0
+closed-services : (terms : Terms) (services : List Service)
+    → sum_by (granted_cost terms.tariffs) (map (λ (service : Service). settled_reply terms service None) services) ≡ 0
 closed-services terms [] = refl
 closed-services terms (service ∷ services) =
     let here = none-granted terms service in
     let more = closed-services terms services in
-    let sum = sum_by-cons (granted_cost terms.tariffs) (settled_reply terms service None) (map (λ (other : Service). settled_reply terms other None) services) in
+    let sum = sum_by-cons (granted_cost terms.tariffs) (settled_reply terms service None)
+    (map (λ (other : Service). settled_reply terms other None) services) in
     omega (arith, here, more, sum)
 
 -- ---- a request
@@ -85,7 +94,8 @@ abbrev reserves : Terms → List Posting → CcRequest → RequestKind → Resul
 reserves terms before request kind code true = grants_with kind code (holds_from terms.tariffs (free_to_grant terms before request) request.services)
 reserves terms before request kind code false = []
 
-reserves-is : (terms : Terms) (before : List Posting) (request : CcRequest) (settled : Bool) → grants_by terms before request settled ≡ reserves terms before request request.kind (reply_after terms before request).code settled
+reserves-is : (terms : Terms) (before : List Posting) (request : CcRequest) (settled : Bool)
+    → grants_by terms before request settled ≡ reserves terms before request request.kind (reply_after terms before request).code settled
 reserves-is terms before request true = refl
 reserves-is terms before request false = refl
 
@@ -94,18 +104,21 @@ abbrev Reserved : Terms → CcReply → List Hold → Type 0
 Reserved terms reply holds = held_in holds ≡ cost_of_reply terms.tariffs reply
 
 reserved-update : (terms : Terms) (before : List Posting) (request : CcRequest) (code : ResultCode) (opened settled : Bool)
-    → Reserved terms (cond settled (granting_reply terms (free_to_grant terms before request) request.services) (code_alone (unsettled_code Update opened))) (reserves terms before request Update code settled)
+    → Reserved terms (cond settled (granting_reply terms (free_to_grant terms before request) request.services) (code_alone (unsettled_code Update opened)))
+    (reserves terms before request Update code settled)
 reserved-update terms before request code opened true = held-services terms (free_to_grant terms before request) request.services
 reserved-update terms before request code opened false = refl
 
 reserved-opening : (terms : Terms) (before : List Posting) (request : CcRequest) (opened settled : Bool)
     → (cond settled (granting_reply terms (free_to_grant terms before request) request.services) (code_alone (unsettled_code Initial opened))).code ≡ Success
-    → Reserved terms (cond settled (granting_reply terms (free_to_grant terms before request) request.services) (code_alone (unsettled_code Initial opened))) (reserves terms before request Initial Success settled)
+    → Reserved terms (cond settled (granting_reply terms (free_to_grant terms before request) request.services) (code_alone (unsettled_code Initial opened)))
+    (reserves terms before request Initial Success settled)
 reserved-opening terms before request opened true success = held-services terms (free_to_grant terms before request) request.services
 reserved-opening terms before request opened false success = refl
 
 -- what a request reserves, by its kind and the code of its reply
-grants-are : (terms : Terms) (before : List Posting) (request : CcRequest) (kind : RequestKind) (code : ResultCode) → request.kind ≡ kind → (reply_after terms before request).code ≡ code
+grants-are : (terms : Terms) (before : List Posting) (request : CcRequest) (kind : RequestKind) (code : ResultCode) → request.kind ≡ kind
+    → (reply_after terms before request).code ≡ code
     → grants_after terms before request ≡ reserves terms before request kind code (settles_after terms before request)
 grants-are terms before request kind code is answered =
     let settled = settles_after terms before request in
@@ -130,15 +143,19 @@ opening-reserved terms history request is success =
     let before = postings_of terms history in
     let kind = ap (reply_by terms before request) is in
     ap held_in (grants-are terms before request Initial Success is success)
-    ∙ reserved-opening terms before request (is_open terms.validity request.session before) (settles_after terms before request) (sym (ap (λ (r : CcReply). r.code) kind) ∙ success)
+    ∙ reserved-opening terms before request (is_open terms.validity request.session before) (settles_after terms before request)
+    (sym (ap (λ (r : CcReply). r.code) kind) ∙ success)
     ∙ sym (ap (cost_of_reply terms.tariffs) kind)
 
-closed-reply : (terms : Terms) (services : List Service) (settled : Bool) → cost_of_reply terms.tariffs (cond settled (closing_reply terms services) (code_alone UnknownSessionId)) ≡ 0
+closed-reply : (terms : Terms) (services : List Service) (settled : Bool)
+    → cost_of_reply terms.tariffs (cond settled (closing_reply terms services) (code_alone UnknownSessionId)) ≡ 0
 closed-reply terms services true = closed-services terms services
 closed-reply terms services false = refl
 
-pub termination-granted : (terms : Terms) (history : List Entry) (request : CcRequest) → request.kind ≡ Termination → cost_of_reply terms.tariffs (reply_to terms history request) ≡ 0
+pub termination-granted : (terms : Terms) (history : List Entry) (request : CcRequest) → request.kind ≡ Termination
+    → cost_of_reply terms.tariffs (reply_to terms history request) ≡ 0
 unfolding reply_to
 termination-granted terms history request is =
     let before = postings_of terms history in
-    ap (λ (k : RequestKind). cost_of_reply terms.tariffs (reply_by terms before request k)) is ∙ closed-reply terms request.services (settles_after terms before request)
+    ap (λ (k : RequestKind). cost_of_reply terms.tariffs (reply_by terms before request k)) is
+    ∙ closed-reply terms request.services (settles_after terms before request)

@@ -54,12 +54,14 @@ pub find-others : (id : List ℕ) (xs : List OpenSession) → Others id xs → f
 find-others id [] p = refl
 find-others id (x ∷ xs) p = ap (λ (b : Bool). cond b (Some x) (find (is_session id) xs)) p.0 ∙ find-others id xs p.1
 
-pub find-behind : (id : List ℕ) (xs : List OpenSession) (s : OpenSession) (ys : List OpenSession) → Others id xs → is_session id s ≡ true → find (is_session id) (xs ++ s ∷ ys) ≡ Some s
+pub find-behind : (id : List ℕ) (xs : List OpenSession) (s : OpenSession) (ys : List OpenSession) → Others id xs → is_session id s ≡ true
+    → find (is_session id) (xs ++ s ∷ ys) ≡ Some s
 find-behind id [] s ys p e = ap (λ (b : Bool). cond b (Some s) (find (is_session id) ys)) e
 find-behind id (x ∷ xs) s ys p e = ap (λ (b : Bool). cond b (Some x) (find (is_session id) (xs ++ s ∷ ys))) p.0 ∙ find-behind id xs s ys p.1 e
 
 -- a session of another id hides none
-pub find-beside : (id : List ℕ) (xs : List OpenSession) (s : OpenSession) (ys : List OpenSession) → is_session id s ≡ false → find (is_session id) (xs ++ s ∷ ys) ≡ find (is_session id) (xs ++ ys)
+pub find-beside : (id : List ℕ) (xs : List OpenSession) (s : OpenSession) (ys : List OpenSession) → is_session id s ≡ false
+    → find (is_session id) (xs ++ s ∷ ys) ≡ find (is_session id) (xs ++ ys)
 find-beside id [] s ys e = ap (λ (b : Bool). cond b (Some s) (find (is_session id) ys)) e
 find-beside id (x ∷ xs) s ys e = ap (λ (found : Option OpenSession). cond (is_session id x) (Some x) found) (find-beside id xs s ys e)
 
@@ -69,16 +71,19 @@ others_by : (id : List ℕ) (xs : List OpenSession) → length xs ≤ position_o
 others_by id [] le = tt
 others_by id (x ∷ xs) le = by (is_session id x) refl (others_by id xs) where
   by : (b : Bool) → is_session id x ≡ b → (length xs ≤ position_or_len (is_session id) xs → Others id xs) → (is_session id x ≡ false) × Others id xs
-  by true e more = absurd (let first : position_or_len (is_session id) (x ∷ xs) ≡ 0 = ap (λ (b : Bool). cond {A = ℕ} (not b) (1 + position_or_len (is_session id) xs) 0) e in omega arith)
+  by true e more = absurd (let first : position_or_len (is_session id) (x ∷ xs) ≡ 0 =
+      ap (λ (b : Bool). cond {A = ℕ} (not b) (1 + position_or_len (is_session id) xs) 0) e in omega arith)
   by false e more =
-      let first : position_or_len (is_session id) (x ∷ xs) ≡ 1 + position_or_len (is_session id) xs = ap (λ (b : Bool). cond {A = ℕ} (not b) (1 + position_or_len (is_session id) xs) 0) e in
+      let first : position_or_len (is_session id) (x ∷ xs) ≡ 1 + position_or_len (is_session id) xs =
+      ap (λ (b : Bool). cond {A = ℕ} (not b) (1 + position_or_len (is_session id) xs) 0) e in
       (e, more (omega arith))
 
 -- no session of an id is open where none has a place
 pub others-closed : (id : List ℕ) (xs : List OpenSession) → place_in xs id ≡ None → Others id xs
 others-closed id xs none = by (ltb (position_or_len (is_session id) xs) (length xs)) refl where
   by : (b : Bool) → ltb (position_or_len (is_session id) xs) (length xs) ≡ b → Others id xs
-  by true e = absurd (let some : Some (position_or_len (is_session id) xs) ≡ None = sym (ap (λ (b : Bool). cond b (Some (position_or_len (is_session id) xs)) None) e) ∙ none in cc)
+  by true e = absurd (let some : Some (position_or_len (is_session id) xs) ≡ None =
+      sym (ap (λ (b : Bool). cond b (Some (position_or_len (is_session id) xs)) None) e) ∙ none in cc)
   by false e = let least : length xs ≤ position_or_len (is_session id) xs = search rules in others_by id xs least
 
 -- the session at a place, with the id
@@ -88,12 +93,14 @@ Holds id xs place = (session : OpenSession) × (slice_get xs place ≡ Some sess
 first_open : (id : List ℕ) (xs : List OpenSession) → position_or_len (is_session id) xs < length xs → Holds id xs (position_or_len (is_session id) xs)
 first_open id [] lt = absurd (omega arith)
 first_open id (x ∷ xs) lt = by (is_session id x) refl (first_open id xs) where
-  by : (b : Bool) → is_session id x ≡ b → (position_or_len (is_session id) xs < length xs → Holds id xs (position_or_len (is_session id) xs)) → Holds id (x ∷ xs) (position_or_len (is_session id) (x ∷ xs))
+  by : (b : Bool) → is_session id x ≡ b → (position_or_len (is_session id) xs < length xs → Holds id xs (position_or_len (is_session id) xs))
+      → Holds id (x ∷ xs) (position_or_len (is_session id) (x ∷ xs))
   by true e more =
       let first : position_or_len (is_session id) (x ∷ xs) ≡ 0 = ap (λ (b : Bool). cond {A = ℕ} (not b) (1 + position_or_len (is_session id) xs) 0) e in
       subst (Holds id (x ∷ xs)) (sym first) (x, refl, e)
   by false e more =
-      let first : position_or_len (is_session id) (x ∷ xs) ≡ suc (position_or_len (is_session id) xs) = ap (λ (b : Bool). cond {A = ℕ} (not b) (1 + position_or_len (is_session id) xs) 0) e ∙ one-add (position_or_len (is_session id) xs) in
+      let first : position_or_len (is_session id) (x ∷ xs) ≡ suc (position_or_len (is_session id) xs) =
+      ap (λ (b : Bool). cond {A = ℕ} (not b) (1 + position_or_len (is_session id) xs) 0) e ∙ one-add (position_or_len (is_session id) xs) in
       subst (Holds id (x ∷ xs)) (sym first) (more (omega arith))
 
 -- at the place of an id a session with that id is open
@@ -101,7 +108,8 @@ pub open_at_place : (id : List ℕ) (xs : List OpenSession) (place : ℕ) → pl
 open_at_place id xs place some = by (ltb (position_or_len (is_session id) xs) (length xs)) refl where
   by : (b : Bool) → ltb (position_or_len (is_session id) xs) (length xs) ≡ b → Holds id xs place
   by true e =
-      let found : Some (position_or_len (is_session id) xs) ≡ Some place = sym (ap (λ (b : Bool). cond b (Some (position_or_len (is_session id) xs)) None) e) ∙ some in
+      let found : Some (position_or_len (is_session id) xs) ≡ Some place = sym (ap (λ (b : Bool). cond b (Some (position_or_len (is_session id) xs)) None) e)
+      ∙ some in
       let less : position_or_len (is_session id) xs < length xs = search rules in
       let same : position_or_len (is_session id) xs ≡ place = cc in
       subst (Holds id xs) same (first_open id xs less)
@@ -137,10 +145,12 @@ others_after id x xs own pairs =
     recursion_from_All (λ (s : OpenSession). is_session id s ≡ false) xs
     (λ k d lt. same_session-other (get_or xs k d).id id (λ same. pairs 0 (suc k) d (omega arith) (omega arith) (own ∙ sym same)))
 
-other_before : (id : List ℕ) (x : OpenSession) (xs : List OpenSession) (place : ℕ) (s : OpenSession) → slice_get xs place ≡ Some s → s.id ≡ id → OwnIds (x ∷ xs) → is_session id x ≡ false
+other_before : (id : List ℕ) (x : OpenSession) (xs : List OpenSession) (place : ℕ) (s : OpenSession) → slice_get xs place ≡ Some s → s.id ≡ id
+    → OwnIds (x ∷ xs) → is_session id x ≡ false
 other_before id x xs place s at own pairs =
     let there = session_there xs place s s at in
-    same_session-other x.id id (λ same. pairs 0 (suc place) s (omega arith) (omega (arith, there.1)) (same ∙ sym own ∙ ap (λ (y : OpenSession). y.id) (sym there.0)))
+    same_session-other x.id id (λ same. pairs 0 (suc place) s (omega arith) (omega (arith, there.1))
+    (same ∙ sym own ∙ ap (λ (y : OpenSession). y.id) (sym there.0)))
 
 pub is_at : (id : List ℕ) (xs : List OpenSession) (place : ℕ) (s : OpenSession) → slice_get xs place ≡ Some s → s.id ≡ id → OwnIds xs → IsAt id xs place s
 is_at id [] place s at own pairs = absurd cc
@@ -171,7 +181,8 @@ is_at id (x ∷ xs) (suc place) s at own pairs =
       within = omega (arith, rest.within);
     }
 
-pub is_at_place : (id : List ℕ) (xs : List OpenSession) (place : ℕ) (s : OpenSession) → place_in xs id ≡ Some place → slice_get xs place ≡ Some s → OwnIds xs → IsAt id xs place s
+pub is_at_place : (id : List ℕ) (xs : List OpenSession) (place : ℕ) (s : OpenSession) → place_in xs id ≡ Some place → slice_get xs place ≡ Some s → OwnIds xs
+    → IsAt id xs place s
 is_at_place id xs place s some at pairs =
     let there = open_at_place id xs place some in
     let same : there.0 ≡ s = same_value there.0 s (sym there.1 ∙ at) in
@@ -185,19 +196,22 @@ find-at id xs place s at = ap (find (is_session id)) at.split ∙ find-behind id
 pub own_ids-push : (xs : List OpenSession) (s : OpenSession) → OwnIds xs → Others s.id xs → OwnIds (xs ++ s ∷ [])
 own_ids-push xs s pairs others =
     all_pairs_push (λ (one other : OpenSession). one.id ≢ other.id) xs s pairs
-    (λ k d lt same. let apart = All-from_recursion (λ (x : OpenSession). is_session s.id x ≡ false) xs others k d lt in let met = same_session-met (get_or xs k d).id s.id same in absurd cc)
+    (λ k d lt same. let apart = All-from_recursion (λ (x : OpenSession). is_session s.id x ≡ false) xs others k d lt in
+    let met = same_session-met (get_or xs k d).id s.id same in absurd cc)
 
 pub own_ids-remove : (xs : List OpenSession) (place : ℕ) → place < length xs → OwnIds xs → OwnIds (remove xs place)
 own_ids-remove xs place lt pairs = all_pairs_remove (λ (one other : OpenSession). one.id ≢ other.id) xs place lt pairs
 
-set_id : (xs : List OpenSession) (place : ℕ) (s d : OpenSession) (k : ℕ) → s.id ≡ (get_or xs place s).id → (get_or (slice_set xs place s) k d).id ≡ (get_or xs k d).id
+set_id : (xs : List OpenSession) (place : ℕ) (s d : OpenSession) (k : ℕ) → s.id ≡ (get_or xs place s).id
+    → (get_or (slice_set xs place s) k d).id ≡ (get_or xs k d).id
 set_id [] place s d k same = refl
 set_id (x ∷ xs) zero s d zero same = same
 set_id (x ∷ xs) zero s d (suc k) same = refl
 set_id (x ∷ xs) (suc place) s d zero same = refl
 set_id (x ∷ xs) (suc place) s d (suc k) same = set_id xs place s d k same
 
-pub own_ids-set : (id : List ℕ) (xs : List OpenSession) (place : ℕ) (s other : OpenSession) → slice_get xs place ≡ Some s → other.id ≡ s.id → OwnIds xs → OwnIds (slice_set xs place other)
+pub own_ids-set : (id : List ℕ) (xs : List OpenSession) (place : ℕ) (s other : OpenSession) → slice_get xs place ≡ Some s → other.id ≡ s.id → OwnIds xs
+    → OwnIds (slice_set xs place other)
 own_ids-set id xs place s other at same pairs = λ i j d lt below e.
     let there = session_there xs place s other at in
     let kept = set_id xs place other d in

@@ -36,13 +36,15 @@ grants_weight-reserved : (validity account : ℕ) (p : Posting) (after : List Po
 grants_weight-reserved validity account p after [] true e = refl
 grants_weight-reserved validity account p after [] false e = refl
 grants_weight-reserved validity account p after (hold ∷ holds) true e =
-    let here : cond (is_alive validity p.entry hold.service after) (cond (is_account account p.account) hold.cost 0) 0 ≡ cond (is_alive validity p.entry hold.service after) hold.cost 0 =
+    let here : cond (is_alive validity p.entry hold.service after) (cond (is_account account p.account) hold.cost 0) 0
+    ≡ cond (is_alive validity p.entry hold.service after) hold.cost 0 =
     ap (λ (b : Bool). cond (is_alive validity p.entry hold.service after) (cond b hold.cost 0) 0) e in
     let sum = sum_by-cons (λ (grant : Hold). cond (is_alive validity p.entry grant.service after) grant.cost 0) hold holds in
     let more = grants_weight-reserved validity account p after holds true e in omega arith
 grants_weight-reserved validity account p after (hold ∷ holds) false e =
     let here : cond (is_alive validity p.entry hold.service after) (cond (is_account account p.account) hold.cost 0) 0 ≡ 0 =
-    ap (λ (b : Bool). cond (is_alive validity p.entry hold.service after) (cond b hold.cost 0) 0) e ∙ no_amount (is_alive validity p.entry hold.service after) in
+    ap (λ (b : Bool). cond (is_alive validity p.entry hold.service after) (cond b hold.cost 0) 0) e
+    ∙ no_amount (is_alive validity p.entry hold.service after) in
     let more = grants_weight-reserved validity account p after holds false e in omega arith
 
 reserved_by-alive : (validity account : ℕ) (before : List Posting) → reserved_by validity account before ≡ alive_weight (reserving account) validity before
@@ -51,7 +53,8 @@ reserved_by-alive validity account (p ∷ after) =
     let here = grants_weight-reserved validity account p after p.grants (is_account account p.account) refl in
     let more = reserved_by-alive validity account after in omega arith
 
-holds_weight-reserved : (account other : ℕ) (id : List ℕ) (holds : List Hold) (b : Bool) → eqb account other ≡ b → holds_weight (reserving account) id other holds ≡ cond b (held_in holds) 0
+holds_weight-reserved : (account other : ℕ) (id : List ℕ) (holds : List Hold) (b : Bool) → eqb account other ≡ b
+    → holds_weight (reserving account) id other holds ≡ cond b (held_in holds) 0
 holds_weight-reserved account other id [] true e = refl
 holds_weight-reserved account other id [] false e = refl
 holds_weight-reserved account other id (hold ∷ holds) true e =
@@ -91,7 +94,8 @@ module _ {terms : Terms} {before : List Posting} {balances : List ℤ} {sessions
   pub reserved-stands : (account : ℕ) → reserved_by terms.validity account before ≡ reserved_in account sessions
   reserved-stands account = reserved_by-alive terms.validity account before ∙ s.holds (reserving account) ∙ reserved_in-weight account sessions
 
-  pub free-stands : (account : ℕ) → account < length terms.accounts → free_after terms before account ≡ slice_index_or balances account (pos 0) -ℤ pos (reserved_in account sessions)
+  pub free-stands : (account : ℕ) → account < length terms.accounts
+      → free_after terms before account ≡ slice_index_or balances account (pos 0) -ℤ pos (reserved_in account sessions)
   free-stands account lt =
       let balance = s.balance account lt in
       let reserved = reserved-stands account in omega (arith, ints)
@@ -103,17 +107,25 @@ module _ {terms : Terms} {before : List Posting} {balances : List ℤ} {sessions
   closed-stands id none = s.session id ∙ ap (option_map (opened_as terms.validity)) (find-others id sessions (others-closed id sessions none))
 
   pub open-stands : (id : List ℕ) (place : ℕ) (session : OpenSession) → place_in sessions id ≡ Some place → slice_get sessions place ≡ Some session
-      → (session_of terms.validity id before ≡ Some (opened_as terms.validity session)) × (find (is_session id) sessions ≡ Some session) × (session.id ≡ id) × (session.account < length terms.accounts)
+      → (session_of terms.validity id before ≡ Some (opened_as terms.validity session)) × (find (is_session id) sessions ≡ Some session) × (session.id ≡ id)
+      × (session.account < length terms.accounts)
   open-stands id place session some there =
       let at = is_at_place id sessions place session some there s.own_ids in
       let found = find-at id sessions place session at in
-      let is : slice_index_or sessions place session ≡ session = (session_there sessions place session session there).0 in
-      (s.session id ∙ ap (option_map (opened_as terms.validity)) found, found, at.own, subst (λ (x : OpenSession). x.account < length terms.accounts) is (s.known place session at.within))
+      let is : slice_index_or sessions place session ≡ session = (session_there sessions place session session there).0 in (
+        s.session id ∙ ap (option_map (opened_as terms.validity)) found,
+        found,
+        at.own,
+        subst (λ (x : OpenSession). x.account < length terms.accounts) is
+            (s.known place session at.within),
+      )
 
   -- ---- what is free to grant
 
   -- what is reserved once a request has settled its services
-  reserved_settled : (request : CcRequest) (account : ℕ) → reserved_by terms.validity account (before ++ settling_posting terms before request ∷ []) ≡ sessions_weight (kept request (settles_after terms before request) (reserving account)) sessions
+  reserved_settled : (request : CcRequest) (account : ℕ)
+      → reserved_by terms.validity account (before ++ settling_posting terms before request ∷ [])
+      ≡ sessions_weight (kept request (settles_after terms before request) (reserving account)) sessions
   reserved_settled request account =
       let settles = settles_after terms before request in
       let push = alive_weight-push terms.validity (record { 0 = 0 }) request (settling_posting terms before request) (reserving account) before in
@@ -122,28 +134,33 @@ module _ {terms : Terms} {before : List Posting} {balances : List ℤ} {sessions
 
   -- what is free once a request has settled its services, and debited what they used
   free_settled : (request : CcRequest) (account : ℕ) → charged_account terms before request ≡ Some account
-      → free_to_grant terms before request ≡ ((opening_at terms.accounts account -ℤ debits_to account before) -ℤ debit_after terms before request) -ℤ pos (sessions_weight (kept request (settles_after terms before request) (reserving account)) sessions)
+      → free_to_grant terms before request ≡ ((opening_at terms.accounts account -ℤ debits_to account before) -ℤ debit_after terms before request) -ℤ pos
+      (sessions_weight (kept request (settles_after terms before request) (reserving account)) sessions)
   free_settled request account charged =
       let q = settling_posting terms before request in
       let free : free_to_grant terms before request ≡ free_after terms (before ++ q ∷ []) account = ap (free_for terms (before ++ q ∷ [])) charged in
       let debits = debits_to-push account before q in
       let debit : debit_to account q ≡ debit_after terms before request =
-      ap (λ (o : Option ℕ). cond (is_account account o) (debit_after terms before request) (pos 0)) charged ∙ ap (λ (b : Bool). cond b (debit_after terms before request) (pos 0)) (same_number account) in
+      ap (λ (o : Option ℕ). cond (is_account account o) (debit_after terms before request) (pos 0)) charged
+      ∙ ap (λ (b : Bool). cond b (debit_after terms before request) (pos 0)) (same_number account) in
       let reserved = reserved_settled request account in
       free ∙ omega (arith, ints)
 
-  pub free_to_grant-closed : (request : CcRequest) (account : ℕ) → place_in sessions request.session ≡ None → charged_account terms before request ≡ Some account → account < length terms.accounts
+  pub free_to_grant-closed : (request : CcRequest) (account : ℕ) → place_in sessions request.session ≡ None
+      → charged_account terms before request ≡ Some account → account < length terms.accounts
       → free_to_grant terms before request ≡ free_after terms before account -ℤ debit_after terms before request
   free_to_grant-closed request account none charged lt =
       let settles = settles_after terms before request in
       let free = free_settled request account charged in
-      let left = sessions_weight-left request settles (reserving account) sessions (left-others request settles sessions (others-closed request.session sessions none)) in
+      let left = sessions_weight-left request settles (reserving account) sessions
+      (left-others request settles sessions (others-closed request.session sessions none)) in
       let reserved = reserved_by-alive terms.validity account before in
       let stands = s.holds (reserving account) in
       omega (arith, ints)
 
   -- an UPDATE of an open session settles, on the session's account
-  pub update_settles : (request : CcRequest) (session : OpenSession) → request.kind ≡ Update → session_of terms.validity request.session before ≡ Some (opened_as terms.validity session)
+  pub update_settles : (request : CcRequest) (session : OpenSession) → request.kind ≡ Update
+      → session_of terms.validity request.session before ≡ Some (opened_as terms.validity session)
       → (charged_account terms before request ≡ Some session.account) × (settles_after terms before request ≡ true)
   update_settles request session kind opened = (
     ap (λ (k : RequestKind). account_by k (account_of terms.accounts request.subscriptions) (opener_account terms.validity before request.session)) kind
@@ -152,20 +169,24 @@ module _ {terms : Terms} {before : List Posting} {balances : List ℤ} {sessions
         ∙ ap is_some opened,
   )
 
-  pub free_to_grant-open : (request : CcRequest) (place : ℕ) (session : OpenSession) → request.kind ≡ Update → place_in sessions request.session ≡ Some place → slice_get sessions place ≡ Some session
-      → free_to_grant terms before request +ℤ pos (held_in (holds_beside request.services session.holds)) ≡ (free_after terms before session.account -ℤ debit_after terms before request) +ℤ pos (held_in session.holds)
+  pub free_to_grant-open : (request : CcRequest) (place : ℕ) (session : OpenSession) → request.kind ≡ Update → place_in sessions request.session ≡ Some place
+      → slice_get sessions place ≡ Some session
+      → free_to_grant terms before request +ℤ pos (held_in (holds_beside request.services session.holds))
+      ≡ (free_after terms before session.account -ℤ debit_after terms before request) +ℤ pos (held_in session.holds)
   free_to_grant-open request place session kind some there =
       let a = session.account in
       let at = is_at_place request.session sessions place session some there s.own_ids in
       let does = update_settles request session kind (open-stands request.session place session some there).0 in
       let free = free_settled request a does.0 in
-      let settled : sessions_weight (kept request (settles_after terms before request) (reserving a)) sessions ≡ sessions_weight (kept request true (reserving a)) sessions =
+      let settled : sessions_weight (kept request (settles_after terms before request) (reserving a)) sessions
+      ≡ sessions_weight (kept request true (reserving a)) sessions =
       ap (λ (b : Bool). sessions_weight (kept request b (reserving a)) sessions) does.1 in
       let later = sessions_weight-at request true (reserving a) sessions place session at in
       let beside = holds_weight-beside request (reserving a) session.id a session.holds (sym at.own) (ap is_ending kind) in
       let left = holds_weight-reserved a a session.id (holds_beside request.services session.holds) true (same_number a) in
       let held = holds_weight-reserved a a session.id session.holds true (same_number a) in
-      let now : sessions_weight (reserving a) sessions ≡ sessions_weight (reserving a) (at.front ++ session ∷ at.back) = ap (sessions_weight (reserving a)) at.split in
+      let now : sessions_weight (reserving a) sessions ≡ sessions_weight (reserving a) (at.front ++ session ∷ at.back) =
+      ap (sessions_weight (reserving a)) at.split in
       let parts = sessions_weight-append (reserving a) at.front (session ∷ at.back) in
       let reserved = reserved_by-alive terms.validity a before in
       let stands = s.holds (reserving a) in
@@ -173,7 +194,8 @@ module _ {terms : Terms} {before : List Posting} {balances : List ℤ} {sessions
 
 -- ---- amounts are small
 
-pub small-stands : {terms : Terms} {before : List Posting} {balances : List ℤ} {sessions : List OpenSession} → Stands terms before balances sessions → length before ≤ 2 ^ 20 → IsSmall terms balances sessions
+pub small-stands : {terms : Terms} {before : List Posting} {balances : List ℤ} {sessions : List OpenSession} → Stands terms before balances sessions
+    → length before ≤ 2 ^ 20 → IsSmall terms balances sessions
 small-stands {terms} {before} {balances} {sessions} s short = record {
   accounts = s.accounts;
   least = λ k d lt. (
@@ -188,12 +210,14 @@ small-stands {terms} {before} {balances} {sessions} s short = record {
 
 -- ---- before the first request
 
-opening_at-map : (accounts : List Account) (k : ℕ) → k < length accounts → slice_index_or (map (λ (a : Account). a.opening) accounts) k (pos 0) ≡ opening_at accounts k
+opening_at-map : (accounts : List Account) (k : ℕ) → k < length accounts
+    → slice_index_or (map (λ (a : Account). a.opening) accounts) k (pos 0) ≡ opening_at accounts k
 opening_at-map [] k lt = absurd (omega arith)
 opening_at-map (a ∷ accounts) zero lt = refl
 opening_at-map (a ∷ accounts) (suc k) lt = opening_at-map accounts k (omega arith)
 
-pub empty-stands : (terms : Terms) (balances : List ℤ) → balances ≡ map (λ account. account.opening) terms.accounts → All (λ balance. negsuc (2 ^ 63) ≤ℤ balance) balances → All (λ balance. balance ≤ℤ pos (2 ^ 63)) balances
+pub empty-stands : (terms : Terms) (balances : List ℤ) → balances ≡ map (λ account. account.opening) terms.accounts
+    → All (λ balance. negsuc (2 ^ 63) ≤ℤ balance) balances → All (λ balance. balance ≤ℤ pos (2 ^ 63)) balances
     → Stands terms [] balances []
 empty-stands terms balances openings least most =
     let long : length balances ≡ length terms.accounts = ap length openings ∙ length-map terms.accounts (λ (a : Account). a.opening) in

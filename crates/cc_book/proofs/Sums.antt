@@ -64,7 +64,8 @@ only-none (suc n) account amount le =
 same_test : (a b : ℕ) → a ≡ b → eqb a b ≡ true
 same_test a b e = search rules
 
-only-one-by : (n account : ℕ) (amount : ℤ) (b : Bool) → ltb account n ≡ b → account < suc n → (account < n → total_below n (only account amount) ≡ amount) → total_below (suc n) (only account amount) ≡ amount
+only-one-by : (n account : ℕ) (amount : ℤ) (b : Bool) → ltb account n ≡ b → account < suc n → (account < n → total_below n (only account amount) ≡ amount)
+    → total_below (suc n) (only account amount) ≡ amount
 only-one-by n account amount true is lt more =
     let less : account < n = search rules in
     let here : only account amount n ≡ pos 0 = ap (λ (b : Bool). cond b amount (pos 0)) (differs n account less) in
@@ -107,7 +108,8 @@ IsKnown n account = MatchOption account ⊥ (λ a. a < n)
 abbrev HasPlace : ℕ → Option Opened → Type 0
 HasPlace n opened = MatchOption opened (Unit {0}) (λ now. IsKnown n now.account)
 
-session_by-place : (n validity moment : ℕ) (opened : Opened) (kind : RequestKind) → IsKnown n opened.account → HasPlace n (session_by validity opened moment kind)
+session_by-place : (n validity moment : ℕ) (opened : Opened) (kind : RequestKind) → IsKnown n opened.account
+    → HasPlace n (session_by validity opened moment kind)
 session_by-place n validity moment opened Initial p = p
 session_by-place n validity moment opened Update p = p
 session_by-place n validity moment opened Termination p = tt
@@ -117,26 +119,31 @@ place_by : (n : ℕ) (b : Bool) (one other : Option Opened) → HasPlace n one �
 place_by n true one other p q = p
 place_by n false one other p q = q
 
-left_after-place : (n validity : ℕ) (session : List ℕ) (opened : Option Opened) (posting : Posting) → HasPlace n opened → HasPlace n (left_after validity session opened posting)
+left_after-place : (n validity : ℕ) (session : List ℕ) (opened : Option Opened) (posting : Posting) → HasPlace n opened
+    → HasPlace n (left_after validity session opened posting)
 left_after-place n validity session None posting p = tt
 left_after-place n validity session (Some opened) posting p = by posting.entry where
   by : (entry : Entry) → HasPlace n (session_after validity session opened entry)
-  by (Take moment request) = place_by n (same_session request.session session) (session_by validity opened moment.0 request.kind) (Some opened) (session_by-place n validity moment.0 opened request.kind p) p
+  by (Take moment request) = place_by n (same_session request.session session) (session_by validity opened moment.0 request.kind) (Some opened)
+      (session_by-place n validity moment.0 opened request.kind p) p
   by (Sweep moment) = place_by n (leb opened.deadline moment.0) None (Some opened) tt p
 
 -- a posting that opens a session charges an account
-opened-place : (n : ℕ) (account : Option ℕ) (debit : ℤ) (deadline : ℕ) (opened own : Bool) (left : Option Opened) → MatchOption account ((debit ≡ pos 0) × (opened ≡ false)) (λ a. a < n)
+opened-place : (n : ℕ) (account : Option ℕ) (debit : ℤ) (deadline : ℕ) (opened own : Bool) (left : Option Opened)
+    → MatchOption account ((debit ≡ pos 0) × (opened ≡ false)) (λ a. a < n)
     → HasPlace n left → HasPlace n (cond (opened && own) (Some (record { account = account; deadline = deadline })) left)
 opened-place n account debit deadline false own left p q = q
 opened-place n account debit deadline true false left p q = q
 opened-place n None debit deadline true true left p q = absurd (let no : true ≡ false = p.1 in cc)
 opened-place n (Some a) debit deadline true true left p q = p
 
-session_of-place : (n validity : ℕ) (session : List ℕ) (opened : Option Opened) (postings : List Posting) → HasPlace n opened → AllByRecursion (Placed n) postings → HasPlace n (fold (next_session validity session) opened postings)
+session_of-place : (n validity : ℕ) (session : List ℕ) (opened : Option Opened) (postings : List Posting) → HasPlace n opened
+    → AllByRecursion (Placed n) postings → HasPlace n (fold (next_session validity session) opened postings)
 session_of-place n validity session opened [] p all = p
 session_of-place n validity session opened (posting ∷ postings) p all =
     session_of-place n validity session (next_session validity session opened posting) postings
-    (opened-place n posting.account posting.debit (deadline_at validity (moment_of posting.entry)) (opens posting) (is_of session posting.entry) (left_after validity session opened posting)
+    (opened-place n posting.account posting.debit (deadline_at validity (moment_of posting.entry)) (opens posting) (is_of session posting.entry)
+    (left_after validity session opened posting)
     all.0 (left_after-place n validity session opened posting p)) all.1
 
 abbrev IsWithin : ℕ → Option ℕ → Type 0
@@ -163,12 +170,15 @@ account_by-within n Update own opener p q = q
 account_by-within n Termination own opener p q = q
 account_by-within n Event own opener p q = p
 
-session-place : (terms : Terms) (before : List Posting) (session : List ℕ) → AllByRecursion (Placed (length terms.accounts)) before → HasPlace (length terms.accounts) (session_of terms.validity session before)
+session-place : (terms : Terms) (before : List Posting) (session : List ℕ) → AllByRecursion (Placed (length terms.accounts)) before
+    → HasPlace (length terms.accounts) (session_of terms.validity session before)
 session-place terms before session all = session_of-place (length terms.accounts) terms.validity session None before tt all
 
-pub charged_account-within : (terms : Terms) (before : List Posting) (request : CcRequest) → AllByRecursion (Placed (length terms.accounts)) before → IsWithin (length terms.accounts) (charged_account terms before request)
+pub charged_account-within : (terms : Terms) (before : List Posting) (request : CcRequest) → AllByRecursion (Placed (length terms.accounts)) before
+    → IsWithin (length terms.accounts) (charged_account terms before request)
 charged_account-within terms before request all =
-    account_by-within (length terms.accounts) request.kind (account_of terms.accounts request.subscriptions) (opener_account terms.validity before request.session)
+    account_by-within (length terms.accounts) request.kind (account_of terms.accounts request.subscriptions)
+    (opener_account terms.validity before request.session)
     (account_of-within terms.accounts request.subscriptions)
     (opener-place (length terms.accounts) (session_of terms.validity request.session before) (session-place terms before request.session all))
 
@@ -184,7 +194,8 @@ prices_nothing amount Success = refl
 prices_nothing amount _ = refl
 
 -- without an account no action debits
-action-none : (terms : Terms) (services : List Service) (amount : ℕ) (free : ℤ) (action : Option RequestedAction) → action_debit amount (event_reply terms services None free action).code action ≡ pos 0
+action-none : (terms : Terms) (services : List Service) (amount : ℕ) (free : ℤ) (action : Option RequestedAction)
+    → action_debit amount (event_reply terms services None free action).code action ≡ pos 0
 action-none terms services amount free None = refl
 action-none terms services amount free (Some DirectDebiting) = refl
 action-none terms services amount free (Some RefundAccount) = refl
@@ -192,48 +203,62 @@ action-none terms services amount free (Some CheckBalance) = refl
 action-none terms services amount free (Some PriceEnquiry) = prices_nothing amount (event_reply terms services None free (Some PriceEnquiry)).code
 
 -- without an account no services are settled
-settles-none : (n : ℕ) (kind : RequestKind) (own : Option ℕ) (opened : Option Opened) → HasPlace n opened → account_by kind own (option_and_then (λ (now : Opened). now.account) opened) ≡ None
+settles-none : (n : ℕ) (kind : RequestKind) (own : Option ℕ) (opened : Option Opened) → HasPlace n opened
+    → account_by kind own (option_and_then (λ (now : Opened). now.account) opened) ≡ None
     → settles_by kind (is_some opened) (is_some own) ≡ false
 settles-none n Initial own opened p none = ap (λ (a : Option ℕ). not (is_some opened) && is_some a) none ∙ and_right (not (is_some opened)) false refl
 settles-none n Update own opened p none = opener-closed n opened p none
 settles-none n Termination own opened p none = opener-closed n opened p none
 settles-none n Event own opened p none = refl
 
-debit-none : (terms : Terms) (before : List Posting) (request : CcRequest) → charged_account terms before request ≡ None → settles_after terms before request ≡ false → debit_after terms before request ≡ pos 0
+debit-none : (terms : Terms) (before : List Posting) (request : CcRequest) → charged_account terms before request ≡ None
+    → settles_after terms before request ≡ false → debit_after terms before request ≡ pos 0
 debit-none terms before request none unsettled = by request.kind none where
   used : debit_by terms before request Initial ≡ pos 0
   used = ap (λ (b : Bool). cond b (pos (used_total terms.tariffs request.services)) (pos 0)) unsettled
 
-  by : (kind : RequestKind) → account_by kind (account_of terms.accounts request.subscriptions) (opener_account terms.validity before request.session) ≡ None → debit_by terms before request kind ≡ pos 0
+  by : (kind : RequestKind) → account_by kind (account_of terms.accounts request.subscriptions) (opener_account terms.validity before request.session) ≡ None
+      → debit_by terms before request kind ≡ pos 0
   by Event none =
       let amount : ℕ = unwrap_or (total_of terms.tariffs request.services) 0 in
-      ap (λ (account : Option ℕ). action_debit amount (event_reply terms request.services account (free_for terms before account) request.action).code request.action) none
+      ap (λ (account : Option ℕ). action_debit amount (event_reply terms request.services account (free_for terms before account) request.action).code
+      request.action) none
       ∙ action-none terms request.services amount (pos 0) request.action
   by Initial none = used
   by Update none = used
   by Termination none = used
 
-placed_by : (n : ℕ) (account : Option ℕ) (debit : ℤ) (opened : Bool) → IsWithin n account → (account ≡ None → (debit ≡ pos 0) × (opened ≡ false)) → MatchOption account ((debit ≡ pos 0) × (opened ≡ false)) (λ a. a < n)
+placed_by : (n : ℕ) (account : Option ℕ) (debit : ℤ) (opened : Bool) → IsWithin n account → (account ≡ None → (debit ≡ pos 0) × (opened ≡ false))
+    → MatchOption account ((debit ≡ pos 0) × (opened ≡ false)) (λ a. a < n)
 placed_by n None debit opened within none = none refl
 placed_by n (Some a) debit opened within none = within
 
-placed : (terms : Terms) (before : List Posting) (entry : Entry) → AllByRecursion (Placed (length terms.accounts)) before → Placed (length terms.accounts) (posting_of terms before entry)
+placed : (terms : Terms) (before : List Posting) (entry : Entry) → AllByRecursion (Placed (length terms.accounts)) before
+    → Placed (length terms.accounts) (posting_of terms before entry)
 placed terms before (Take moment request) all =
-    placed_by (length terms.accounts) (charged_account terms before request) (debit_after terms before request) (opens (posting_of terms before (Take moment request)))
+    placed_by (length terms.accounts) (charged_account terms before request) (debit_after terms before request)
+    (opens (posting_of terms before (Take moment request)))
     (charged_account-within terms before request all) nothing
   where
-    nothing : charged_account terms before request ≡ None → (debit_after terms before request ≡ pos 0) × (opens (posting_of terms before (Take moment request)) ≡ false)
+    nothing : charged_account terms before request ≡ None
+        → (debit_after terms before request ≡ pos 0) × (opens (posting_of terms before (Take moment request)) ≡ false)
     nothing none =
         let unsettled : settles_after terms before request ≡ false =
-        settles-none (length terms.accounts) request.kind (account_of terms.accounts request.subscriptions) (session_of terms.validity request.session before) (session-place terms before request.session all) none in
-        (debit-none terms before request none unsettled, ap (λ (b : Bool). b && (is_initial_kind request.kind && is_success (reply_after terms before request).code)) unsettled)
+        settles-none (length terms.accounts) request.kind (account_of terms.accounts request.subscriptions) (session_of terms.validity request.session before)
+        (session-place terms before request.session all) none in (
+          debit-none terms before request none unsettled,
+          ap (λ (b : Bool). b && (is_initial_kind request.kind && is_success (reply_after terms before request).code)) unsettled,
+        )
 placed terms before (Sweep moment) all = (refl, refl)
 
 pub all_placed : (terms : Terms) (history : List Entry) → AllByRecursion (Placed (length terms.accounts)) (postings_of terms history)
-all_placed terms history = postings_all (Placed (length terms.accounts)) (λ entry. Unit {0}) terms history (λ before entry all any. placed terms before entry all) (λ k d lt. tt)
+all_placed terms history = postings_all (Placed (length terms.accounts)) (λ entry. Unit {0}) terms history
+    (λ before entry all any. placed terms before entry all) (λ k d lt. tt)
 
 -- the balances of all accounts are their opening amounts less all debits
-pub balances_total : (terms : Terms) (history : List Entry) → total_below (length terms.accounts) (λ (a : ℕ). balance_of terms history a) ≡ total_below (length terms.accounts) (λ (a : ℕ). opening_at terms.accounts a) -ℤ debits_of (postings_of terms history)
+pub balances_total : (terms : Terms) (history : List Entry)
+    → total_below (length terms.accounts) (λ (a : ℕ). balance_of terms history a)
+    ≡ total_below (length terms.accounts) (λ (a : ℕ). opening_at terms.accounts a) -ℤ debits_of (postings_of terms history)
 unfolding balance_of spent_by
 balances_total terms history =
     let less = total_below-sub (length terms.accounts) (λ (a : ℕ). opening_at terms.accounts a) (λ (a : ℕ). debits_to a (postings_of terms history)) in

@@ -60,7 +60,8 @@ module _ (validity : ℕ) (moment : Moment) where
       let here : lasting moment states weight id (Some account) hold ≡ 0 = ap (λ (b : Bool). cond b 0 (weight id (Some account) hold)) e in
       let more = holds_weight-kept states weight id account holds true e in omega arith
   holds_weight-kept states weight id account (hold ∷ holds) false e =
-      let here : lasting moment states weight id (Some account) hold ≡ weight id (Some account) hold = ap (λ (b : Bool). cond b 0 (weight id (Some account) hold)) e in
+      let here : lasting moment states weight id (Some account) hold ≡ weight id (Some account) hold =
+      ap (λ (b : Bool). cond b 0 (weight id (Some account) hold)) e in
       let more = holds_weight-kept states weight id account holds false e in omega arith
 
   sessions_weight-kept : (states : States) (weight : Weight) (sessions : List OpenSession) → AllByRecursion (IsRight states) sessions
@@ -84,7 +85,8 @@ module _ (validity : ℕ) (moment : Moment) where
   held_by_all-kept : (sessions : List OpenSession) → held_by_all (kept sessions) ≤ held_by_all sessions
   held_by_all-kept [] = omega arith
   held_by_all-kept (s ∷ sessions) = by (due s) (held_by_all-kept sessions) where
-    by : (b : Bool) → held_by_all (kept sessions) ≤ held_by_all sessions → held_by_all (cond (not b) (s ∷ kept sessions) (kept sessions)) ≤ held_by_all (s ∷ sessions)
+    by : (b : Bool) → held_by_all (kept sessions) ≤ held_by_all sessions
+        → held_by_all (cond (not b) (s ∷ kept sessions) (kept sessions)) ≤ held_by_all (s ∷ sessions)
     by true more = omega arith
     by false more = omega arith
 
@@ -100,22 +102,26 @@ module _ (validity : ℕ) (moment : Moment) where
     by true more = more
     by false more = (others.0, more)
 
-  find-kept : (id : List ℕ) (sessions : List OpenSession) → OwnIds sessions → option_and_then (left moment) (opened (find (is_session id) sessions)) ≡ opened (find (is_session id) (kept sessions))
+  find-kept : (id : List ℕ) (sessions : List OpenSession) → OwnIds sessions
+      → option_and_then (left moment) (opened (find (is_session id) sessions)) ≡ opened (find (is_session id) (kept sessions))
   find-kept id [] own = refl
-  find-kept id (s ∷ sessions) own = by (is_session id s) (due s) refl refl (find-kept id sessions (λ i j d lt below. own (suc i) (suc j) d (omega arith) (omega arith))) where
-    After : Bool → Bool → Type 0
-    After is b =
-        option_and_then (left moment) (opened (cond is (Some s) (find (is_session id) sessions))) ≡ opened (find (is_session id) (cond (not b) (s ∷ kept sessions) (kept sessions)))
+  find-kept id (s ∷ sessions) own = by (is_session id s) (due s) refl refl
+      (find-kept id sessions (λ i j d lt below. own (suc i) (suc j) d (omega arith) (omega arith))) where
+        After : Bool → Bool → Type 0
+        After is b =
+            option_and_then (left moment) (opened (cond is (Some s) (find (is_session id) sessions)))
+            ≡ opened (find (is_session id) (cond (not b) (s ∷ kept sessions) (kept sessions)))
 
-    by : (is b : Bool) → is_session id s ≡ is → due s ≡ b → option_and_then (left moment) (opened (find (is_session id) sessions)) ≡ opened (find (is_session id) (kept sessions)) → After is b
-    by true true is e more =
-        ap (λ (b : Bool). cond b None (Some (opened_as validity s))) e
-        ∙ sym (ap opened (find-others id (kept sessions) (others-kept id sessions (others_after id s sessions (same_session-equal s.id id is) own))))
-    by true false is e more =
-        ap (λ (b : Bool). cond b None (Some (opened_as validity s))) e
-        ∙ sym (ap (λ (b : Bool). opened (cond b (Some s) (find (is_session id) (kept sessions)))) is)
-    by false true is e more = more
-    by false false is e more = more ∙ sym (ap (λ (b : Bool). opened (cond b (Some s) (find (is_session id) (kept sessions)))) is)
+        by : (is b : Bool) → is_session id s ≡ is → due s ≡ b
+            → option_and_then (left moment) (opened (find (is_session id) sessions)) ≡ opened (find (is_session id) (kept sessions)) → After is b
+        by true true is e more =
+            ap (λ (b : Bool). cond b None (Some (opened_as validity s))) e
+            ∙ sym (ap opened (find-others id (kept sessions) (others-kept id sessions (others_after id s sessions (same_session-equal s.id id is) own))))
+        by true false is e more =
+            ap (λ (b : Bool). cond b None (Some (opened_as validity s))) e
+            ∙ sym (ap (λ (b : Bool). opened (cond b (Some s) (find (is_session id) (kept sessions)))) is)
+        by false true is e more = more
+        by false false is e more = more ∙ sym (ap (λ (b : Bool). opened (cond b (Some s) (find (is_session id) (kept sessions)))) is)
 
 -- each session is found by its id
 finds : (sessions : List OpenSession) → OwnIds sessions → AllByRecursion (λ session. find (is_session session.id) sessions ≡ Some session) sessions
@@ -123,13 +129,15 @@ finds sessions own =
     recursion_from_All (λ (session : OpenSession). find (is_session session.id) sessions ≡ Some session) sessions
     (λ k d lt. let s = get_or sessions k d in find-at s.id sessions k s (is_at s.id sessions k s (slice_get-get_or sessions k d lt) refl own))
 
-all_right : (P Q : OpenSession → Type 0) → ((session : OpenSession) → P session → Q session) → (sessions : List OpenSession) → AllByRecursion P sessions → AllByRecursion Q sessions
+all_right : (P Q : OpenSession → Type 0) → ((session : OpenSession) → P session → Q session) → (sessions : List OpenSession) → AllByRecursion P sessions
+    → AllByRecursion Q sessions
 all_right P Q each [] all = tt
 all_right P Q each (s ∷ sessions) all = (each s all.0, all_right P Q each sessions all.1)
 
 -- ---- what stands after a sweep
 
-module _ {terms : Terms} (history : List Entry) {balances : List ℤ} {sessions : List OpenSession} (s : Stands terms (postings_of terms history) balances sessions) (moment : Moment) where
+module _ {terms : Terms} (history : List Entry) {balances : List ℤ} {sessions : List OpenSession}
+    (s : Stands terms (postings_of terms history) balances sessions) (moment : Moment) where
   abbrev before : List Posting
   before = postings_of terms history
 
@@ -139,7 +147,8 @@ module _ {terms : Terms} (history : List Entry) {balances : List ℤ} {sessions 
   rights : AllByRecursion (IsRight terms.validity moment states) sessions
   rights =
       all_right (λ session. find (is_session session.id) sessions ≡ Some session) (IsRight terms.validity moment states)
-      (λ session found. ap (due_in moment) (s.session session.id) ∙ ap (λ (o : Option OpenSession). due_in moment (option_map (opened_as terms.validity) o)) found)
+      (λ session found. ap (due_in moment) (s.session session.id)
+      ∙ ap (λ (o : Option OpenSession). due_in moment (option_map (opened_as terms.validity) o)) found)
       sessions (finds sessions s.own_ids)
 
   pub sweep-stands : Stands terms (post terms before (Sweep moment)) balances (without_due terms.validity moment sessions)
@@ -148,7 +157,8 @@ module _ {terms : Terms} (history : List Entry) {balances : List ℤ} {sessions 
     balance = λ account lt. (let old = s.balance account lt in let debits = debits_to-push account before (swept moment) in omega (arith, ints));
     least = λ account lt. (let old = s.least account lt in omega (arith, ints, grown));
     most = λ account lt. (let old = s.most account lt in omega (arith, ints, grown));
-    session = λ id. fold-append (next_session terms.validity id) None before (swept moment ∷ []) ∙ ap (option_and_then (left moment)) (s.session id) ∙ find-kept terms.validity moment id sessions s.own_ids;
+    session = λ id. fold-append (next_session terms.validity id) None before (swept moment ∷ []) ∙ ap (option_and_then (left moment)) (s.session id)
+        ∙ find-kept terms.validity moment id sessions s.own_ids;
     own_ids = AllPairs-filter (λ (one other : OpenSession). one.id ≢ other.id) (λ (x : OpenSession). not (is_due terms.validity moment x)) sessions s.own_ids;
     known = All-filter (λ (x : OpenSession). not (is_due terms.validity moment x)) (λ (x : OpenSession). x.account < length terms.accounts) sessions s.known;
     holds = λ weight.
@@ -174,13 +184,15 @@ module _ {terms : Terms} (history : List Entry) {balances : List ℤ} {sessions 
       let now = open_sessions_of-is history s in
       let later : open_sessions_of terms (history ++ Sweep moment ∷ []) ≡ length (without_due terms.validity moment sessions) =
       ap (open_count terms.validity) (postings_of-push terms history (Sweep moment)) ∙ open_count-stands sweep-stands in
-      let parts = length-filter_both (λ (x : OpenSession). not (is_due terms.validity moment x)) (is_due terms.validity moment) (λ x. not_not (is_due terms.validity moment x)) sessions in
+      let parts = length-filter_both (λ (x : OpenSession). not (is_due terms.validity moment x)) (is_due terms.validity moment)
+      (λ x. not_not (is_due terms.validity moment x)) sessions in
       let count = length-filter (is_due terms.validity moment) sessions in
       omega arith
 
 -- ---- a book after a sweep
 
-pub IsBook-sweep : (terms : Terms) (limit : ℕ) (history : List Entry) (replies : List (Option CcReply)) (balances : List ℤ) (sessions : List OpenSession) (moment : Moment)
+pub IsBook-sweep : (terms : Terms) (limit : ℕ) (history : List Entry) (replies : List (Option CcReply)) (balances : List ℤ) (sessions : List OpenSession)
+    (moment : Moment)
     → IsBook terms limit history replies balances sessions → length history < limit → 0 < count_by (is_due terms.validity moment) sessions
     → IsBook terms limit (history ++ Sweep moment ∷ []) (replies ++ None ∷ []) balances (without_due terms.validity moment sessions)
 IsBook-sweep terms limit history replies balances sessions moment book room some =
@@ -192,8 +204,10 @@ IsBook-sweep terms limit history replies balances sessions moment book room some
       legal = IsLegal-sweep terms history moment book.legal (omega arith);
       within = omega arith;
       most = book.most;
-      replies_kept = ap (λ (rs : List (Option CcReply)). rs ++ None ∷ []) book.replies_kept ∙ sym (ap replies_in next ∙ map-append (λ (p : Posting). p.reply) before (swept moment ∷ []));
-      stands = subst (λ (ps : List Posting). Stands terms ps balances (without_due terms.validity moment sessions)) (sym next) (sweep-stands history book.stands moment);
+      replies_kept = ap (λ (rs : List (Option CcReply)). rs ++ None ∷ []) book.replies_kept
+          ∙ sym (ap replies_in next ∙ map-append (λ (p : Posting). p.reply) before (swept moment ∷ []));
+      stands = subst (λ (ps : List Posting). Stands terms ps balances (without_due terms.validity moment sessions)) (sym next)
+          (sweep-stands history book.stands moment);
       sessions_left = ap (without_due terms.validity moment) book.sessions_left
           ∙ sym (ap (sessions_after terms.validity) next ∙ sessions_after-push terms.validity before (swept moment));
     }
@@ -208,11 +222,13 @@ room_left a b h = search rules
 
 answer_full : (ledger : Ledger) (n : ℕ) → 0 < n → ledger.limit ≤ length ledger.history → answer_to_sweep ledger n ≡ Err (Full ledger.limit)
 answer_full ledger zero some full = absurd (omega arith)
-answer_full ledger (suc n) some full = ap (λ (b : Bool). cond {A = Result ℕ BookRefusal} b (Err (Full ledger.limit)) (Ok (suc n))) (reached ledger.limit (length ledger.history) full)
+answer_full ledger (suc n) some full = ap (λ (b : Bool). cond {A = Result ℕ BookRefusal} b (Err (Full ledger.limit)) (Ok (suc n)))
+    (reached ledger.limit (length ledger.history) full)
 
 answer_some : (ledger : Ledger) (n : ℕ) → length ledger.history < ledger.limit → answer_to_sweep ledger n ≡ Ok n
 answer_some ledger zero room = refl
-answer_some ledger (suc n) room = ap (λ (b : Bool). cond {A = Result ℕ BookRefusal} b (Err (Full ledger.limit)) (Ok (suc n))) (room_left ledger.limit (length ledger.history) room)
+answer_some ledger (suc n) room = ap (λ (b : Bool). cond {A = Result ℕ BookRefusal} b (Err (Full ledger.limit)) (Ok (suc n)))
+    (room_left ledger.limit (length ledger.history) room)
 
 -- a sweep that is answered so ends sessions
 ends_by : (ledger : Ledger) (ended n : ℕ) → answer_to_sweep ledger ended ≡ Ok (suc n) → 0 < ended
@@ -222,7 +238,8 @@ ends_by ledger (suc ended) n answered = omega arith
 pub sweep-ends : (ledger : Ledger) (moment : Moment) (n : ℕ) → sweep_answer ledger moment ≡ Ok (suc n) → 0 < ended_sessions ledger.terms ledger.history moment
 sweep-ends ledger moment n answered = ends_by ledger (ended_sessions ledger.terms ledger.history moment) n answered
 
-module _ {terms : Terms} {limit : ℕ} {history : List Entry} {replies : List (Option CcReply)} {balances : List ℤ} {sessions : List OpenSession} (book : IsBook terms limit history replies balances sessions) (moment : Moment) where
+module _ {terms : Terms} {limit : ℕ} {history : List Entry} {replies : List (Option CcReply)} {balances : List ℤ} {sessions : List OpenSession}
+    (book : IsBook terms limit history replies balances sessions) (moment : Moment) where
   abbrev ledger : Ledger
   ledger = record { terms = terms; limit = limit; history = history }
 

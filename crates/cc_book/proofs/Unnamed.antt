@@ -41,7 +41,8 @@ not_named name services others =
       by false is = is
 
 -- grants of which none has a name hold nothing for it
-none-held : (name : ServiceName) (alive : Bool) (holds : List Hold) → held name holds ≡ 0 → sum_by (λ (grant : Hold). cond (same_name grant.service name && alive) grant.cost 0) holds ≡ 0
+none-held : (name : ServiceName) (alive : Bool) (holds : List Hold) → held name holds ≡ 0
+    → sum_by (λ (grant : Hold). cond (same_name grant.service name && alive) grant.cost 0) holds ≡ 0
 unfolding held
 none-held name alive [] none = refl
 none-held name alive (hold ∷ holds) none =
@@ -51,7 +52,8 @@ none-held name alive (hold ∷ holds) none =
     sum_by-cons (λ (grant : Hold). cond (same_name grant.service name && alive) grant.cost 0) hold holds ∙ omega arith
   where
     by : (b : Bool) → same_name hold.service name ≡ b → cond (same_name hold.service name && alive) hold.cost 0 ≡ 0
-    by true is = absurd (let counted : one (same_name hold.service name) ≡ 1 = ap one is in let count = count-cons (λ (h : Hold). same_name h.service name) hold holds in omega arith)
+    by true is = absurd (let counted : one (same_name hold.service name) ≡ 1 = ap one is in
+        let count = count-cons (λ (h : Hold). same_name h.service name) hold holds in omega arith)
     by false is = ap (λ (b : Bool). cond (b && alive) hold.cost 0) is
 
 cond_none : (b : Bool) (n : ℕ) → n ≡ 0 → cond b n 0 ≡ 0
@@ -62,7 +64,8 @@ and_true : (b : Bool) → (b && true) ≡ b
 and_true true = refl
 and_true false = refl
 
-module _ (terms : Terms) (before : List Posting) (moment : Moment) (request : CcRequest) (name : ServiceName) (stays : request.kind ≢ Termination) (others : Unnamed name request.services) where
+module _ (terms : Terms) (before : List Posting) (moment : Moment) (request : CcRequest) (name : ServiceName) (stays : request.kind ≢ Termination)
+    (others : Unnamed name request.services) where
   abbrev q : Posting
   q = posting_of terms before (Take moment request)
 
@@ -76,8 +79,10 @@ module _ (terms : Terms) (before : List Posting) (moment : Moment) (request : Cc
 
   spared : (id : List ℕ) → survives request (settles_after terms before request) id name ≡ true
   spared id =
-      ap (λ (b : Bool). not (settles_after terms before request && (same_session request.session id && b)) && not (same_session request.session id && is_ending request.kind)) (not_named name request.services others)
-      ∙ ap (λ (b : Bool). not (settles_after terms before request && (same_session request.session id && false)) && not (same_session request.session id && b)) goes_on
+      ap (λ (b : Bool). not (settles_after terms before request && (same_session request.session id && b))
+      && not (same_session request.session id && is_ending request.kind)) (not_named name request.services others)
+      ∙ ap (λ (b : Bool). not (settles_after terms before request && (same_session request.session id && false))
+      && not (same_session request.session id && b)) goes_on
       ∙ by (settles_after terms before request) (same_session request.session id)
     where
       by : (settles same : Bool) → (not (settles && (same && false)) && not (same && false)) ≡ true
@@ -98,20 +103,27 @@ module _ (terms : Terms) (before : List Posting) (moment : Moment) (request : Cc
       let none = (none_any (has_name name) request.services (not_named name request.services others)).0 in
       omega arith
 
-  held-same : (postings : List Posting) → held_by terms.validity request.session name (postings ++ q ∷ []) ≡ held_by terms.validity request.session name postings
+  held-same : (postings : List Posting) → held_by terms.validity request.session name (postings ++ q ∷ [])
+      ≡ held_by terms.validity request.session name postings
   held-same [] =
-      let own = cond_none (is_of request.session q.entry) (sum_by (λ (grant : Hold). cond (same_name grant.service name && is_alive terms.validity q.entry name []) grant.cost 0) q.grants)
+      let own = cond_none (is_of request.session q.entry)
+      (sum_by (λ (grant : Hold). cond (same_name grant.service name && is_alive terms.validity q.entry name []) grant.cost 0) q.grants)
       (none-held name (is_alive terms.validity q.entry name []) (grants_after terms before request) granted-none) in
       omega arith
   held-same (p ∷ more) =
-      let here : cond (is_of request.session p.entry) (sum_by (λ (grant : Hold). cond (same_name grant.service name && is_alive terms.validity p.entry name (more ++ q ∷ [])) grant.cost 0) p.grants) 0
-      ≡ cond (is_of request.session p.entry) (sum_by (λ (grant : Hold). cond (same_name grant.service name && is_alive terms.validity p.entry name more) grant.cost 0) p.grants) 0 =
-      ap (λ (b : Bool). cond (is_of request.session p.entry) (sum_by (λ (grant : Hold). cond (same_name grant.service name && b) grant.cost 0) p.grants) 0) (alive-same p.entry more) in
+      let here : cond (is_of request.session p.entry)
+      (sum_by (λ (grant : Hold). cond (same_name grant.service name && is_alive terms.validity p.entry name (more ++ q ∷ [])) grant.cost 0) p.grants) 0
+      ≡ cond (is_of request.session p.entry) (sum_by
+      (λ (grant : Hold). cond (same_name grant.service name && is_alive terms.validity p.entry name more) grant.cost 0) p.grants) 0 =
+      ap (λ (b : Bool). cond (is_of request.session p.entry) (sum_by (λ (grant : Hold). cond (same_name grant.service name && b) grant.cost 0) p.grants) 0)
+      (alive-same p.entry more) in
       let rest = held-same more in
       omega arith
 
-pub held-unnamed : (terms : Terms) (history : List Entry) (moment : Moment) (request : CcRequest) (name : ServiceName) → request.kind ≢ Termination → Unnamed name request.services
-    → held_by terms.validity request.session name (postings_of terms (history ++ Take moment request ∷ [])) ≡ held_by terms.validity request.session name (postings_of terms history)
+pub held-unnamed : (terms : Terms) (history : List Entry) (moment : Moment) (request : CcRequest) (name : ServiceName) → request.kind ≢ Termination
+    → Unnamed name request.services
+    → held_by terms.validity request.session name (postings_of terms (history ++ Take moment request ∷ []))
+    ≡ held_by terms.validity request.session name (postings_of terms history)
 held-unnamed terms history moment request name stays others =
     ap (held_by terms.validity request.session name) (postings_of-push terms history (Take moment request))
     ∙ held-same terms (postings_of terms history) moment request name stays others (postings_of terms history)

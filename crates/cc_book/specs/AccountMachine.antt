@@ -130,7 +130,12 @@ check_reply total free = record { code = Success; services = []; cost = None; ch
 abbrev pub price_reply : Money → ℕ → CcReply
 price_reply money total =
     if nat_lt total (2 ^ 63)
-    then record { code = Success; services = []; cost = Some (record { digits = pos total; exponent = money.exponent; currency = money.currency }); check = None }
+    then record {
+      code = Success;
+      services = [];
+      cost = Some (record { digits = pos total; exponent = money.exponent; currency = money.currency });
+      check = None;
+    }
     else code_alone RatingFailed
 
 -- the reply of an action to a total, where so much is free

@@ -39,7 +39,9 @@ held_after validity entry grants after = sum_by (λ grant. if is_alive validity 
 abbrev pub held_by : ℕ → List ℕ → ServiceName → List Posting → ℕ
 held_by validity session name [] = 0
 held_by validity session name (posting ∷ after) =
-    (if is_of session posting.entry then sum_by (λ grant. if same_name grant.service name && is_alive validity posting.entry name after then grant.cost else 0) posting.grants else 0)
+    (if is_of session posting.entry
+    then sum_by (λ grant. if same_name grant.service name && is_alive validity posting.entry name after then grant.cost else 0) posting.grants
+    else 0)
     + held_by validity session name after
 
 -- what all sessions of an account hold

@@ -150,7 +150,8 @@ event_between subscriber action = record (event_on subscriber action) { number =
 -- ---- a service without a tariff
 
 abbrev pub unrated_initial : CcRequest
-unrated_initial = request_of 0 Initial None (codes "491700000001") (record (row_service None any_units 7000) { group = Some 11 } ∷ row_service None any_units 0 ∷ [])
+unrated_initial = request_of 0 Initial None (codes "491700000001")
+    (record (row_service None any_units 7000) { group = Some 11 } ∷ row_service None any_units 0 ∷ [])
 
 abbrev pub unrated_reply : ServiceReply
 unrated_reply = record {

@@ -132,7 +132,8 @@ after_debit balances None debit = balances
 after_debit balances (Some account) debit = slice_set balances account (slice_index_or balances account (pos 0) -ℤ debit)
 
 -- what a request does after postings, where these sessions are open
-pub record IsOutcome (terms : Terms) (before : List Posting) (sessions : List OpenSession) (moment : Moment) (request : CcRequest) (outcome : Outcome) : Type 0 where
+pub record IsOutcome (terms : Terms) (before : List Posting) (sessions : List OpenSession) (moment : Moment) (request : CcRequest)
+    (outcome : Outcome) : Type 0 where
   pub account : outcome.account ≡ charged_account terms before request
   pub debit : outcome.debit ≡ debit_after terms before request
   pub reply : outcome.reply ≡ reply_after terms before request
@@ -185,7 +186,8 @@ opened_as validity session = opened_at validity (Some session.account) session.l
 -- debits, and of each session what is alive of its grants, however that is counted.
 pub record Stands (terms : Terms) (before : List Posting) (balances : List ℤ) (sessions : List OpenSession) : Type 0 where
   pub accounts : length balances ≡ length terms.accounts
-  pub balance : (account : ℕ) → account < length terms.accounts → slice_index_or balances account (pos 0) ≡ opening_at terms.accounts account -ℤ debits_to account before
+  pub balance : (account : ℕ) → account < length terms.accounts
+      → slice_index_or balances account (pos 0) ≡ opening_at terms.accounts account -ℤ debits_to account before
   pub least : (account : ℕ) → account < length terms.accounts → negsuc (2 ^ 63 + length before * 2 ^ 103) ≤ℤ slice_index_or balances account (pos 0)
   pub most : (account : ℕ) → account < length terms.accounts → slice_index_or balances account (pos 0) ≤ℤ pos (2 ^ 63 + length before * (2 ^ 103 + 1))
   pub session : (id : List ℕ) → session_of terms.validity id before ≡ option_map (opened_as terms.validity) (find (is_session id) sessions)

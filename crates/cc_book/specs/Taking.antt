@@ -79,7 +79,8 @@ abbrev pub after_sweep : Ledger → Moment → Ledger
 after_sweep ledger moment = after_sweep_with ledger moment (sweep_answer ledger moment)
 
 -- What is true of each book: it keeps its limits, and beside its entries what they replied and what they have left.
-pub record IsBook (terms : Terms) (limit : ℕ) (history : List Entry) (replies : List (Option CcReply)) (balances : List ℤ) (sessions : List OpenSession) : Type 0 where
+pub record IsBook (terms : Terms) (limit : ℕ) (history : List Entry) (replies : List (Option CcReply)) (balances : List ℤ)
+    (sessions : List OpenSession) : Type 0 where
   pub legal : IsLegal terms history
   pub within : length history ≤ limit
   -- the most entries that a book may be made for

@@ -14,6 +14,7 @@ use crate::terms::Terms;
 use cc_rating::Tariffs;
 use cc_view::{CcReply, CcRequest};
 use dia_base::{HISTORY_LIMIT, Listing, Moment};
+pub use planning::kept_answer;
 use std::alloc::{AllocError, AllocFailed, Global};
 use std::marker::Model;
 use thiserror::Error;
@@ -222,7 +223,7 @@ impl Book {
 }
 
 /// The place of the next entry. None where the history is at its limit.
-fn free_place(history: &[Entry], limit: u64) -> Option<u64>
+pub fn free_place(history: &[Entry], limit: u64) -> Option<u64>
     ensures some { IfSome result (λ place. (place ≡ length history.now) × (length history.now < limit)) }
     ensures none { IfNone result (limit ≤ length history.now) }
 {

@@ -8,8 +8,8 @@ ghost use Rattle.cc_book.specs.Posting.{Posting};
 ghost use Rattle.cc_book.specs.Standing.{IsOutcome, IsSmall, Stands};
 
 use crate::account::Money;
+use crate::lookup::Lookup;
 use crate::outcome::{Change, Outcome};
-use crate::standing::Standing;
 use crate::terms::{Terms, code_alone};
 use cc_view::{CcReply, CcRequest, Cost, RequestedAction, ResultCode, Service};
 use dia_base::Listing;
@@ -17,14 +17,14 @@ use std::alloc::{AllocError, Global};
 
 impl Terms {
     /// What an EVENT does: it charges the account that it names, and touches no session.
-    pub fn event_outcome(
+    pub fn event_outcome<S: Lookup>(
         &self,
         alloc: Global,
-        standing: &Standing,
+        standing: &S,
         request: &CcRequest,
     ) -> Result<Outcome, AllocError>
-        requires { IsSmall self.now standing.now.balances.items standing.now.sessions.items }
-        ensures { IfOk result (λ outcome. (before : List Posting) (moment : Moment) → request.now.kind ≡ Event → Stands self.now before standing.now.balances.items standing.now.sessions.items → IsOutcome self.now before standing.now.sessions.items moment request.now outcome) }
+        requires { IsSmall self.now (S.balances standing.now) (S.sessions standing.now) }
+        ensures { IfOk result (λ outcome. (before : List Posting) (moment : Moment) → request.now.kind ≡ Event → Stands self.now before (S.balances standing.now) (S.sessions standing.now) → IsOutcome self.now before (S.sessions standing.now) moment request.now outcome) }
     {
         let account = self.account_of(request);
         let free = standing.free_for(account);

@@ -6,6 +6,8 @@
 //! - [`Plan`]: what a request does, found out by [`Book::plan`], which alone may refuse or want memory, and done by
 //!   [`Book::commit`]. Between the two an answer can be spelled: a book is not charged for one that cannot be.
 //! - [`Account`], [`Money`], [`Entry`], [`Answered`], [`BookRefusal`]: what goes in and comes out.
+//! - For another body of the book, as `cc_list` is: [`Lookup`], what a request looks up of a book; [`Terms::outcome_of`],
+//!   what it does then, an [`Outcome`]; and what both bodies do alike, copies and the test whether a book is full.
 //!
 //! INITIAL, UPDATE and TERMINATION are answered with what a session is granted and holds of its account, EVENTs
 //! with debits, refunds, balance checks and price enquiries. A session ends with its TERMINATION, or by a sweep.
@@ -40,6 +42,7 @@ mod entry;
 mod event;
 mod key;
 mod laws;
+mod lookup;
 mod open_sessions;
 mod outcome;
 mod places;
@@ -50,7 +53,8 @@ mod standing;
 mod terms;
 
 pub use account::{Account, Money};
-pub use book::{Answered, Book, BookRefusal};
+pub use book::{Answered, Book, BookRefusal, free_place, kept_answer};
+pub use copy::{RequestCopy, copy_of_reply};
 pub use entry::Entry;
 pub use laws::{
     balances_move_by_debits, bare_services_decide_the_result, books_with_one_history_answer_alike,
@@ -69,4 +73,8 @@ pub use laws::{
     tariff_kinds_choose_the_count, terminations_debit_and_end, the_empty_history_is_legal,
     updates_debit_and_then_grant,
 };
-pub use plan::Plan;
+pub use lookup::Lookup;
+pub use outcome::{Change, Outcome};
+pub use plan::{Plan, Taken};
+pub use session::{Hold, OpenSession, held_in};
+pub use terms::Terms;

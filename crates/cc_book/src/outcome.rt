@@ -10,9 +10,9 @@ ghost use Rattle.cc_book.specs.Session.{is_success};
 ghost use Rattle.cc_book.specs.Standing.{IsOutcome, IsSmall, Stands, place_in};
 ghost use Rattle.cc_book.specs.declared.outcome.Change.TheVariants.{Opens, Stays};
 
+use crate::lookup::Lookup;
 use crate::session::{Hold, OpenSession, held_in};
 use crate::settling::session_reply;
-use crate::standing::Standing;
 use crate::terms::{Terms, code_alone};
 use cc_view::{CcReply, CcRequest, RequestKind, ResultCode};
 use dia_base::{Listing, Moment};
@@ -44,15 +44,15 @@ pub struct Outcome {
 
 impl Terms {
     /// What a request does that is not kept, where so much stands (RFC 8506, sections 5 and 6).
-    pub fn outcome_of(
+    pub fn outcome_of<S: Lookup>(
         &self,
         alloc: Global,
-        standing: &Standing,
+        standing: &S,
         moment: Moment,
         request: &CcRequest,
     ) -> Result<Outcome, AllocError>
-        requires { IsSmall self.now standing.now.balances.items standing.now.sessions.items }
-        ensures { IfOk result (λ outcome. (before : List Posting) → Stands self.now before standing.now.balances.items standing.now.sessions.items → IsOutcome self.now before standing.now.sessions.items moment request.now outcome) }
+        requires { IsSmall self.now (S.balances standing.now) (S.sessions standing.now) }
+        ensures { IfOk result (λ outcome. (before : List Posting) → Stands self.now before (S.balances standing.now) (S.sessions standing.now) → IsOutcome self.now before (S.sessions standing.now) moment request.now outcome) }
     {
         match request.kind {
             RequestKind::Initial => self.initial_outcome(alloc, standing, moment, request),
@@ -63,15 +63,15 @@ impl Terms {
     }
 
     /// An INITIAL of an open session is refused, and yet prolongs it. Another one opens its session.
-    fn initial_outcome(
+    fn initial_outcome<S: Lookup>(
         &self,
         alloc: Global,
-        standing: &Standing,
+        standing: &S,
         moment: Moment,
         request: &CcRequest,
     ) -> Result<Outcome, AllocError>
-        requires { IsSmall self.now standing.now.balances.items standing.now.sessions.items }
-        ensures { IfOk result (λ outcome. (before : List Posting) → request.now.kind ≡ Initial → Stands self.now before standing.now.balances.items standing.now.sessions.items → IsOutcome self.now before standing.now.sessions.items moment request.now outcome) }
+        requires { IsSmall self.now (S.balances standing.now) (S.sessions standing.now) }
+        ensures { IfOk result (λ outcome. (before : List Posting) → request.now.kind ≡ Initial → Stands self.now before (S.balances standing.now) (S.sessions standing.now) → IsOutcome self.now before (S.sessions standing.now) moment request.now outcome) }
     {
         let account = self.account_of(request);
         match (standing.open_session(&request.session), account) {
@@ -90,18 +90,18 @@ impl Terms {
 
     /// A session opens on an account, unless its bare service is refused: used units are debited in full, then
     /// grants are made in order.
-    fn opening_outcome(
+    fn opening_outcome<S: Lookup>(
         &self,
         alloc: Global,
-        standing: &Standing,
+        standing: &S,
         account: usize,
         moment: Moment,
         request: &CcRequest,
     ) -> Result<Outcome, AllocError>
-        requires small { IsSmall self.now standing.now.balances.items standing.now.sessions.items }
+        requires small { IsSmall self.now (S.balances standing.now) (S.sessions standing.now) }
         requires account { account_of self.now.accounts request.now.subscriptions ≡ Some account }
         requires within { account < length self.now.accounts }
-        ensures { IfOk result (λ outcome. (before : List Posting) → request.now.kind ≡ Initial → place_in standing.now.sessions.items request.now.session ≡ None → Stands self.now before standing.now.balances.items standing.now.sessions.items → IsOutcome self.now before standing.now.sessions.items moment request.now outcome) }
+        ensures { IfOk result (λ outcome. (before : List Posting) → request.now.kind ≡ Initial → place_in (S.sessions standing.now) request.now.session ≡ None → Stands self.now before (S.balances standing.now) (S.sessions standing.now) → IsOutcome self.now before (S.sessions standing.now) moment request.now outcome) }
     {
         let services = request.services.as_slice();
         let debit = self.used_total(services);
@@ -119,15 +119,15 @@ impl Terms {
 
     /// An UPDATE charges the account of its session. The holds of the services that it names end and what they used
     /// is debited in full, then grants are made in order.
-    fn update_outcome(
+    fn update_outcome<S: Lookup>(
         &self,
         alloc: Global,
-        standing: &Standing,
+        standing: &S,
         moment: Moment,
         request: &CcRequest,
     ) -> Result<Outcome, AllocError>
-        requires { IsSmall self.now standing.now.balances.items standing.now.sessions.items }
-        ensures { IfOk result (λ outcome. (before : List Posting) → request.now.kind ≡ Update → Stands self.now before standing.now.balances.items standing.now.sessions.items → IsOutcome self.now before standing.now.sessions.items moment request.now outcome) }
+        requires { IsSmall self.now (S.balances standing.now) (S.sessions standing.now) }
+        ensures { IfOk result (λ outcome. (before : List Posting) → request.now.kind ≡ Update → Stands self.now before (S.balances standing.now) (S.sessions standing.now) → IsOutcome self.now before (S.sessions standing.now) moment request.now outcome) }
     {
         let Some((place, session)) = standing.open_session(&request.session) else {
             return Ok(unknown_session(alloc));
@@ -150,14 +150,14 @@ impl Terms {
     }
 
     /// A TERMINATION debits what was used, and ends its session with all that it holds.
-    fn termination_outcome(
+    fn termination_outcome<S: Lookup>(
         &self,
         alloc: Global,
-        standing: &Standing,
+        standing: &S,
         request: &CcRequest,
     ) -> Result<Outcome, AllocError>
-        requires { IsSmall self.now standing.now.balances.items standing.now.sessions.items }
-        ensures { IfOk result (λ outcome. (before : List Posting) (moment : Moment) → request.now.kind ≡ Termination → Stands self.now before standing.now.balances.items standing.now.sessions.items → IsOutcome self.now before standing.now.sessions.items moment request.now outcome) }
+        requires { IsSmall self.now (S.balances standing.now) (S.sessions standing.now) }
+        ensures { IfOk result (λ outcome. (before : List Posting) (moment : Moment) → request.now.kind ≡ Termination → Stands self.now before (S.balances standing.now) (S.sessions standing.now) → IsOutcome self.now before (S.sessions standing.now) moment request.now outcome) }
     {
         let Some((place, session)) = standing.open_session(&request.session) else {
             return Ok(unknown_session(alloc));

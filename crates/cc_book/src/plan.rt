@@ -12,9 +12,10 @@ use dia_base::Moment;
 /// good for the history that it was made of, and so for one commit.
 #[derive(Debug, Drop)]
 pub struct Plan {
-    pub(crate) answered: Answered,
+    /// What the request is answered.
+    pub answered: Answered,
     /// None where the book keeps the request already.
-    pub(crate) taken: Option<Taken>,
+    pub taken: Option<Taken>,
 }
 
 /// A request that the book does not keep yet, and what it does.

@@ -1,11 +1,12 @@
 //! What a history has left: balances, and the sessions that are open.
 
-ghost use Rattle.std.specs.Prelude.{◌≡◌, ◌<◌, ◌≤◌, ◌^◌, ◌+◌, [], length, map, pos, negsuc, ◌+ℤ◌, ◌-ℤ◌, ◌≤ℤ◌, IfOk, MatchOption, None, slice_index_or, All, count_by};
+ghost use Rattle.std.specs.Prelude.{◌≡◌, ◌<◌, ◌≤◌, ◌^◌, ◌+◌, [], length, map, pos, negsuc, ◌≤ℤ◌, IfOk, All, count_by};
 ghost use Rattle.std.specs.Option.{ForSome};
 ghost use Rattle.cc_book.specs.OpenSessions.{FitsIn};
-ghost use Rattle.cc_book.specs.Standing.{IsOpenAt, after_change, after_debit, free_in, held_by_all, is_due, place_in, reserved_in, without_due};
+ghost use Rattle.cc_book.specs.Standing.{after_change, after_debit, held_by_all, is_due, reserved_in, without_due};
 
 use crate::account::Account;
+use crate::lookup::Lookup;
 use crate::open_sessions::OpenSessions;
 use crate::outcome::Change;
 use crate::session::OpenSession;
@@ -13,13 +14,27 @@ use dia_avp::Octets;
 use dia_base::Moment;
 use std::alloc::{AllocError, Global};
 
-/// What a history has left: all that is looked at to answer a request.
+/// What a history has left, by maps and totals.
 #[derive(Debug, Drop)]
 pub struct Standing {
     /// The balance of each account.
     pub balances: Vec<i128>,
     /// The sessions that are open, in the order in which they opened.
     pub sessions: OpenSessions,
+}
+
+impl Lookup for Standing {
+    ghost balances = { λ standing. standing.balances.items };
+
+    ghost sessions = { λ standing. standing.sessions.items };
+
+    fn open_session(&self, id: &Octets) -> Option<(usize, &OpenSession)> {
+        self.sessions.find(id)
+    }
+
+    fn free(&self, account: usize) -> i128 {
+        self.balances[account] - self.reserved(account) as i128
+    }
 }
 
 impl Standing {
@@ -42,13 +57,6 @@ impl Standing {
         })
     }
 
-    /// The open session with this Session-Id, and its place.
-    pub fn open_session(&self, id: &Octets) -> Option<(usize, &OpenSession)>
-        ensures { MatchOption result (place_in self.now.sessions.items id.now ≡ None) (λ found. IsOpenAt self.now.sessions.items id.now found.0 found.1.now) }
-    {
-        self.sessions.find(id)
-    }
-
     /// What the sessions of an account have reserved of it.
     pub fn reserved(&self, account: usize) -> u128
         requires { held_by_all self.now.sessions.items ≤ 2 ^ 110 }
@@ -56,49 +64,6 @@ impl Standing {
         ensures most { result ≤ held_by_all self.now.sessions.items }
     {
         self.sessions.total(account)
-    }
-
-    /// What is free of an account: its balance less what sessions have reserved of it.
-    fn free(&self, account: usize) -> i128
-        requires within { account < length self.now.balances.items }
-        requires least { All (λ balance. negsuc (2 ^ 124) ≤ℤ balance) self.now.balances.items }
-        requires most { All (λ balance. balance ≤ℤ pos (2 ^ 124)) self.now.balances.items }
-        requires held { held_by_all self.now.sessions.items ≤ 2 ^ 110 }
-        ensures value { result ≡ slice_index_or self.now.balances.items account (pos 0) -ℤ pos (reserved_in account self.now.sessions.items) }
-        ensures least { negsuc (2 ^ 125) ≤ℤ result }
-        ensures most { result ≤ℤ pos (2 ^ 124) }
-    {
-        self.balances[account] - self.reserved(account) as i128
-    }
-
-    /// What is free of an account, nothing without one.
-    pub fn free_for(&self, account: Option<usize>) -> i128
-        requires within { ForSome account (λ place. place < length self.now.balances.items) }
-        requires least { All (λ balance. negsuc (2 ^ 124) ≤ℤ balance) self.now.balances.items }
-        requires most { All (λ balance. balance ≤ℤ pos (2 ^ 124)) self.now.balances.items }
-        requires held { held_by_all self.now.sessions.items ≤ 2 ^ 110 }
-        ensures { result ≡ free_in self.now.balances.items self.now.sessions.items account }
-    {
-        match account {
-            Some(account) => self.free(account),
-            None => 0,
-        }
-    }
-
-    /// What is free of an account for the grants of a request, which has ended so much of what was reserved and debits
-    /// so much.
-    pub fn free_to_grant(&self, account: usize, ended: u128, debit: i128) -> i128
-        requires within { account < length self.now.balances.items }
-        requires least { All (λ balance. negsuc (2 ^ 124) ≤ℤ balance) self.now.balances.items }
-        requires most { All (λ balance. balance ≤ℤ pos (2 ^ 124)) self.now.balances.items }
-        requires held { held_by_all self.now.sessions.items ≤ 2 ^ 110 }
-        requires ended { ended ≤ 2 ^ 110 }
-        requires debit_least { pos 0 ≤ℤ debit }
-        requires debit_most { debit ≤ℤ pos (2 ^ 103) }
-        ensures value { result ≡ ((slice_index_or self.now.balances.items account (pos 0) -ℤ pos (reserved_in account self.now.sessions.items)) +ℤ pos ended) -ℤ debit }
-        ensures least { negsuc (2 ^ 126) ≤ℤ result }
-    {
-        self.free(account) + ended as i128 - debit
     }
 
     /// How many of the open sessions have ended by a moment.

@@ -90,7 +90,7 @@ impl Book {
 }
 
 /// The answer to a repeat: the reply that is kept at this place.
-fn kept_answer(
+pub fn kept_answer(
     alloc: Global,
     replies: &[Option<CcReply>],
     place: usize,

@@ -2,7 +2,8 @@ use Rattle.cc_book.proofs.Keys.{IsLegal-push, IsLegal-sweep, new-without_reply}
 use Rattle.cc_book.proofs.laws.legal_histories_grow.Goals as goal
 
 pub returns-clause-by_request : goal.returns-clause-by_request
-returns-clause-by_request c = λ terms history moment request legal new. IsLegal-push terms history moment request legal (new-without_reply terms history request new)
+returns-clause-by_request c = λ terms history moment request legal new. IsLegal-push terms history moment request legal
+    (new-without_reply terms history request new)
 
 pub returns-clause-by_sweep : goal.returns-clause-by_sweep
 returns-clause-by_sweep c = IsLegal-sweep

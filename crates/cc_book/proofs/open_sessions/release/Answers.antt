@@ -18,7 +18,8 @@ held_in-requires c =
 
 pub index_mut-requires : goal.index_mut-requires
 index_mut-requires c =
-    let lt = known-at (length c.args.totals.now.items) (values c.args.sessions.now) c.loop-place.place c.index-session.result.now c.index-session.ensures c.requires.known in
+    let lt = known-at (length c.args.totals.now.items) (values c.args.sessions.now) c.loop-place.place c.index-session.result.now c.index-session.ensures
+    c.requires.known in
     omega (arith, c.loop-place.invariant.long, c.loop-place.totals.ok.0)
 
 pub overflow_sub-index_mut : goal.overflow_sub-index_mut
@@ -26,7 +27,8 @@ overflow_sub-index_mut c =
     let session = c.index-session.result.now in
     let lt = known-at (length c.args.totals.now.items) (values c.args.sessions.now) c.loop-place.place session c.index-session.ensures c.requires.known in
     let known : session.account < length c.loop-place.totals.items = omega (arith, c.loop-place.invariant.long) in
-    let value : c.index_mut.result.now ≡ get_or c.loop-place.totals.items session.account 0 = c.index_mut.ensures.value ∙ get_or_default c.loop-place.totals.items session.account c.index_mut.result.now 0 known in
+    let value : c.index_mut.result.now ≡ get_or c.loop-place.totals.items session.account 0 = c.index_mut.ensures.value
+    ∙ get_or_default c.loop-place.totals.items session.account c.index_mut.result.now 0 known in
     let total = c.loop-place.invariant.totals session.account in
     let due = sym c.is_due.ensures ∙ c.if-is_due.true in
     let part = due-part c.args.validity c.args.moment (values c.args.sessions.now) c.loop-place.place session c.index-session.ensures due in
@@ -39,7 +41,8 @@ loop-place-preserved c = elim c.if-is_due.branch [
       let session = c.index-session.result.now in
       let lt = known-at (length c.args.totals.now.items) (values c.args.sessions.now) c.loop-place.place session c.index-session.ensures c.requires.known in
       let known : session.account < length c.loop-place.totals.items = omega (arith, c.loop-place.invariant.long) in
-      let value : w.index_mut.result.now ≡ get_or c.loop-place.totals.items session.account 0 = w.index_mut.ensures.value ∙ get_or_default c.loop-place.totals.items session.account w.index_mut.result.now 0 known in
+      let value : w.index_mut.result.now ≡ get_or c.loop-place.totals.items session.account 0 = w.index_mut.ensures.value
+      ∙ get_or_default c.loop-place.totals.items session.account w.index_mut.result.now 0 known in
       let total = c.loop-place.invariant.totals session.account in
       let due = sym c.is_due.ensures ∙ w.if-is_due.true in
       let part = due-part c.args.validity c.args.moment (values c.args.sessions.now) c.loop-place.place session c.index-session.ensures due in
@@ -49,7 +52,8 @@ loop-place-preserved c = elim c.if-is_due.branch [
       let long = length-set c.loop-place.totals.items session.account left in
       record {
         totals = subst (λ (ts : List ℕ). AreTotals ts (left_at c.args.validity c.args.moment (c.loop-place.place + 1) (values c.args.sessions.now))) (sym items)
-            (released c.args.validity c.args.moment c.loop-place.totals.items (values c.args.sessions.now) c.loop-place.place session left c.loop-place.invariant.totals known c.index-session.ensures due
+            (released c.args.validity c.args.moment c.loop-place.totals.items (values c.args.sessions.now) c.loop-place.place session left
+            c.loop-place.invariant.totals known c.index-session.ensures due
             (omega (arith, w.held_in.ensures)));
         long = ap length items ∙ long ∙ c.loop-place.invariant.long;
       })
@@ -58,9 +62,11 @@ loop-place-preserved c = elim c.if-is_due.branch [
       let items : c.if-is_due.totals.items ≡ c.loop-place.totals.items = ap (λ (v : Vec ℕ Global). v.items) w.totals-is in
       record {
         totals = subst (λ (ts : List ℕ). AreTotals ts (left_at c.args.validity c.args.moment (c.loop-place.place + 1) (values c.args.sessions.now))) (sym items)
-            (subst (λ (n : ℕ). AreTotals c.loop-place.totals.items (left_at c.args.validity c.args.moment n (values c.args.sessions.now))) (sym (add-one c.loop-place.place))
+            (subst (λ (n : ℕ). AreTotals c.loop-place.totals.items (left_at c.args.validity c.args.moment n (values c.args.sessions.now)))
+            (sym (add-one c.loop-place.place))
             (subst (λ (ss : List OpenSession). AreTotals c.loop-place.totals.items ss)
-            (sym (left-kept c.args.validity c.args.moment (values c.args.sessions.now) c.loop-place.place c.index-session.result.now c.index-session.ensures lasts)) c.loop-place.invariant.totals));
+            (sym (left-kept c.args.validity c.args.moment (values c.args.sessions.now) c.loop-place.place c.index-session.result.now c.index-session.ensures
+            lasts)) c.loop-place.invariant.totals));
         long = ap length items ∙ c.loop-place.invariant.long;
       })
 ]

@@ -59,11 +59,15 @@ change-requires-clause-fits c =
     let does = taking-outcome c.self.invariant.0 c.args.taken taking in
     let outcome = c.args.taken.outcome in
     let now = c.self.inside.standing.sessions in
-    let book = IsBook-push c.self.inside.terms c.self.inside.limit c.self.inside.history.items c.self.inside.replies.items c.self.inside.standing.balances.items now.items c.args.taken.moment c.args.taken.request outcome c.self.invariant.0 taking.new taking.room does in
-    let posting = posting_of c.self.inside.terms (postings_of c.self.inside.terms c.self.inside.history.items) (Take c.args.taken.moment c.args.taken.request) in
+    let book = IsBook-push c.self.inside.terms c.self.inside.limit c.self.inside.history.items c.self.inside.replies.items
+    c.self.inside.standing.balances.items now.items c.args.taken.moment c.args.taken.request outcome c.self.invariant.0 taking.new taking.room does in
+    let posting = posting_of c.self.inside.terms (postings_of c.self.inside.terms c.self.inside.history.items)
+    (Take c.args.taken.moment c.args.taken.request) in
     let fits : Fits now c.args.taken.request c.args.taken.moment posting c.self.invariant.0.stands.own_ids outcome.change =
-    subst (Fits now c.args.taken.request c.args.taken.moment posting c.self.invariant.0.stands.own_ids) (sym does.change) (change-fits now c.args.taken.request c.args.taken.moment posting c.self.invariant.0.stands.own_ids) in
-    let known = subst (λ (n : ℕ). All (λ (s : OpenSession). s.account < n) (after_change now.items outcome.change)) (sym c.self.invariant.2) book.stands.known in
+    subst (Fits now c.args.taken.request c.args.taken.moment posting c.self.invariant.0.stands.own_ids) (sym does.change)
+    (change-fits now c.args.taken.request c.args.taken.moment posting c.self.invariant.0.stands.own_ids) in
+    let known = subst (λ (n : ℕ). All (λ (s : OpenSession). s.account < n) (after_change now.items outcome.change)) (sym c.self.invariant.2)
+    book.stands.known in
     subst (λ (later : Sessions). FitsIn later c.into_parts-request.result.2 outcome.change) (sym c.debit.ensures.sessions)
     (subst (λ (id : List ℕ). FitsIn now id outcome.change) (sym c.into_parts-request.ensures.opened) (fits (small-book book).held known))
 
@@ -77,27 +81,37 @@ invariant_of-self c =
     let least = does.least in
     let most = does.most in
     let fits : SFits w128 outcome.debit = search rules in
-    let book = IsBook-push c.self.inside.terms c.self.inside.limit c.self.inside.history.items c.self.inside.replies.items c.self.inside.standing.balances.items c.self.inside.standing.sessions.items c.args.taken.moment c.args.taken.request outcome c.self.invariant.0 taking.new taking.room does in
+    let book = IsBook-push c.self.inside.terms c.self.inside.limit c.self.inside.history.items c.self.inside.replies.items
+    c.self.inside.standing.balances.items c.self.inside.standing.sessions.items c.args.taken.moment c.args.taken.request outcome c.self.invariant.0
+    taking.new taking.room does in
     let sessions : c.change.new.self.sessions.items ≡ after_change c.self.inside.standing.sessions.items outcome.change =
     c.change.ensures.sessions ∙ ap (λ (ss : List OpenSession). after_change ss outcome.change) (ap (λ (s : Sessions). s.items) c.debit.ensures.sessions) in
     let balances : c.change.new.self.balances.items ≡ after_debit c.self.inside.standing.balances.items outcome.account outcome.debit =
     ap (λ (v : Vec ℤ Global). v.items) c.change.ensures.balances ∙ c.debit.ensures.balances
     ∙ ap (after_debit c.self.inside.standing.balances.items outcome.account) (to_z-of_z w128 outcome.debit fits) in
     let pushed : c.push_reserved.new.self.items ≡ c.self.inside.history.items ++ Take c.args.taken.moment c.args.taken.request ∷ [] =
-    c.push_reserved.ensures.items ∙ ap (λ (r : CcRequest). c.self.inside.history.items ++ Take c.args.taken.moment r ∷ []) c.into_parts-request.ensures.request in
+    c.push_reserved.ensures.items ∙ ap (λ (r : CcRequest). c.self.inside.history.items ++ Take c.args.taken.moment r ∷ [])
+    c.into_parts-request.ensures.request in
     let key : ◌≡◌ {A = Key} (record { session = c.into_parts-request.result.1; number = c.into_parts-request.result.0.number }) (key_of c.args.taken.request) =
     ap (λ (id : List ℕ). record { session = id; number = c.into_parts-request.result.0.number }) c.into_parts-request.ensures.session
     ∙ ap (λ (r : CcRequest). record { session = c.args.taken.request.session; number = r.number }) c.into_parts-request.ensures.request in
     let long = length-append c.self.inside.history.items (Take c.args.taken.moment c.args.taken.request ∷ []) in (
-      same-book _ c.push_reserved.new.self.items _ c.push_reserved-2.new.self.items _ c.change.new.self.balances.items _ c.change.new.self.sessions.items (sym pushed) (sym c.push_reserved-2.ensures.items) (sym balances) (sym sessions) book,
+      same-book _ c.push_reserved.new.self.items _ c.push_reserved-2.new.self.items _ c.change.new.self.balances.items _ c.change.new.self.sessions.items
+          (sym pushed) (sym c.push_reserved-2.ensures.items) (sym balances) (sym sessions) book,
       record {
         for_entries = omega (arith, c.self.invariant.1.for_entries, c.push_reserved.ensures.capacity);
         for_replies = omega (arith, c.self.invariant.1.for_replies, c.push_reserved-2.ensures.capacity);
-        for_sessions = (let same = ap (λ (s : Sessions). s.room) c.debit.ensures.sessions in let more = ap length pushed in omega (arith, long, c.self.invariant.1.for_sessions, c.change.ensures.room));
+        for_sessions = (let same = ap (λ (s : Sessions). s.room) c.debit.ensures.sessions in let more = ap length pushed in
+            omega (arith, long, c.self.invariant.1.for_sessions, c.change.ensures.room));
       },
       c.change.ensures.accounts ∙ ap (λ (s : Sessions). s.accounts) c.debit.ensures.sessions ∙ c.self.invariant.2,
       subst (λ (es : List Entry). IsIndexed es c.add.new.self) (sym pushed)
-          (c.add.ensures.indexed c.self.inside.history.items c.args.taken.moment c.args.taken.request c.self.invariant.3 (omega (arith, c.len.ensures, c.self.inside.history.ok.0)) key (subst (IsNew c.self.inside.history.items) (sym key) taking.new)),
+          (c.add.ensures.indexed c.self.inside.history.items c.args.taken.moment c.args.taken.request c.self.invariant.3
+          (omega (arith, c.len.ensures, c.self.inside.history.ok.0)) key (subst (IsNew c.self.inside.history.items) (sym key) taking.new)),
       subst (λ (es : List Entry). HasPlaces c.self.inside.limit (length es) c.add.new.self) (sym pushed)
-          (record { for_firsts = omega (arith, long, c.self.invariant.4.for_firsts, c.add.ensures.firsts); for_numbered = omega (arith, long, c.self.invariant.4.for_numbered, c.add.ensures.numbered) }),
+          (record {
+            for_firsts = omega (arith, long, c.self.invariant.4.for_firsts, c.add.ensures.firsts);
+            for_numbered =
+                omega (arith, long, c.self.invariant.4.for_numbered, c.add.ensures.numbered);
+          }),
     )

@@ -17,13 +17,19 @@ invariant_of-result c =
     let openings = c.in_ok-standing.ensures.balances ∙ ap (map (λ (a : Account). a.opening)) (c.deref.ensures.value ∙ sym c.from_vec.ensures) in
     let stands = empty-stands terms standing.balances.items openings c.in_ok-standing.ensures.least c.in_ok-standing.ensures.most in
     let book =
-    subst (λ (ss : List OpenSession). IsBook terms c.args.limit c.in_ok-with_capacity.field-0.items c.in_ok-with_capacity-2.field-0.items standing.balances.items ss) (sym c.in_ok-standing.ensures.sessions)
-    (subst (λ (rs : List (Option CcReply)). IsBook terms c.args.limit c.in_ok-with_capacity.field-0.items rs standing.balances.items []) (sym c.in_ok-with_capacity-2.ensures.items)
+    subst (λ (ss : List OpenSession). IsBook terms c.args.limit c.in_ok-with_capacity.field-0.items c.in_ok-with_capacity-2.field-0.items
+    standing.balances.items ss) (sym c.in_ok-standing.ensures.sessions)
+    (subst (λ (rs : List (Option CcReply)). IsBook terms c.args.limit c.in_ok-with_capacity.field-0.items rs standing.balances.items [])
+    (sym c.in_ok-with_capacity-2.ensures.items)
     (subst (λ (es : List Entry). IsBook terms c.args.limit es [] standing.balances.items []) (sym c.in_ok-with_capacity.ensures.items)
     (IsBook-empty terms c.args.limit standing.balances.items (omega arith) stands))) in
     let places = c.in_ok-new.field-0 in (
       book,
-      record { for_entries = omega (arith, c.in_ok-with_capacity.ensures.exact); for_replies = omega (arith, c.in_ok-with_capacity-2.ensures.exact); for_sessions = omega (arith, c.in_ok-standing.ensures.room) },
+      record {
+        for_entries = omega (arith, c.in_ok-with_capacity.ensures.exact);
+        for_replies = omega (arith, c.in_ok-with_capacity-2.ensures.exact);
+        for_sessions = omega (arith, c.in_ok-standing.ensures.room);
+      },
       c.in_ok-standing.ensures.accounts ∙ ap length (c.deref.ensures.value ∙ sym c.from_vec.ensures),
       subst (λ (es : List Entry). IsIndexed es places) (sym c.in_ok-with_capacity.ensures.items) c.in_ok-new.ensures.indexed,
       subst (λ (es : List Entry). HasPlaces c.args.limit (length es) places) (sym c.in_ok-with_capacity.ensures.items) c.in_ok-new.ensures.room,

@@ -18,21 +18,30 @@ use Rattle.cc_book.proofs.book.Book.plan.Goals as goal
 
 pub kept_answer-requires : goal.kept_answer-requires
 kept_answer-requires c =
-    let at = subst (λ (h : List Entry). IsKeptAt h (key_of c.args.request.now) c.in-Some.place c.in-Some.field-0-1.now) c.deref.ensures.value c.in-Some.ensures in
+    let at = subst (λ (h : List Entry). IsKeptAt h (key_of c.args.request.now) c.in-Some.place c.in-Some.field-0-1.now) c.deref.ensures.value
+    c.in-Some.ensures in
     subst (λ (rs : List (Option CcReply)). IsSome (slice_index_or rs c.in-Some.place None)) (sym c.deref-in-Some.ensures.value)
     (kept-some c.self.invariant.0 (key_of c.args.request.now) c.in-Some.place c.in-Some.field-0-1.now at)
 
 pub returns-in-Some-clause-answer : goal.returns-in-Some-clause-answer
 returns-in-Some-clause-answer c =
-    let at = subst (λ (h : List Entry). IsKeptAt h (key_of c.args.request.now) c.in-Some.place c.in-Some.field-0-1.now) c.deref.ensures.value c.in-Some.ensures in
-    let answered = subst (λ (rs : List (Option CcReply)). IfSome (slice_index_or rs c.in-Some.place None) (λ reply. c.in_ok-answered.answered ≡ record { reply = reply; place = c.in-Some.place; fresh = false })) c.deref-in-Some.ensures.value c.in_ok-answered.ensures in
+    let at = subst (λ (h : List Entry). IsKeptAt h (key_of c.args.request.now) c.in-Some.place c.in-Some.field-0-1.now) c.deref.ensures.value
+    c.in-Some.ensures in
+    let answered =
+    subst (λ (rs : List (Option CcReply)). IfSome (slice_index_or rs c.in-Some.place None)
+    (λ reply. c.in_ok-answered.answered ≡ record { reply = reply; place = c.in-Some.place; fresh = false })) c.deref-in-Some.ensures.value
+    c.in_ok-answered.ensures in
     sym (ap (λ (l : Ledger). answer_of l c.args.request.now) c.self.view_is)
     ∙ answer-kept c.self.invariant.0 c.args.request.now c.in-Some.field-0-1.now c.in-Some.place c.in_ok-answered.answered at answered
 
 pub returns-in-Some-clause-good : goal.returns-in-Some-clause-good
 returns-in-Some-clause-good c =
-    let at = subst (λ (h : List Entry). IsKeptAt h (key_of c.args.request.now) c.in-Some.place c.in-Some.field-0-1.now) c.deref.ensures.value c.in-Some.ensures in
-    let answered = subst (λ (rs : List (Option CcReply)). IfSome (slice_index_or rs c.in-Some.place None) (λ reply. c.in_ok-answered.answered ≡ record { reply = reply; place = c.in-Some.place; fresh = false })) c.deref-in-Some.ensures.value c.in_ok-answered.ensures in
+    let at = subst (λ (h : List Entry). IsKeptAt h (key_of c.args.request.now) c.in-Some.place c.in-Some.field-0-1.now) c.deref.ensures.value
+    c.in-Some.ensures in
+    let answered =
+    subst (λ (rs : List (Option CcReply)). IfSome (slice_index_or rs c.in-Some.place None)
+    (λ reply. c.in_ok-answered.answered ≡ record { reply = reply; place = c.in-Some.place; fresh = false })) c.deref-in-Some.ensures.value
+    c.in_ok-answered.ensures in
     subst (λ (l : Ledger). IsRepeated l c.in_ok-answered.answered) c.self.view_is
     (record {
       request = c.args.request.now;
@@ -42,9 +51,14 @@ returns-in-Some-clause-good c =
 
 pub returns-in-Some-clause-after : goal.returns-in-Some-clause-after
 returns-in-Some-clause-after c =
-    let at = subst (λ (h : List Entry). IsKeptAt h (key_of c.args.request.now) c.in-Some.place c.in-Some.field-0-1.now) c.deref.ensures.value c.in-Some.ensures in
-    let answered = subst (λ (rs : List (Option CcReply)). IfSome (slice_index_or rs c.in-Some.place None) (λ reply. c.in_ok-answered.answered ≡ record { reply = reply; place = c.in-Some.place; fresh = false })) c.deref-in-Some.ensures.value c.in_ok-answered.ensures in
-    let old : c.in_ok-answered.answered.fresh ≡ false = not-fresh c.self.invariant.0 c.args.request.now c.in-Some.field-0-1.now c.in-Some.place c.in_ok-answered.answered at answered in
+    let at = subst (λ (h : List Entry). IsKeptAt h (key_of c.args.request.now) c.in-Some.place c.in-Some.field-0-1.now) c.deref.ensures.value
+    c.in-Some.ensures in
+    let answered =
+    subst (λ (rs : List (Option CcReply)). IfSome (slice_index_or rs c.in-Some.place None)
+    (λ reply. c.in_ok-answered.answered ≡ record { reply = reply; place = c.in-Some.place; fresh = false })) c.deref-in-Some.ensures.value
+    c.in_ok-answered.ensures in
+    let old : c.in_ok-answered.answered.fresh ≡ false =
+    not-fresh c.self.invariant.0 c.args.request.now c.in-Some.field-0-1.now c.in-Some.place c.in_ok-answered.answered at answered in
     sym (ap (λ (b : Bool). if b then with_take c.args.self.now c.args.moment c.args.request.now else c.args.self.now) old)
 
 -- ---- a new one
@@ -78,13 +92,15 @@ returns-clause-good c =
     let room = subst (λ (es : List Entry). length es < c.self.inside.limit) c.deref-2.ensures.value c.in-Some-free_place.ensures.some.1 in
     let same = sym c.in_ok-request.ensures in
     let answered : Answered = record { reply = c.in_ok-reply.reply; place = c.in-Some-free_place.place; fresh = true } in
-    subst (λ (l : Ledger). IsTakenWith l answered (record { moment = c.args.moment; request = c.in_ok-request.request; outcome = c.in_ok-outcome.outcome })) c.self.view_is
+    subst (λ (l : Ledger). IsTakenWith l answered (record { moment = c.args.moment; request = c.in_ok-request.request; outcome = c.in_ok-outcome.outcome }))
+    c.self.view_is
     (record {
       taking = record {
         new = subst (λ (r : CcRequest). IsNew c.self.inside.history.items (key_of r)) same new;
         room = room;
         outcome = planned-outcome c.self.invariant.0 c.args.moment c.in_ok-request.request c.in_ok-outcome.outcome
-            (subst (λ (r : CcRequest). IsOutcome c.self.inside.terms (postings_of c.self.inside.terms c.self.inside.history.items) c.self.inside.standing.sessions.items c.args.moment r c.in_ok-outcome.outcome) same does);
+            (subst (λ (r : CcRequest). IsOutcome c.self.inside.terms (postings_of c.self.inside.terms c.self.inside.history.items)
+            c.self.inside.standing.sessions.items c.args.moment r c.in_ok-outcome.outcome) same does);
       };
       answer = ap (λ (r : CcReply). record { reply = r; place = c.in-Some-free_place.place; fresh = true }) c.in_ok-reply.ensures
           ∙ ap (λ (n : ℕ). record { reply = c.in_ok-outcome.outcome.reply; place = n; fresh = true }) long;
@@ -94,23 +110,32 @@ returns-clause-good c =
 
 pub returns-in_err-answered-clause-answer : goal.returns-in_err-answered-clause-answer
 returns-in_err-answered-clause-answer c =
-    let at = subst (λ (h : List Entry). IsKeptAt h (key_of c.args.request.now) c.in-Some.place c.in-Some.field-0-1.now) c.deref.ensures.value c.in-Some.ensures in
-    no_memory _ c.from_residual.result (subst (λ (l : Ledger). IsOk (answer_of l c.args.request.now)) c.self.view_is (kept-answered c.self.inside.terms c.self.inside.limit c.self.inside.history.items c.args.request.now c.in-Some.field-0-1.now c.in-Some.place at)) c.from_residual.ensures.1
+    let at = subst (λ (h : List Entry). IsKeptAt h (key_of c.args.request.now) c.in-Some.place c.in-Some.field-0-1.now) c.deref.ensures.value
+    c.in-Some.ensures in
+    no_memory _ c.from_residual.result (subst (λ (l : Ledger). IsOk (answer_of l c.args.request.now)) c.self.view_is
+    (kept-answered c.self.inside.terms c.self.inside.limit c.self.inside.history.items c.args.request.now c.in-Some.field-0-1.now c.in-Some.place at))
+    c.from_residual.ensures.1
 
 pub returns-in_err-outcome-clause-answer : goal.returns-in_err-outcome-clause-answer
 returns-in_err-outcome-clause-answer c =
     let new = subst (λ (h : List Entry). IsNew h (key_of c.args.request.now)) c.deref.ensures.value c.in_default.ensures in
     let room = subst (λ (es : List Entry). length es < c.self.inside.limit) c.deref-2.ensures.value c.in-Some-free_place.ensures.some.1 in
-    no_memory _ c.from_residual-in_err-outcome.result (subst (λ (l : Ledger). IsOk (answer_of l c.args.request.now)) c.self.view_is (new-answered c.self.inside.terms c.self.inside.limit c.self.inside.history.items c.args.request.now new room)) c.from_residual-in_err-outcome.ensures.1
+    no_memory _ c.from_residual-in_err-outcome.result
+    (subst (λ (l : Ledger). IsOk (answer_of l c.args.request.now)) c.self.view_is
+    (new-answered c.self.inside.terms c.self.inside.limit c.self.inside.history.items c.args.request.now new room)) c.from_residual-in_err-outcome.ensures.1
 
 pub returns-in_err-reply-clause-answer : goal.returns-in_err-reply-clause-answer
 returns-in_err-reply-clause-answer c =
     let new = subst (λ (h : List Entry). IsNew h (key_of c.args.request.now)) c.deref.ensures.value c.in_default.ensures in
     let room = subst (λ (es : List Entry). length es < c.self.inside.limit) c.deref-2.ensures.value c.in-Some-free_place.ensures.some.1 in
-    no_memory _ c.from_residual-in_err-reply.result (subst (λ (l : Ledger). IsOk (answer_of l c.args.request.now)) c.self.view_is (new-answered c.self.inside.terms c.self.inside.limit c.self.inside.history.items c.args.request.now new room)) c.from_residual-in_err-reply.ensures.1
+    no_memory _ c.from_residual-in_err-reply.result
+    (subst (λ (l : Ledger). IsOk (answer_of l c.args.request.now)) c.self.view_is
+    (new-answered c.self.inside.terms c.self.inside.limit c.self.inside.history.items c.args.request.now new room)) c.from_residual-in_err-reply.ensures.1
 
 pub returns-in_err-request-clause-answer : goal.returns-in_err-request-clause-answer
 returns-in_err-request-clause-answer c =
     let new = subst (λ (h : List Entry). IsNew h (key_of c.args.request.now)) c.deref.ensures.value c.in_default.ensures in
     let room = subst (λ (es : List Entry). length es < c.self.inside.limit) c.deref-2.ensures.value c.in-Some-free_place.ensures.some.1 in
-    no_memory _ c.from_residual-in_err-request.result (subst (λ (l : Ledger). IsOk (answer_of l c.args.request.now)) c.self.view_is (new-answered c.self.inside.terms c.self.inside.limit c.self.inside.history.items c.args.request.now new room)) c.from_residual-in_err-request.ensures.1
+    no_memory _ c.from_residual-in_err-request.result
+    (subst (λ (l : Ledger). IsOk (answer_of l c.args.request.now)) c.self.view_is
+    (new-answered c.self.inside.terms c.self.inside.limit c.self.inside.history.items c.args.request.now new room)) c.from_residual-in_err-request.ensures.1

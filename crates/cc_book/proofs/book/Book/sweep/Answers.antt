@@ -35,17 +35,21 @@ invariant_of-self c =
     let room = subst (λ (es : List Entry). length es < c.self.inside.limit) c.deref.ensures.value c.in-Some.ensures.some.1 in
     let sessions = c.self.inside.standing.sessions.items in
     let some : 0 < count_by (is_due c.self.inside.terms.validity c.args.moment) sessions = omega (arith, c.count_due-ended.ensures, c.if-ended-eq0.false) in
-    let book = IsBook-sweep c.self.inside.terms c.self.inside.limit c.self.inside.history.items c.self.inside.replies.items c.self.inside.standing.balances.items sessions c.args.moment c.self.invariant.0 room some in
+    let book = IsBook-sweep c.self.inside.terms c.self.inside.limit c.self.inside.history.items c.self.inside.replies.items
+    c.self.inside.standing.balances.items sessions c.args.moment c.self.invariant.0 room some in
     let balances : c.sweep.new.self.balances.items ≡ c.self.inside.standing.balances.items = ap (λ (v : Vec ℤ Global). v.items) c.sweep.ensures.balances in (
-      same-book _ c.push_reserved.new.self.items _ c.push_reserved-2.new.self.items _ c.sweep.new.self.balances.items _ c.sweep.new.self.sessions.items (sym c.push_reserved.ensures.items) (sym c.push_reserved-2.ensures.items) (sym balances) (sym c.sweep.ensures.sessions) book,
+      same-book _ c.push_reserved.new.self.items _ c.push_reserved-2.new.self.items _ c.sweep.new.self.balances.items _ c.sweep.new.self.sessions.items
+          (sym c.push_reserved.ensures.items) (sym c.push_reserved-2.ensures.items) (sym balances) (sym c.sweep.ensures.sessions) book,
       record {
         for_entries = omega (arith, c.self.invariant.1.for_entries, c.push_reserved.ensures.capacity);
         for_replies = omega (arith, c.self.invariant.1.for_replies, c.push_reserved-2.ensures.capacity);
-        for_sessions = (let pushed = ap length c.push_reserved.ensures.items in let long = length-append c.self.inside.history.items (Sweep c.args.moment ∷ []) in
+        for_sessions = (let pushed = ap length c.push_reserved.ensures.items in
+            let long = length-append c.self.inside.history.items (Sweep c.args.moment ∷ []) in
             omega (arith, c.self.invariant.1.for_sessions, c.sweep.ensures.room));
       },
       c.sweep.ensures.accounts ∙ c.self.invariant.2,
-      subst (λ (es : List Entry). IsIndexed es c.self.inside.places) (sym c.push_reserved.ensures.items) (IsIndexed-sweep c.self.inside.history.items c.self.inside.places c.args.moment c.self.invariant.3),
+      subst (λ (es : List Entry). IsIndexed es c.self.inside.places) (sym c.push_reserved.ensures.items)
+          (IsIndexed-sweep c.self.inside.history.items c.self.inside.places c.args.moment c.self.invariant.3),
       subst (λ (es : List Entry). HasPlaces c.self.inside.limit (length es) c.self.inside.places) (sym c.push_reserved.ensures.items)
           (let long = length-append c.self.inside.history.items (Sweep c.args.moment ∷ []) in
           record { for_firsts = omega (arith, c.self.invariant.4.for_firsts); for_numbered = omega (arith, c.self.invariant.4.for_numbered) }),

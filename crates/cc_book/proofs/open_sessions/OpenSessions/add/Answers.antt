@@ -21,8 +21,10 @@ overflow_add-index_mut c =
     let all : held_by_all (values c.self.inside.sessions) ≡ held_by_all c.args.self.now.items = ap held_by_all items in
     let part = reserved_in-part account (values c.self.inside.sessions) in
     let total = c.self.invariant.summed account in
-    let lt : account < length c.self.inside.totals.items = subst (λ (n : ℕ). account < n) (sym (ap (λ (s : Sessions). s.accounts) c.self.view_is)) c.requires.known in
-    let value : c.index_mut.result.now ≡ get_or c.self.inside.totals.items account 0 = c.index_mut.ensures.value ∙ get_or_default c.self.inside.totals.items account c.index_mut.result.now 0 lt in
+    let lt : account < length c.self.inside.totals.items =
+    subst (λ (n : ℕ). account < n) (sym (ap (λ (s : Sessions). s.accounts) c.self.view_is)) c.requires.known in
+    let value : c.index_mut.result.now ≡ get_or c.self.inside.totals.items account 0 = c.index_mut.ensures.value
+    ∙ get_or_default c.self.inside.totals.items account c.index_mut.result.now 0 lt in
     let small : c.index_mut.result.now + c.held_in.result < 2 ^ 128 = omega (arith, c.requires.more, c.requires.held, c.held_in.ensures) in
     search rules
 
@@ -30,19 +32,26 @@ pub invariant_of-self : goal.invariant_of-self
 invariant_of-self c =
     let account = c.args.session.account in
     let items : values c.self.inside.sessions ≡ c.args.self.now.items = ap (λ (s : Sessions). s.items) c.self.view_is in
-    let lt : account < length c.self.inside.totals.items = subst (λ (n : ℕ). account < n) (sym (ap (λ (s : Sessions). s.accounts) c.self.view_is)) c.requires.known in
-    let value : c.index_mut.result.now ≡ get_or c.self.inside.totals.items account 0 = c.index_mut.ensures.value ∙ get_or_default c.self.inside.totals.items account c.index_mut.result.now 0 lt in
+    let lt : account < length c.self.inside.totals.items =
+    subst (λ (n : ℕ). account < n) (sym (ap (λ (s : Sessions). s.accounts) c.self.view_is)) c.requires.known in
+    let value : c.index_mut.result.now ≡ get_or c.self.inside.totals.items account 0 = c.index_mut.ensures.value
+    ∙ get_or_default c.self.inside.totals.items account c.index_mut.result.now 0 lt in
     let same = ap held_in c.as_slice.ensures in
-    let entries = subst (λ r. OnOk r (c.insert.new.self.entries ≡ insert_entry same_session c.self.inside.sessions.entries c.args.id c.args.session)) c.unwrap.ensures c.insert.ensures.entries in
-    (IsKept-add c.self.inside.sessions.entries c.insert.new.self.entries c.self.inside.totals.items c.args.id c.args.session (c.index_mut.result.now + c.held_in.result) c.self.invariant c.requires.own
+    let entries = subst (λ r. OnOk r (c.insert.new.self.entries ≡ insert_entry same_session c.self.inside.sessions.entries c.args.id c.args.session))
+    c.unwrap.ensures c.insert.ensures.entries in
+    (IsKept-add c.self.inside.sessions.entries c.insert.new.self.entries c.self.inside.totals.items c.args.id c.args.session
+    (c.index_mut.result.now + c.held_in.result) c.self.invariant c.requires.own
     (ap (λ (ss : List OpenSession). place_in ss c.args.session.id) items ∙ c.requires.closed) lt (omega (arith, c.held_in.ensures)) entries).1
 
 pub returns-clause-items : goal.returns-clause-items
 returns-clause-items c =
     let account = c.args.session.account in
     let items : values c.self.inside.sessions ≡ c.args.self.now.items = ap (λ (s : Sessions). s.items) c.self.view_is in
-    let lt : account < length c.self.inside.totals.items = subst (λ (n : ℕ). account < n) (sym (ap (λ (s : Sessions). s.accounts) c.self.view_is)) c.requires.known in
-    let entries = subst (λ r. OnOk r (c.insert.new.self.entries ≡ insert_entry same_session c.self.inside.sessions.entries c.args.id c.args.session)) c.unwrap.ensures c.insert.ensures.entries in
-    (IsKept-add c.self.inside.sessions.entries c.insert.new.self.entries c.self.inside.totals.items c.args.id c.args.session (get_or c.self.inside.totals.items account 0 + held_in c.args.session.holds)
+    let lt : account < length c.self.inside.totals.items =
+    subst (λ (n : ℕ). account < n) (sym (ap (λ (s : Sessions). s.accounts) c.self.view_is)) c.requires.known in
+    let entries = subst (λ r. OnOk r (c.insert.new.self.entries ≡ insert_entry same_session c.self.inside.sessions.entries c.args.id c.args.session))
+    c.unwrap.ensures c.insert.ensures.entries in
+    (IsKept-add c.self.inside.sessions.entries c.insert.new.self.entries c.self.inside.totals.items c.args.id c.args.session
+    (get_or c.self.inside.totals.items account 0 + held_in c.args.session.holds)
     c.self.invariant c.requires.own (ap (λ (ss : List OpenSession). place_in ss c.args.session.id) items ∙ c.requires.closed) lt (omega arith) entries).0
     ∙ ap (λ (ss : List OpenSession). ss ++ c.args.session ∷ []) items

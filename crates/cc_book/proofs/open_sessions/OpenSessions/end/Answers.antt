@@ -34,7 +34,8 @@ overflow_sub-index_mut c =
     let lt = known-at (length c.self.inside.totals.items) (values c.self.inside.sessions) c.args.place c.in-Some.ended there c.self.invariant.known in
     let own = held-total (values c.self.inside.sessions) c.args.place c.in-Some.ended there in
     let total = c.self.invariant.summed account in
-    let value : c.index_mut.result.now ≡ get_or c.self.inside.totals.items account 0 = c.index_mut.ensures.value ∙ get_or_default c.self.inside.totals.items account c.index_mut.result.now 0 lt in
+    let value : c.index_mut.result.now ≡ get_or c.self.inside.totals.items account 0 = c.index_mut.ensures.value
+    ∙ get_or_default c.self.inside.totals.items account c.index_mut.result.now 0 lt in
     let same = ap held_in c.as_slice.ensures in
     omega (arith, c.held_in.ensures)
 
@@ -46,11 +47,13 @@ invariant_of-self c =
     let lt = known-at (length c.self.inside.totals.items) (values c.self.inside.sessions) c.args.place c.in-Some.ended there c.self.invariant.known in
     let own = held-total (values c.self.inside.sessions) c.args.place c.in-Some.ended there in
     let total = c.self.invariant.summed account in
-    let value : c.index_mut.result.now ≡ get_or c.self.inside.totals.items account 0 = c.index_mut.ensures.value ∙ get_or_default c.self.inside.totals.items account c.index_mut.result.now 0 lt in
+    let value : c.index_mut.result.now ≡ get_or c.self.inside.totals.items account 0 = c.index_mut.ensures.value
+    ∙ get_or_default c.self.inside.totals.items account c.index_mut.result.now 0 lt in
     let same = ap held_in c.as_slice.ensures in
     let left = c.index_mut.result.now - c.held_in.result in
     subst (λ (es : Rows). IsKept es (slice_set c.self.inside.totals.items account left)) (sym c.shift_remove_index.ensures.entries)
-    (IsKept-end c.self.inside.sessions.entries c.self.inside.totals.items c.args.place (c.in-Some._id, c.in-Some.ended) left c.self.invariant at (omega (arith, c.held_in.ensures)))
+    (IsKept-end c.self.inside.sessions.entries c.self.inside.totals.items c.args.place (c.in-Some._id, c.in-Some.ended) left c.self.invariant at
+    (omega (arith, c.held_in.ensures)))
 
 pub returns-in-Some-clause-items : goal.returns-in-Some-clause-items
 returns-in-Some-clause-items c =

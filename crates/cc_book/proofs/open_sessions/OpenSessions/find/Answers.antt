@@ -11,8 +11,10 @@ pub returns-in_err-place : goal.returns-in_err-place
 returns-in_err-place c =
     let items : values c.self.inside.sessions ≡ c.args.self.now.items = ap (λ (s : Sessions). s.items) c.self.view_is in
     let none : place_in c.args.self.now.items c.args.id.now ≡ None =
-    ap (λ (ss : List OpenSession). place_in ss c.args.id.now) (sym items) ∙ sym (place-same c.args.id.now c.self.inside.sessions.entries c.self.invariant.own) ∙ sym c.in_err-place.ensures.index in
-    subst (λ found. MatchOption found (place_in c.args.self.now.items c.args.id.now ≡ None) (λ at. IsOpenAt c.args.self.now.items c.args.id.now at.0 at.1.now)) (sym c.from_residual.ensures) none
+    ap (λ (ss : List OpenSession). place_in ss c.args.id.now) (sym items) ∙ sym (place-same c.args.id.now c.self.inside.sessions.entries c.self.invariant.own)
+    ∙ sym c.in_err-place.ensures.index in
+    subst (λ found. MatchOption found (place_in c.args.self.now.items c.args.id.now ≡ None)
+    (λ at. IsOpenAt c.args.self.now.items c.args.id.now at.0 at.1.now)) (sym c.from_residual.ensures) none
 
 pub returns : goal.returns
 returns c =

@@ -68,7 +68,8 @@ overflow_add-left c =
     let all : held_by_all (values c.self.inside.sessions) ≡ held_by_all c.args.self.now.items = ap held_by_all items in
     let part = reserved_in-part c.args.session.account (values c.self.inside.sessions) in
     let more = ap held_in c.as_slice-2.ensures in
-    let small : (c.index-2.result.now - c.held_in-before.result) + c.held_in.result < 2 ^ 128 = omega (arith, c.requires.more, c.requires.held, c.held_in.ensures) in
+    let small : (c.index-2.result.now - c.held_in-before.result) + c.held_in.result < 2 ^ 128 =
+    omega (arith, c.requires.more, c.requires.held, c.held_in.ensures) in
     search rules
 
 pub index_mut-requires-2 : goal.index_mut-requires-2
@@ -93,7 +94,8 @@ invariant_of-self c =
     let own = held-total (values c.self.inside.sessions) c.args.place at.before at.there in
     let mine = ap (λ (n : ℕ). reserved_in n (values c.self.inside.sessions)) at.account in
     let more = ap held_in c.as_slice-2.ensures in
-    IsKept-go_on c.self.inside.sessions.entries c.self.inside.totals.items c.args.place c.args.session ((c.index-2.result.now - c.held_in-before.result) + c.held_in.result) c.self.invariant at
+    IsKept-go_on c.self.inside.sessions.entries c.self.inside.totals.items c.args.place c.args.session
+    ((c.index-2.result.now - c.held_in-before.result) + c.held_in.result) c.self.invariant at
     (omega (arith, c.held_in-before.ensures, c.held_in.ensures))
 
 pub returns-clause-items : goal.returns-clause-items

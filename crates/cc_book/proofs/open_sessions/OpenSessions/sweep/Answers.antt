@@ -13,7 +13,8 @@ invariant_of-self c =
     let kept : c.retain.new.self.entries ≡ filter (λ (e : List ℕ × OpenSession). lasts e.1) c.self.inside.sessions.entries =
     filter-RetainsPairs _ (λ (e : List ℕ × OpenSession). lasts e.1) _ (λ k v b w g call. search rules) _ _ c.retain.ensures.filtered in
     subst (λ (es : Rows). IsKept es c.release.new.totals.items) (sym kept)
-    (IsKept-sweep lasts c.self.inside.sessions.entries c.self.inside.totals.items c.release.new.totals.items c.self.invariant c.release.ensures.totals c.release.ensures.len)
+    (IsKept-sweep lasts c.self.inside.sessions.entries c.self.inside.totals.items c.release.new.totals.items c.self.invariant c.release.ensures.totals
+    c.release.ensures.len)
 
 pub returns-clause-items : goal.returns-clause-items
 returns-clause-items c =

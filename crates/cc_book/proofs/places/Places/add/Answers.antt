@@ -13,9 +13,13 @@ returns-clause-indexed c = λ history moment request indexed at key is_new.
     let number : c.args.number ≡ request.number = ap (λ (k : Key). k.number) key in
     let first = c.first_or_add-first.result in
     let firsts = c.first_or_add-first.new.self.firsts in
-    let before = subst (λ r. OnOk r (Updates same_numbered c.first_or_add-first.new.self.numbered c.insert.new.self (first, c.args.number) (Some c.args.place))) c.unwrap.ensures c.insert.ensures.updates in
-    IsIndexed-push history c.args.self.now (record { firsts = firsts; numbered = c.insert.new.self }) c.args.place first moment request indexed at (subst (IsNew history) key is_new)
+    let before =
+    subst (λ r. OnOk r (Updates same_numbered c.first_or_add-first.new.self.numbered c.insert.new.self (first, c.args.number) (Some c.args.place)))
+    c.unwrap.ensures c.insert.ensures.updates in
+    IsIndexed-push history c.args.self.now (record { firsts = firsts; numbered = c.insert.new.self }) c.args.place first moment request indexed at
+    (subst (IsNew history) key is_new)
     (c.first_or_add-first.ensures.first ∙ ap (λ (s : List ℕ). unwrap_or (get same_session c.args.self.now.firsts s) c.args.place) id)
-    (λ other. c.first_or_add-first.ensures.firsts other ∙ ap (λ (s : List ℕ). cond (same_session s other) (Some first) (get same_session c.args.self.now.firsts other)) id)
+    (λ other. c.first_or_add-first.ensures.firsts other
+    ∙ ap (λ (s : List ℕ). cond (same_session s other) (Some first) (get same_session c.args.self.now.firsts other)) id)
     (λ q. before.0 q ∙ ap (λ (n : ℕ). cond (same_numbered (first, n) q) (Some c.args.place) (get same_numbered c.first_or_add-first.new.self.numbered q)) number
     ∙ ap (λ m. cond (same_numbered (first, request.number) q) (Some c.args.place) (get same_numbered m q)) c.first_or_add-first.ensures.numbered)

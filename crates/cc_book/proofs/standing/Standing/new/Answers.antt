@@ -14,7 +14,12 @@ loop-account-preserved c =
     let more = openings-more c.args.accounts.now c.loop-account.account-index c.account-item.result c.loop-account-test.true in
     let here = ap (λ (a : Account). c.loop-account.balances.items ++ a.opening ∷ []) c.account-item.is in
     record {
-      items = pushed ∙ here ∙ ap (λ (bs : List ℤ). bs ++ (get_or c.args.accounts.now c.loop-account.account-index c.account-item.result).opening ∷ []) c.loop-account.invariant.items ∙ sym more;
-      least = subst (All (λ (b : ℤ). negsuc (2 ^ 63) ≤ℤ b)) (sym pushed) (All-push (λ (b : ℤ). negsuc (2 ^ 63) ≤ℤ b) c.loop-account.balances.items c.account-item.result.opening c.loop-account.invariant.least (omega (arith, ints)));
-      most = subst (All (λ (b : ℤ). b ≤ℤ pos (2 ^ 63))) (sym pushed) (All-push (λ (b : ℤ). b ≤ℤ pos (2 ^ 63)) c.loop-account.balances.items c.account-item.result.opening c.loop-account.invariant.most (omega (arith, ints)));
+      items = pushed ∙ here ∙ ap (λ (bs : List ℤ). bs ++ (get_or c.args.accounts.now c.loop-account.account-index c.account-item.result).opening ∷ [])
+          c.loop-account.invariant.items ∙ sym more;
+      least = subst (All (λ (b : ℤ). negsuc (2 ^ 63) ≤ℤ b)) (sym pushed)
+          (All-push (λ (b : ℤ). negsuc (2 ^ 63) ≤ℤ b) c.loop-account.balances.items c.account-item.result.opening c.loop-account.invariant.least
+          (omega (arith, ints)));
+      most = subst (All (λ (b : ℤ). b ≤ℤ pos (2 ^ 63))) (sym pushed)
+          (All-push (λ (b : ℤ). b ≤ℤ pos (2 ^ 63)) c.loop-account.balances.items c.account-item.result.opening c.loop-account.invariant.most
+          (omega (arith, ints)));
     }

@@ -11,12 +11,12 @@ use Rattle.cc_book.proofs.ByKind.{event-outcome, same-outcome}
 use Rattle.cc_book.proofs.terms.Terms.event_outcome.Goals as goal
 
 pub returns : goal.returns
-returns c = λ before moment is stands.
+returns g c = λ before moment is stands.
     let terms = c.args.self.now in
     let request = c.args.request.now in
     let account = c.account_of-account.result in
     let total = c.total_of-total.result in
-    let free : ℤ = free_in c.args.standing.now.balances.items c.args.standing.now.sessions.items account in
+    let free : ℤ = free_in (g.S.Lookup.balances c.args.standing.now) (g.S.Lookup.sessions c.args.standing.now) account in
     let free_fits : SFits w128 c.free_for-free.result = search rules in
     let free_is : to_z w128 (of_z w128 c.free_for-free.result) ≡ free = to_z-of_z w128 c.free_for-free.result free_fits ∙ c.free_for-free.ensures in
     let reply : c.in_ok-reply.reply ≡ event_reply terms request.services account free request.action =

@@ -8,19 +8,22 @@ use Rattle.cc_book.proofs.ByKind.{initial-open, initial-unknown, refused-outcome
 use Rattle.cc_book.proofs.terms.Terms.initial_outcome.Goals as goal
 
 pub returns-in_ok-session-in-Some-default : goal.returns-in_ok-session-in-Some-default
-returns-in_ok-session-in-Some-default c = λ before is stands.
+returns-in_ok-session-in-Some-default g c = λ before is stands.
     let session = c.in-Some-default.session.now in
     let holds : c.from_vec.result ≡ session.holds = search rules in
     let next : c.in_ok-session-in-Some-default.session ≡ prolonged session c.args.moment session.holds =
     c.in_ok-session-in-Some-default.ensures ∙ ap (prolonged session c.args.moment) holds in
-    let outcome : c.refused.result ≡ refused-outcome (account_of c.args.self.now.accounts c.args.request.now.subscriptions) UnableToComply (GoesOn c.in-Some-default.place (prolonged session c.args.moment session.holds)) =
+    let outcome : c.refused.result ≡ refused-outcome (account_of c.args.self.now.accounts c.args.request.now.subscriptions) UnableToComply
+    (GoesOn c.in-Some-default.place (prolonged session c.args.moment session.holds)) =
     c.refused.ensures
-    ∙ ap (λ (a : Option ℕ). refused-outcome a UnableToComply (GoesOn c.in-Some-default.place c.in_ok-session-in-Some-default.session)) c.account_of-account.ensures.value
-    ∙ ap (λ (s : OpenSession). refused-outcome (account_of c.args.self.now.accounts c.args.request.now.subscriptions) UnableToComply (GoesOn c.in-Some-default.place s)) next in
-    subst (IsOutcome c.args.self.now before c.args.standing.now.sessions.items c.args.moment c.args.request.now) (sym outcome)
+    ∙ ap (λ (a : Option ℕ). refused-outcome a UnableToComply (GoesOn c.in-Some-default.place c.in_ok-session-in-Some-default.session))
+    c.account_of-account.ensures.value
+    ∙ ap (λ (s : OpenSession). refused-outcome (account_of c.args.self.now.accounts c.args.request.now.subscriptions) UnableToComply
+    (GoesOn c.in-Some-default.place s)) next in
+    subst (IsOutcome c.args.self.now before (g.S.Lookup.sessions c.args.standing.now) c.args.moment c.args.request.now) (sym outcome)
     (initial-open c.args.request.now c.args.moment stands c.in-Some-default.place session is c.in-Some-default.ensures.at c.in-Some-default.ensures.there)
 
 pub returns-in-None-None : goal.returns-in-None-None
-returns-in-None-None c = λ before is stands.
-    subst (IsOutcome c.args.self.now before c.args.standing.now.sessions.items c.args.moment c.args.request.now) (sym c.refused-in-None-None.ensures)
+returns-in-None-None g c = λ before is stands.
+    subst (IsOutcome c.args.self.now before (g.S.Lookup.sessions c.args.standing.now) c.args.moment c.args.request.now) (sym c.refused-in-None-None.ensures)
     (initial-unknown c.args.request.now c.args.moment stands is c.in-None-None.ensures (sym c.account_of-account.ensures.value ∙ c.in-None-None.is-1))

@@ -12,7 +12,7 @@ use Rattle.cc_book.proofs.ByKind.{free-initial, initial-closed, opening-change, 
 use Rattle.cc_book.proofs.terms.Terms.opening_outcome.Goals as goal
 
 pub returns : goal.returns
-returns c = λ before is shut stands.
+returns g c = λ before is shut stands.
     let terms = c.args.self.now in
     let request = c.args.request.now in
     let services = c.as_slice-services.ensures.value in
@@ -22,15 +22,22 @@ returns c = λ before is shut stands.
     let small = subst (λ (ss : List Service). used_total terms.tariffs ss ≤ 2 ^ 103) services c.used_total-debit.ensures.most in
     let free : ℤ = to_z w128 (of_z w128 c.free_to_grant-free.result) in
     let free_fits : SFits w128 c.free_to_grant-free.result = search rules in
-    let available : ℤ = (slice_index_or c.args.standing.now.balances.items c.args.account (pos 0) -ℤ pos (reserved_in c.args.account c.args.standing.now.sessions.items)) +ℤ pos 0 in
+    let available : ℤ =
+    (slice_index_or (g.S.Lookup.balances c.args.standing.now) c.args.account (pos 0) -ℤ pos
+    (reserved_in c.args.account (g.S.Lookup.sessions c.args.standing.now))) +ℤ pos 0 in
     let value : free ≡ available -ℤ pos (used_total terms.tariffs request.services) =
     to_z-of_z w128 c.free_to_grant-free.result free_fits ∙ c.free_to_grant-free.ensures.value ∙ ap (λ (z : ℤ). available -ℤ z) debit in
     let is_free = free-initial request c.args.moment stands c.args.account free is shut c.requires.account c.requires.within value in
-    let holds : c.in_ok-granted.granted.holds.items ≡ holds_from terms.tariffs free request.services = c.in_ok-granted.ensures.holds ∙ ap (holds_from terms.tariffs free) services in
+    let holds : c.in_ok-granted.granted.holds.items ≡ holds_from terms.tariffs free request.services = c.in_ok-granted.ensures.holds
+    ∙ ap (holds_from terms.tariffs free) services in
     let reply : c.session_reply-reply.result ≡ granting_reply terms free request.services =
     c.session_reply-reply.ensures ∙ ap session_reply c.in_ok-granted.ensures.replies ∙ ap (granting_reply terms free) services in
-    let change : c.in_ok-change.change ≡ opening-change request c.args.moment stands (is_success (granting_reply terms free request.services).code) c.args.account c.in_ok-granted.granted.holds.items =
-    c.in_ok-change.ensures ∙ ap (λ (r : CcReply). opening-change request c.args.moment stands (is_success r.code) c.args.account c.in_ok-granted.granted.holds.items) reply in
-    same-outcome (Some c.args.account) (pos (used_total terms.tariffs request.services)) _ (granting_reply terms free request.services) _ c.in_ok-change.change c.in_ok-change.change
+    let change : c.in_ok-change.change ≡ opening-change request c.args.moment stands (is_success (granting_reply terms free request.services).code)
+    c.args.account c.in_ok-granted.granted.holds.items =
+    c.in_ok-change.ensures
+    ∙ ap (λ (r : CcReply). opening-change request c.args.moment stands (is_success r.code) c.args.account c.in_ok-granted.granted.holds.items) reply in
+    same-outcome (Some c.args.account) (pos (used_total terms.tariffs request.services)) _ (granting_reply terms free request.services) _
+    c.in_ok-change.change c.in_ok-change.change
     (sym debit) (sym reply) refl
-    (initial-closed request c.args.moment stands c.args.account free c.in_ok-granted.granted.holds.items c.in_ok-change.change is shut c.requires.account small is_free holds c.in_ok-granted.ensures.most change)
+    (initial-closed request c.args.moment stands c.args.account free c.in_ok-granted.granted.holds.items c.in_ok-change.change is shut c.requires.account
+    small is_free holds c.in_ok-granted.ensures.most change)

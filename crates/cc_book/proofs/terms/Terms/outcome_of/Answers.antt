@@ -8,7 +8,8 @@ ok_so P Q (Ok x) so ok = so x ok
 ok_so P Q (Err e) so ok = tt
 
 pub returns-in-Termination : goal.returns-in-Termination
-returns-in-Termination c = ok_so _ _ c.termination_outcome.result (λ outcome is before stands. is before c.args.moment c.in-Termination.is stands) c.termination_outcome.ensures
+returns-in-Termination g c = ok_so _ _ c.termination_outcome.result (λ outcome is before stands. is before c.args.moment c.in-Termination.is stands)
+    c.termination_outcome.ensures
 
 pub returns-in-Event : goal.returns-in-Event
-returns-in-Event c = ok_so _ _ c.event_outcome.result (λ outcome is before stands. is before c.args.moment c.in-Event.is stands) c.event_outcome.ensures
+returns-in-Event g c = ok_so _ _ c.event_outcome.result (λ outcome is before stands. is before c.args.moment c.in-Event.is stands) c.event_outcome.ensures

@@ -11,18 +11,19 @@ use Rattle.cc_book.proofs.ByKind.{same-outcome, termination-closed, termination-
 use Rattle.cc_book.proofs.terms.Terms.termination_outcome.Goals as goal
 
 pub returns-in_default : goal.returns-in_default
-returns-in_default c = λ before moment is stands.
-    subst (IsOutcome c.args.self.now before c.args.standing.now.sessions.items moment c.args.request.now) (sym c.unknown_session.ensures)
+returns-in_default g c = λ before moment is stands.
+    subst (IsOutcome c.args.self.now before (g.S.Lookup.sessions c.args.standing.now) moment c.args.request.now) (sym c.unknown_session.ensures)
     (termination-closed c.args.request.now moment stands is c.in_default.ensures)
 
 pub returns : goal.returns
-returns c = λ before moment is stands.
+returns g c = λ before moment is stands.
     let terms = c.args.self.now in
     let services = c.as_slice-services.ensures.value in
     let fits : SFits w128 c.used_total.result = search rules in
     let debit = to_z-of_z w128 c.used_total.result fits ∙ c.used_total.ensures.value ∙ ap (λ (ss : List Service). pos (used_total terms.tariffs ss)) services in
     let reply = c.session_reply.ensures ∙ ap session_reply c.in_ok-closed_services.ensures ∙ ap (closing_reply terms) services in
     let small = subst (λ (ss : List Service). used_total terms.tariffs ss ≤ 2 ^ 103) services c.used_total.ensures.most in
-    same-outcome (Some c.in-Some.session.now.account) (pos (used_total terms.tariffs c.args.request.now.services)) _ (closing_reply terms c.args.request.now.services) c.session_reply.result (Ends c.in-Some.place) (Ends c.in-Some.place)
+    same-outcome (Some c.in-Some.session.now.account) (pos (used_total terms.tariffs c.args.request.now.services)) _
+    (closing_reply terms c.args.request.now.services) c.session_reply.result (Ends c.in-Some.place) (Ends c.in-Some.place)
     (sym debit) (sym reply) refl
     (termination-open c.args.request.now moment stands c.in-Some.place c.in-Some.session.now is c.in-Some.ensures.at c.in-Some.ensures.there small)

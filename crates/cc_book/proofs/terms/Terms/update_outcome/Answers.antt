@@ -12,48 +12,48 @@ use Rattle.cc_book.proofs.Amounts.{account-at, held-at, held_in-beside}
 use Rattle.cc_book.proofs.terms.Terms.update_outcome.Goals as goal
 
 pub returns-in_default : goal.returns-in_default
-returns-in_default c = λ before is stands.
-    subst (IsOutcome c.args.self.now before c.args.standing.now.sessions.items c.args.moment c.args.request.now) (sym c.unknown_session.ensures)
+returns-in_default g c = λ before is stands.
+    subst (IsOutcome c.args.self.now before (g.S.Lookup.sessions c.args.standing.now) c.args.moment c.args.request.now) (sym c.unknown_session.ensures)
     (update-closed c.args.request.now c.args.moment stands is c.in_default.ensures)
 
 -- ---- what the session holds is small, and what it holds beside the services no more
 
 pub held_in-requires : goal.held_in-requires
-held_in-requires c =
-    let here = held-at c.args.standing.now.sessions.items c.in-Some.place c.in-Some.session.now c.in-Some.ensures.there in
+held_in-requires g c =
+    let here = held-at (g.S.Lookup.sessions c.args.standing.now) c.in-Some.place c.in-Some.session.now c.in-Some.ensures.there in
     let same = ap held_in c.as_slice.ensures in
     omega (arith, c.requires.held)
 
 pub held_in-requires-2 : goal.held_in-requires-2
-held_in-requires-2 c =
-    let here = held-at c.args.standing.now.sessions.items c.in-Some.place c.in-Some.session.now c.in-Some.ensures.there in
+held_in-requires-2 g c =
+    let here = held-at (g.S.Lookup.sessions c.args.standing.now) c.in-Some.place c.in-Some.session.now c.in-Some.ensures.there in
     let part = held_in-beside c.as_slice-services.result.now c.in-Some.session.now.holds in
     let left = ap held_in (c.deref.ensures.value ∙ c.in_ok-holds.ensures) in
     omega (arith, c.requires.held)
 
 pub overflow_sub-ended : goal.overflow_sub-ended
-overflow_sub-ended c =
+overflow_sub-ended g c =
     let part = held_in-beside c.as_slice-services.result.now c.in-Some.session.now.holds in
     let left = ap held_in (c.deref.ensures.value ∙ c.in_ok-holds.ensures) in
     let same = ap held_in c.as_slice.ensures in
     omega (arith, c.held_in.ensures, c.held_in-2.ensures)
 
 pub free_to_grant-free-requires-clause-within : goal.free_to_grant-free-requires-clause-within
-free_to_grant-free-requires-clause-within c =
-    let known = account-at _ c.args.standing.now.sessions.items c.in-Some.place c.in-Some.session.now c.in-Some.ensures.there c.requires.known in
+free_to_grant-free-requires-clause-within g c =
+    let known = account-at _ (g.S.Lookup.sessions c.args.standing.now) c.in-Some.place c.in-Some.session.now c.in-Some.ensures.there c.requires.known in
     omega (arith, c.requires.accounts)
 
 pub free_to_grant-free-requires-clause-ended : goal.free_to_grant-free-requires-clause-ended
-free_to_grant-free-requires-clause-ended c =
-    let here = held-at c.args.standing.now.sessions.items c.in-Some.place c.in-Some.session.now c.in-Some.ensures.there in
+free_to_grant-free-requires-clause-ended g c =
+    let here = held-at (g.S.Lookup.sessions c.args.standing.now) c.in-Some.place c.in-Some.session.now c.in-Some.ensures.there in
     let same = ap held_in c.as_slice.ensures in
     omega (arith, c.requires.held, c.held_in.ensures)
 
 pub returns : goal.returns
-returns c = λ before is stands.
+returns g c = λ before is stands.
     let terms = c.args.self.now in
     let request = c.args.request.now in
-    let sessions = c.args.standing.now.sessions.items in
+    let sessions = g.S.Lookup.sessions c.args.standing.now in
     let session = c.in-Some.session.now in
     let services = c.as_slice-services.ensures.value in
     let fits : SFits w128 c.used_total-debit.result = search rules in
@@ -70,15 +70,24 @@ returns c = λ before is stands.
     let left = ap held_in beside in
     let whole = ap held_in c.as_slice.ensures in
     let parts : ended + held_in (holds_beside request.services session.holds) ≡ held_in session.holds = omega (arith, c.held_in.ensures, c.held_in-2.ensures) in
-    let value : free ≡ ((slice_index_or c.args.standing.now.balances.items session.account (pos 0) -ℤ pos (reserved_in session.account sessions)) +ℤ pos ended) -ℤ pos (used_total terms.tariffs request.services) =
-    here ∙ c.free_to_grant-free.ensures.value ∙ ap (λ (z : ℤ). ((slice_index_or c.args.standing.now.balances.items session.account (pos 0) -ℤ pos (reserved_in session.account sessions)) +ℤ pos ended) -ℤ z) debit in
+    let value : free
+    ≡ ((slice_index_or (g.S.Lookup.balances c.args.standing.now) session.account (pos 0) -ℤ pos (reserved_in session.account sessions)) +ℤ pos
+    ended) -ℤ pos (used_total terms.tariffs request.services) =
+    here ∙ c.free_to_grant-free.ensures.value
+    ∙ ap (λ (z : ℤ).
+    ((slice_index_or (g.S.Lookup.balances c.args.standing.now) session.account (pos 0) -ℤ pos (reserved_in session.account sessions)) +ℤ pos ended) -ℤ z)
+    debit in
     let is_free = free-update request c.args.moment stands c.in-Some.place session free ended is c.in-Some.ensures.at c.in-Some.ensures.there parts value in
-    let holds : c.in_ok-granted.granted.holds.items ≡ holds_from terms.tariffs free request.services = c.in_ok-granted.ensures.holds ∙ ap (holds_from terms.tariffs free) services in
-    let reply : c.session_reply.result ≡ granting_reply terms free request.services = c.session_reply.ensures ∙ ap session_reply c.in_ok-granted.ensures.replies ∙ ap (granting_reply terms free) services in
-    let outcome = update-open request c.args.moment stands c.in-Some.place session free c.in_ok-granted.granted.holds.items is c.in-Some.ensures.at c.in-Some.ensures.there small is_free holds c.in_ok-granted.ensures.most in
+    let holds : c.in_ok-granted.granted.holds.items ≡ holds_from terms.tariffs free request.services = c.in_ok-granted.ensures.holds
+    ∙ ap (holds_from terms.tariffs free) services in
+    let reply : c.session_reply.result ≡ granting_reply terms free request.services = c.session_reply.ensures
+    ∙ ap session_reply c.in_ok-granted.ensures.replies ∙ ap (granting_reply terms free) services in
+    let outcome = update-open request c.args.moment stands c.in-Some.place session free c.in_ok-granted.granted.holds.items is c.in-Some.ensures.at
+    c.in-Some.ensures.there small is_free holds c.in_ok-granted.ensures.most in
     let all : c.append.new.self.items ≡ holds_beside request.services session.holds ++ c.in_ok-granted.granted.holds.items =
     search rules in
     let next : c.in_ok-session.session ≡ prolonged session c.args.moment (holds_beside request.services session.holds ++ c.in_ok-granted.granted.holds.items) =
     c.in_ok-session.ensures ∙ ap (prolonged session c.args.moment) (c.from_vec.ensures ∙ all) in
-    same-outcome (Some session.account) (pos (used_total terms.tariffs request.services)) _ (granting_reply terms free request.services) c.session_reply.result _ (GoesOn c.in-Some.place c.in_ok-session.session)
+    same-outcome (Some session.account) (pos (used_total terms.tariffs request.services)) _ (granting_reply terms free request.services)
+    c.session_reply.result _ (GoesOn c.in-Some.place c.in_ok-session.session)
     (sym debit) (sym reply) (ap (GoesOn c.in-Some.place) (sym next)) outcome
