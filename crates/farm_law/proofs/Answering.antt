@@ -11,7 +11,7 @@ use Rattle.cc_view.specs.declared.reply.CcReply.{CcReply}
 use Rattle.cc_view.specs.declared.request.CcRequest.{CcRequest}
 use Rattle.cc_book.specs.Taking.{Ledger}
 use Rattle.front_core.specs.declared.site.FrontSite.{FrontSite}
-use Rattle.front_core.specs.Answered.{IsAnswered}
+use Rattle.front_core.specs.Answered.{IsBookAnswer}
 use Rattle.relay_core.specs.Forwarding.{Descends}
 use Rattle.relay_hops.specs.PendingTable.{under}
 use Rattle.farm_law.specs.Answers.{IsToldBy, by_relay, Answers, of_front, of_refusal}
@@ -83,7 +83,7 @@ answers_back l p {first = first} {message = message} avps is_relay from sp d (of
 
 -- what the one book answers and the one list of refusals has, the other does and has
 pub record Grows (book : Ledger) (refused : List Refused) (next_book : Ledger) (next_refused : List Refused) : Type 0 where
-  pub answered : (site : FrontSite) (message answer : Message) → IsAnswered site book message answer → IsAnswered site next_book message answer
+  pub answered : (site : FrontSite) (message answer : Message) → IsBookAnswer site book message answer → IsBookAnswer site next_book message answer
   pub refused_still : (at : Refused) → Has at refused → Has at next_refused
 
 module _ {p : Parties} {book next_book : Ledger} {refused next_refused : List Refused} (g : Grows book refused next_book next_refused) where

@@ -18,7 +18,7 @@ use Rattle.cc_book.specs.Taking.{Ledger, with_take, with_sweep}
 use Rattle.front_core.specs.Counts.{is_with}
 use Rattle.farm_law.specs.Answers.{Answers}
 use Rattle.farm_law.specs.Counts.{Class, with_hop, with_both, item_in}
-use Rattle.farm_law.specs.Farm.{Item, Pending, Refused, waiting_node, reply_to}
+use Rattle.farm_law.specs.Farm.{Item, PendingRow, Refused, waiting_node, reply_to}
 use Rattle.farm_law.specs.Invariant.{Asks, Fits, IsSound, IsOwed, HasDescended, ComesFrom, as_sent, on_its_way, IsTaken, Keeps}
 use Rattle.farm_law.specs.Lists.{Has, Without, Left}
 use Rattle.farm_law.specs.Parties.{Parties}
@@ -57,7 +57,7 @@ IsTaken-sent : (p : Parties) (sent more : Traffic) (entry : Entry) → IsTaken p
 IsTaken-sent p sent more (Take moment request) t = (t.0, t.1, Has-append more t.2, t.3, t.4)
 IsTaken-sent p sent more (Sweep moment) t = t
 
-module _ (p : Parties) {has_ended : NodeNo → ConnId → Bool} {items : List Item} {rows : List Pending} {book : Ledger} {refused : List Refused} {sent received : Traffic} (v : Keeps p has_ended items rows book refused sent received) where
+module _ (p : Parties) {has_ended : NodeNo → ConnId → Bool} {items : List Item} {rows : List PendingRow} {book : Ledger} {refused : List Refused} {sent received : Traffic} (v : Keeps p has_ended items rows book refused sent received) where
   pub keep_ends : (ends : NodeNo → ConnId → Bool) → ((node : NodeNo) (conn : ConnId) → has_ended node conn ≡ true → ends node conn ≡ true) → Keeps p ends items rows book refused sent received
   keep_ends ends more = record {
     clients = v.clients;

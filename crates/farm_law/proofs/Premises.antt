@@ -17,13 +17,13 @@ use Rattle.cc_book.specs.AccountMachine.{kept_reply}
 use Rattle.cc_book.specs.History.{IsLegal, ended_sessions}
 use Rattle.cc_book.specs.Taking.{Ledger}
 use Rattle.front_core.specs.declared.site.FrontSite.{FrontSite}
-use Rattle.front_core.specs.Answered.{IsAnswered}
+use Rattle.front_core.specs.Answered.{IsBookAnswer}
 use Rattle.relay_core.specs.Forwarding.{Descends}
 
 pub record Premises : Type 0 where
   pub legal_grows : (terms : Terms) (history : List Entry) (moment : Moment) (request : CcRequest) → IsLegal terms history → kept_reply terms history request ≡ None → IsLegal terms (history ++ Take moment request ∷ [])
   pub legal_sweeps : (terms : Terms) (history : List Entry) (moment : Moment) → IsLegal terms history → 0 < ended_sessions terms history moment → IsLegal terms (history ++ Sweep moment ∷ [])
-  pub answers_stay : (site : FrontSite) (ledger : Ledger) (more : List Entry) (message answer : Message) → IsAnswered site ledger message answer → IsAnswered site (record ledger { history = ledger.history ++ more }) message answer
+  pub answers_stay : (site : FrontSite) (ledger : Ledger) (more : List Entry) (message answer : Message) → IsBookAnswer site ledger message answer → IsBookAnswer site (record ledger { history = ledger.history ++ more }) message answer
   pub descends_on : (request passed last : Message) → Descends request passed → Descends passed last → Descends request last
   pub same_view : (vendors : List ℕ) (request passed : Message) (avps : List RawAvp) → split_of request.body ≡ Ok avps → Descends request passed → view_of vendors passed ≡ view_of vendors request
   pub same_answer : (front realm : List ℕ) (request passed : Message) (content : CcRequest) (reply : CcReply) (avps : List RawAvp) → split_of request.body ≡ Ok avps → Descends request passed →

@@ -15,7 +15,7 @@ use Rattle.relay_hops.specs.PendingTable.{under}
 use Rattle.relay_routes.specs.Routing.{record_of}
 use Rattle.farm_law.specs.Answers.{Answers}
 use Rattle.farm_law.specs.Counts.{with_hop, with_both, item_in, held_in, row_in}
-use Rattle.farm_law.specs.Farm.{Item, Asker, Pending, Refused}
+use Rattle.farm_law.specs.Farm.{Item, Asker, PendingRow, Refused}
 use Rattle.farm_law.specs.Invariant.{Asks, Fits, Stems, IsSound, IsAsked, HasDescended, ComesFrom, as_sent, on_its_way, Keeps}
 use Rattle.farm_law.specs.Lists.{Has, Without}
 use Rattle.farm_law.specs.Moves.{forwarded, row_for}
@@ -27,14 +27,14 @@ use Rattle.farm_law.proofs.Answering.{HasFrom, Fits-self, Fits-answer, answers_b
 use Rattle.farm_law.proofs.Asking.{Asks-map, Asks-rows, IsAsked-map}
 
 -- the answer to what a relay has sent goes to the asker
-pub to_asker : (l : Premises) (p : Parties) {has_ended : NodeNo → ConnId → Bool} {rows : List Pending} {book : Ledger} {refused : List Refused} {sent : Traffic} {node relay : NodeNo} {conn : ConnId} {asker : Asker} {request answer : Message} →
+pub to_asker : (l : Premises) (p : Parties) {has_ended : NodeNo → ConnId → Bool} {rows : List PendingRow} {book : Ledger} {refused : List Refused} {sent : Traffic} {node relay : NodeNo} {conn : ConnId} {asker : Asker} {request answer : Message} →
     p.is_relay relay ≡ true → HasFrom p relay node → answer.header.request ≡ false → Answers p book refused node conn request answer →
     Asks p has_ended rows sent asker.conn asker.node (Stems asker request) → Asks p has_ended rows sent asker.conn asker.node (Fits p book refused relay asker.conn (under asker.hop answer))
 to_asker l p {book = book} {refused = refused} {relay = relay} {asker = asker} {answer = answer} is_relay from flag a asks = Asks-map p (λ asked s.
     Fits-answer flag (subst (λ (h : ℕ). Answers p book refused relay asker.conn asked (under h answer)) s.hop (answers_back l p s.avps is_relay from s.splits s.descends a))) asks
 
-module _ (p : Parties) {has_ended : NodeNo → ConnId → Bool} {items : List Item} {rows : List Pending} {book : Ledger} {refused : List Refused} {sent received : Traffic} (v : Keeps p has_ended items rows book refused sent received) where
-  pub keep_forwards : {item : Item} {rest next : List Item} {next_rows : List Pending} (conn : ConnId) (peer : NodeNo) (hop : ℕ) (avps : List RawAvp) →
+module _ (p : Parties) {has_ended : NodeNo → ConnId → Bool} {items : List Item} {rows : List PendingRow} {book : Ledger} {refused : List Refused} {sent received : Traffic} (v : Keeps p has_ended items rows book refused sent received) where
+  pub keep_forwards : {item : Item} {rest next : List Item} {next_rows : List PendingRow} (conn : ConnId) (peer : NodeNo) (hop : ℕ) (avps : List RawAvp) →
       Without item items rest → item.message.header.request ≡ true → split_of item.message.body ≡ Ok avps → HasSpelling (record_of (p.name_of item.from)) →
       p.is_client item.to ≡ false → p.is_client peer ≡ false → count_by (row_in (with_hop conn item.to hop)) rows ≡ 0 →
       Without (record { conn = conn; from = item.to; to = peer; message = forwarded p hop item }) next rest → Without (row_for p conn hop item) next_rows rows →
@@ -63,10 +63,10 @@ module _ (p : Parties) {has_ended : NodeNo → ConnId → Bool} {items : List It
         (subst (λ (n : NodeNo). Asks p has_ended rows sent item.conn n (Fits p book refused item.from item.conn item.message)) (waiting_request item e) (v.sound item (Has-without wo) (inl e)))));
     owed = v.owed;
     to_servers = all-in (λ (y : Item). y.message.header.request ≡ true → p.is_client y.to ≡ false) wi (λ y h. v.to_servers y (Has-more wo h)) (λ _. server);
-    askers = all-in (λ (z : Pending). p.is_client z.relay ≡ false) wr v.askers relay;
-    requests = all-in (λ (z : Pending). z.request.header.request ≡ true) wr v.requests e;
+    askers = all-in (λ (z : PendingRow). p.is_client z.relay ≡ false) wr v.askers relay;
+    requests = all-in (λ (z : PendingRow). z.request.header.request ≡ true) wr v.requests e;
     items_come = all-in (λ (y : Item). y.message.header.request ≡ true → ComesFrom sent y.message) wi (λ y h. v.items_come y (Has-more wo h)) (λ _. on_its_way (descended (v.items_come item (Has-without wo) e)));
-    rows_come = all-in (λ (z : Pending). HasDescended sent z.request) wr v.rows_come (descended (v.items_come item (Has-without wo) e));
+    rows_come = all-in (λ (z : PendingRow). HasDescended sent z.request) wr v.rows_come (descended (v.items_come item (Has-without wo) e));
     taken = v.taken;
     legal = v.legal;
     within = v.within;
@@ -78,13 +78,13 @@ module _ (p : Parties) {has_ended : NodeNo → ConnId → Bool} {items : List It
       other : Item
       other = record { conn = conn; from = item.to; to = peer; message = forwarded p hop item }
 
-      row : Pending
+      row : PendingRow
       row = row_for p conn hop item
 
-      IsRowAsked : Pending → Type 0
+      IsRowAsked : PendingRow → Type 0
       IsRowAsked z = IsAsked p has_ended next_rows sent z.request z.asker
 
-      more : {c : ConnId} {n : NodeNo} → has_ended n c ≡ false → (z : Pending) → Has z rows → z.conn ≡ c → z.relay ≡ n → Has z next_rows
+      more : {c : ConnId} {n : NodeNo} → has_ended n c ≡ false → (z : PendingRow) → Has z rows → z.conn ≡ c → z.relay ≡ n → Has z next_rows
       more live z h at of = Has-more wr h
 
       stems : Stems asker row.request item.message

@@ -9,7 +9,7 @@ use Rattle.cc_book.specs.Taking.{Ledger}
 use Rattle.relay_hops.specs.PendingTable.{under}
 use Rattle.farm_law.specs.Answers.{Answers}
 use Rattle.farm_law.specs.Counts.{Class, with_hop, with_both, item_in, asker_in, held_in, row_in, open_in}
-use Rattle.farm_law.specs.Farm.{Item, Asker, Pending, Refused, waiting_node}
+use Rattle.farm_law.specs.Farm.{Item, Asker, PendingRow, Refused, waiting_node}
 use Rattle.farm_law.specs.Invariant.{Asks, Fits, IsSound, IsAsked, ComesFrom, Keeps}
 use Rattle.farm_law.specs.Lists.{Has, Without}
 use Rattle.farm_law.specs.Parties.{Parties}
@@ -21,13 +21,13 @@ use Rattle.farm_law.proofs.Asking.{Asks-less, IsAsked-map}
 use Rattle.farm_law.proofs.Relaying.{to_asker}
 
 -- what is known of an answer under the identifier of a row
-record Matches (p : Parties) (has_ended : NodeNo → ConnId → Bool) (rest : List Item) (rows left : List Pending) (book : Ledger) (refused : List Refused) (sent : Traffic) (item : Item) (row : Pending) : Type 0 where
+record Matches (p : Parties) (has_ended : NodeNo → ConnId → Bool) (rest : List Item) (rows left : List PendingRow) (book : Ledger) (refused : List Refused) (sent : Traffic) (item : Item) (row : PendingRow) : Type 0 where
   pub answers : Answers p book refused item.from item.conn row.request item.message
   pub weighs : (class : Class) → item_in p class item ≡ row_in class row
   pub sound : (other : Item) → Has other rest → IsSound p has_ended left book refused sent other
-  pub asked : (other : Pending) → Has other rows → IsAsked p has_ended left sent other.request other.asker
+  pub asked : (other : PendingRow) → Has other rows → IsAsked p has_ended left sent other.request other.asker
 
-module _ (p : Parties) {has_ended : NodeNo → ConnId → Bool} {items rest : List Item} {rows left : List Pending} {book : Ledger} {refused : List Refused} {sent received : Traffic} {item : Item} {row : Pending}
+module _ (p : Parties) {has_ended : NodeNo → ConnId → Bool} {items rest : List Item} {rows left : List PendingRow} {book : Ledger} {refused : List Refused} {sent received : Traffic} {item : Item} {row : PendingRow}
     (wo : Without item items rest) (flag : item.message.header.request ≡ false) (server : p.is_client item.from ≡ false) (live : has_ended item.to item.conn ≡ false)
     (wr : Without row rows left) (at_conn : row.conn ≡ item.conn) (at_relay : row.relay ≡ item.to) (at_hop : row.request.header.hop ≡ item.message.header.hop)
     (v : Keeps p has_ended items rows book refused sent received) where
@@ -47,7 +47,7 @@ module _ (p : Parties) {has_ended : NodeNo → ConnId → Bool} {items rest : Li
       alone : count_by (row_in class_of) left ≡ 0
       alone = let a = v.single row.conn row.relay row.request.header.hop in let b = count-without (row_in class_of) wr in let c = ap one own in omega arith
 
-      found : (z : Pending) × Has z rows × (z.conn ≡ item.conn) × (z.relay ≡ waiting_node item) × Fits p book refused item.from item.conn item.message z.request
+      found : (z : PendingRow) × Has z rows × (z.conn ≡ item.conn) × (z.relay ≡ waiting_node item) × Fits p book refused item.from item.conn item.message z.request
       found = (v.sound item (Has-without wo) (inr server)).relay (ap p.is_client (waiting_answer item flag ∙ sym at_relay) ∙ relay) (ap (λ (n : NodeNo). has_ended n item.conn) (waiting_answer item flag) ∙ live)
 
       found_is : found.0 ≡ row
@@ -61,7 +61,7 @@ module _ (p : Parties) {has_ended : NodeNo → ConnId → Bool} {items rest : Li
       ]
 
       answers : Answers p book refused item.from item.conn row.request item.message
-      answers = subst (λ (z : Pending). Answers p book refused item.from item.conn z.request item.message) found_is ((found.4).answer flag)
+      answers = subst (λ (z : PendingRow). Answers p book refused item.from item.conn z.request item.message) found_is ((found.4).answer flag)
 
       weighs : (class : Class) → item_in p class item ≡ row_in class row
       weighs class =
@@ -91,7 +91,7 @@ module _ (p : Parties) {has_ended : NodeNo → ConnId → Bool} {items rest : Li
           let a = count-has (item_in p class_of) h t in let b = no_rest in
           absurd (omega arith)) (v.sound other (Has-more wo h) q)
 
-      asked : (other : Pending) → Has other rows → IsAsked p has_ended left sent other.request other.asker
+      asked : (other : PendingRow) → Has other rows → IsAsked p has_ended left sent other.request other.asker
       asked other h = IsAsked-map p other.asker (λ asker at a. Asks-less p wr (λ _ u w s.
           let t : held_in class_of other ≡ true = ap (λ (o : Option Asker). asker_in class_of o other.request.header.end) at
           ∙ with_hop-at row.conn row.relay row.request.header.hop other.request.header.end (sym u) (sym w) (sym s.hop) in

@@ -6,7 +6,7 @@ use Rattle.dia_base.specs.declared.number.ConnId.{ConnId}
 use Rattle.dia_base.specs.declared.number.NodeNo.{NodeNo}
 use Rattle.dia_base.proofs.Counting.{one}
 use Rattle.farm_law.specs.Counts.{Class, with_hop, with_both, item_in, row_in}
-use Rattle.farm_law.specs.Farm.{Item, Pending, waiting_node}
+use Rattle.farm_law.specs.Farm.{Item, PendingRow, waiting_node}
 use Rattle.farm_law.specs.Parties.{Parties}
 
 pub clash : {b : Bool} → b ≡ true → b ≡ false → ⊥
@@ -82,7 +82,7 @@ pub other_conn : (has_ended : NodeNo → ConnId → Bool) (conn : ConnId) (node 
 other_conn has_ended conn node hop c n h e live gone = none_if _ (λ t. let k = with_hop-is conn node hop c n h e t in clash (ap (λ (m : NodeNo). has_ended m conn) (sym k.1) ∙ ap (λ (x : ConnId). has_ended n x) (sym k.0) ∙ gone) live)
 
 -- an identifier that was free is in use once
-pub single-more : (rows : List Pending) (conn : ConnId) (node : NodeNo) (hop : ℕ) (c : ConnId) (n : NodeNo) (h e : ℕ) →
+pub single-more : (rows : List PendingRow) (conn : ConnId) (node : NodeNo) (hop : ℕ) (c : ConnId) (n : NodeNo) (h e : ℕ) →
     count_by (row_in (with_hop conn node hop)) rows ≤ 1 → count_by (row_in (with_hop c n h)) rows ≡ 0 → one (with_hop conn node hop c n h e) + count_by (row_in (with_hop conn node hop)) rows ≤ 1
 single-more rows conn node hop c n h e most free = go (with_hop conn node hop c n h e) refl
   where

@@ -2,7 +2,7 @@
 use Rattle.std.specs.Prelude.{ℕ, ◌+◌, Bool, false, not, ◌&&◌, ◌||◌, ◌==◌, count_by, List, Option, Some, None}
 use Rattle.dia_base.specs.declared.number.ConnId.{ConnId}
 use Rattle.dia_base.specs.declared.number.NodeNo.{NodeNo}
-use Rattle.farm_law.specs.Farm.{Item, Asker, Pending, waiting_node}
+use Rattle.farm_law.specs.Farm.{Item, Asker, PendingRow, waiting_node}
 use Rattle.farm_law.specs.Parties.{Parties}
 
 -- a test of connection, waiting node, Hop-by-Hop and End-to-End Identifier
@@ -24,13 +24,13 @@ abbrev pub asker_in : Class → Option Asker → ℕ → Bool
 asker_in class None end = false
 asker_in class (Some asker) end = class asker.conn asker.node asker.hop end
 
-abbrev pub held_in : Class → Pending → Bool
+abbrev pub held_in : Class → PendingRow → Bool
 held_in class row = asker_in class row.asker row.request.header.end
 
 -- what a relay has sent
-abbrev pub row_in : Class → Pending → Bool
+abbrev pub row_in : Class → PendingRow → Bool
 row_in class row = class row.conn row.relay row.request.header.hop row.request.header.end
 
 -- in flight, in a queue, with a worker, or held by a relay
-abbrev pub open_in : Parties → Class → List Item → List Pending → ℕ
+abbrev pub open_in : Parties → Class → List Item → List PendingRow → ℕ
 open_in p class items rows = count_by (item_in p class) items + count_by (held_in class) rows

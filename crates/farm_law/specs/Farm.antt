@@ -22,7 +22,7 @@ pub record Asker : Type 0 where
   pub hop : ℕ
 
 -- a request that a relay has sent on a connection and whose answer it awaits; no asker where that connection has ended
-pub record Pending : Type 0 where
+pub record PendingRow : Type 0 where
   pub relay : NodeNo
   pub conn : ConnId
   pub asker : Option Asker
@@ -37,7 +37,7 @@ pub record Refused : Type 0 where
 
 pub record Farm : Type 0 where
   pub items : List Item
-  pub rows : List Pending
+  pub rows : List PendingRow
   -- Where connections have ended: each of the two nodes learns it by itself, and until it has, its end stands. One that is
   -- not made yet has not ended.
   pub has_ended : NodeNo → ConnId → Bool

@@ -15,7 +15,7 @@ use Rattle.front_core.specs.Counts.{requests_with, answers_with}
 use Rattle.relay_core.specs.Forwarding.{Descends}
 use Rattle.farm_law.specs.Answers.{Answers}
 use Rattle.farm_law.specs.Counts.{with_hop, with_both, row_in, open_in}
-use Rattle.farm_law.specs.Farm.{Item, Asker, Pending, Refused, Farm, waiting_node}
+use Rattle.farm_law.specs.Farm.{Item, Asker, PendingRow, Refused, Farm, waiting_node}
 use Rattle.farm_law.specs.Lists.{Has}
 use Rattle.farm_law.specs.Parties.{Parties}
 
@@ -23,9 +23,9 @@ use Rattle.farm_law.specs.Parties.{Parties}
 
 -- The node has asked something on the connection, such that P: a client has sent it, and a relay awaits its answer
 -- unless the connection has ended for it; whether it has for the other node is not asked.
-pub record Asks (p : Parties) (has_ended : NodeNo → ConnId → Bool) (rows : List Pending) (sent : Traffic) (conn : ConnId) (node : NodeNo) (P : Message → Type 0) : Type 0 where
+pub record Asks (p : Parties) (has_ended : NodeNo → ConnId → Bool) (rows : List PendingRow) (sent : Traffic) (conn : ConnId) (node : NodeNo) (P : Message → Type 0) : Type 0 where
   pub client : p.is_client node ≡ true → (message : Message) × Has (conn, message) sent × (message.header.request ≡ true) × P message
-  pub relay : p.is_client node ≡ false → has_ended node conn ≡ false → (row : Pending) × Has row rows × (row.conn ≡ conn) × (row.relay ≡ node) × P row.request
+  pub relay : p.is_client node ≡ false → has_ended node conn ≡ false → (row : PendingRow) × Has row rows × (row.conn ≡ conn) × (row.relay ≡ node) × P row.request
 
 -- a message that a node tells is what was asked, or answers it
 pub record Fits (p : Parties) (book : Ledger) (refused : List Refused) (node : NodeNo) (conn : ConnId) (message asked : Message) : Type 0 where
@@ -39,12 +39,12 @@ pub record Stems (asker : Asker) (request asked : Message) : Type 0 where
   pub splits : split_of asked.body ≡ Ok avps
   pub descends : Descends asked request
 
-abbrev pub IsAsked : Parties → (NodeNo → ConnId → Bool) → List Pending → Traffic → Message → Option Asker → Type 0
+abbrev pub IsAsked : Parties → (NodeNo → ConnId → Bool) → List PendingRow → Traffic → Message → Option Asker → Type 0
 IsAsked p has_ended rows sent request None = Unit {0}
 IsAsked p has_ended rows sent request (Some asker) = Asks p has_ended rows sent asker.conn asker.node (Stems asker request)
 
 -- a message on its way was asked, or answers what was; answers that a client sends stand for nothing
-abbrev pub IsSound : Parties → (NodeNo → ConnId → Bool) → List Pending → Ledger → List Refused → Traffic → Item → Type 0
+abbrev pub IsSound : Parties → (NodeNo → ConnId → Bool) → List PendingRow → Ledger → List Refused → Traffic → Item → Type 0
 IsSound p has_ended rows book refused sent item =
     (item.message.header.request ≡ true) ⊎ (p.is_client item.from ≡ false) → Asks p has_ended rows sent item.conn (waiting_node item) (Fits p book refused item.from item.conn item.message)
 
@@ -80,7 +80,7 @@ IsTaken p sent (Sweep moment) = Unit {0}
 
 -- ---- the whole
 
-pub record Keeps (p : Parties) (has_ended : NodeNo → ConnId → Bool) (items : List Item) (rows : List Pending) (book : Ledger) (refused : List Refused) (sent received : Traffic) : Type 0 where
+pub record Keeps (p : Parties) (has_ended : NodeNo → ConnId → Bool) (items : List Item) (rows : List PendingRow) (book : Ledger) (refused : List Refused) (sent received : Traffic) : Type 0 where
   -- no more open or answered than sent
   pub clients : (conn : ConnId) (hop end : ℕ) → p.is_client (p.client_on conn) ≡ true →
       open_in p (with_both conn (p.client_on conn) hop end) items rows + answers_with received conn hop end ≤ requests_with sent conn hop end
@@ -90,15 +90,15 @@ pub record Keeps (p : Parties) (has_ended : NodeNo → ConnId → Bool) (items :
   pub single : (conn : ConnId) (node : NodeNo) (hop : ℕ) → count_by (row_in (with_hop conn node hop)) rows ≤ 1
   -- what stands there is what was asked, or answers it
   pub sound : (item : Item) → Has item items → IsSound p has_ended rows book refused sent item
-  pub asked : (row : Pending) → Has row rows → IsAsked p has_ended rows sent row.request row.asker
+  pub asked : (row : PendingRow) → Has row rows → IsAsked p has_ended rows sent row.request row.asker
   pub owed : (conn : ConnId) (answer : Message) → Has (conn, answer) received → IsOwed p book refused sent conn answer
   -- requests go to no client, and relays hold requests
   pub to_servers : (item : Item) → Has item items → item.message.header.request ≡ true → p.is_client item.to ≡ false
-  pub askers : (row : Pending) → Has row rows → p.is_client row.relay ≡ false
-  pub requests : (row : Pending) → Has row rows → row.request.header.request ≡ true
+  pub askers : (row : PendingRow) → Has row rows → p.is_client row.relay ≡ false
+  pub requests : (row : PendingRow) → Has row rows → row.request.header.request ≡ true
   -- each request comes from one that a client has sent, and what a relay has sent descends from it
   pub items_come : (item : Item) → Has item items → item.message.header.request ≡ true → ComesFrom sent item.message
-  pub rows_come : (row : Pending) → Has row rows → HasDescended sent row.request
+  pub rows_come : (row : PendingRow) → Has row rows → HasDescended sent row.request
   pub taken : (entry : Entry) → Has entry book.history → IsTaken p sent entry
   pub legal : IsLegal book.terms book.history
   pub within : length book.history ≤ book.limit

@@ -14,12 +14,12 @@ use Rattle.cc_view.specs.RequestView.{view_of}
 use Rattle.cc_book.specs.AccountMachine.{kept_reply}
 use Rattle.cc_book.specs.History.{ended_sessions}
 use Rattle.cc_book.specs.Taking.{with_take, with_sweep}
-use Rattle.front_core.specs.Answered.{IsAnswered}
+use Rattle.front_core.specs.Answered.{IsBookAnswer}
 use Rattle.relay_routes.specs.Routing.{record_of}
 use Rattle.relay_hops.specs.PendingTable.{under, again}
 use Rattle.relay_core.specs.Forwarding.{with_record}
 use Rattle.farm_law.specs.Counts.{with_hop, row_in}
-use Rattle.farm_law.specs.Farm.{Item, Asker, Pending, Farm, reply_to}
+use Rattle.farm_law.specs.Farm.{Item, Asker, PendingRow, Farm, reply_to}
 use Rattle.farm_law.specs.Lists.{Has, Without, Left}
 use Rattle.farm_law.specs.Parties.{Parties}
 
@@ -29,7 +29,7 @@ use Rattle.farm_law.specs.Parties.{Parties}
 abbrev pub forwarded : Parties → ℕ → Item → Message
 forwarded p hop item = under hop (with_record (p.name_of item.from) item.message)
 
-abbrev pub row_for : Parties → ConnId → ℕ → Item → Pending
+abbrev pub row_for : Parties → ConnId → ℕ → Item → PendingRow
 row_for p conn hop item = record {
   relay = item.to;
   conn = conn;
@@ -38,14 +38,14 @@ row_for p conn hop item = record {
 }
 
 -- the same request, sent again on another connection
-abbrev pub row_again : ConnId → ℕ → Pending → Pending
+abbrev pub row_again : ConnId → ℕ → PendingRow → PendingRow
 row_again conn hop row = record row { conn = conn; request = again hop row.request }
 
 -- some rows have lost their askers
-pub data Orphaned : List Pending → List Pending → Type 0 where
+pub data Orphaned : List PendingRow → List PendingRow → Type 0 where
   none : Orphaned [] []
-  as_it_was : {row : Pending} {old new : List Pending} → Orphaned old new → Orphaned (row ∷ old) (row ∷ new)
-  orphan : {row : Pending} {old new : List Pending} → Orphaned old new → Orphaned (row ∷ old) (record row { asker = None } ∷ new)
+  as_it_was : {row : PendingRow} {old new : List PendingRow} → Orphaned old new → Orphaned (row ∷ old) (row ∷ new)
+  orphan : {row : PendingRow} {old new : List PendingRow} → Orphaned old new → Orphaned (row ∷ old) (record row { asker = None } ∷ new)
 
 -- ---- moves
 
@@ -64,7 +64,7 @@ pub data Move (p : Parties) : Farm → Farm → Type 0 where
   moves_on : {f : Farm} {item : Item} {rest items : List Item} → Without item f.items rest → Without item items rest → Move p f (record f { items = items })
   -- a front answers a request with what the book keeps
   answers : {f : Farm} {item : Item} {rest items : List Item} (answer : Message) → Without item f.items rest → item.message.header.request ≡ true → p.is_front item.to ≡ true →
-      IsAnswered (p.front_site (p.name_of item.to)) f.book item.message answer → Without (reply_to item answer) items rest →
+      IsBookAnswer (p.front_site (p.name_of item.to)) f.book item.message answer → Without (reply_to item answer) items rest →
       Move p f (record f { items = items })
   -- the book takes what is read in a request
   takes : {f : Farm} {item : Item} (moment : Moment) (request : CcRequest) → Has item f.items → item.message.header.request ≡ true → view_of p.vendors item.message ≡ Ok request →
@@ -78,33 +78,33 @@ pub data Move (p : Parties) : Farm → Farm → Type 0 where
       Without (reply_to item (refusal_of (p.name_of item.to) p.realm item.message refusal)) items rest →
       Move p f (record f { items = items; refused = f.refused ++ record { node = item.to; conn = item.conn; request = item.message; refusal = refusal } ∷ [] })
   -- a relay forwards a request under an identifier that is not in use
-  forwards : {f : Farm} {item : Item} {rest items : List Item} {rows : List Pending} (conn : ConnId) (peer : NodeNo) (hop : ℕ) (avps : List RawAvp) →
+  forwards : {f : Farm} {item : Item} {rest items : List Item} {rows : List PendingRow} (conn : ConnId) (peer : NodeNo) (hop : ℕ) (avps : List RawAvp) →
       Without item f.items rest → item.message.header.request ≡ true → split_of item.message.body ≡ Ok avps → HasSpelling (record_of (p.name_of item.from)) →
       p.is_relay item.to ≡ true → p.is_client item.to ≡ false → p.is_client peer ≡ false → count_by (row_in (with_hop conn item.to hop)) f.rows ≡ 0 →
       Without (record { conn = conn; from = item.to; to = peer; message = forwarded p hop item }) items rest → Without (row_for p conn hop item) rows f.rows →
       Move p f (record f { items = items; rows = rows })
   -- a relay, for which the connection stands, sends an answer back to the asker of its request
-  returns : {f : Farm} {item : Item} {row : Pending} {rest items : List Item} {rows : List Pending} (asker : Asker) → Without item f.items rest → item.message.header.request ≡ false →
+  returns : {f : Farm} {item : Item} {row : PendingRow} {rest items : List Item} {rows : List PendingRow} (asker : Asker) → Without item f.items rest → item.message.header.request ≡ false →
       p.is_client item.from ≡ false → p.is_relay item.to ≡ true → p.is_linked item.to item.from ≡ true → f.has_ended item.to item.conn ≡ false →
       Without row f.rows rows → row.conn ≡ item.conn → row.relay ≡ item.to → row.request.header.hop ≡ item.message.header.hop → row.asker ≡ Some asker →
       Without (record { conn = asker.conn; from = item.to; to = asker.node; message = under asker.hop item.message }) items rest →
       Move p f (record f { items = items; rows = rows })
   -- a relay gets an answer that nobody waits for any more
-  forgets : {f : Farm} {item : Item} {row : Pending} {rest : List Item} {rows : List Pending} → Without item f.items rest → item.message.header.request ≡ false →
+  forgets : {f : Farm} {item : Item} {row : PendingRow} {rest : List Item} {rows : List PendingRow} → Without item f.items rest → item.message.header.request ≡ false →
       p.is_client item.from ≡ false → f.has_ended item.to item.conn ≡ false →
       Without row f.rows rows → row.conn ≡ item.conn → row.relay ≡ item.to → row.request.header.hop ≡ item.message.header.hop →
       Move p f (record f { items = rest; rows = rows })
   -- the connections of some askers have ended
-  orphans : {f : Farm} {rows : List Pending} → Orphaned f.rows rows → Move p f (record f { rows = rows })
+  orphans : {f : Farm} {rows : List PendingRow} → Orphaned f.rows rows → Move p f (record f { rows = rows })
   -- requests on connections that have ended for the relay are given up without an answer
-  drops : {f : Farm} {rows : List Pending} → Left (λ row. f.has_ended row.relay row.conn ≡ true) f.rows rows → Move p f (record f { rows = rows })
+  drops : {f : Farm} {rows : List PendingRow} → Left (λ row. f.has_ended row.relay row.conn ≡ true) f.rows rows → Move p f (record f { rows = rows })
   -- a request on a connection that has ended for the relay is sent again on another one
-  sends_again : {f : Farm} {row : Pending} {left rows : List Pending} {items : List Item} (conn : ConnId) (peer : NodeNo) (hop : ℕ) → Without row f.rows left → f.has_ended row.relay row.conn ≡ true →
+  sends_again : {f : Farm} {row : PendingRow} {left rows : List PendingRow} {items : List Item} (conn : ConnId) (peer : NodeNo) (hop : ℕ) → Without row f.rows left → f.has_ended row.relay row.conn ≡ true →
       p.is_client peer ≡ false → count_by (row_in (with_hop conn row.relay hop)) left ≡ 0 →
       Without (record { conn = conn; from = row.relay; to = peer; message = again hop row.request }) items f.items → Without (row_again conn hop row) rows left →
       Move p f (record f { items = items; rows = rows })
   -- a relay refuses a request on a connection that has ended for it
-  gives_up : {f : Farm} {row : Pending} {rows : List Pending} {items : List Item} (asker : Asker) (refusal : Refusal) → Without row f.rows rows → f.has_ended row.relay row.conn ≡ true →
+  gives_up : {f : Farm} {row : PendingRow} {rows : List PendingRow} {items : List Item} (asker : Asker) (refusal : Refusal) → Without row f.rows rows → f.has_ended row.relay row.conn ≡ true →
       row.asker ≡ Some asker → p.is_relay row.relay ≡ true →
       Without (record { conn = asker.conn; from = row.relay; to = asker.node; message = under asker.hop (refusal_of (p.name_of row.relay) p.realm row.request refusal) }) items f.items →
       Move p f (record f { items = items; rows = rows; refused = f.refused ++ record { node = row.relay; conn = row.conn; request = row.request; refusal = refusal } ∷ [] })

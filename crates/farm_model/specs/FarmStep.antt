@@ -116,11 +116,11 @@ after_lost_message w None = None
 after_lost_message w (Some flight) = Some (record w { directions = flight.directions })
 
 -- what a call takes out of flight: where there is no such message, nothing
-abbrev pub Takes : Option Flight → Option (ConnId × Message) → List Direction → List Direction → Type 0
-Takes None None old new = new ≡ old
-Takes None (Some item) old new = ⊥
-Takes (Some flight) None old new = ⊥
-Takes (Some flight) (Some item) old new = (item ≡ (flight.conn, flight.message)) × (new ≡ flight.directions)
+abbrev pub IsRemoved : Option Flight → Option (ConnId × Message) → List Direction → List Direction → Type 0
+IsRemoved None None old new = new ≡ old
+IsRemoved None (Some item) old new = ⊥
+IsRemoved (Some flight) None old new = ⊥
+IsRemoved (Some flight) (Some item) old new = (item ≡ (flight.conn, flight.message)) × (new ≡ flight.directions)
 
 -- ---- a worker of a front
 

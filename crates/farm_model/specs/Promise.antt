@@ -21,7 +21,7 @@ use Rattle.cc_book.specs.AccountMachine.{reply_to}
 use Rattle.cc_book.specs.Duplicate.{key_of, same_key}
 use Rattle.cc_book.specs.History.{IsLegal}
 use Rattle.cc_book.specs.Taking.{Ledger}
-use Rattle.front_core.specs.Answered.{IsAnswered}
+use Rattle.front_core.specs.Answered.{IsBookAnswer}
 use Rattle.front_core.specs.Counts.{requests_with, answers_with}
 use Rattle.relay_routes.specs.Routing.{IsLoop}
 use Rattle.relay_core.specs.Forwarding.{Descends, with_record}
@@ -132,7 +132,7 @@ pub record AnswersRequest (site : Site) (journal : Journal) (conn : ConnId) (ans
   pub on : AnswersOn site journal.ends conn node
   pub message : Message
   pub requested : WasRequested journal.sent conn message
-  pub answered : IsAnswered (front_site site name) journal.book message answer
+  pub answered : IsBookAnswer (front_site site name) journal.book message answer
   pub by_machine : HasOneContent site journal.sent answered.request → IsMachineReply journal.book answered.request answered.reply
 
 -- What a node refused for a message on the connection: that message there, or, where a relay is at an end of the

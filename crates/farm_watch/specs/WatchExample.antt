@@ -96,7 +96,7 @@ other_application_text =
     codes "0100004880000101000000000000000100000001"
     ++ codes "000001084000001272312e6578616d706c65000000000128400000136f63732e6578616d706c6500000001024000000c00000003"
 
--- R1.example, with Auth-Application-Id 4 inside Vendor-Specific-Application-Id
+-- the relay's name in capitals, with Auth-Application-Id 4 inside Vendor-Specific-Application-Id
 abbrev pub application_of_vendor_text : List ℕ
 application_of_vendor_text =
     codes "0100005c80000101000000000000000100000001"

@@ -90,7 +90,8 @@ impl Watch {
         self.waits
     }
 
-    /// A message came, while the nodes of `up` are up. An arm is a row of the table.
+    /// A message came, while the nodes of `up` are up. An arm is a row of the table, and the table stands in one
+    /// piece, long as it is.
     ///
     /// Want of memory leaves the connection as it was; the message is lost then, so that the connection
     /// had better end. A message that is the node's takes no memory.

@@ -17,14 +17,14 @@ use Rattle.farm_model.proofs.Wiring.WorldLemmas.{front_found, front_changed}
 use Rattle.farm_node.specs.Events.{NodeEvent as event}
 use Rattle.farm_node.specs.Nodes.{OnFrontEvent}
 use Rattle.dia_message.specs.Traffic.{Traffic}
-use Rattle.farm_world.specs.NodeEvents.{Takes}
+use Rattle.farm_world.specs.NodeEvents.{Reacts}
 use Rattle.farm_world.proofs.NodeEvents.{forgotten}
 use Rattle.farm_world.proofs.Turning.{fronts_with, with_parts}
 
 -- ---- one node learns it
 
 pub learnt_by_front : (w : WorldState) (loss : Loss) (place : ℕ) (part : FrontAt) (front : FrontState) (directions : List Direction) (sent : Traffic) → IsFirst (is_front_at loss.node) w.fronts place → part ≡ get_or w.fronts place part
-    → Takes OnFrontEvent part.front (event.lost loss.conn) sent front → directions ≡ with_traffic_from loss.node w.directions sent
+    → Reacts OnFrontEvent part.front (event.lost loss.conn) sent front → directions ≡ with_traffic_from loss.node w.directions sent
     → LearnsLoss w loss (front_at loss.node w.fronts) (with_parts w directions (fronts_with w place part front))
 learnt_by_front w loss place part front directions sent first read takes directions_are =
     subst (λ (o : Option FrontState). LearnsLoss w loss o (with_parts w directions (fronts_with w place part front))) (sym (front_found loss.node w.fronts place part first read))

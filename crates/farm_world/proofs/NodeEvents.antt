@@ -21,7 +21,7 @@ use Rattle.relay_core.specs.RelayStep.{OnMessage}
 use Rattle.relay_peers.specs.declared.peers.LinkedPeer.{LinkedPeer}
 use Rattle.relay_peers.specs.PeerTable.{peer_in}
 use Rattle.farm_model.specs.FarmStep.{after_up_by}
-use Rattle.farm_world.specs.NodeEvents.{Takes}
+use Rattle.farm_world.specs.NodeEvents.{Reacts}
 
 -- ---- where memory is not wanted, the event is done
 
@@ -31,14 +31,14 @@ done old Step sent (Err error) new memory refuses = absurd (memory refuses.told)
 
 -- ---- a relay
 
-pub linked : (relay : RelayState) (local peer : NodeNo) (conn : ConnId) (sent : Traffic) (next : RelayState) → Takes OnRelayEvent relay (event.up local peer conn) sent next → next ≡ after_up_by relay peer conn (up_fault relay peer conn)
+pub linked : (relay : RelayState) (local peer : NodeNo) (conn : ConnId) (sent : Traffic) (next : RelayState) → Reacts OnRelayEvent relay (event.up local peer conn) sent next → next ≡ after_up_by relay peer conn (up_fault relay peer conn)
 linked relay local peer conn sent next (outcome, memory, does) = go (up_fault relay peer conn) does
   where
     go : (o : Option RelayError) → MatchOption o (Does relay (λ out new. (out ≡ []) × (new ≡ after_up relay peer conn)) sent outcome next) (λ error. Refuses relay (error_of_relay error) sent outcome next) → next ≡ after_up_by relay peer conn o
     go None h = (done relay (λ out new. (out ≡ []) × (new ≡ after_up relay peer conn)) sent outcome next memory h).1
     go (Some fault) h = h.same
 
-pub received : (relay : RelayState) (conn : ConnId) (message : Message) (sent : Traffic) (next : RelayState) → Takes OnRelayEvent relay (event.message conn message) sent next → OnEvent relay (Received conn message) sent next
+pub received : (relay : RelayState) (conn : ConnId) (message : Message) (sent : Traffic) (next : RelayState) → Reacts OnRelayEvent relay (event.message conn message) sent next → OnEvent relay (Received conn message) sent next
 received relay conn message sent next (outcome, memory, does) = go (peer_on relay.node conn) does
   where
     go : (o : Option LinkedPeer) → MatchOption o (Refuses relay (UnknownConn conn) sent outcome next) (λ sender. Does relay (λ out new. OnMessage relay conn sender.name message out new) sent outcome next)
@@ -46,7 +46,7 @@ received relay conn message sent next (outcome, memory, does) = go (peer_on rela
     go None h = (h.silent, h.same)
     go (Some sender) h = done relay (λ out new. OnMessage relay conn sender.name message out new) sent outcome next memory h
 
-pub lost : (relay : RelayState) (conn : ConnId) (sent : Traffic) (next : RelayState) → Takes OnRelayEvent relay (event.lost conn) sent next → OnEvent relay (Lost conn) sent next
+pub lost : (relay : RelayState) (conn : ConnId) (sent : Traffic) (next : RelayState) → Reacts OnRelayEvent relay (event.lost conn) sent next → OnEvent relay (Lost conn) sent next
 lost relay conn sent next (outcome, memory, does) = go (peer_in relay.node.peers.links conn) does
   where
     go : (o : Option NodeNo) → MatchOption o (Refuses relay (UnknownConn conn) sent outcome next) (λ peer. Does relay (λ out new. OnConnLost relay conn out new) sent outcome next)
@@ -56,10 +56,10 @@ lost relay conn sent next (outcome, memory, does) = go (peer_in relay.node.peers
 
 -- ---- a front
 
-pub connected : (front : FrontState) (local peer : NodeNo) (conn : ConnId) (sent : Traffic) (next : FrontState) → Takes OnFrontEvent front (event.up local peer conn) sent next → next ≡ with_connection front conn
+pub connected : (front : FrontState) (local peer : NodeNo) (conn : ConnId) (sent : Traffic) (next : FrontState) → Reacts OnFrontEvent front (event.up local peer conn) sent next → next ≡ with_connection front conn
 connected front local peer conn sent next (outcome, memory, does) = (done front (λ out new. (out ≡ []) × (new ≡ with_connection front conn)) sent outcome next memory does).1
 
-pub arrived : (front : FrontState) (conn : ConnId) (message : Message) (sent : Traffic) (next : FrontState) → Takes OnFrontEvent front (event.message conn message) sent next
+pub arrived : (front : FrontState) (conn : ConnId) (message : Message) (sent : Traffic) (next : FrontState) → Reacts OnFrontEvent front (event.message conn message) sent next
     → MatchBool (is_among front.connections conn) ((sent ≡ sent_at_arrival front conn message) × (next ≡ after_arrival front conn message)) ((sent ≡ []) × (next ≡ front))
 arrived front conn message sent next (outcome, memory, does) = go (is_among front.connections conn) does
   where
@@ -68,5 +68,5 @@ arrived front conn message sent next (outcome, memory, does) = go (is_among fron
     go true h = done front (λ out new. (out ≡ sent_at_arrival front conn message) × (new ≡ after_arrival front conn message)) sent outcome next memory h
     go false h = (h.silent, h.same)
 
-pub forgotten : (front : FrontState) (conn : ConnId) (sent : Traffic) (next : FrontState) → Takes OnFrontEvent front (event.lost conn) sent next → (sent ≡ []) × (next ≡ without_connection front conn)
+pub forgotten : (front : FrontState) (conn : ConnId) (sent : Traffic) (next : FrontState) → Reacts OnFrontEvent front (event.lost conn) sent next → (sent ≡ []) × (next ≡ without_connection front conn)
 forgotten front conn sent next (outcome, memory, does) = (does.silent, does.is)

@@ -24,7 +24,7 @@ use Rattle.farm_model.proofs.Lists.ListLemmas.{first_item}
 use Rattle.farm_model.proofs.Wiring.WorldLemmas.{front_found, front_changed}
 use Rattle.farm_node.specs.Events.{NodeEvent as event}
 use Rattle.farm_node.specs.Nodes.{OnFrontEvent}
-use Rattle.farm_world.specs.NodeEvents.{Takes}
+use Rattle.farm_world.specs.NodeEvents.{Reacts}
 use Rattle.farm_world.proofs.NodeEvents.{arrived}
 
 -- the front of the part at a place, changed
@@ -63,7 +63,7 @@ at_server site w node conn message o next is found arrives =
     (subst (λ (f : Option FrontState). ArrivesAtServer w node conn message f next) (sym found) arrives)
 
 pub arrive_turn : (site : Site) (w : WorldState) (node : NodeNo) (conn : ConnId) (message : Message) (place : ℕ) (part : FrontAt) (front : FrontState) (directions : List Direction) (sent : Traffic) → is_client site node ≡ false
-    → IsFirst (is_front_at node) w.fronts place → part ≡ get_or w.fronts place part → Takes OnFrontEvent part.front (event.message conn message) sent front → directions ≡ with_traffic_from node w.directions sent
+    → IsFirst (is_front_at node) w.fronts place → part ≡ get_or w.fronts place part → Reacts OnFrontEvent part.front (event.message conn message) sent front → directions ≡ with_traffic_from node w.directions sent
     → Arrives site w node conn message (with_parts w directions (fronts_with w place part front))
 arrive_turn site w node conn message place part front directions sent is first read takes directions_are =
     at_server site w node conn message (Some part.front) (with_parts w directions (fronts_with w place part front)) is (front_found node w.fronts place part first read)

@@ -9,6 +9,6 @@ use Rattle.farm_model.specs.declared.state.RelayAt.{RelayAt}
 use Rattle.farm_model.specs.World.{with_relay}
 
 -- The relay that is the node, if there is one, does what it may do at the event. None sends nothing.
-abbrev pub RelayTakes : NodeNo → RelayEvent → List RelayAt → Option RelayState → Traffic → List RelayAt → Type 0
-RelayTakes node event relays None sent next = (sent ≡ []) × (next ≡ relays)
-RelayTakes node event relays (Some relay) sent next = (after : RelayState) × OnEvent relay event sent after × (next ≡ with_relay node after relays)
+abbrev pub RelayReacts : NodeNo → RelayEvent → List RelayAt → Option RelayState → Traffic → List RelayAt → Type 0
+RelayReacts node event relays None sent next = (sent ≡ []) × (next ≡ relays)
+RelayReacts node event relays (Some relay) sent next = (after : RelayState) × OnEvent relay event sent after × (next ≡ with_relay node after relays)

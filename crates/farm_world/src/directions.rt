@@ -2,7 +2,7 @@
 
 ghost use Rattle.std.specs.Prelude.{◌≡◌, ◌<◌, ◌++◌, ◌∷◌, [], not, filter, length, None, IfSome, IfNone, OnOk, OnErr, slice_get, remove};
 ghost use Rattle.std.specs.List.{find};
-ghost use Rattle.farm_model.specs.FarmStep.{Takes, empty_direction, flight_at};
+ghost use Rattle.farm_model.specs.FarmStep.{IsRemoved, empty_direction, flight_at};
 ghost use Rattle.farm_base.specs.Lists.{IsFirst};
 ghost use Rattle.farm_model.specs.Loss.{touches};
 ghost use Rattle.farm_model.specs.World.{is_between, is_outward, is_connected, conn_between, without_conn, with_message, with_message_from, with_traffic_from};
@@ -107,7 +107,7 @@ pub fn post(directions: &mut Vec<Direction>, node: NodeNo, out: Out) -> Result<(
 }
 
 /// The message at this place of a direction leaves its list.
-fn take(direction: &mut Direction, place: usize) -> Message
+fn remove_at(direction: &mut Direction, place: usize) -> Message
     requires { place < length direction.old.messages }
     ensures message { slice_get direction.old.messages place ≡ Some result }
     ensures left { direction.new ≡ record direction.old { messages = remove direction.old.messages place } }
@@ -117,20 +117,20 @@ fn take(direction: &mut Direction, place: usize) -> Message
 
 /// The message at this place of those in flight from one node to the other leaves its list. Where there
 /// is none, nothing changes.
-pub fn take_off(
+pub fn remove_message(
     directions: &mut Vec<Direction>,
     from: NodeNo,
     to: NodeNo,
     place: u64,
 ) -> Option<(ConnId, Message)>
-    ensures { Takes (flight_at directions.old.items from to place) result directions.old.items directions.new.items }
+    ensures { IsRemoved (flight_at directions.old.items from to place) result directions.old.items directions.new.items }
 {
     let at = place_between(directions, from, to)?;
     if place >= directions[at].messages.len() as u64 {
         return None;
     }
     let direction = &mut directions[at];
-    Some((direction.conn, take(direction, place as usize)))
+    Some((direction.conn, remove_at(direction, place as usize)))
 }
 
 /// A connection ends, with all that is in flight on it. It takes no memory.

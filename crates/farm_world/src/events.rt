@@ -4,7 +4,7 @@ ghost use Rattle.std.specs.Prelude.{◌≡◌, ◌≢◌, IfOk, OnOk, Err};
 ghost use Rattle.dia_message.specs.Traffic.{Traffic};
 ghost use Rattle.farm_node.specs.Events.{NodeEvent as event};
 ghost use Rattle.farm_node.specs.declared.error.NodeError.TheVariants.{OutOfMemory};
-ghost use Rattle.farm_world.specs.NodeEvents.{Takes};
+ghost use Rattle.farm_world.specs.NodeEvents.{Reacts};
 
 use dia_avp::Wire;
 use dia_base::{ConnId, NodeNo};
@@ -38,7 +38,7 @@ pub fn up<N: Node>(
     peer: NodeNo,
     conn: ConnId,
 ) -> Result<(), AllocError>
-    ensures { OnOk result ((out : Traffic) × Takes N.on_event node.old (event.up local peer conn) out node.new) }
+    ensures { OnOk result ((out : Traffic) × Reacts N.on_event node.old (event.up local peer conn) out node.new) }
 {
     sent(node.on_up(alloc, local, peer, conn))?;
     Ok(())
@@ -51,14 +51,14 @@ pub fn receive<N: Node, W: Wire>(
     conn: ConnId,
     message: Message,
 ) -> Result<Out, AllocError>
-    ensures { IfOk result (λ out. Takes N.on_event node.old (event.message conn message) out.items node.new) }
+    ensures { IfOk result (λ out. Reacts N.on_event node.old (event.message conn message) out.items node.new) }
 {
     sent(node.on_message::<W>(alloc, conn, message))
 }
 
 /// A connection of a node has ended.
 pub fn lose<N: Node, W: Wire>(node: &mut N, alloc: Global, conn: ConnId) -> Result<Out, AllocError>
-    ensures { IfOk result (λ out. Takes N.on_event node.old (event.lost conn) out.items node.new) }
+    ensures { IfOk result (λ out. Reacts N.on_event node.old (event.lost conn) out.items node.new) }
 {
     sent(node.on_lost::<W>(alloc, conn))
 }

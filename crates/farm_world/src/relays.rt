@@ -6,7 +6,7 @@ ghost use Rattle.farm_model.specs.FarmStep.{with_link_at};
 ghost use Rattle.farm_base.specs.Lists.{IsFirst};
 ghost use Rattle.farm_model.specs.Loss.{with_restart_of_relay};
 ghost use Rattle.farm_model.specs.World.{is_relay_at, relay_at};
-ghost use Rattle.farm_world.specs.RelayEvents.{RelayTakes};
+ghost use Rattle.farm_world.specs.RelayEvents.{RelayReacts};
 ghost use Rattle.relay_core.specs.declared.run.RelayEvent.TheVariants.{Received, Lost};
 
 use crate::events;
@@ -50,7 +50,7 @@ pub fn receive<W: Wire>(
     conn: ConnId,
     message: Message,
 ) -> Result<Out, AllocError>
-    ensures { IfOk result (λ out. RelayTakes node (Received conn message) relays.old.items (relay_at node relays.old.items) out.items relays.new.items) }
+    ensures { IfOk result (λ out. RelayReacts node (Received conn message) relays.old.items (relay_at node relays.old.items) out.items relays.new.items) }
 {
     let Some(place) = place_of_relay(relays, node) else {
         return Ok(Out::nothing(alloc));
@@ -66,7 +66,7 @@ pub fn conn_lost<W: Wire>(
     node: NodeNo,
     conn: ConnId,
 ) -> Result<Out, AllocError>
-    ensures { IfOk result (λ out. RelayTakes node (Lost conn) relays.old.items (relay_at node relays.old.items) out.items relays.new.items) }
+    ensures { IfOk result (λ out. RelayReacts node (Lost conn) relays.old.items (relay_at node relays.old.items) out.items relays.new.items) }
 {
     let Some(place) = place_of_relay(relays, node) else {
         return Ok(Out::nothing(alloc));

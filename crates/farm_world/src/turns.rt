@@ -6,7 +6,7 @@ ghost use Rattle.farm_model.specs.FarmStep.{Outcome, can_connect, after_up, afte
 ghost use Rattle.farm_model.specs.Loss.{LossAt};
 ghost use Rattle.farm_model.specs.Run.{TellsSame};
 
-use crate::directions::{empty_direction, is_connected, place_between, post, put, take_off};
+use crate::directions::{empty_direction, is_connected, place_between, post, put, remove_message};
 use crate::fronts::{self, place_of_front};
 use crate::nodes::{is_client, is_linked};
 use crate::world::World;
@@ -112,7 +112,7 @@ impl World {
         ensures ok { IfOk result (λ applied. Delivers site.now self.old to (flight_at self.old.directions from to place) applied self.new) }
         ensures err { OnErr result (TellsSame self.old self.new) }
     {
-        let Some((conn, message)) = take_off(&mut self.directions, from, to, place) else {
+        let Some((conn, message)) = remove_message(&mut self.directions, from, to, place) else {
             return Ok(false);
         };
         self.arrive::<W>(alloc, site, to, conn, message)?;
@@ -123,7 +123,7 @@ impl World {
     pub(crate) fn lose(&mut self, from: NodeNo, to: NodeNo, place: u64) -> bool
         ensures { Outcome (after_lost_message self.old (flight_at self.old.directions from to place)) result self.old self.new }
     {
-        take_off(&mut self.directions, from, to, place).is_some()
+        remove_message(&mut self.directions, from, to, place).is_some()
     }
 
     /// The book ends the sessions that are due. Where it has no room for an entry, nothing changes.

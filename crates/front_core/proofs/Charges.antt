@@ -22,7 +22,7 @@ use Rattle.cc_book.specs.History.{IsLegal, place_of}
 use Rattle.cc_book.specs.Taking.{Ledger, answer_by as answer_kept, is_fresh, with_take}
 use Rattle.cc_book.proofs.Keys.{kept_reply-first, kept_reply-stays, new-without_reply, IsLegal-push}
 use Rattle.front_core.specs.declared.site.FrontSite.{FrontSite}
-use Rattle.front_core.specs.Answered.{IsAnswered, IsRefusedAtCharge, IsRefusedAtArrival}
+use Rattle.front_core.specs.Answered.{IsBookAnswer, IsRefusedAtCharge, IsRefusedAtArrival}
 use Rattle.front_core.specs.Cause.{queue_full, by_view, book_full}
 use Rattle.front_core.specs.ChargeCases.{IsCharge, refuses, repeats, has_no_room, takes}
 use Rattle.front_core.specs.Charging.{preparation_of, answer_by, answer_in, book_after}
@@ -58,7 +58,7 @@ charge_case site ledger moment message = by_view_of site ledger moment message (
 -- ---- what the answer stands on
 
 pub answered_or_refused : (site : FrontSite) (ledger book : Ledger) (moment : Moment) (message answer : Message) → IsLegal ledger.terms ledger.history → IsCharge site ledger moment message answer book
-    → IsAnswered site book message answer ⊎ IsRefusedAtCharge site ledger message answer
+    → IsBookAnswer site book message answer ⊎ IsRefusedAtCharge site ledger message answer
 answered_or_refused site ledger book moment message answer legal (refuses refusal view) = inr (record { refusal = refusal; cause = by_view refusal view; written = refl })
 answered_or_refused site ledger book moment message answer legal (repeats request reply view kept) = inl (record { request = request; view = view; reply = reply; kept = kept; written = refl })
 answered_or_refused site ledger book moment message answer legal (has_no_room request view new full) = inr (record { refusal = refusal_with TooBusy; cause = book_full request view new full; written = refl })
@@ -72,7 +72,7 @@ answered_or_refused site ledger book moment message answer legal (takes request 
       written = refl;
     })
 
-pub answered-stays : (site : FrontSite) (ledger : Ledger) (more : List Entry) (message answer : Message) → IsAnswered site ledger message answer → IsAnswered site (record ledger { history = ledger.history ++ more }) message answer
+pub answered-stays : (site : FrontSite) (ledger : Ledger) (more : List Entry) (message answer : Message) → IsBookAnswer site ledger message answer → IsBookAnswer site (record ledger { history = ledger.history ++ more }) message answer
 answered-stays site ledger more message answer a = record {
   request = a.request;
   view = a.view;

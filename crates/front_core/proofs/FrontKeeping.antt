@@ -24,7 +24,7 @@ use Rattle.front_core.specs.declared.site.FrontSite.{FrontSite}
 use Rattle.front_core.specs.declared.worker.Job.{Job}
 use Rattle.front_core.specs.declared.worker.Worker.{Worker}
 use Rattle.front_core.specs.declared.worker.Worker.TheVariants.{Idle, Picked, Done}
-use Rattle.front_core.specs.Answered.{IsAnswered, IsRefusedAtCharge, IsRefusedAtArrival}
+use Rattle.front_core.specs.Answered.{IsBookAnswer, IsRefusedAtCharge, IsRefusedAtArrival}
 use Rattle.front_core.specs.Cause.{ArrivalCause, ChargeCause, queue_full}
 use Rattle.front_core.specs.ChargeCases.{IsCharge, refuses, repeats, has_no_room, takes}
 use Rattle.front_core.specs.Charging.{answer_in, book_after}
@@ -131,7 +131,7 @@ module _ (site : FrontSite) (book : Ledger) (past : List FrontEvent) (ledger : L
     sent = subst (λ (l : Ledger). All (IsRightAnswer site book past l) turn.sent) (sym e) sent;
     grown = subst (λ (l : Ledger). GrowsByRequests site past book l) (sym e) grown;
     legal = subst (λ (l : Ledger). IsLegal l.terms l.history) (sym e) legal;
-    keeps = λ message answer a. subst (λ (l : Ledger). IsAnswered site l message answer) (sym e) a;
+    keeps = λ message answer a. subst (λ (l : Ledger). IsBookAnswer site l message answer) (sym e) a;
   }
 
 -- ---- a charge, and the book
@@ -227,7 +227,7 @@ module _ (site : FrontSite) (book : Ledger) (past : List FrontEvent) (ledger : L
   -- ---- a charge
 
   charged_right : (front : FrontState) (next : Ledger) (moment : Moment) (worker : ℕ) (conn : ConnId) (message answer : Message) → slice_get front.workers worker ≡ Some (Picked conn message) → IsAsked past conn message → Shows (Charge worker moment) front → Stood front
-      → IsAnswered site next message answer ⊎ IsRefusedAtCharge site ledger message answer → IsRightAnswer site book past next (conn, answer)
+      → IsBookAnswer site next message answer ⊎ IsRefusedAtCharge site ledger message answer → IsRightAnswer site book past next (conn, answer)
   charged_right front next moment worker conn message answer at asked shows s (inl a) = inl (record { message = message; asked = asked; answered = a })
   charged_right front next moment worker conn message answer at asked shows s (inr r) = inr (record {
     message = message;

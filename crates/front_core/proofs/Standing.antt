@@ -16,7 +16,7 @@ use Rattle.front_core.specs.declared.site.FrontSite.{FrontSite}
 use Rattle.front_core.specs.declared.worker.Job.{Job}
 use Rattle.front_core.specs.declared.worker.Worker.{Worker}
 use Rattle.front_core.specs.declared.worker.Worker.TheVariants.{Idle, Picked, Done}
-use Rattle.front_core.specs.Answered.{IsAnswered}
+use Rattle.front_core.specs.Answered.{IsBookAnswer}
 use Rattle.front_core.specs.FrontRun.{run_of}
 use Rattle.front_core.specs.FrontState.{FrontState}
 use Rattle.dia_message.specs.Traffic.{Traffic}
@@ -67,7 +67,7 @@ slice_get-left (y ∷ xs) ys (suc i) x e = slice_get-left xs ys i x e
 
 -- what the book stands behind, it still stands behind later
 abbrev pub Keeps : FrontSite → Ledger → Ledger → Type 0
-Keeps site ledger next = (message answer : Message) → IsAnswered site ledger message answer → IsAnswered site next message answer
+Keeps site ledger next = (message answer : Message) → IsBookAnswer site ledger message answer → IsBookAnswer site next message answer
 
 pub record Grows (site : FrontSite) (book : Ledger) (past later : List FrontEvent) (ledger next : Ledger) : Type 0 where
   pub asked : (conn : ConnId) (message : Message) → IsAsked past conn message → IsAsked later conn message

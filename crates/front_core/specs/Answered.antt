@@ -14,7 +14,7 @@ use Rattle.front_core.specs.FrontState.{FrontState}
 
 -- The answer of a front of this site to a message: its reply is the one that the book keeps under the message's
 -- key, which is the account machine's to the first request with that key (RFC 8506, section 8.2).
-pub record IsAnswered (site : FrontSite) (ledger : Ledger) (message answer : Message) : Type 0 where
+pub record IsBookAnswer (site : FrontSite) (ledger : Ledger) (message answer : Message) : Type 0 where
   pub request : CcRequest
   pub view : view_of site.vendors message ≡ Ok request
   pub reply : CcReply

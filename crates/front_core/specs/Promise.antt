@@ -16,7 +16,7 @@ use Rattle.front_core.specs.declared.event.FrontEvent.{FrontEvent}
 use Rattle.front_core.specs.declared.event.FrontEvent.TheVariants.{Charge, Refuse}
 use Rattle.front_core.specs.declared.site.FrontSite.{FrontSite}
 use Rattle.front_core.specs.declared.worker.Worker.TheVariants.{Picked}
-use Rattle.front_core.specs.Answered.{IsAnswered}
+use Rattle.front_core.specs.Answered.{IsBookAnswer}
 use Rattle.front_core.specs.Cause.{ArrivalCause, ChargeCause}
 use Rattle.front_core.specs.Counts.{requests_with, answers_with}
 use Rattle.front_core.specs.FrontRun.{run_of}
@@ -75,7 +75,7 @@ pub record HasCause (site : FrontSite) (book : Ledger) (events : List FrontEvent
 pub record AnswersRequest (site : FrontSite) (events : List FrontEvent) (book : Ledger) (conn : ConnId) (answer : Message) : Type 0 where
   pub message : Message
   pub asked : IsAsked events conn message
-  pub answered : IsAnswered site book message answer
+  pub answered : IsBookAnswer site book message answer
 
 -- the refusal of a request that came on the connection, with its cause
 pub record RefusesRequest (site : FrontSite) (book : Ledger) (events : List FrontEvent) (conn : ConnId) (answer : Message) : Type 0 where

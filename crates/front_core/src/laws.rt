@@ -9,7 +9,7 @@ ghost use Rattle.cc_book.specs.declared.entry.Entry.{Entry};
 ghost use Rattle.cc_book.specs.History.{IsLegal};
 ghost use Rattle.cc_book.specs.Taking.{Ledger};
 ghost use Rattle.front_core.specs.declared.site.FrontSite.{FrontSite};
-ghost use Rattle.front_core.specs.Answered.{IsAnswered, IsRefusedAtCharge, IsRefusedAtArrival};
+ghost use Rattle.front_core.specs.Answered.{IsBookAnswer, IsRefusedAtCharge, IsRefusedAtArrival};
 ghost use Rattle.front_core.specs.ChargeCases.{IsCharge};
 ghost use Rattle.front_core.specs.Charging.{answer_in, book_after};
 ghost use Rattle.front_core.specs.Counts.{answers_with, requests_with, unanswered_with};
@@ -29,13 +29,13 @@ pub fn charges_by_four_cases()
 pub fn a_charge_answers_or_refuses()
     ensures { (site : FrontSite) (ledger book : Ledger) (moment : Moment) (message answer : Message) →
         IsLegal ledger.terms ledger.history → IsCharge site ledger moment message answer book →
-        IsAnswered site book message answer ⊎ IsRefusedAtCharge site ledger message answer }
+        IsBookAnswer site book message answer ⊎ IsRefusedAtCharge site ledger message answer }
 {}
 
 /// An answer that the book stands behind stays one, however the history grows.
 pub fn answers_stay()
     ensures { (site : FrontSite) (ledger : Ledger) (more : List Entry) (message answer : Message) →
-        IsAnswered site ledger message answer → IsAnswered site (record ledger { history = ledger.history ++ more }) message answer }
+        IsBookAnswer site ledger message answer → IsBookAnswer site (record ledger { history = ledger.history ++ more }) message answer }
 {}
 
 /// What a front sends when a message arrives goes to the connection of the message, and refuses it with a cause.

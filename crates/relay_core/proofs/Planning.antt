@@ -21,7 +21,7 @@ use Rattle.relay_core.specs.declared.failover.FailoverChoice.TheVariants.{Forget
 use Rattle.relay_core.specs.declared.failover.PlannedFailover.{PlannedFailover}
 use Rattle.relay_core.specs.declared.node.RelayNode.{RelayNode}
 use Rattle.relay_core.specs.Failover.{RequestFailover, Failover, none_left, least_first, next_hop_again, without_origins}
-use Rattle.relay_core.specs.FailoverPlan.{repeated, choice_by_hop, choice_by_origin, choice_of, choice_at, planned_for, Fits, IsPlan}
+use Rattle.relay_core.specs.FailoverPlan.{repeated, choice_by_hop, choice_by_origin, choice_of, choice_at, planned_for, Fits, IsFailoverPlan}
 
 -- ---- what a choice says of the request
 
@@ -90,8 +90,8 @@ in_use-without_origins rows lost hops u = record {
 }
 
 pub plan_made : (node : RelayNode) (lost : ConnId) (rows : List Row) (hops : List ℕ) (plan : List PlannedFailover) → AreInUse rows lost hops
-    → plan ≡ map (planned_for node lost (without_origins lost rows)) hops → IsPlan node lost (without_origins lost rows) plan
-plan_made node lost rows hops plan u is = subst (λ (ps : List PlannedFailover). IsPlan node lost (without_origins lost rows) ps) (sym is) (record {
+    → plan ≡ map (planned_for node lost (without_origins lost rows)) hops → IsFailoverPlan node lost (without_origins lost rows) plan
+plan_made node lost rows hops plan u is = subst (λ (ps : List PlannedFailover). IsFailoverPlan node lost (without_origins lost rows) ps) (sym is) (record {
   hops = subst (λ (hs : List ℕ). AreInUse (without_origins lost rows) lost hs) (sym (same_hops node lost (without_origins lost rows) hops)) (in_use-without_origins rows lost hops u);
   choices = all_fit node lost (without_origins lost rows) hops;
 })
@@ -185,11 +185,11 @@ fit_still node lost rows left hop (p ∷ plan) frame all =
     (λ held e. all.0 held (still_held (p.hop == hop) (held_at rows lost p.hop) held (sym (frame p.hop) ∙ e)), fit_still node lost rows left hop plan frame all.1)
 
 pub done_more : (node : RelayNode) (lost : ConnId) (first rows left : List Row) (planned : PlannedFailover) (plan : List PlannedFailover) (sent new : Traffic) (item : Option (ConnId × Message))
-    → DoneSoFar node lost first sent rows → IsPlan node lost rows (planned ∷ plan)
+    → DoneSoFar node lost first sent rows → IsFailoverPlan node lost rows (planned ∷ plan)
     → ((held : Held) → held_at rows lost planned.hop ≡ Some held → planned.choice ≡ choice_of node held → RequestFailover node lost held rows (option_to_list item) left)
     → ((held : Held) → held_at rows lost planned.hop ≡ Some held → planned.choice ≡ choice_of node held → (other : ℕ) → held_at left lost other ≡ cond (other == planned.hop) None (held_at rows lost other))
     → new ≡ sent ++ option_to_list item
-    → DoneSoFar node lost first new left × IsPlan node lost left plan
+    → DoneSoFar node lost first new left × IsFailoverPlan node lost left plan
 done_more node lost first rows left planned plan sent new item before p turn frame is =
     let hops = map (λ (q : PlannedFailover). q.hop) plan in
     let there = held_there (held_at rows lost planned.hop) (first-held rows lost planned.hop hops p.hops) in
@@ -208,10 +208,10 @@ nothing None e = refl
 nothing (Some held) e = absurd cc
 
 -- after the last one nothing is left
-pub all_done : (node : RelayNode) (lost : ConnId) (first rows : List Row) (plan : List PlannedFailover) (sent : Traffic) → plan ≡ [] → DoneSoFar node lost first sent rows → IsPlan node lost rows plan
+pub all_done : (node : RelayNode) (lost : ConnId) (first rows : List Row) (plan : List PlannedFailover) (sent : Traffic) → plan ≡ [] → DoneSoFar node lost first sent rows → IsFailoverPlan node lost rows plan
     → Failover node lost first sent rows
 all_done node lost first rows plan sent e before p =
-    let q : IsPlan node lost rows [] = subst (λ (ps : List PlannedFailover). IsPlan node lost rows ps) e p in
+    let q : IsFailoverPlan node lost rows [] = subst (λ (ps : List PlannedFailover). IsFailoverPlan node lost rows ps) e p in
     subst (λ (s : Traffic). Failover node lost first s rows) (append-nil sent)
     (then_rest before (none_left rows (λ hop. nothing (held_at rows lost hop) (q.hops.used hop))))
 

@@ -43,6 +43,6 @@ abbrev pub Fits : RelayNode → ConnId → List Row → PlannedFailover → Type
 Fits node lost rows planned = (held : Held) → held_at rows lost planned.hop ≡ Some held → planned.choice ≡ choice_of node held
 
 -- a plan for the requests that were sent on the connection, the least identifier first
-pub record IsPlan (node : RelayNode) (lost : ConnId) (rows : List Row) (plan : List PlannedFailover) : Type 0 where
+pub record IsFailoverPlan (node : RelayNode) (lost : ConnId) (rows : List Row) (plan : List PlannedFailover) : Type 0 where
   pub hops : AreInUse rows lost (map (λ planned. planned.hop) plan)
   pub choices : AllByRecursion (Fits node lost rows) plan

@@ -7,7 +7,7 @@ ghost use Rattle.relay_hops.specs.declared.row.Held.{Held as HeldRequest};
 ghost use Rattle.relay_hops.specs.PendingTable.{but_from, held_at, without_origin};
 ghost use Rattle.relay_core.specs.declared.node.RelayNode.{RelayNode as Node};
 ghost use Rattle.relay_core.specs.Failover.{Failover, RequestFailover, after_end, next_hop_again, without_origins};
-ghost use Rattle.relay_core.specs.FailoverPlan.{IsPlan, choice_of};
+ghost use Rattle.relay_core.specs.FailoverPlan.{IsFailoverPlan, choice_of};
 
 use crate::deciding::next_hop;
 use crate::node::RelayNode;
@@ -39,13 +39,13 @@ pub struct PlannedFailover {
 
 /// What is to be sent for each request that is pending on the connection, by rising identifier, when that
 /// connection ends.
-pub(crate) fn plan<W: Wire>(
+pub(crate) fn failover_plan<W: Wire>(
     alloc: Global,
     node: &RelayNode,
     pending: &Pending,
     lost: ConnId,
 ) -> Result<Vec<PlannedFailover>, AllocError>
-    ensures { IfOk result (λ plan. IsPlan (after_end lost node.now) lost (without_origins lost pending.now.rows) plan.items) }
+    ensures { IfOk result (λ plan. IsFailoverPlan (after_end lost node.now) lost (without_origins lost pending.now.rows) plan.items) }
 {
     let hops = pending.sent_to(alloc, lost)?;
     let mut plan = Vec::new(alloc);
@@ -142,7 +142,7 @@ pub(crate) fn fail_over(
 ) -> Out
     requires empty { room.items ≡ [] }
     requires enough { length plan.items ≤ vec_capacity room }
-    ensures ok { (node : Node) → peer_in node.peers.links lost ≡ None → IsPlan node lost pending.old.rows plan.items → Failover node lost pending.old.rows result.items pending.new.rows }
+    ensures ok { (node : Node) → peer_in node.peers.links lost ≡ None → IsFailoverPlan node lost pending.old.rows plan.items → Failover node lost pending.old.rows result.items pending.new.rows }
     ensures limit { pending.new.limit ≡ pending.old.limit }
 {
     let mut items = room;

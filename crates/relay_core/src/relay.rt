@@ -9,7 +9,7 @@ ghost use Rattle.relay_core.specs.Failover.{OnConnLost};
 
 use crate::answering::on_answer;
 use crate::error::RelayError;
-use crate::failover::{fail_over, plan};
+use crate::failover::{fail_over, failover_plan};
 use crate::forwarding::on_request;
 use crate::node::{RelayNode, RelaySite};
 use dia_avp::Wire;
@@ -106,7 +106,7 @@ impl Relay {
         if self.node.peers.peer_of(conn).is_none() {
             return Err(RelayError::UnknownConn { conn });
         }
-        let plan = plan::<W>(alloc, &self.node, &self.pending, conn)?;
+        let plan = failover_plan::<W>(alloc, &self.node, &self.pending, conn)?;
         let room = Vec::with_capacity(alloc, plan.len())?;
         self.node.peers.down(conn);
         self.pending.orphan(conn);

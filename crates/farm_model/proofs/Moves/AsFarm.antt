@@ -11,7 +11,7 @@ use Rattle.front_core.specs.declared.worker.Worker.{Worker}
 use Rattle.front_core.specs.declared.worker.Worker.TheVariants.{Idle, Picked, Done}
 use Rattle.relay_hops.specs.declared.row.Origin.{Origin}
 use Rattle.relay_hops.specs.declared.row.Row.{Row}
-use Rattle.farm_law.specs.Farm.{Item, Asker, Pending, Refused, Farm}
+use Rattle.farm_law.specs.Farm.{Item, Asker, PendingRow, Refused, Farm}
 use Rattle.farm_law.specs.Moves.{Moves}
 use Rattle.farm_law.specs.Parties.{Parties}
 use Rattle.farm_base.specs.declared.site.Site.{Site}
@@ -92,13 +92,13 @@ abbrev pub asker_of : Ends → NodeNo → Option Origin → Option Asker
 asker_of ends node None = None
 asker_of ends node (Some origin) = Some (record { conn = origin.conn; node = other_end ends origin.conn node; hop = origin.hop })
 
-abbrev pub pending_of : Ends → NodeNo → Row → Pending
+abbrev pub pending_of : Ends → NodeNo → Row → PendingRow
 pending_of ends node row = record { relay = node; conn = row.conn; asker = asker_of ends node row.held.origin; request = row.held.request }
 
-abbrev pub rows_at : Ends → RelayAt → List Pending
+abbrev pub rows_at : Ends → RelayAt → List PendingRow
 rows_at ends at = map (pending_of ends at.node) at.relay.pending.rows
 
-abbrev pub rows_of : Ends → List RelayAt → List Pending
+abbrev pub rows_of : Ends → List RelayAt → List PendingRow
 rows_of ends relays = flat_map (rows_at ends) relays
 
 -- ---- the farm

@@ -69,7 +69,8 @@ module _ (site : Site) (made : Ends) (refused : List Refused) (HasReason : Refus
       one_move (sends direction.conn direction.to message (ap (is_client site) client_on ∙ from_client) to_none
       (subst (λ (n : NodeNo). Without (record { conn = direction.conn; from = n; to = direction.to; message = message }) (items_of made sent_on w.fronts)
       (items_of made w.directions w.fronts)) (sym client_on) new)) in
-      let stands = λ (n : NodeNo) (c : ConnId). same_inward w.directions sent_on n c (map_replaced side_of (is_between client to) direction more w.directions found refl) in
+      let stands = λ (n : NodeNo) (c : ConnId).
+      same_inward w.directions sent_on n c (map_replaced side_of (is_between client to) direction more w.directions found refl) in
       record {
         leads = record {
           refused = refused;

@@ -14,7 +14,7 @@ use Rattle.front_core.specs.FrontStep.{with_connection}
 use Rattle.relay_core.specs.declared.error.RelayError.{RelayError}
 use Rattle.relay_core.specs.Connecting.{up_fault}
 use Rattle.relay_core.specs.RelayState.{RelayState}
-use Rattle.farm_law.specs.Farm.{Item, Pending, Refused}
+use Rattle.farm_law.specs.Farm.{Item, PendingRow, Refused}
 use Rattle.farm_law.specs.Lists.{Has}
 use Rattle.farm_law.specs.Moves.{Moves, next, done, ends}
 use Rattle.farm_law.proofs.Lists.{all-end}
@@ -201,7 +201,7 @@ module _ (site : Site) (all : Ends) (checked : IsChecked site) (w : WorldState) 
   up_leads HasReason refused = record {
     refused = refused;
     moves = subst (λ (is : List Item). Moves (parties site all) (farm_of all refused w) (record (farm_of all refused new) { items = is })) (sym up_items)
-        (subst (λ (rs : List Pending). Moves (parties site all) (farm_of all refused w)
+        (subst (λ (rs : List PendingRow). Moves (parties site all) (farm_of all refused w)
         (record (farm_of all refused new) { items = items_of all w.directions w.fronts; rows = rs })) (sym up_rows)
         (next (ends (has_ended_in new.ends new.directions) (still_ended w a b)) done));
     caused = as_before HasReason refused;

@@ -43,11 +43,12 @@ deliverable-some None to e = absurd cc
 deliverable-some (Some conn) to e = cc
 
 -- a candidate that a request goes to is up
-conn_for-some : (node : RelayNode) (avps : List RawAvp) (peer : NodeNo) (to : ConnId) → conn_for node avps peer ≡ Some to → conn_in node.peers.links peer ≡ Some to
+conn_for-some : (node : RelayNode) (avps : List RawAvp) (peer : NodeNo) (to : ConnId) → conn_for node avps peer ≡ Some to →
+    conn_in node.peers.links peer ≡ Some to
 conn_for-some node avps peer to e = (not_passed (is_passed_over node avps peer) (conn_in node.peers.links peer) to e).1
 
-up_among : (node : RelayNode) (avps : List RawAvp) (peers : List NodeNo) (to : ConnId) → first_conn node avps peers ≡ Some to → (peer : NodeNo) × Has peer peers ×
-    (conn_in node.peers.links peer ≡ Some to)
+up_among : (node : RelayNode) (avps : List RawAvp) (peers : List NodeNo) (to : ConnId) → first_conn node avps peers ≡ Some to →
+    (peer : NodeNo) × Has peer peers × (conn_in node.peers.links peer ≡ Some to)
 up_among node avps [] to e = absurd cc
 up_among node avps (peer ∷ peers) to e = go (conn_for node avps peer) refl e (up_among node avps peers to)
   where
@@ -98,8 +99,8 @@ module _ (site : Site) (node : NodeNo) (relay : RelayNode) (linked : relay.peers
       (find (has_realm_and_app realm app) relay.routes) refl e in
       candidate_no_client r.0 r.1 peer (subst (Has peer) (sym r.2) h)
 
-  kind_no_client : (avps : List RawAvp) (peer : NodeNo) (kind : NodeKind) (to : ConnId) → kind_at site peer ≡ Some kind → hop_to_host relay avps peer kind ≡ Ok to →
-      LeadsToServer site relay.peers.links to
+  kind_no_client : (avps : List RawAvp) (peer : NodeNo) (kind : NodeKind) (to : ConnId) → kind_at site peer ≡ Some kind →
+      hop_to_host relay avps peer kind ≡ Ok to → LeadsToServer site relay.peers.links to
   kind_no_client avps peer Client to is e = absurd cc
   kind_no_client avps peer Relay to is e =
       record { peer = peer; conn = conn_for-some relay avps peer to (deliverable-some (conn_for relay avps peer) to e); no_client = ap means_client is }
@@ -107,10 +108,11 @@ module _ (site : Site) (node : NodeNo) (relay : RelayNode) (linked : relay.peers
       record { peer = peer; conn = conn_for-some relay avps peer to (deliverable-some (conn_for relay avps peer) to e); no_client = ap means_client is }
 
   by_host : (avps : List RawAvp) (host : Option LinkedPeer) (realm : Option (List ℕ)) (app : ℕ) (to : ConnId) →
-      ((peer : LinkedPeer) → host ≡ Some peer → Has peer relay.peers.linked) → hop_by_host relay avps host realm app ≡ Ok to → LeadsToServer site relay.peers.links
-      to
+      ((peer : LinkedPeer) → host ≡ Some peer → Has peer relay.peers.linked) → hop_by_host relay avps host realm app ≡ Ok to →
+      LeadsToServer site relay.peers.links to
   by_host avps None realm app to among e = by_realm avps (candidates_for relay realm app) to (for_realm realm app) e
-  by_host avps (Some peer) realm app to among e = kind_no_client avps peer.peer peer.kind to (linked_node site node peer (subst (Has peer) linked (among peer refl))).0 e
+  by_host avps (Some peer) realm app to among e =
+      kind_no_client avps peer.peer peer.kind to (linked_node site node peer (subst (Has peer) linked (among peer refl))).0 e
 
   named : (host : Option (List ℕ)) (peer : LinkedPeer) → peer_for relay host ≡ Some peer → Has peer relay.peers.linked
   named None peer e = absurd cc

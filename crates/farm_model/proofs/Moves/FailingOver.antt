@@ -21,7 +21,7 @@ use Rattle.relay_core.specs.RelayRun.{IsIdle}
 use Rattle.relay_core.specs.RelayState.{RelayState, with_rows}
 use Rattle.relay_core.specs.RelayStep.{row_of}
 use Rattle.relay_core.proofs.Reaching.{next_hop-never, none_on}
-use Rattle.farm_law.specs.Farm.{Asker, Pending, Refused, Farm}
+use Rattle.farm_law.specs.Farm.{Asker, PendingRow, Refused, Farm}
 use Rattle.farm_law.specs.Lists.{Has, Without}
 use Rattle.farm_law.specs.Moves.{Moves, done, next as then_moves, Orphaned, orphans, drops, sends_again, gives_up}
 use Rattle.farm_law.specs.Parties.{Parties}
@@ -64,7 +64,7 @@ module _ (site : Site) (ends : Ends) (Reason : Refused → Type 0) (checked : Is
   rows_are : RowsStand ends node w.relays relay
   rows_are = rows_stand ends node w.relays relay (wired.alone node) stands
 
-  abbrev with_own : List Row → List Pending
+  abbrev with_own : List Row → List PendingRow
   with_own rows = rows_are.front ++ (map (pending_of ends node) rows ++ rows_are.back)
 
   abbrev farm : List Refused → List Direction → List Row → Farm
@@ -183,7 +183,7 @@ module _ (site : Site) (ends : Ends) (Reason : Refused → Type 0) (checked : Is
     record {
       refused = refusals;
       moves = turn_seen p ends (farm_of ends refusals w) w node [] relay last (with_own relay.pending.rows) refusals is (rows_are.change relay)
-          (subst (λ (rs : List Pending). Moves p (farm_of ends refusals w) (seen ends w w.directions rs refusals)) rows_are.now done);
+          (subst (λ (rs : List PendingRow). Moves p (farm_of ends refusals w) (seen ends w w.directions rs refusals)) rows_are.now done);
       caused = none_refused Reason (once_at node) refusals;
     },
     turn_wired site ends w node relay [] relay last wired stands is own,
@@ -197,7 +197,7 @@ module _ (site : Site) (ends : Ends) (Reason : Refused → Type 0) (checked : Is
       let all = each_request refusals w.directions wired.directions (without_origins lost relay.pending.rows) sent turn.rows
       (record { fit = orphans_fit; old = λ r h on. h }) turn.failover in
       let begin : Moves p (farm_of ends refusals w) (farm refusals w.directions (without_origins lost relay.pending.rows)) =
-      then_moves (orphans (subst (λ (rs : List Pending). Orphaned rs (with_own (without_origins lost relay.pending.rows))) (sym rows_are.now)
+      then_moves (orphans (subst (λ (rs : List PendingRow). Orphaned rs (with_own (without_origins lost relay.pending.rows))) (sym rows_are.now)
       (rows_orphaned ends node lost rows_are.front rows_are.back relay.pending.rows))) done in (
         record {
           refused = all.told;
@@ -229,7 +229,8 @@ module _ (site : Site) (ends : Ends) (Reason : Refused → Type 0) (checked : Is
 -- what a relay does when it learns that a connection has ended is moves of the farm, and the farm hangs together as before
 pub relay_loses : (site : Site) (ends : Ends) (Reason : Refused → Type 0) → IsChecked site → (w : WorldState) → IsWired site ends w → (loss : Loss)
     (relay : RelayState) → relay_at loss.node w.relays ≡ Some relay
-    → has_ended_in w.ends w.directions loss.node loss.conn ≡ true → IsSingle ends w → (refusals : List Refused) (last : WorldState) → RelayTurn w loss.node relay
+    → has_ended_in w.ends w.directions loss.node loss.conn ≡ true → IsSingle ends w
+    → (refusals : List Refused) (last : WorldState) → RelayTurn w loss.node relay
     (Lost loss.conn) last
     → ((message : Message) (code : ResultCode) → IsStranded relay loss.conn message → next_hop_again (after_end loss.conn relay.node) message ≡ Err code →
     Reason (record { node = loss.node; conn = loss.conn; request = message; refusal = refusal_with code }))

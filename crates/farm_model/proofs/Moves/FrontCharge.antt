@@ -18,7 +18,7 @@ use Rattle.cc_book.specs.Taking.{Ledger, with_take}
 use Rattle.front_core.specs.declared.site.FrontSite.{FrontSite}
 use Rattle.front_core.specs.declared.worker.Worker.{Worker}
 use Rattle.front_core.specs.declared.worker.Worker.TheVariants.{Idle, Picked, Done}
-use Rattle.front_core.specs.Answered.{IsAnswered}
+use Rattle.front_core.specs.Answered.{IsBookAnswer}
 use Rattle.front_core.specs.Cause.{ChargeCause, by_view, book_full}
 use Rattle.front_core.specs.ChargeCases.{IsCharge, refuses, repeats, has_no_room, takes}
 use Rattle.front_core.specs.Charging.{answer_in, book_after}
@@ -56,7 +56,8 @@ not_refused site ledger message refusal request view room (book_full r read unkn
 taken_is_answered : Premises → (site : FrontSite) (ledger : Ledger) (moment : Moment) (message : Message) (request : CcRequest) → IsLegal ledger.terms
     ledger.history → view_of site.vendors message ≡ Ok request
     → kept_reply ledger.terms ledger.history request ≡ None → length ledger.history < ledger.limit
-    → IsAnswered site (with_take ledger moment request) message (answer_to site.name site.realm message request (reply_to ledger.terms ledger.history request))
+    → IsBookAnswer site (with_take ledger moment request) message
+    (answer_to site.name site.realm message request (reply_to ledger.terms ledger.history request))
 taken_is_answered premises site ledger moment message request legal view unknown room =
     elim (premises.answers site ledger (with_take ledger moment request) moment message
     (answer_to site.name site.realm message request (reply_to ledger.terms ledger.history request)) legal (takes request view unknown room)) [
@@ -92,8 +93,8 @@ module _ (premises : Premises) (site : Site) (made : Ends) (refused : List Refus
     abbrev after_it : Message → Ledger → WorldState
     after_it answer book = record w { fronts = with_front node (with_worker front worker (Done conn answer)) w.fronts; book = book }
 
-    answered : (answer : Message) (book : Ledger) → (IsAnswered named book message answer → Moves (parties site made) (farm_of made refused w)
-        (farm_of made refused (after_it answer book))) → IsAnswered named book message answer → Goes-on w (after_it answer book)
+    answered : (answer : Message) (book : Ledger) → (IsBookAnswer named book message answer → Moves (parties site made) (farm_of made refused w)
+        (farm_of made refused (after_it answer book))) → IsBookAnswer named book message answer → Goes-on w (after_it answer book)
     answered answer book moves is =
         front_goes site made refused HasReason w node front (with_worker front worker (Done conn answer)) book refused looked refl
         (with_worker_holds front worker (Done conn answer) tt holds) wired requests (moves is) (as_before HasReason refused)

@@ -107,7 +107,8 @@ module _ (site : Site) (all : Ends) (relay_loses : RelayLoses site all) (moves_k
           (λ message code s h. reasons relay message code at (relay_wired wired.relays at).is_relay s h)
 
   -- what has ended before has ended afterwards
-  ended_later : (w : WorldState) (loss : Loss) (after : WorldState) (front : Option FrontState) → LearnsLoss w loss front after → (end : NodeNo) (conn : ConnId) →
+  ended_later : (w : WorldState) (loss : Loss) (after : WorldState) (front : Option FrontState) → LearnsLoss w loss front after →
+      (end : NodeNo) (conn : ConnId) →
       has_ended_in w.ends w.directions end conn ≡ true → has_ended_in after.ends after.directions end conn ≡ true
   ended_later w loss after (Some front) is end conn e = subst (λ (v : WorldState). has_ended_in v.ends v.directions end conn ≡ true) (sym is) e
   ended_later w loss after None is end conn e = by_relay (relay_at loss.node w.relays) is
@@ -119,7 +120,8 @@ module _ (site : Site) (all : Ends) (relay_loses : RelayLoses site all) (moves_k
 
   -- one after the other
   pub all_learn : {losses : List Loss} {w after : WorldState} {later : List LossAt} (refused : List Refused) → LearnLosses losses w later after → IsKept
-      (parties site all) (farm_of all refused w) → IsWired site all w → ((loss : Loss) → Has loss losses → has_ended_in w.ends w.directions loss.node loss.conn ≡ true) →
+      (parties site all) (farm_of all refused w) → IsWired site all w →
+      ((loss : Loss) → Has loss losses → has_ended_in w.ends w.directions loss.node loss.conn ≡ true) →
       GivesReasons site HasReason later
       → Leads (learned losses) refused w after
   all_learn refused all_know kept wired ended reasons = nothing_moves (learned []) refused _ wired

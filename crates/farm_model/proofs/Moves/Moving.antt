@@ -27,6 +27,7 @@ put {p} f g item rest items (inr e) move = subst (λ (is : List Item). Moves p f
 
 -- the same connections stand, by another test
 pub settled : (p : Parties) (made : Ends) (refused : List Refused) (f : Farm) (w : WorldState) (has_ended : NodeNo → ConnId → Bool)
-    → Moves p f (record (farm_of made refused w) { has_ended = has_ended }) → ((n : NodeNo) (c : ConnId) → has_ended n c ≡ true → has_ended_in w.ends w.directions n c ≡ true) →
+    → Moves p f (record (farm_of made refused w) { has_ended = has_ended })
+    → ((n : NodeNo) (c : ConnId) → has_ended n c ≡ true → has_ended_in w.ends w.directions n c ≡ true) →
     Moves p f (farm_of made refused w)
 settled p made refused f w has_ended moves same = join moves (one_move (have_ended (has_ended_in w.ends w.directions) same))

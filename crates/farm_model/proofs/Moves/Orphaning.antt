@@ -11,7 +11,7 @@ use Rattle.relay_hops.specs.PendingTable.{but_from, orphaned}
 use Rattle.relay_core.specs.Failover.{without_origins}
 use Rattle.relay_core.specs.RelayState.{RelayState}
 use Rattle.relay_core.specs.RelayStep.{row_of}
-use Rattle.farm_law.specs.Farm.{Pending}
+use Rattle.farm_law.specs.Farm.{PendingRow}
 use Rattle.farm_law.specs.Lists.{Has}
 use Rattle.farm_law.specs.Moves.{Orphaned, none, as_it_was, orphan}
 use Rattle.farm_model.specs.Cause.{IsStranded}
@@ -21,16 +21,16 @@ use Rattle.farm_model.proofs.Moves.AsFarm.{asker_of, pending_of}
 
 -- ---- the rows of the farm
 
-orphaned_same : (rows : List Pending) → Orphaned rows rows
+orphaned_same : (rows : List PendingRow) → Orphaned rows rows
 orphaned_same [] = none
 orphaned_same (row ∷ rows) = as_it_was (orphaned_same rows)
 
-orphaned_parts : {old new more_old more_new : List Pending} → Orphaned old new → Orphaned more_old more_new → Orphaned (old ++ more_old) (new ++ more_new)
+orphaned_parts : {old new more_old more_new : List PendingRow} → Orphaned old new → Orphaned more_old more_new → Orphaned (old ++ more_old) (new ++ more_new)
 orphaned_parts none h = h
 orphaned_parts (as_it_was g) h = as_it_was (orphaned_parts g h)
 orphaned_parts (orphan g) h = orphan (orphaned_parts g h)
 
-orphaned_row : (ends : Ends) (node : NodeNo) (lost conn : ConnId) (request : Message) (origin : Option Origin) {old new : List Pending} → Orphaned old new
+orphaned_row : (ends : Ends) (node : NodeNo) (lost conn : ConnId) (request : Message) (origin : Option Origin) {old new : List PendingRow} → Orphaned old new
     → Orphaned (record { relay = node; conn = conn; asker = asker_of ends node origin; request = request } ∷ old)
     (record { relay = node; conn = conn; asker = asker_of ends node (but_from lost origin); request = request } ∷ new)
 orphaned_row ends node lost conn request None h = as_it_was h
@@ -47,7 +47,7 @@ orphaned_rows ends node lost [] = none
 orphaned_rows ends node lost (row ∷ rows) = orphaned_row ends node lost row.conn row.held.request row.held.origin (orphaned_rows ends node lost rows)
 
 -- the rows of the relay lose askers, and those of the others do not change
-pub rows_orphaned : (ends : Ends) (node : NodeNo) (lost : ConnId) (front back : List Pending) (rows : List Row)
+pub rows_orphaned : (ends : Ends) (node : NodeNo) (lost : ConnId) (front back : List PendingRow) (rows : List Row)
     → Orphaned (front ++ (map (pending_of ends node) rows ++ back)) (front ++ (map (pending_of ends node) (without_origins lost rows) ++ back))
 rows_orphaned ends node lost front back rows = orphaned_parts (orphaned_same front) (orphaned_parts (orphaned_rows ends node lost rows) (orphaned_same back))
 

@@ -19,7 +19,7 @@ use Rattle.relay_core.specs.RelayState.{RelayState, peer_on, with_rows}
 use Rattle.relay_core.specs.RelayStep.{OnRequest, refused, forwarded, OnAnswer, sent_back, dropped, ignored, OnMessage, refusal_to, held_for, row_of}
 use Rattle.relay_core.specs.NextHop.{outgoing}
 use Rattle.relay_core.specs.Verdict.{decision}
-use Rattle.farm_law.specs.Farm.{Item, Asker, Pending, Refused, Farm}
+use Rattle.farm_law.specs.Farm.{Item, Asker, PendingRow, Refused, Farm}
 use Rattle.farm_law.specs.Lists.{Has, Without}
 use Rattle.farm_law.specs.Counts.{with_hop, row_in}
 use Rattle.farm_law.specs.Moves.{Moves, done, next as then_moves, loses, refuses, forwards, returns, forgets, row_for}
@@ -67,7 +67,7 @@ module _ (site : Site) (ends : Ends) (Reason : Refused → Type 0) (checked : Is
   sender_end = Joins-other (Joins-turned joins)
 
   -- rows of the relay that stand for a time
-  abbrev with_own : List Row → List Pending
+  abbrev with_own : List Row → List PendingRow
   with_own rows = rows_are.front ++ (map (pending_of ends node) rows ++ rows_are.back)
 
   -- moves to what is seen are an outcome
@@ -88,7 +88,7 @@ module _ (site : Site) (ends : Ends) (Reason : Refused → Type 0) (checked : Is
   -- nobody is at the other end, or nothing was sent on the connection under its identifier
   lost : (last : WorldState) → last ≡ after_relay_turn w node [] relay → Outcome last
   lost last is = outcome [] relay.pending.rows last refusals is own.rows (as_before Reason refusals)
-      (subst (λ (rs : List Pending). Moves (parties site ends) old (seen ends w w.directions rs refusals)) rows_are.now
+      (subst (λ (rs : List PendingRow). Moves (parties site ends) old (seen ends w w.directions rs refusals)) rows_are.now
       (then_moves (loses (Left-without tt taken)) done))
 
   -- a rule refuses it
@@ -103,7 +103,7 @@ module _ (site : Site) (ends : Ends) (Reason : Refused → Type 0) (checked : Is
       let entry : Refused = record { node = node; conn = conn; request = message; refusal = refusal } in
       outcome (refusal_to relay.node conn message refusal) relay.pending.rows last (refusals ++ entry ∷ []) is own.rows
       (one_more_refused Reason refusals entry reason)
-      (subst (λ (rs : List Pending). Moves (parties site ends) old (seen ends w (with_message_from node w.directions conn told) rs (refusals ++ entry ∷ [])))
+      (subst (λ (rs : List PendingRow). Moves (parties site ends) old (seen ends w (with_message_from node w.directions conn told) rs (refusals ++ entry ∷ [])))
       rows_are.now
       (put old (record old { refused = refusals ++ entry ∷ [] }) (record { conn = conn; from = node; to = from; message = told })
       (items_of ends w.directions w.fronts) (items_of ends (with_message_from node w.directions conn told) w.fronts)
@@ -126,11 +126,11 @@ module _ (site : Site) (ends : Ends) (Reason : Refused → Type 0) (checked : Is
       ap (λ (n : NodeNo). record { relay = node; conn = to; asker = Some (record { conn = conn; node = n; hop = message.header.hop }); request = sent })
       sender_end in
       let row_out : Without (row_for (parties site ends) to hop item) (with_own rows) (rows_of ends w.relays) =
-      subst (λ (r : Pending). Without r (with_own rows) (rows_of ends w.relays)) same
-      (subst (λ (rs : List Pending). Without (pending_of ends node (row_of to held)) (with_own rows) rs) (sym rows_are.now)
+      subst (λ (r : PendingRow). Without r (with_own rows) (rows_of ends w.relays)) same
+      (subst (λ (rs : List PendingRow). Without (pending_of ends node (row_of to held)) (with_own rows) rs) (sym rows_are.now)
       (row_less ends node rows_are.front rows_are.back out)) in
       let unused : count_by (row_in (with_hop to node hop)) (rows_of ends w.relays) ≡ 0 =
-      subst (λ (rs : List Pending). count_by (row_in (with_hop to node hop)) rs ≡ 0) (sym rows_are.now)
+      subst (λ (rs : List PendingRow). count_by (row_in (with_hop to node hop)) rs ≡ 0) (sym rows_are.now)
       (not_in_use ends node rows_are.front rows_are.back relay.pending.rows relay.pending.rows to hop rows_are.front_others rows_are.back_others free
       (λ r h. h)) in
       outcome ((to, sent) ∷ []) rows last refusals is
@@ -145,7 +145,7 @@ module _ (site : Site) (ends : Ends) (Reason : Refused → Type 0) (checked : Is
 
   own_row : (held : Held) (rows : List Row) → IsWith (row_of conn held) rows relay.pending.rows → Without (pending_of ends node (row_of conn held))
       (rows_of ends w.relays) (with_own rows)
-  own_row held rows less = subst (λ (rs : List Pending). Without (pending_of ends node (row_of conn held)) rs (with_own rows)) (sym rows_are.now)
+  own_row held rows less = subst (λ (rs : List PendingRow). Without (pending_of ends node (row_of conn held)) rs (with_own rows)) (sym rows_are.now)
       (row_less ends node rows_are.front rows_are.back (IsWith-without less))
 
   sender_no_client : (held : Held) (rows : List Row) → IsWith (row_of conn held) rows relay.pending.rows → is_client site from ≡ false

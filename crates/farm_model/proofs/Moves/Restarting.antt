@@ -7,7 +7,7 @@ use Rattle.front_core.specs.FrontState.{FrontState}
 use Rattle.front_core.specs.FrontStep.{after_restart as front_after_restart}
 use Rattle.relay_core.specs.RelayState.{RelayState}
 use Rattle.relay_core.specs.Connecting.{after_restart as relay_after_restart}
-use Rattle.farm_law.specs.Farm.{Item, Pending, Refused}
+use Rattle.farm_law.specs.Farm.{Item, PendingRow, Refused}
 use Rattle.farm_law.specs.Invariant.{IsKept}
 use Rattle.farm_law.specs.Lists.{Has, Left}
 use Rattle.farm_law.specs.Moves.{Moves, next, done, ends, loses, drops}
@@ -53,7 +53,7 @@ module _ (site : Site) (all : Ends) (w : WorldState) (node : NodeNo) (wired : Is
       (Left-none held (λ item h. tt))) w.fronts (front_stands node w.fronts front e)
 
   -- its rows were sent on connections that have ended
-  relay_rows : (relay : Option RelayState) → relay_at node w.relays ≡ relay → Left (λ (row : Pending). has_ended_in w.ends left row.relay row.conn ≡ true)
+  relay_rows : (relay : Option RelayState) → relay_at node w.relays ≡ relay → Left (λ (row : PendingRow). has_ended_in w.ends left row.relay row.conn ≡ true)
       (rows_of all w.relays) (rows_of all (with_restart_of_relay node w.relays relay))
   relay_rows None e = Left-all (rows_of all w.relays)
   relay_rows (Some relay) e =
@@ -61,7 +61,7 @@ module _ (site : Site) (all : Ends) (w : WorldState) (node : NodeNo) (wired : Is
       parts_left (rows_at all) (is_relay_at node) (Left-none (rows_at all (record { node = node; relay = relay })) (λ row h.
       let t = Has-unmap (pending_of all node) relay.pending.rows h in
       let r = k.rows t.0 t.1 in
-      subst (λ (p : Pending). has_ended_in w.ends left p.relay p.conn ≡ true) t.2
+      subst (λ (p : PendingRow). has_ended_in w.ends left p.relay p.conn ≡ true) t.2
       (ended_without node (other_end all (t.0).conn node) node w.directions (t.0).conn wired.directions r.joins r.below))) w.relays
       (relay_stands node w.relays relay e)
 

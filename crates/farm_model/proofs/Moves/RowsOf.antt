@@ -12,7 +12,7 @@ use Rattle.relay_hops.specs.declared.row.Row.{Row}
 use Rattle.relay_hops.specs.PendingTable.{hop_of, is_sent_on, has_key, held_at, IsWith}
 use Rattle.relay_core.specs.RelayState.{RelayState}
 use Rattle.farm_law.specs.Counts.{with_hop, row_in}
-use Rattle.farm_law.specs.Farm.{Pending}
+use Rattle.farm_law.specs.Farm.{PendingRow}
 use Rattle.farm_law.specs.Lists.{Has, here, there, Without}
 use Rattle.farm_law.proofs.Lists.{count-has}
 use Rattle.farm_model.specs.declared.state.RelayAt.{RelayAt}
@@ -28,18 +28,18 @@ use Rattle.farm_model.proofs.Wiring.WorldLemmas.{relay_stands}
 -- ---- the rows of a relay, between those of the others
 
 pub record RowsStand (ends : Ends) (node : NodeNo) (relays : List RelayAt) (relay : RelayState) : Type 0 where
-  pub front : List Pending
-  pub back : List Pending
+  pub front : List PendingRow
+  pub back : List PendingRow
   pub now : rows_of ends relays ≡ front ++ (map (pending_of ends node) relay.pending.rows ++ back)
   pub change : (next : RelayState) → rows_of ends (with_relay node next relays) ≡ front ++ (map (pending_of ends node) next.pending.rows ++ back)
-  pub front_others : (row : Pending) → Has row front → is_node row.relay node ≡ false
-  pub back_others : (row : Pending) → Has row back → is_node row.relay node ≡ false
+  pub front_others : (row : PendingRow) → Has row front → is_node row.relay node ≡ false
+  pub back_others : (row : PendingRow) → Has row back → is_node row.relay node ≡ false
 
 -- a row is of a relay among these
-rows_from : (ends : Ends) (row : Pending) (xs : List RelayAt) → Has row (rows_of ends xs) → (at : RelayAt) × Has at xs × (row.relay ≡ at.node)
+rows_from : (ends : Ends) (row : PendingRow) (xs : List RelayAt) → Has row (rows_of ends xs) → (at : RelayAt) × Has at xs × (row.relay ≡ at.node)
 rows_from ends row [] h = elim h [ ]
 rows_from ends row (x ∷ xs) h = elim (Has-parts (rows_at ends x) h) [
-  | inl g ↦ let m = Has-unmap (pending_of ends x.node) x.relay.pending.rows g in (x, here, ap (λ (r : Pending). r.relay) (sym m.2))
+  | inl g ↦ let m = Has-unmap (pending_of ends x.node) x.relay.pending.rows g in (x, here, ap (λ (r : PendingRow). r.relay) (sym m.2))
   | inr g ↦ let m = rows_from ends row xs g in (m.0, there m.1, m.2)
 ]
 
@@ -83,7 +83,7 @@ pub IsWith-without : {row : Row} {others rows : List Row} → IsWith row others 
 IsWith-without {row} {others} {rows} w = subst (λ (xs : List Row). Without row rows xs) (sym w.without)
     (subst (λ (xs : List Row). Without row xs (w.before ++ w.after)) (sym w.whole) (Without-middle w.before row w.after))
 
-pub row_less : (ends : Ends) (node : NodeNo) (front back : List Pending) {row : Row} {rows others : List Row} → Without row rows others
+pub row_less : (ends : Ends) (node : NodeNo) (front back : List PendingRow) {row : Row} {rows others : List Row} → Without row rows others
     → Without (pending_of ends node row) (front ++ (map (pending_of ends node) rows ++ back)) (front ++ (map (pending_of ends node) others ++ back))
 row_less ends node front back w = Without-right front (Without-left back (Without-map (pending_of ends node) w))
 
@@ -99,24 +99,24 @@ not_both true false c e = refl
 not_both false b c e = refl
 
 -- an identifier under which the relay holds nothing on the connection is not in use
-pub not_in_use : (ends : Ends) (node : NodeNo) (front back : List Pending) (rows others : List Row) (conn : ConnId) (hop : ℕ)
-    → ((row : Pending) → Has row front → is_node row.relay node ≡ false) → ((row : Pending) → Has row back → is_node row.relay node ≡ false)
+pub not_in_use : (ends : Ends) (node : NodeNo) (front back : List PendingRow) (rows others : List Row) (conn : ConnId) (hop : ℕ)
+    → ((row : PendingRow) → Has row front → is_node row.relay node ≡ false) → ((row : PendingRow) → Has row back → is_node row.relay node ≡ false)
     → held_at rows conn hop ≡ None → ((row : Row) → Has row others → Has row rows)
     → count_by (row_in (with_hop conn node hop)) (front ++ (map (pending_of ends node) others ++ back)) ≡ 0
 not_in_use ends node front back rows others conn hop f b free among = none_pass (row_in (with_hop conn node hop))
     (front ++ (map (pending_of ends node) others ++ back)) none
   where
-    of_other : (row : Pending) → is_node row.relay node ≡ false → row_in (with_hop conn node hop) row ≡ false
+    of_other : (row : PendingRow) → is_node row.relay node ≡ false → row_in (with_hop conn node hop) row ≡ false
     of_other row e = and_left (row.conn.0 == conn.0 && row.relay.0 == node.0) (row.request.header.hop == hop)
         (and_right (row.conn.0 == conn.0) (row.relay.0 == node.0) e)
 
-    own : (row : Pending) → Has row (map (pending_of ends node) others) → row_in (with_hop conn node hop) row ≡ false
+    own : (row : PendingRow) → Has row (map (pending_of ends node) others) → row_in (with_hop conn node hop) row ≡ false
     own row h =
         let m = Has-unmap (pending_of ends node) others h in
-        subst (λ (r : Pending). row_in (with_hop conn node hop) r ≡ false) m.2
+        subst (λ (r : PendingRow). row_in (with_hop conn node hop) r ≡ false) m.2
         (not_both (is_sent_on conn m.0) (node.0 == node.0) (hop_of m.0 == hop) (held_none rows conn hop m.0 free (among m.0 m.1)))
 
-    none : (row : Pending) → Has row (front ++ (map (pending_of ends node) others ++ back)) → row_in (with_hop conn node hop) row ≡ false
+    none : (row : PendingRow) → Has row (front ++ (map (pending_of ends node) others ++ back)) → row_in (with_hop conn node hop) row ≡ false
     none row h = elim (Has-parts front h) [
       | inl g ↦ of_other row (f row g)
       | inr g ↦ elim (Has-parts (map (pending_of ends node) others) g) [

@@ -4,7 +4,7 @@ use Rattle.dia_base.specs.declared.number.NodeNo.{NodeNo}
 use Rattle.dia_message.specs.Traffic.{Traffic}
 use Rattle.relay_hops.specs.declared.row.Row.{Row}
 use Rattle.relay_core.specs.RelayState.{RelayState, with_rows}
-use Rattle.farm_law.specs.Farm.{Pending, Refused, Farm}
+use Rattle.farm_law.specs.Farm.{PendingRow, Refused, Farm}
 use Rattle.farm_law.specs.Lists.{Has}
 use Rattle.farm_law.specs.Moves.{Moves, done, next as then_moves, ends as connections_end}
 use Rattle.farm_law.specs.Parties.{Parties}
@@ -20,18 +20,18 @@ use Rattle.farm_model.proofs.Wiring.Wired.{RelayIsWired, RowIsWired, IsWired}
 use Rattle.farm_model.proofs.Wiring.WiredLemmas.{relays_wired, relays_alone}
 
 -- the farm with these directions, rows and refusals
-abbrev pub seen : Ends → WorldState → List Direction → List Pending → List Refused → Farm
+abbrev pub seen : Ends → WorldState → List Direction → List PendingRow → List Refused → Farm
 seen ends w directions rows refused = record (farm_of ends refused w) { items = items_of ends directions w.fronts; rows = rows }
 
 -- moves to what is seen after a turn are moves to the farm after it
 pub turn_seen : (p : Parties) (ends : Ends) (old : Farm) (w : WorldState) (node : NodeNo) (sent : Traffic) (after : RelayState) (last : WorldState)
-    (rows : List Pending) (refused : List Refused)
+    (rows : List PendingRow) (refused : List Refused)
     → last ≡ after_relay_turn w node sent after → rows_of ends (with_relay node after w.relays) ≡ rows → Moves p old
     (seen ends w (with_traffic_from node w.directions sent) rows refused)
     → Moves p old (farm_of ends refused last)
 turn_seen p ends old w node sent after last rows refused is rows_is moves =
     subst (λ (n : WorldState). Moves p old (farm_of ends refused n)) (sym is)
-    (subst (λ (rs : List Pending). Moves p old (record (farm_of ends refused (after_relay_turn w node sent after)) { rows = rs })) (sym rows_is)
+    (subst (λ (rs : List PendingRow). Moves p old (record (farm_of ends refused (after_relay_turn w node sent after)) { rows = rs })) (sym rows_is)
     (join moves (then_moves (connections_end (has_ended_in w.ends (with_traffic_from node w.directions sent)) (traffic_ended w.ends node w.directions sent))
     done)))
 

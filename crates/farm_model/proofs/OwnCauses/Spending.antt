@@ -14,7 +14,7 @@ use Rattle.relay_core.specs.Failover.{without_origins}
 use Rattle.relay_core.specs.RelayState.{RelayState}
 use Rattle.relay_core.specs.RelayStep.{row_of}
 use Rattle.farm_law.specs.Counts.{with_hop, row_in}
-use Rattle.farm_law.specs.Farm.{Pending, Refused}
+use Rattle.farm_law.specs.Farm.{PendingRow, Refused}
 use Rattle.farm_law.specs.Lists.{Has, Without}
 use Rattle.farm_law.proofs.Lists.{all-end, count-without}
 use Rattle.farm_law.proofs.Weighing.{with_hop-at}
@@ -117,7 +117,7 @@ module _ (node : NodeNo) (lost : ConnId) where
 
 -- of all that it had sent on the connection, it refuses each once
 module _ (site : Site) (ends : Ends) (w : WorldState) (node : NodeNo) (lost : ConnId) (relay : RelayState) where
-  own_once : (front back : List Pending) → rows_of ends w.relays ≡ front ++ (map (pending_of ends node) relay.pending.rows ++ back) → IsSingle ends w →
+  own_once : (front back : List PendingRow) → rows_of ends w.relays ≡ front ++ (map (pending_of ends node) relay.pending.rows ++ back) → IsSingle ends w →
       (n : NodeNo) (c : ConnId) (hop : ℕ) → count_by (is_own node lost n c hop) (without_origins lost relay.pending.rows) ≤ once_at node n
   own_once front back now single n c hop = go (is_node node n) refl
     where
@@ -149,7 +149,7 @@ module _ (site : Site) (ends : Ends) (w : WorldState) (node : NodeNo) (lost : Co
           (λ row h. ap (λ (q : Bool). q && (lost.0 == c.0 && (row.conn.0 == lost.0 && hop_of row == hop))) e) in
           omega (arith, none)
 
-  pub spent_once : (HasReason : Refused → Type 0) (front back : List Pending) → rows_of ends w.relays ≡ front ++
+  pub spent_once : (HasReason : Refused → Type 0) (front back : List PendingRow) → rows_of ends w.relays ≡ front ++
       (map (pending_of ends node) relay.pending.rows ++ back) → IsSingle ends w → {old new : List Refused} {between : List Row}
       → HasSpent node lost HasReason old new (without_origins lost relay.pending.rows) between → HasRefused HasReason (once_at node) old new
   spent_once HasReason front back now single h = record {

@@ -9,7 +9,7 @@ use Rattle.dia_message.specs.declared.message.Message.{Message}
 use Rattle.cc_book.specs.Taking.{Ledger}
 use Rattle.cc_book.specs.History.{IsLegal}
 use Rattle.front_core.specs.declared.site.FrontSite.{FrontSite}
-use Rattle.front_core.specs.Answered.{IsAnswered, IsRefusedAtCharge}
+use Rattle.front_core.specs.Answered.{IsBookAnswer, IsRefusedAtCharge}
 use Rattle.front_core.specs.ChargeCases.{IsCharge}
 use Rattle.front_core.specs.Charging.{answer_in, book_after}
 use Rattle.front_core.specs.FrontStep.{preparation_at}
@@ -30,7 +30,7 @@ pub record Premises : Type 0 where
       (book_after ledger moment (preparation_at site message))
   pub answers : (site : FrontSite) (ledger book : Ledger) (moment : Moment) (message answer : Message) → IsLegal ledger.terms ledger.history → IsCharge site
       ledger moment message answer book
-      → IsAnswered site book message answer ⊎ IsRefusedAtCharge site ledger message answer
+      → IsBookAnswer site book message answer ⊎ IsRefusedAtCharge site ledger message answer
   -- of relays
   pub loops : LoopsAreRefused
   pub comes_back : (node : List ℕ) (request last : Message) (avps : List RawAvp) → HasSpelling (record_of node) → split_of request.body ≡ Ok avps → Descends

@@ -20,7 +20,7 @@ use Rattle.cc_book.specs.declared.entry.Entry.TheVariants.{Take, Sweep}
 use Rattle.cc_book.specs.declared.terms.Terms.{Terms}
 use Rattle.cc_book.specs.AccountMachine.{kept_reply, reply_to}
 use Rattle.cc_book.specs.Laws.{RepliesToEntry}
-use Rattle.front_core.specs.Answered.{IsAnswered}
+use Rattle.front_core.specs.Answered.{IsBookAnswer}
 use Rattle.front_core.specs.Counts.{is_with, requests_with, answers_with}
 use Rattle.relay_core.specs.declared.node.RelaySite.{RelaySite}
 use Rattle.relay_core.specs.declared.run.RelayEvent.{RelayEvent}
@@ -140,7 +140,7 @@ module _ (site : Site) (all : Ends) (past : Past) (w : WorldState) (h : RunHolds
       go (Sweep moment) there_is t = Contains-has (h.heard.sweeps moment there_is)
 
   -- where requests of one key are one request, its entry is the one that is replied to
-  by_machine : RepliesAreOfEntries → (name : List ℕ) (message answer : Message) (answered : IsAnswered (front_site site name) w.book message answer) →
+  by_machine : RepliesAreOfEntries → (name : List ℕ) (message answer : Message) (answered : IsBookAnswer (front_site site name) w.book message answer) →
       HasOneContent site w.sent answered.request → IsMachineReply w.book answered.request answered.reply
   by_machine of_entries name message answer answered same_content =
       let t = of_entries w.book.terms w.book.history answered.request answered.reply answered.kept in

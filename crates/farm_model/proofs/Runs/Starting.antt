@@ -10,7 +10,7 @@ use Rattle.dia_base.specs.declared.node.NodeKind.TheVariants.{Relay, Front, Clie
 use Rattle.dia_base.specs.declared.number.NodeNo.{NodeNo}
 use Rattle.dia_base.proofs.Counting.{one}
 use Rattle.relay_core.specs.Connecting.{new_node, new_relay}
-use Rattle.farm_law.specs.Farm.{Item, Pending}
+use Rattle.farm_law.specs.Farm.{Item, PendingRow}
 use Rattle.farm_law.specs.Invariant.{new_farm}
 use Rattle.farm_law.specs.Lists.{Has}
 use Rattle.farm_law.specs.Moves.{Moves, next, done, ends}
@@ -131,7 +131,7 @@ module _ (site : Site) where
   no_rows all place [] = refl
   no_rows all place (node ∷ nodes) =
       flat_map-append (rows_at all) (relay_if site place node node.kind) (relays_from site (place + 1) nodes)
-      ∙ ap (λ (rs : List Pending). rs ++ flat_map (rows_at all) (relays_from site (place + 1) nodes)) (no_rows_if all place node node.kind)
+      ∙ ap (λ (rs : List PendingRow). rs ++ flat_map (rows_at all) (relays_from site (place + 1) nodes)) (no_rows_if all place node node.kind)
       ∙ no_rows all (place + 1) nodes
 
   -- ---- a relay stands once: those from a place on have numbers from there on
@@ -202,6 +202,6 @@ pub start_moves : (site : Site) (all : Ends) → Moves (parties site all) (new_f
 start_moves site all =
     subst (λ (is : List Item). Moves (parties site all) (new_farm (empty_book site)) (record (farm_of all [] (start site)) { items = is }))
     (sym (no_items site all 0 site.nodes))
-    (subst (λ (rs : List Pending). Moves (parties site all) (new_farm (empty_book site)) (record (farm_of all [] (start site)) { items = []; rows = rs }))
+    (subst (λ (rs : List PendingRow). Moves (parties site all) (new_farm (empty_book site)) (record (farm_of all [] (start site)) { items = []; rows = rs }))
     (sym (no_rows site all 0 site.nodes))
     (next (ends (has_ended_in [] []) (λ node conn e. absurd cc)) done))

@@ -6,7 +6,7 @@ use Rattle.dia_message.specs.declared.message.Message.{Message}
 use Rattle.dia_message.specs.Traffic.{Traffic}
 use Rattle.relay_core.specs.declared.failover.PlannedFailover.{PlannedFailover}
 use Rattle.relay_core.specs.Failover.{Failover}
-use Rattle.relay_core.specs.FailoverPlan.{IsPlan}
+use Rattle.relay_core.specs.FailoverPlan.{IsFailoverPlan}
 use Rattle.relay_core.proofs.Planning.{begun, done_more, all_done, empty_of}
 use Rattle.relay_core.proofs.failover.fail_over.Goals as goal
 
@@ -18,7 +18,7 @@ loop-planned-init c =
     record {
       done = λ node down plan. (
         begun node c.args.lost c.args.pending.now.rows c.args.room.items c.requires.empty,
-        subst (λ (ps : List PlannedFailover). IsPlan node c.args.lost c.args.pending.now.rows ps) (sym given) plan,
+        subst (λ (ps : List PlannedFailover). IsFailoverPlan node c.args.lost c.args.pending.now.rows ps) (sym given) plan,
       );
       room = omega (arith, none, count, c.requires.enough);
       count = ap length given ∙ sym count;
@@ -35,7 +35,7 @@ loop-planned-preserved-in-Some-fail_over_one c =
       done = λ node down plan.
           let before = c.loop-planned.invariant.done node down plan in
           done_more node c.args.lost c.args.pending.now.rows c.loop-planned.pending.rows c.fail_over_one.new.pending.rows c.in-Some.planned (into_iter_items c.next.new.self) c.loop-planned.items.items c.push_reserved.new.self.items c.fail_over_one.result
-          before.0 (subst (λ (ps : List PlannedFailover). IsPlan node c.args.lost c.loop-planned.pending.rows ps) next.0 before.1)
+          before.0 (subst (λ (ps : List PlannedFailover). IsFailoverPlan node c.args.lost c.loop-planned.pending.rows ps) next.0 before.1)
           (λ held e f. c.fail_over_one.ensures.ok node held e f) (λ held e f. c.fail_over_one.ensures.left node held e f down) pushed;
       room = omega (arith, c.loop-planned.invariant.room, next.1, c.push_reserved.ensures.len, c.push_reserved.ensures.capacity);
       count = let whole = ap length next.0 in omega (arith, whole, c.loop-planned.invariant.count, next.1);
@@ -52,7 +52,7 @@ loop-planned-preserved c =
       done = λ node down plan.
           let before = c.loop-planned.invariant.done node down plan in
           done_more node c.args.lost c.args.pending.now.rows c.loop-planned.pending.rows c.fail_over_one.new.pending.rows c.in-Some.planned (into_iter_items c.next.new.self) c.loop-planned.items.items c.loop-planned.items.items c.fail_over_one.result
-          before.0 (subst (λ (ps : List PlannedFailover). IsPlan node c.args.lost c.loop-planned.pending.rows ps) next.0 before.1)
+          before.0 (subst (λ (ps : List PlannedFailover). IsFailoverPlan node c.args.lost c.loop-planned.pending.rows ps) next.0 before.1)
           (λ held e f. c.fail_over_one.ensures.ok node held e f) (λ held e f. c.fail_over_one.ensures.left node held e f down) kept;
       room = omega (arith, c.loop-planned.invariant.room, next.1);
       count = let whole = ap length next.0 in omega (arith, whole, c.loop-planned.invariant.count, next.1);

@@ -1,7 +1,7 @@
 use Rattle.std.proofs.Common.{◌≡◌, map, take}
 use Rattle.relay_core.specs.Failover.{after_end, without_origins}
 use Rattle.relay_core.specs.FailoverPlan.{planned_for}
-use Rattle.relay_core.proofs.failover.plan.Given as goal
+use Rattle.relay_core.proofs.failover.failover_plan.Given as goal
 
 -- those before the index are planned
 abbrev pub invariant-loop-hop : goal.invariant-loop-hop

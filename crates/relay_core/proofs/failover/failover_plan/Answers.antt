@@ -5,8 +5,8 @@ use Rattle.relay_core.specs.declared.failover.PlannedFailover.{PlannedFailover}
 use Rattle.relay_core.specs.Failover.{after_end, without_origins}
 use Rattle.relay_core.specs.FailoverPlan.{choice_of, planned_for}
 use Rattle.relay_core.proofs.Planning.{planned_more, planned-some, planned-none, plan_made}
-use Rattle.relay_core.proofs.failover.plan.Goals as goal
-use Rattle.relay_core.proofs.failover.plan.Goals.{in-Some+in_ok-choice-in-Some, in-None}
+use Rattle.relay_core.proofs.failover.failover_plan.Goals as goal
+use Rattle.relay_core.proofs.failover.failover_plan.Goals.{in-Some+in_ok-choice-in-Some, in-None}
 
 pub loop-hop-preserved : goal.loop-hop-preserved
 loop-hop-preserved g c =
