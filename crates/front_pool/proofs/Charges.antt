@@ -97,7 +97,7 @@ charged site ledger message receipt legal within view fits same =
     let R : CcReply → Type 0 =
     λ r. IsCharge site (as_of ledger place) moment message (answer_to site.name site.realm message request r) (as_of ledger (place + 1)) in
     let more : take (place + 1) ledger.history ≡ before ++ Take moment request ∷ [] = rw add-one a.next in
-    record { moment = moment; charge = subst R (sym reply) (subst Q (sym more) done) }
+    record { moment = moment; at = at; charge = subst R (sym reply) (subst Q (sym more) done) }
 
 pub fresh_is_charged :
     (site : FrontSite) (ledger : Ledger) (message : Message) (answer : Option Message) (given : Option Receipt) (receipt : Receipt)

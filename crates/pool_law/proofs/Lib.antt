@@ -1,0 +1,4 @@
+pub mod Prefixes
+pub mod Turns
+pub mod Running
+pub mod Places
