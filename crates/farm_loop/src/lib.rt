@@ -1,0 +1,29 @@
+//! The loop of a process that is nodes of a site: sockets, the time, and its node with its connections. It decides nothing:
+//! what a node does is its own, and what becomes of connections is `farm_serve`'s.
+//!
+//! - [`Live`]: such a process. [`Live::turn`] waits 100 milliseconds at most, reads and writes what is ready, and ends with
+//!   one tick; who calls it says when to end, by [`Live::close`].
+//! - [`Dial`]: a connection that it makes itself, again and again.
+//! - [`LoopFault`]: why it cannot go on.
+//!
+//! What a socket gives or takes, and what the system reports, no contract can say: all of this is proved safe, `Dial` is
+//! proved to be made when it is due, and the rest is tested.
+#![tactic(auto)]
+
+mod clock;
+mod dial;
+mod fault;
+mod half;
+mod live;
+mod sockets;
+mod tell;
+
+pub use dial::{Dial, DialState};
+use farm_net::Counted;
+use farm_serve::Serving;
+pub use fault::LoopFault;
+pub use half::Half;
+pub use live::Live;
+
+/// A node with its connections over sockets.
+pub type Served<N> = Serving<N, Counted<Half>, Counted<Half>>;

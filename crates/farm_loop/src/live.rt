@@ -1,0 +1,385 @@
+//! The loop of a process: sockets, its node with its connections, and the time.
+
+use crate::clock::Timer;
+use crate::dial::{Dial, DialState};
+use crate::fault::LoopFault;
+use crate::half::halves;
+use crate::sockets::{Ready, Sockets, Source, token_of};
+use crate::{Served, tell};
+use dia_avp::PlainWire;
+use dia_base::{ConnId, Moment, NodeNo};
+use farm_base::Site;
+use farm_net::Counted;
+use farm_node::Node;
+use farm_place::{Place, socket_of};
+use farm_serve::{LocalNode, NOTE_LIMIT, Note, Serving};
+use log::Log;
+use mio::net::TcpStream;
+use std::alloc::Global;
+use std::io::ErrorKind;
+use std::net::{Net, SocketAddr};
+use std::rt::Clock;
+
+/// The most connections that are taken of one listener in a turn.
+const ACCEPT_LIMIT: u32 = 64;
+
+/// A node of this process that listens.
+#[derive(Clone, Copy)]
+pub struct Address {
+    pub node: NodeNo,
+    pub socket: SocketAddr,
+}
+
+/// A process that is nodes of a site: its sockets, and the node with its connections.
+#[derive(Drop)]
+pub struct Live<N> {
+    alloc: Global,
+    pub serving: Served<N>,
+    sockets: Sockets,
+    dials: Vec<Dial>,
+    /// The nodes that are to listen.
+    addresses: Vec<Address>,
+    listens: bool,
+    /// Connections that were not read until they would wait.
+    again: Vec<ConnId>,
+    timer: Timer,
+    interval: u32,
+}
+
+/// The connections that the nodes of a process make.
+fn dials_of(alloc: Global, site: &Site, places: &[Place]) -> Result<Vec<Dial>, LoopFault> {
+    let mut dials = Vec::new(alloc);
+    for place in places {
+        for peer in &place.calls {
+            let has_address = socket_of(site, *peer).is_some();
+            dials.push(Dial::new(place.node, *peer, has_address))?;
+        }
+    }
+    Ok(dials)
+}
+
+impl<N: Node + Drop> Live<N> {
+    /// The nodes at these places, none of which is connected yet.
+    pub fn new<O: Net + Clock>(
+        os: &O,
+        alloc: Global,
+        site: &Site,
+        node: N,
+        places: Vec<Place>,
+    ) -> Result<Self, LoopFault> {
+        let dials = dials_of(alloc, site, &places)?;
+        let mut addresses = Vec::with_capacity(alloc, places.len())?;
+        let mut locals = Vec::with_capacity(alloc, places.len())?;
+        for place in places {
+            if let Some(socket) = place.address {
+                addresses.push(Address {
+                    node: place.node,
+                    socket,
+                })?;
+            }
+            locals.push(LocalNode {
+                node: place.node,
+                site: place.watch,
+            })?;
+        }
+        Ok(Live {
+            alloc,
+            serving: Serving::new(alloc, node, locals),
+            sockets: Sockets::new(os, alloc)?,
+            dials,
+            addresses,
+            listens: false,
+            again: Vec::new(alloc),
+            timer: Timer::start(os)?,
+            interval: site.watchdog,
+        })
+    }
+
+    /// Nobody is to listen: a client does not.
+    pub fn listens_nowhere(&mut self) {
+        self.addresses.clear();
+    }
+
+    /// One turn: waits 100 milliseconds at most, reads and writes what is ready, and ends with one tick.
+    pub fn turn<O: Net + Clock, L: Log>(
+        &mut self,
+        os: &O,
+        log: &L,
+        site: &Site,
+    ) -> Result<(), LoopFault> {
+        let at_once = self.collect_again()?;
+        self.sockets.wait(at_once)?;
+        let moment = self.timer.now(os)?;
+        self.read_again(moment);
+        self.serve_ready(moment);
+        self.accept_all(log, site, moment);
+        self.dial_all(os, log, site, moment);
+        self.serving.tick::<PlainWire>(moment);
+        self.serving.write_all::<PlainWire>(moment);
+        self.let_go(moment);
+        self.tell_notes(log, site);
+        self.listen_where_due(os, log, site)?;
+        if self.serving.has_failed() {
+            return Err(LoopFault::OutOfMemory);
+        }
+        Ok(())
+    }
+
+    /// Whether a connection of its own has failed or ended.
+    pub fn has_lost(&self) -> bool {
+        self.dials.iter().any(|dial| match dial.state {
+            DialState::Due { at } => at.0 > 0,
+            DialState::Made { .. } | DialState::Nowhere => false,
+        })
+    }
+
+    /// Each connection is to end in good order.
+    pub fn close<O: Clock>(&mut self, os: &O) -> Result<(), LoopFault> {
+        let moment = self.timer.now(os)?;
+        self.sockets.listeners.clear();
+        self.addresses.clear();
+        self.dials.clear();
+        self.serving.close_all::<PlainWire>(moment);
+        Ok(())
+    }
+
+    /// The connections that were not read until they would wait, and whether there is one, or a listener like that.
+    fn collect_again(&mut self) -> Result<bool, LoopFault> {
+        self.again.clear();
+        for link in self.serving.links() {
+            if link.end.is_none() && !link.conn.reader().device().is_drained() {
+                self.again.push(link.id)?;
+            }
+        }
+        let waits = self
+            .sockets
+            .listeners
+            .iter()
+            .any(|listening| listening.is_ready);
+        Ok(waits || !self.again.is_empty())
+    }
+
+    /// Reads on a connection for one turn.
+    fn read_one(&mut self, conn: ConnId, moment: Moment) {
+        let piece = self.sockets.piece.as_mut_slice();
+        if !piece.is_empty() {
+            self.serving.readable::<PlainWire>(conn, piece, moment);
+        }
+    }
+
+    /// Reads where more may be there.
+    fn read_again(&mut self, moment: Moment) {
+        for at in 0..self.again.len() {
+            if let Some(conn) = self.again.get(at) {
+                let conn = *conn;
+                self.read_one(conn, moment);
+            }
+        }
+    }
+
+    /// Serves what was reported.
+    fn serve_ready(&mut self, moment: Moment) {
+        for at in 0..self.sockets.ready.len() {
+            let Some(ready) = self.sockets.ready.get(at) else {
+                continue;
+            };
+            let ready = *ready;
+            self.serve_one(ready, moment);
+        }
+    }
+
+    fn serve_one(&mut self, ready: Ready, moment: Moment) {
+        match ready.source {
+            Source::Listener { place } => {
+                if let Some(listening) = self.sockets.listeners.get_mut(place) {
+                    listening.is_ready = true;
+                }
+            }
+            Source::Conn { conn } => {
+                if ready.reads {
+                    self.read_one(conn, moment);
+                }
+                if ready.writes {
+                    self.serving.writable::<PlainWire>(conn, moment);
+                }
+            }
+        }
+    }
+
+    /// Takes the connections that wait at listeners.
+    fn accept_all<L: Log>(&mut self, log: &L, site: &Site, moment: Moment) {
+        for place in 0..self.sockets.listeners.len() {
+            for _ in 0..ACCEPT_LIMIT {
+                if !self.accept_one(log, site, place, moment) {
+                    break;
+                }
+            }
+        }
+    }
+
+    /// Takes one connection of a listener; whether there may be another one.
+    fn accept_one<L: Log>(&mut self, log: &L, site: &Site, place: usize, moment: Moment) -> bool {
+        let Some(listening) = self.sockets.listeners.get_mut(place) else {
+            return false;
+        };
+        if !listening.is_ready {
+            return false;
+        }
+        let local = listening.local;
+        match listening.listener.accept() {
+            Ok((stream, _)) => {
+                self.take(log, site, local, stream, moment);
+                true
+            }
+            Err(error) => {
+                listening.is_ready = false;
+                if error.kind() != ErrorKind::WouldBlock {
+                    tell::failed(log, "a connection cannot be accepted", &error);
+                }
+                false
+            }
+        }
+    }
+
+    /// Takes a connection that somebody has made to a node of this process.
+    fn take<L: Log>(
+        &mut self,
+        log: &L,
+        site: &Site,
+        local: NodeNo,
+        stream: TcpStream,
+        moment: Moment,
+    ) {
+        let (reader, writer) = match halves(self.alloc, stream) {
+            Ok(both) => both,
+            Err(error) => {
+                tell::failed(log, "a connection cannot be taken", &error);
+                return;
+            }
+        };
+        match self
+            .serving
+            .accept(local, Counted::new(reader), Counted::new(writer), moment)
+        {
+            Ok(conn) => self.register(log, conn),
+            Err(refused) => tell::not_taken(log, site, local, refused.why),
+        }
+    }
+
+    /// Has a connection reported. Where that fails, nothing is heard of it, and it ends an interval later.
+    fn register<L: Log>(&mut self, log: &L, conn: ConnId) {
+        if let Some(link) = self.serving.link(conn) {
+            let half = link.conn.reader().device();
+            if let Err(error) = half.register(self.sockets.registry(), token_of(conn)) {
+                tell::failed(log, "a connection cannot be watched", &error);
+            }
+        }
+    }
+
+    /// Makes the connections that are due.
+    fn dial_all<O: Net, L: Log>(&mut self, os: &O, log: &L, site: &Site, moment: Moment) {
+        for place in 0..self.dials.len() {
+            let Some(dial) = self.dials.get(place) else {
+                continue;
+            };
+            let dial = *dial;
+            if dial.is_due(moment) {
+                let state = self.dial_one(os, log, site, dial, moment);
+                if let Some(dial) = self.dials.get_mut(place) {
+                    match state {
+                        Some(conn) => dial.make(conn),
+                        None => dial.fail(moment, self.interval),
+                    }
+                }
+            }
+        }
+    }
+
+    /// Makes a connection: its number, or none where that has failed at once.
+    fn dial_one<O: Net, L: Log>(
+        &mut self,
+        os: &O,
+        log: &L,
+        site: &Site,
+        dial: Dial,
+        moment: Moment,
+    ) -> Option<ConnId> {
+        let address = socket_of(site, dial.peer)?;
+        let begun = match TcpStream::connect(os, address) {
+            Ok(stream) => halves(self.alloc, stream),
+            Err(error) => Err(error),
+        };
+        let (reader, writer) = match begun {
+            Ok(both) => both,
+            Err(error) => {
+                tell::failed(log, "a connection cannot be made", &error);
+                return None;
+            }
+        };
+        match self.serving.connect(
+            dial.local,
+            dial.peer,
+            Counted::new(reader),
+            Counted::new(writer),
+            moment,
+        ) {
+            Ok(conn) => {
+                self.register(log, conn);
+                Some(conn)
+            }
+            Err(refused) => {
+                tell::not_taken(log, site, dial.local, refused.why);
+                None
+            }
+        }
+    }
+
+    /// Lets the connections go that have ended: those that this process has made are made again later.
+    fn let_go(&mut self, moment: Moment) {
+        for _ in 0..self.serving.count() {
+            let Some(ended) = self.serving.take_ended(moment) else {
+                return;
+            };
+            for dial in self.dials.iter_mut() {
+                if dial.is_made(ended.conn) {
+                    dial.fail(moment, self.interval);
+                }
+            }
+        }
+    }
+
+    /// Tells what has happened.
+    fn tell_notes<L: Log>(&mut self, log: &L, site: &Site) {
+        for _ in 0..NOTE_LIMIT {
+            let Some(note) = self.serving.take_note() else {
+                return;
+            };
+            if let Note::Up { conn, .. } = note {
+                for dial in self.dials.iter_mut() {
+                    if dial.is_made(conn) {
+                        dial.come_up();
+                    }
+                }
+            }
+            tell::note(log, site, note);
+        }
+    }
+
+    /// Listens, once each connection of its own has come up or failed.
+    fn listen_where_due<O: Net, L: Log>(
+        &mut self,
+        os: &O,
+        log: &L,
+        site: &Site,
+    ) -> Result<(), LoopFault> {
+        if self.listens || !self.dials.iter().all(|dial| dial.was_tried) {
+            return Ok(());
+        }
+        self.listens = true;
+        for address in &self.addresses {
+            self.sockets.listen(os, address.node, address.socket)?;
+            tell::listens(log, site, address.node, address.socket);
+        }
+        Ok(())
+    }
+}

@@ -1,0 +1,126 @@
+//! The sockets of a process: who listens, and which are ready.
+
+use dia_base::{ConnId, NodeNo};
+use mio::net::TcpListener;
+use mio::{Events, Interest, Poll, Registry, Token};
+use std::alloc::Global;
+use std::io;
+use std::net::{Net, SocketAddr};
+use std::time::Duration;
+
+/// The most events of a turn.
+const EVENT_LIMIT: usize = 1_024;
+
+/// The octets of a read.
+const PIECE: usize = 65_536;
+
+/// How long a turn waits, in milliseconds, where nothing happens.
+const WAIT: u64 = 100;
+
+/// A listening socket, for a node of this process.
+#[derive(Drop)]
+pub struct Listening {
+    pub local: NodeNo,
+    pub listener: TcpListener,
+    /// Whether connections may wait there.
+    pub is_ready: bool,
+}
+
+/// What a report is of.
+#[derive(Clone, Copy)]
+pub enum Source {
+    Listener { place: usize },
+    Conn { conn: ConnId },
+}
+
+/// A report of the system.
+#[derive(Clone, Copy)]
+pub struct Ready {
+    pub source: Source,
+    pub reads: bool,
+    pub writes: bool,
+}
+
+/// The sockets of a process, and what the system reports of them.
+#[derive(Drop)]
+pub struct Sockets {
+    poll: Poll,
+    events: Events,
+    pub listeners: Vec<Listening>,
+    /// What was reported for this turn.
+    pub ready: Vec<Ready>,
+    /// What is read.
+    pub piece: Vec<u8>,
+}
+
+/// The token of a connection: its number.
+pub fn token_of(conn: ConnId) -> Token {
+    Token(conn.0 as usize)
+}
+
+/// The token of a listener: those at the top, which no connection reaches.
+fn token_of_listener(place: usize) -> Token {
+    Token(usize::MAX - place)
+}
+
+/// Whose token it is.
+fn source_of(token: Token, listeners: usize) -> Source {
+    let place = usize::MAX - token.0;
+    if place < listeners {
+        Source::Listener { place }
+    } else {
+        Source::Conn {
+            conn: ConnId(token.0 as u64),
+        }
+    }
+}
+
+impl Sockets {
+    /// None yet.
+    pub fn new<O: Net>(os: &O, alloc: Global) -> io::Result<Sockets> {
+        Ok(Sockets {
+            poll: Poll::new(os)?,
+            events: Events::with_capacity(alloc, EVENT_LIMIT)?,
+            listeners: Vec::new(alloc),
+            ready: Vec::with_capacity(alloc, EVENT_LIMIT)?,
+            piece: Vec::from_elem(alloc, 0u8, PIECE)?,
+        })
+    }
+
+    /// Where sources are registered.
+    pub fn registry(&self) -> &Registry {
+        self.poll.registry()
+    }
+
+    /// A node of this process listens.
+    pub fn listen<O: Net>(&mut self, os: &O, local: NodeNo, address: SocketAddr) -> io::Result<()> {
+        let mut listener = TcpListener::bind(os, address)?;
+        let token = token_of_listener(self.listeners.len());
+        self.poll
+            .registry()
+            .register(&mut listener, token, Interest::READABLE)?;
+        self.listeners.push(Listening {
+            local,
+            listener,
+            is_ready: true,
+        })?;
+        Ok(())
+    }
+
+    /// Waits until something is ready, or 100 milliseconds, or not at all. What is ready stands in `ready` then.
+    pub fn wait(&mut self, at_once: bool) -> io::Result<()> {
+        let millis = if at_once { 0 } else { WAIT };
+        self.poll
+            .poll(&mut self.events, Some(Duration::from_millis(millis)))?;
+        self.ready.clear();
+        let listeners = self.listeners.len();
+        for event in &self.events {
+            self.ready.push(Ready {
+                source: source_of(event.token(), listeners),
+                reads: event.is_readable() || event.is_read_closed() || event.is_error(),
+                writes: event.is_writable() || event.is_write_closed() || event.is_error(),
+            })?;
+        }
+        Ok(())
+    }
+}
