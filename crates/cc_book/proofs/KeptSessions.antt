@@ -2,7 +2,7 @@
 use Rattle.std.proofs.Common.{◌≡◌, ℕ, zero, suc, ◌+◌, ◌<◌, ◌≤◌, Bool, true, false, cond, not, eqb, ltb, List, [], ◌∷◌, ◌++◌, length, take, drop, add-one, filter, get_or, Some, None, refl, sym, ap, subst, ◌∙◌, arith, remove, slice_get, slice_set, get_or-set_same, get_or-set_other, length-set}
 use Rattle.std.specs.List.{AllByRecursion, position, position_or_len}
 use Rattle.std.specs.Map.{keys_of, values_of}
-use Rattle.std.proofs.lemmas.List.{append-nil, drop_all, map-append, take_all}
+use Rattle.std.proofs.lemmas.List.{append-nil, drop_all, get_or_default, map-append, take_all}
 use Rattle.indexmap.specs.Layout.{set_value_at}
 use Rattle.indexmap.specs.IndexMap.{insert_entry}
 use Rattle.dia_base.specs.declared.number.Moment.{Moment}
@@ -268,6 +268,19 @@ same_value x y e = cc
 pub held-there : (ss : List OpenSession) (place : ℕ) (read s : OpenSession) → slice_get ss place ≡ Some read → slice_get ss place ≡ Some s
     → held_in read.holds ≡ held_in s.holds
 held-there ss place read s one other = ap (λ (x : OpenSession). held_in x.holds) (same_value read s (sym one ∙ other))
+
+-- The total of the account of a session that goes on is what all sessions hold of it, and no less than what this one
+-- holds.
+pub total-there : (es : Rows) (ts : List ℕ) (place : ℕ) (s read : OpenSession) (total held : ℕ) → IsKept es ts → (at : GoesOnAt (values_of es) place s)
+    → slice_get (values_of es) place ≡ Some read → total ≡ get_or ts s.account total → held ≡ held_in read.holds
+    → (total ≡ reserved_in s.account (values_of es)) × (held ≡ held_in at.before.holds) × (held ≤ total)
+total-there es ts place s read total held kept at there is holds =
+    let lt : s.account < length ts = omega (arith, known-at (length ts) (values_of es) place at.before at.there kept.known, at.account) in
+    let same : total ≡ reserved_in s.account (values_of es) = is ∙ get_or_default ts s.account total 0 lt ∙ kept.summed s.account in
+    let before = holds ∙ held-there (values_of es) place read at.before there at.there in
+    let own = held-total (values_of es) place at.before at.there in
+    let mine = ap (λ (n : ℕ). reserved_in n (values_of es)) at.account in
+    (same, before, omega arith)
 
 -- ---- sessions that are looked at one after the other, and end where they are due
 

@@ -1,13 +1,13 @@
-use Rattle.std.proofs.Common.{rules, ◌≡◌, ◌+◌, ◌-◌, ◌<◌, ◌^◌, ℕ, List, length, subst, sym, ap, ◌∙◌, arith, get_or}
+use Rattle.std.proofs.Common.{rules, ◌≡◌, ◌+◌, ◌-◌, ◌<◌, ◌^◌, ℕ, List, length, subst, sym, ap, ◌∙◌, arith}
 use Rattle.std.specs.Prelude.{slice_set}
-use Rattle.std.proofs.lemmas.List.{get_or_default, length-map}
+use Rattle.std.proofs.lemmas.List.{length-map}
 use Rattle.std.proofs.lemmas.Option.{slice_get_within}
 use Rattle.indexmap.specs.IndexMap.{values}
 use Rattle.cc_book.specs.declared.session.OpenSession.{OpenSession}
 use Rattle.cc_book.specs.OpenSessions.{GoesOnAt, Sessions}
 use Rattle.cc_book.specs.Standing.{held_by_all, held_in, reserved_in}
 use Rattle.cc_book.proofs.Amounts.{held-at, reserved_in-part}
-use Rattle.cc_book.proofs.KeptSessions.{IsKept-go_on, held-there, held-total, known-at, values-set}
+use Rattle.cc_book.proofs.KeptSessions.{IsKept-go_on, held-there, known-at, total-there, values-set}
 use Rattle.cc_book.proofs.open_sessions.OpenSessions.go_on.Goals as goal
 
 pub held_in-before-requires : goal.held_in-before-requires
@@ -38,16 +38,9 @@ pub overflow_sub-left : goal.overflow_sub-left
 overflow_sub-left c =
     let items : values c.self.inside.sessions ≡ c.args.self.now.items = ap (λ (s : Sessions). s.items) c.self.view_is in
     let at = subst (λ (ss : List OpenSession). GoesOnAt ss c.args.place c.args.session) (sym items) c.requires.there in
-    let lt = known-at (length c.self.inside.totals.items) (values c.self.inside.sessions) c.args.place at.before at.there c.self.invariant.known in
-    let same = ap held_in c.as_slice.ensures in
-    let is = held-there (values c.self.inside.sessions) c.args.place c.index.result.now at.before c.index.ensures at.there in
-    let known : c.args.session.account < length c.self.inside.totals.items = omega (arith, at.account) in
-    let value : c.index-2.result.now ≡ get_or c.self.inside.totals.items c.args.session.account 0 =
-    c.index-2.ensures ∙ get_or_default c.self.inside.totals.items c.args.session.account c.index-2.result.now 0 known in
-    let total = c.self.invariant.summed c.args.session.account in
-    let own = held-total (values c.self.inside.sessions) c.args.place at.before at.there in
-    let mine = ap (λ (n : ℕ). reserved_in n (values c.self.inside.sessions)) at.account in
-    omega (arith, c.held_in-before.ensures)
+    let sums = total-there c.self.inside.sessions.entries c.self.inside.totals.items c.args.place c.args.session c.index.result.now c.index-2.result.now
+    c.held_in-before.result c.self.invariant at c.index.ensures c.index-2.ensures (c.held_in-before.ensures ∙ ap held_in c.as_slice.ensures) in
+    omega (arith, sums.2)
 
 pub held_in-requires : goal.held_in-requires
 held_in-requires c = let same = ap held_in c.as_slice-2.ensures in omega (arith, c.requires.more)
@@ -56,20 +49,13 @@ pub overflow_add-left : goal.overflow_add-left
 overflow_add-left c =
     let items : values c.self.inside.sessions ≡ c.args.self.now.items = ap (λ (s : Sessions). s.items) c.self.view_is in
     let at = subst (λ (ss : List OpenSession). GoesOnAt ss c.args.place c.args.session) (sym items) c.requires.there in
-    let lt = known-at (length c.self.inside.totals.items) (values c.self.inside.sessions) c.args.place at.before at.there c.self.invariant.known in
-    let same = ap held_in c.as_slice.ensures in
-    let is = held-there (values c.self.inside.sessions) c.args.place c.index.result.now at.before c.index.ensures at.there in
-    let known : c.args.session.account < length c.self.inside.totals.items = omega (arith, at.account) in
-    let value : c.index-2.result.now ≡ get_or c.self.inside.totals.items c.args.session.account 0 =
-    c.index-2.ensures ∙ get_or_default c.self.inside.totals.items c.args.session.account c.index-2.result.now 0 known in
-    let total = c.self.invariant.summed c.args.session.account in
-    let own = held-total (values c.self.inside.sessions) c.args.place at.before at.there in
-    let mine = ap (λ (n : ℕ). reserved_in n (values c.self.inside.sessions)) at.account in
+    let sums = total-there c.self.inside.sessions.entries c.self.inside.totals.items c.args.place c.args.session c.index.result.now c.index-2.result.now
+    c.held_in-before.result c.self.invariant at c.index.ensures c.index-2.ensures (c.held_in-before.ensures ∙ ap held_in c.as_slice.ensures) in
     let all : held_by_all (values c.self.inside.sessions) ≡ held_by_all c.args.self.now.items = ap held_by_all items in
     let part = reserved_in-part c.args.session.account (values c.self.inside.sessions) in
     let more = ap held_in c.as_slice-2.ensures in
     let small : (c.index-2.result.now - c.held_in-before.result) + c.held_in.result < 2 ^ 128 =
-    omega (arith, c.requires.more, c.requires.held, c.held_in.ensures) in
+    omega (arith, sums.0, sums.1, sums.2, c.requires.more, c.requires.held, c.held_in.ensures) in
     search rules
 
 pub index_mut-requires-2 : goal.index_mut-requires-2
@@ -84,19 +70,13 @@ pub invariant_of-self : goal.invariant_of-self
 invariant_of-self c =
     let items : values c.self.inside.sessions ≡ c.args.self.now.items = ap (λ (s : Sessions). s.items) c.self.view_is in
     let at = subst (λ (ss : List OpenSession). GoesOnAt ss c.args.place c.args.session) (sym items) c.requires.there in
-    let lt = known-at (length c.self.inside.totals.items) (values c.self.inside.sessions) c.args.place at.before at.there c.self.invariant.known in
-    let same = ap held_in c.as_slice.ensures in
-    let is = held-there (values c.self.inside.sessions) c.args.place c.index.result.now at.before c.index.ensures at.there in
-    let known : c.args.session.account < length c.self.inside.totals.items = omega (arith, at.account) in
-    let value : c.index-2.result.now ≡ get_or c.self.inside.totals.items c.args.session.account 0 =
-    c.index-2.ensures ∙ get_or_default c.self.inside.totals.items c.args.session.account c.index-2.result.now 0 known in
+    let sums = total-there c.self.inside.sessions.entries c.self.inside.totals.items c.args.place c.args.session c.index.result.now c.index-2.result.now
+    c.held_in-before.result c.self.invariant at c.index.ensures c.index-2.ensures (c.held_in-before.ensures ∙ ap held_in c.as_slice.ensures) in
     let total = c.self.invariant.summed c.args.session.account in
-    let own = held-total (values c.self.inside.sessions) c.args.place at.before at.there in
-    let mine = ap (λ (n : ℕ). reserved_in n (values c.self.inside.sessions)) at.account in
     let more = ap held_in c.as_slice-2.ensures in
     IsKept-go_on c.self.inside.sessions.entries c.self.inside.totals.items c.args.place c.args.session
     ((c.index-2.result.now - c.held_in-before.result) + c.held_in.result) c.self.invariant at
-    (omega (arith, c.held_in-before.ensures, c.held_in.ensures))
+    (omega (arith, sums.0, sums.1, sums.2, c.held_in.ensures))
 
 pub returns-clause-items : goal.returns-clause-items
 returns-clause-items c =
