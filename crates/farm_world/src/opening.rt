@@ -13,7 +13,7 @@ use cc_rating::{Tariff, Tariffs};
 use dia_base::{Listing, NodeKind, NodeNo};
 use farm_model::{FrontAt, Node, Site};
 use front_core::Front;
-use relays::relays_of;
+pub use relays::relays_of;
 use std::alloc::{AllocError, Global};
 
 fn fresh_front(alloc: Global, site: &Site, node: &Node) -> Result<Front, AllocError>
@@ -30,7 +30,8 @@ fn fresh_front(alloc: Global, site: &Site, node: &Node) -> Result<Front, AllocEr
     )
 }
 
-fn fronts_of(alloc: Global, site: &Site) -> Result<Vec<FrontAt>, AllocError>
+/// The fronts among the nodes of the site, each with nothing in its queue.
+pub fn fronts_of(alloc: Global, site: &Site) -> Result<Vec<FrontAt>, AllocError>
     requires { IsChecked site.now }
     ensures { IfOk result (λ fronts. fronts.items ≡ fronts_from site.now 0 site.now.nodes) }
 {
@@ -74,7 +75,8 @@ fn tariffs_of(alloc: Global, tariffs: &[Tariff]) -> Result<Tariffs, AllocError>
     }
 }
 
-fn empty_book(alloc: Global, site: &Site) -> Result<Book, AllocError>
+/// The book of the site: its accounts with what they are opened with, its tariffs, and no entry.
+pub fn empty_book(alloc: Global, site: &Site) -> Result<Book, AllocError>
     requires { IsChecked site.now }
     ensures { IfOk result (λ book. book ≡ empty_book site.now) }
 {

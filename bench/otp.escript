@@ -1,0 +1,116 @@
+#!/usr/bin/env escript
+%% A client of another make: the diameter application of Erlang/OTP. It connects to the relay of examples/live as
+%% c1.example, sends an EVENT, an INITIAL and an UPDATE, writes "restart" and waits until the relay was killed and started
+%% again, and sends the TERMINATION. A line for each answer; status 1 where one is not as it is to be. Run by bench/otp.
+-module(otp).
+-export([peer_up/3, peer_down/3, pick_peer/4, prepare_request/3, prepare_retransmit/3, handle_answer/4, handle_error/4, handle_request/3]).
+-mode(compile).
+
+-define(SERVICE, ?MODULE).
+
+main([Port, Dictionary]) ->
+    load(Dictionary),
+    ok = diameter:start(),
+    ok = diameter:start_service(?SERVICE, [
+        {'Origin-Host', "c1.example"},
+        {'Origin-Realm', "ocs.example"},
+        {'Vendor-Id', 0},
+        {'Product-Name', "OTP"},
+        {'Auth-Application-Id', [4]},
+        {string_decode, false},
+        {decode_format, map},
+        {application, [{alias, cc}, {dictionary, cc_dictionary}, {module, ?MODULE}]}
+    ]),
+    true = diameter:subscribe(?SERVICE),
+    {ok, _} = diameter:add_transport(?SERVICE, {connect, [
+        {transport_module, diameter_tcp},
+        {transport_config, [{raddr, {127, 0, 0, 1}}, {rport, list_to_integer(Port)}, {reuseaddr, true}]},
+        {connect_timer, 500},
+        {watchdog_timer, 6000},
+        {watchdog_config, [{okay, 0}, {suspect, 1}]}
+    ]}),
+    wait(up),
+    Session = diameter:session_id("c1.example"),
+    Event = diameter:session_id("c1.example"),
+    expect("EVENT", 2001, 3200, call(Event, 4, 0, #{'Requested-Action' => [0]}, [#{asked => 3200}])),
+    expect("INITIAL", 2001, 5000, call(Session, 1, 0, #{}, [#{asked => none}])),
+    expect("UPDATE", 2001, 5000, call(Session, 2, 1, #{}, [#{asked => none, used => 4000}])),
+    io:format("restart~n"),
+    wait(down),
+    wait(up),
+    expect("TERMINATION", 2001, none, call(Session, 3, 2, #{}, [#{used => 3000}])),
+    ok = diameter:stop_service(?SERVICE),
+    io:format("done~n"),
+    halt(0).
+
+%% makes and loads the dictionary
+load(File) ->
+    {ok, Forms} = case diameter_make:codec(File, [forms, return]) of
+        {ok, [It]} -> {ok, It};
+        {ok, It} -> {ok, It}
+    end,
+    {ok, Module, Beam} = compile:forms(Forms, []),
+    {module, Module} = code:load_binary(Module, "cc_dictionary", Beam).
+
+%% waits until the relay is up or down
+wait(What) ->
+    receive
+        {diameter_event, ?SERVICE, Event} when element(1, Event) =:= What -> ok;
+        {diameter_event, ?SERVICE, _} -> wait(What)
+    after 40000 ->
+        io:format("not ~p after 40 s~n", [What]),
+        halt(1)
+    end.
+
+call(Session, Type, Number, More, Services) ->
+    Request = maps:merge(More, #{
+        'Session-Id' => Session,
+        'Origin-Host' => "c1.example",
+        'Origin-Realm' => "ocs.example",
+        'Destination-Realm' => "ocs.example",
+        'Auth-Application-Id' => 4,
+        'Service-Context-Id' => "32251@3gpp.org",
+        'CC-Request-Type' => Type,
+        'CC-Request-Number' => Number,
+        'Subscription-Id' => [#{'Subscription-Id-Type' => 0, 'Subscription-Id-Data' => "491700000001"}],
+        'Multiple-Services-Credit-Control' => [service(It) || It <- Services]
+    }),
+    diameter:call(?SERVICE, cc, ['CCR' | Request], [{timeout, 5000}]).
+
+service(It) ->
+    Asked = case It of
+        #{asked := none} -> #{'Requested-Service-Unit' => [#{}]};
+        #{asked := Units} -> #{'Requested-Service-Unit' => [#{'CC-Total-Octets' => [Units]}]};
+        #{} -> #{}
+    end,
+    Used = case It of
+        #{used := Count} -> #{'Used-Service-Unit' => [#{'CC-Total-Octets' => [Count]}]};
+        #{} -> #{}
+    end,
+    maps:merge(#{'Rating-Group' => [10]}, maps:merge(Asked, Used)).
+
+%% an answer that OTP has read without a fault, with this Result-Code, and so many octets granted
+expect(Name, Code, Units, {answer, ['CCA' | Answer], []}) ->
+    Code = maps:get('Result-Code', Answer),
+    Granted = [Octets || It <- maps:get('Multiple-Services-Credit-Control', Answer, []),
+                         Grant <- list(maps:get('Granted-Service-Unit', It, [])),
+                         Octets <- list(maps:get('CC-Total-Octets', Grant, []))],
+    true = Granted =:= case Units of none -> []; _ -> [Units] end,
+    io:format("~s: ~p, granted ~p~n", [Name, Code, Granted]);
+expect(Name, _, _, Other) ->
+    io:format("~s: ~p~n", [Name, Other]),
+    halt(1).
+
+list(It) when is_list(It) -> It;
+list(It) -> [It].
+
+%% what OTP calls
+peer_up(_, _, State) -> State.
+peer_down(_, _, State) -> State.
+pick_peer([Peer | _], _, _, _) -> {ok, Peer}.
+prepare_request(Packet, _, _) -> {send, Packet}.
+prepare_retransmit(Packet, _, _) -> {send, Packet}.
+%% of a diameter_packet the message is the fourth element, and the faults that OTP has found the sixth
+handle_answer(Packet, _, _, _) -> {answer, element(4, Packet), element(6, Packet)}.
+handle_error(Reason, _, _, _) -> {error, Reason}.
+handle_request(_, _, _) -> discard.

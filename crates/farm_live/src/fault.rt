@@ -1,0 +1,84 @@
+//! Why the program does not do what it is asked to do.
+
+use farm_client::LinesFault;
+use farm_loop::LoopFault;
+use farm_place::PlaceFault;
+use farm_site::SiteFault;
+use live_command::LiveFault;
+use std::alloc::{AllocError, AllocFailed};
+use thiserror::Error;
+
+/// Why the program does not do what it is asked to do.
+#[derive(Debug, Drop, Error)]
+pub enum Fault {
+    /// The words are no command; or they ask for help or the version, which is no fault.
+    #[error("{0}")]
+    Words(LiveFault),
+    #[error("the site file cannot be read")]
+    SiteFile,
+    /// What the site file spells is refused, or memory ran out while it was read.
+    #[error("{0}")]
+    Site(SiteFault),
+    /// The site has no such node, or one without an address.
+    #[error("{0}")]
+    Place(PlaceFault),
+    #[error("the messages cannot be read")]
+    Read,
+    #[error("{0}")]
+    Lines(LinesFault),
+    #[error("the output cannot be written")]
+    Write,
+    #[error("{0}")]
+    Loop(LoopFault),
+    /// The connection of a client has ended before each request was answered.
+    #[error("the connection has ended")]
+    Ended,
+    #[error("out of memory")]
+    OutOfMemory,
+}
+
+impl From<LoopFault> for Fault {
+    fn from(fault: LoopFault) -> Fault {
+        Fault::Loop(fault)
+    }
+}
+
+impl From<AllocError> for Fault {
+    fn from(_e: AllocError) -> Fault {
+        Fault::OutOfMemory
+    }
+}
+
+impl<T: Drop> From<AllocFailed<T>> for Fault {
+    fn from(_e: AllocFailed<T>) -> Fault {
+        Fault::OutOfMemory
+    }
+}
+
+/// The exit status of a fault: 0 for help and the version, 1 for a file, a stream or a socket, 2 for refused words, 3 for
+/// a refused site or message, 4 for want of memory.
+pub fn status_of(fault: &Fault) -> u8 {
+    match fault {
+        Fault::Words(LiveFault::Asked(_)) => 0,
+        Fault::Words(
+            LiveFault::Refused(_)
+            | LiveFault::Missing(_)
+            | LiveFault::Malformed(_)
+            | LiveFault::NotUtf8,
+        ) => 2,
+        Fault::Site(SiteFault::OutOfMemory)
+        | Fault::Words(LiveFault::OutOfMemory)
+        | Fault::Place(PlaceFault::OutOfMemory)
+        | Fault::Lines(LinesFault::OutOfMemory)
+        | Fault::Loop(LoopFault::OutOfMemory)
+        | Fault::OutOfMemory => 4,
+        Fault::Site(_)
+        | Fault::Place(PlaceFault::NoAddress | PlaceFault::UnknownName { .. })
+        | Fault::Lines(LinesFault::NoMessage { .. }) => 3,
+        Fault::SiteFile
+        | Fault::Read
+        | Fault::Write
+        | Fault::Loop(LoopFault::Sockets(_))
+        | Fault::Ended => 1,
+    }
+}

@@ -1,0 +1,32 @@
+//! Nodes of a Diameter farm over TCP, and a client that sends requests to them.
+//!
+//! - `program`: words, site file, and what is asked for: to serve as a relay or as all fronts, or to send.
+//! - `fault`: why the program does not do it, and its exit status.
+#![tactic(auto)]
+
+mod fault;
+mod program;
+
+use fault::{Fault, status_of};
+use live_command::LiveFault;
+use log::Logged;
+use log::sink::Console;
+use program::farm;
+use std::process::ExitCode;
+
+/// What tells an operator what happens, on standard error.
+pub type Logger = Logged<HostRuntime, Console<HostRuntime>>;
+
+fn main(rt: HostRuntime) -> ExitCode {
+    let Err(fault) = farm(&rt, &rt) else {
+        return ExitCode::SUCCESS;
+    };
+    let told = match &fault {
+        Fault::Words(LiveFault::Asked(text)) => rt.println(text),
+        _ => rt.eprintln(&fault),
+    };
+    match told {
+        Ok(()) => ExitCode::from(status_of(&fault)),
+        Err(_) => ExitCode::from(1),
+    }
+}
