@@ -1,5 +1,5 @@
 -- A node with its connections as turns see it.
-use Rattle.std.specs.Prelude.{◌≡◌, ◌<◌, ℕ, ◌&&◌, Bool, true, false, is_some, length, position, ◌+◌, [], ◌∷◌, if◌then◌else◌, get_or, List, map, Option, Some, None}
+use Rattle.std.specs.Prelude.{◌≡◌, ◌<◌, ℕ, ◌&&◌, Bool, true, false, is_some, length, position, ◌+◌, [], ◌∷◌, if◌then◌else◌, get_or, List, map, None}
 use Rattle.dia_base.specs.declared.number.NodeNo.{NodeNo}
 use Rattle.dia_message.specs.Traffic.{Traffic}
 use Rattle.std.specs.Prelude.{Result, Ok, Err}
@@ -9,7 +9,7 @@ use Rattle.farm_serve.specs.declared.desk.Desk.{Desk}
 use Rattle.farm_serve.specs.declared.link.Link.{Link}
 use Rattle.farm_serve.specs.declared.link.Standing.{Standing}
 use Rattle.farm_serve.specs.declared.link.Standing.TheVariants.{Waiting, Up, Over}
-use Rattle.farm_serve.specs.Turns.{Goes, Kept, Mark, Told}
+use Rattle.farm_serve.specs.Turns.{Goes, IsDown, Kept, Mark, Told}
 
 abbrev pub mark_of : {R W : Type 0} → Link R W → Mark
 mark_of link = record { id = link.id; local = link.local; standing = link.standing }
@@ -51,6 +51,10 @@ ups (mark ∷ marks) = (if is_up mark.standing then 1 else 0) + ups marks
 -- what is known of the one at this place
 abbrev pub StandsAt : {R W : Type 0} → List (Link R W) → ℕ → Standing → Type 0
 StandsAt {R} {W} links place standing = (link : Link R W) → link ≡ get_or links place link → link.standing ≡ standing
+
+-- nobody is up on the one at this place
+abbrev pub IsDownAt : {R W : Type 0} → List (Link R W) → ℕ → Type 0
+IsDownAt {R} {W} links place = (link : Link R W) → link ≡ get_or links place link → IsDown link.standing
 
 -- where the node was told that this node is up, and did what it was told or refused it
 abbrev pub standing_after : NodeNo → Result (Unit {0}) NodeError → Standing

@@ -1,4 +1,5 @@
--- What a process tells its node, and in which order: of each connection once that it is up, then its messages, and once, last, that it has ended (RFC 6733, sections 5.5.4 and 5.6).
+-- What a process tells its node, and in which order: of each connection once that it is up, then its messages, and
+-- once, last, that it has ended (RFC 6733, sections 5.5.4 and 5.6).
 use Rattle.std.specs.Prelude.{◌≡◌, ◌≢◌, ℕ, ◌+◌, ◌==◌, List, [], ◌∷◌, ◌++◌, Result, Ok, Err, if◌then◌else◌}
 use Rattle.std.specs.List.{fold}
 use Rattle.dia_base.specs.declared.number.ConnId.{ConnId}
@@ -60,19 +61,27 @@ pub data Goes {N : Type 0} (On : N → NodeEvent → Traffic → Result (Unit {0
   rests : Goes On first [] first
   -- A connection of which nothing was told comes up.
   comes_up : (told : List Told) (node next : N) (front back : List Mark) (made : ℕ) (mark : Mark) (peer : NodeNo) (sent : Traffic) →
-      Goes On first told (record { node = node; marks = front ++ mark ∷ back; made = made }) → mark.standing ≡ Waiting → On node (up mark.local peer mark.id) sent (Ok tt) next →
-      Goes On first (told ++ told_of (up mark.local peer mark.id) (Ok tt)) (record { node = next; marks = front ++ standing_as mark (Up peer) ∷ back; made = made })
+      Goes On first told (record { node = node; marks = front ++ mark ∷ back; made = made }) → mark.standing ≡ Waiting
+      → On node (up mark.local peer mark.id) sent (Ok tt) next →
+      Goes On first (told ++ told_of (up mark.local peer mark.id) (Ok tt))
+      (record { node = next; marks = front ++ standing_as mark (Up peer) ∷ back; made = made })
   -- The node refuses it: it is told no more of it.
   is_refused : (told : List Told) (node next : N) (front back : List Mark) (made : ℕ) (mark : Mark) (peer : NodeNo) (sent : Traffic) (error : NodeError) →
-      Goes On first told (record { node = node; marks = front ++ mark ∷ back; made = made }) → mark.standing ≡ Waiting → On node (up mark.local peer mark.id) sent (Err error) next →
-      Goes On first (told ++ told_of (up mark.local peer mark.id) (Err error)) (record { node = next; marks = front ++ standing_as mark (Over peer) ∷ back; made = made })
+      Goes On first told (record { node = node; marks = front ++ mark ∷ back; made = made }) → mark.standing ≡ Waiting
+      → On node (up mark.local peer mark.id) sent (Err error) next →
+      Goes On first (told ++ told_of (up mark.local peer mark.id) (Err error))
+      (record { node = next; marks = front ++ standing_as mark (Over peer) ∷ back; made = made })
   -- A message comes on one that is up.
-  hears : (told : List Told) (node next : N) (front back : List Mark) (made : ℕ) (mark : Mark) (peer : NodeNo) (m : Message) (sent : Traffic) (outcome : Result (Unit {0}) NodeError) →
-      Goes On first told (record { node = node; marks = front ++ mark ∷ back; made = made }) → mark.standing ≡ Up peer → On node (message mark.id m) sent outcome next →
+  hears : (told : List Told) (node next : N) (front back : List Mark) (made : ℕ) (mark : Mark) (peer : NodeNo) (m : Message) (sent : Traffic)
+      (outcome : Result (Unit {0}) NodeError) →
+      Goes On first told (record { node = node; marks = front ++ mark ∷ back; made = made }) → mark.standing ≡ Up peer
+      → On node (message mark.id m) sent outcome next →
       Goes On first (told ++ told_of (message mark.id m) outcome) (record { node = next; marks = front ++ mark ∷ back; made = made })
   -- One that is up ends.
-  ends : (told : List Told) (node next : N) (front back : List Mark) (made : ℕ) (mark : Mark) (peer : NodeNo) (sent : Traffic) (outcome : Result (Unit {0}) NodeError) →
-      Goes On first told (record { node = node; marks = front ++ mark ∷ back; made = made }) → mark.standing ≡ Up peer → On node (lost mark.id) sent outcome next →
+  ends : (told : List Told) (node next : N) (front back : List Mark) (made : ℕ) (mark : Mark) (peer : NodeNo) (sent : Traffic)
+      (outcome : Result (Unit {0}) NodeError) →
+      Goes On first told (record { node = node; marks = front ++ mark ∷ back; made = made }) → mark.standing ≡ Up peer
+      → On node (lost mark.id) sent outcome next →
       Goes On first (told ++ told_of (lost mark.id) outcome) (record { node = next; marks = front ++ standing_as mark (Over peer) ∷ back; made = made })
   -- Time passes, or the node is woken.
   wakes : (told : List Told) (node next : N) (marks : List Mark) (made : ℕ) (event : NodeEvent) (sent : Traffic) (outcome : Result (Unit {0}) NodeError) →
@@ -81,7 +90,8 @@ pub data Goes {N : Type 0} (On : N → NodeEvent → Traffic → Result (Unit {0
   -- A connection is made, with a number that none had.
   makes : (told : List Told) (node : N) (marks : List Mark) (made : ℕ) (local : NodeNo) →
       Goes On first told (record { node = node; marks = marks; made = made }) →
-      Goes On first told (record { node = node; marks = marks ++ record { id = record { 0 = made + 1 }; local = local; standing = Waiting } ∷ []; made = made + 1 })
+      Goes On first told
+      (record { node = node; marks = marks ++ record { id = record { 0 = made + 1 }; local = local; standing = Waiting } ∷ []; made = made + 1 })
   -- One that is not up is let go.
   lets_go : (told : List Told) (node : N) (front back : List Mark) (made : ℕ) (mark : Mark) →
       Goes On first told (record { node = node; marks = front ++ mark ∷ back; made = made }) → IsDown mark.standing →

@@ -1,21 +1,21 @@
 //! A node with its connections: what it is told, and in which order, and what is sent.
 
-ghost use Rattle.std.specs.Prelude.{◌≡◌, ◌<◌, length, IfNone, IfSome};
-ghost use Rattle.farm_serve.specs.Desks.{AreSettled, IsPlaceOf, StandsAt, Tells, is_to_be_told, kept_by, marks_of, ups};
+ghost use Rattle.std.specs.Prelude.{◌≡◌, ◌<◌, ◌+◌, length, vec_capacity, IfNone, IfSome};
+ghost use Rattle.farm_serve.specs.Desks.{AreSettled, IsDownAt, IsPlaceOf, StandsAt, Tells, is_to_be_told, kept_by, mark_of, marks_of, ups};
 
 use crate::end::End;
 use crate::link::{
-    Link, Standing, be_over, come_up, end_at, end_unless_told, flush_at, greet_at, hear_at,
-    is_waiting, loss_of, open_peer, send_at,
+    Link, Standing, be_over, close_at, come_up, end_at, end_unless_told, flush_at, greet_at,
+    hear_at, is_waiting, loss_of, open_peer, receive_at, send_at, tick_at,
 };
 use crate::local::{LocalNode, site_of};
 use crate::note::Notes;
 use dia_avp::Wire;
 use dia_base::{ConnId, Moment, NodeNo};
 use dia_message::{Message, Out};
-use farm_net::Device;
+use farm_net::{Device, Received};
 use farm_node::{Node, NodeError, Reaction};
-use farm_watch::{Act, Acts, Waits};
+use farm_watch::{Act, Acts, Waits, WatchSite};
 use std::alloc::{AllocError, Global};
 use std::io::{Read, Write};
 
@@ -145,23 +145,38 @@ pub fn flush_all<R: Read + Device, W: Write + Device>(links: &mut Vec<Link<R, W>
 }
 
 /// What a new connection sends first.
-pub fn greet<R: Read + Device, W: Write + Device>(
-    links: &mut Vec<Link<R, W>>,
-    place: usize,
-    acts: Acts,
-    moment: Moment,
-)
-    requires { place < length links.old.items }
-    ensures marks { marks_of links.new.items ≡ marks_of links.old.items }
-    ensures places { length links.new.items ≡ length links.old.items }
+pub fn greet<R: Read + Device, W: Write + Device>(link: &mut Link<R, W>, acts: Acts, moment: Moment)
+    ensures mark { mark_of link.new ≡ mark_of link.old }
 {
     let mut acts = acts;
     while let Some(act) = acts.take_first() {
-        greet_at(&mut links[place], act, moment);
+        greet_at(link, act, moment);
     }
 }
 
 impl<N: Node, R: Read + Device, W: Write + Device> Desk<N, R, W> {
+    /// A new connection, for which there is room. It has the next number.
+    pub fn put(&mut self, link: Link<R, W>)
+        requires room { length self.old.links.items < vec_capacity self.old.links }
+        requires number { link.id.0 ≡ self.old.made + 1 }
+        requires waits { link.standing ≡ Standing.Waiting }
+        ensures tells { Tells N.on_event self.old self.new }
+        ensures settled { AreSettled self.old.links.items → AreSettled self.new.links.items }
+    {
+        self.made = link.id.0;
+        self.links.push_reserved(link);
+    }
+
+    /// A connection on which nobody is up is let go.
+    pub fn take_out(&mut self, place: usize) -> Link<R, W>
+        requires within { place < length self.old.links.items }
+        requires down { IsDownAt self.old.links.items place }
+        ensures tells { Tells N.on_event self.old self.new }
+        ensures settled { AreSettled self.old.links.items → AreSettled self.new.links.items }
+    {
+        self.links.remove(place)
+    }
+
     /// What the node sends goes out, each message on its own connection.
     pub fn send_all(&mut self, out: &Out, moment: Moment)
         ensures places { length self.new.links.items ≡ length self.old.links.items }
@@ -246,6 +261,7 @@ impl<N: Node, R: Read + Device, W: Write + Device> Desk<N, R, W> {
     /// The node is told that its neighbour is up, unless the connection has ended.
     fn greet_peer(&mut self, place: usize, peer: NodeNo, moment: Moment)
         requires { place < length self.old.links.items }
+        ensures tells { Tells N.on_event self.old self.new }
         ensures places { length self.new.links.items ≡ length self.old.links.items }
     {
         if is_waiting(&self.links[place]) {
@@ -256,6 +272,7 @@ impl<N: Node, R: Read + Device, W: Write + Device> Desk<N, R, W> {
     /// The node is told of a message, unless the connection has ended or no node is up on it.
     fn pass<P: Wire>(&mut self, place: usize, message: Message, moment: Moment)
         requires { place < length self.old.links.items }
+        ensures tells { Tells N.on_event self.old self.new }
         ensures places { length self.new.links.items ≡ length self.old.links.items }
     {
         if let Some(peer) = open_peer(&self.links[place]) {
@@ -266,6 +283,7 @@ impl<N: Node, R: Read + Device, W: Write + Device> Desk<N, R, W> {
     /// An act of the life of a connection.
     fn act<P: Wire>(&mut self, place: usize, act: Act, why: End, moment: Moment)
         requires { place < length self.old.links.items }
+        ensures tells { Tells N.on_event self.old self.new }
         ensures places { length self.new.links.items ≡ length self.old.links.items }
     {
         match act {
@@ -279,6 +297,7 @@ impl<N: Node, R: Read + Device, W: Write + Device> Desk<N, R, W> {
     /// The acts of the life of a connection, in their order.
     pub fn perform<P: Wire>(&mut self, place: usize, acts: Acts, why: End, moment: Moment)
         requires { place < length self.old.links.items }
+        ensures tells { Tells N.on_event self.old self.new }
         ensures places { length self.new.links.items ≡ length self.old.links.items }
     {
         let mut acts = acts;
@@ -319,6 +338,7 @@ impl<N: Node, R: Read + Device, W: Write + Device> Desk<N, R, W> {
         moment: Moment,
     )
         requires { place < length self.old.links.items }
+        ensures tells { Tells N.on_event self.old self.new }
         ensures places { length self.new.links.items ≡ length self.old.links.items }
     {
         let link = &self.links[place];
@@ -341,6 +361,7 @@ impl<N: Node, R: Read + Device, W: Write + Device> Desk<N, R, W> {
         moment: Moment,
     )
         requires { place < length self.old.links.items }
+        ensures tells { Tells N.on_event self.old self.new }
         ensures places { length self.new.links.items ≡ length self.old.links.items }
     {
         for message in messages {
@@ -348,8 +369,50 @@ impl<N: Node, R: Read + Device, W: Write + Device> Desk<N, R, W> {
         }
     }
 
+    /// What a connection brings in one turn.
+    fn received_here(&mut self, place: usize, piece: &mut [u8]) -> Received
+        requires within { place < length self.old.links.items }
+        requires piece { 0 < length piece.old }
+        ensures kept { kept_by self.new ≡ kept_by self.old }
+        ensures places { length self.new.links.items ≡ length self.old.links.items }
+    {
+        receive_at(&mut self.links[place], piece)
+    }
+
+    /// A connection reads for one turn. A number that none has changes nothing.
+    pub fn receive_on<P: Wire>(
+        &mut self,
+        locals: &[LocalNode],
+        conn: ConnId,
+        piece: &mut [u8],
+        moment: Moment,
+    )
+        requires { 0 < length piece.old }
+        ensures tells { Tells N.on_event self.old self.new }
+    {
+        if let Some(place) = place_of(&self.links, conn) {
+            self.receive::<P>(locals, place, piece, moment);
+        }
+    }
+
+    /// A connection writes for one turn. A number that none has changes nothing.
+    pub fn flush_on(&mut self, conn: ConnId, moment: Moment)
+        ensures kept { kept_by self.new ≡ kept_by self.old }
+    {
+        if let Some(place) = place_of(&self.links, conn) {
+            self.flush_here(place, moment);
+        }
+    }
+
+    fn flush_here(&mut self, place: usize, moment: Moment)
+        requires { place < length self.old.links.items }
+        ensures kept { kept_by self.new ≡ kept_by self.old }
+    {
+        flush_at(&mut self.links[place], moment);
+    }
+
     /// A connection reads for one turn.
-    pub fn receive<P: Wire>(
+    fn receive<P: Wire>(
         &mut self,
         locals: &[LocalNode],
         place: usize,
@@ -358,13 +421,13 @@ impl<N: Node, R: Read + Device, W: Write + Device> Desk<N, R, W> {
     )
         requires within { place < length self.old.links.items }
         requires piece { 0 < length piece.old }
+        ensures tells { Tells N.on_event self.old self.new }
         ensures places { length self.new.links.items ≡ length self.old.links.items }
     {
-        let link = &mut self.links[place];
-        if link.end.is_some() {
+        if self.links[place].end.is_some() {
             return;
         }
-        let received = link.conn.receive(piece);
+        let received = self.received_here(place, piece);
         self.hear_all::<P>(locals, place, received.messages, moment);
         if let Err(loss) = received.outcome {
             self.end_here(place, End::Loss(loss), moment);
@@ -374,6 +437,7 @@ impl<N: Node, R: Read + Device, W: Write + Device> Desk<N, R, W> {
     /// The node is told of each end that it has not been told of.
     pub fn settle<P: Wire>(&mut self, moment: Moment)
         ensures settled { AreSettled self.new.links.items }
+        ensures tells { Tells N.on_event self.old self.new }
         ensures places { length self.new.links.items ≡ length self.old.links.items }
     {
         while let Some(place) = place_of_loss(&self.links) {
@@ -384,12 +448,41 @@ impl<N: Node, R: Read + Device, W: Write + Device> Desk<N, R, W> {
         }
     }
 
+    /// What the life of a connection says where time has passed.
+    fn acts_at_tick(
+        &mut self,
+        site: &WatchSite,
+        place: usize,
+        moment: Moment,
+    ) -> Result<Acts, AllocError>
+        requires { place < length self.old.links.items }
+        ensures kept { kept_by self.new ≡ kept_by self.old }
+        ensures places { length self.new.links.items ≡ length self.old.links.items }
+    {
+        tick_at(self.alloc, &mut self.links[place], site, moment)
+    }
+
+    /// What the life of a connection says where it is to end.
+    fn acts_at_close(
+        &mut self,
+        site: &WatchSite,
+        place: usize,
+        moment: Moment,
+    ) -> Result<Acts, AllocError>
+        requires { place < length self.old.links.items }
+        ensures kept { kept_by self.new ≡ kept_by self.old }
+        ensures places { length self.new.links.items ≡ length self.old.links.items }
+    {
+        close_at(self.alloc, &mut self.links[place], site, moment)
+    }
+
     /// Time has passed for a connection.
     fn tick_one<P: Wire>(&mut self, locals: &[LocalNode], place: usize, moment: Moment)
         requires { place < length self.old.links.items }
+        ensures tells { Tells N.on_event self.old self.new }
         ensures places { length self.new.links.items ≡ length self.old.links.items }
     {
-        let link = &mut self.links[place];
+        let link = &self.links[place];
         if link.end.is_some() {
             return;
         }
@@ -397,13 +490,14 @@ impl<N: Node, R: Read + Device, W: Write + Device> Desk<N, R, W> {
         let Some(site) = site_of(locals, link.local) else {
             return;
         };
-        if let Ok(acts) = link.watch.on_tick(self.alloc, site, moment) {
+        if let Ok(acts) = self.acts_at_tick(site, place, moment) {
             self.perform::<P>(place, acts, why, moment);
         }
     }
 
     /// Time has passed for each connection.
     pub fn tick_all<P: Wire>(&mut self, locals: &[LocalNode], moment: Moment)
+        ensures tells { Tells N.on_event self.old self.new }
         ensures places { length self.new.links.items ≡ length self.old.links.items }
     {
         for place in 0..self.links.len() {
@@ -414,16 +508,17 @@ impl<N: Node, R: Read + Device, W: Write + Device> Desk<N, R, W> {
     /// A connection is to end.
     fn close_one<P: Wire>(&mut self, locals: &[LocalNode], place: usize, moment: Moment)
         requires { place < length self.old.links.items }
+        ensures tells { Tells N.on_event self.old self.new }
         ensures places { length self.new.links.items ≡ length self.old.links.items }
     {
-        let link = &mut self.links[place];
+        let link = &self.links[place];
         if link.end.is_some() {
             return;
         }
         let Some(site) = site_of(locals, link.local) else {
             return;
         };
-        match link.watch.close(self.alloc, site, moment) {
+        match self.acts_at_close(site, place, moment) {
             Ok(acts) => self.perform::<P>(place, acts, End::Closed, moment),
             Err(AllocError) => self.end_here(place, End::Closed, moment),
         }
@@ -431,6 +526,7 @@ impl<N: Node, R: Read + Device, W: Write + Device> Desk<N, R, W> {
 
     /// Each connection is to end.
     pub fn close_all<P: Wire>(&mut self, locals: &[LocalNode], moment: Moment)
+        ensures tells { Tells N.on_event self.old self.new }
         ensures places { length self.new.links.items ≡ length self.old.links.items }
     {
         for place in 0..self.links.len() {
@@ -451,6 +547,7 @@ impl<N: Node, R: Read + Device, W: Write + Device> Desk<N, R, W> {
 
     /// Time has passed for the node.
     pub fn tick_node<P: Wire>(&mut self, moment: Moment)
+        ensures tells { Tells N.on_event self.old self.new }
         ensures places { length self.new.links.items ≡ length self.old.links.items }
     {
         let reaction = self.node.on_tick::<P>(self.alloc, moment);
@@ -459,6 +556,7 @@ impl<N: Node, R: Read + Device, W: Write + Device> Desk<N, R, W> {
 
     /// The node is woken.
     pub fn wake_node<P: Wire>(&mut self, moment: Moment)
+        ensures tells { Tells N.on_event self.old self.new }
         ensures places { length self.new.links.items ≡ length self.old.links.items }
     {
         let reaction = self.node.on_wake::<P>(self.alloc);

@@ -1,6 +1,6 @@
 //! One connection of a process.
 
-ghost use Rattle.std.specs.Prelude.{◌≡◌, IfNone, IfSome, true, false};
+ghost use Rattle.std.specs.Prelude.{◌≡◌, ◌<◌, IfNone, IfSome, length, true, false};
 ghost use Rattle.farm_serve.specs.Desks.{is_to_be_told, mark_of, standing_after};
 ghost use Rattle.farm_serve.specs.Turns.{standing_as};
 
@@ -8,7 +8,7 @@ use crate::end::End;
 use dia_avp::Wire;
 use dia_base::{ConnId, Moment, NodeNo};
 use dia_message::Message;
-use farm_net::{Conn, Device};
+use farm_net::{Conn, Device, Received};
 use farm_node::NodeError;
 use farm_watch::{Act, Acts, Watch, WatchSite};
 use std::alloc::{AllocError, Global};
@@ -191,6 +191,41 @@ pub(crate) fn hear_at<P: Wire, R, W>(
         Ok(acts) => Ok(acts),
         Err(AllocError) => Err(End::OutOfMemory),
     }
+}
+
+/// What the life of a connection says where time has passed.
+pub(crate) fn tick_at<R, W>(
+    alloc: Global,
+    link: &mut Link<R, W>,
+    site: &WatchSite,
+    moment: Moment,
+) -> Result<Acts, AllocError>
+    ensures mark { mark_of link.new ≡ mark_of link.old }
+{
+    link.watch.on_tick(alloc, site, moment)
+}
+
+/// What the life of a connection says where it is to end.
+pub(crate) fn close_at<R, W>(
+    alloc: Global,
+    link: &mut Link<R, W>,
+    site: &WatchSite,
+    moment: Moment,
+) -> Result<Acts, AllocError>
+    ensures mark { mark_of link.new ≡ mark_of link.old }
+{
+    link.watch.close(alloc, site, moment)
+}
+
+/// The connection reads for one turn.
+pub(crate) fn receive_at<R: Read + Device, W: Write + Device>(
+    link: &mut Link<R, W>,
+    piece: &mut [u8],
+) -> Received
+    requires { 0 < length piece.old }
+    ensures mark { mark_of link.new ≡ mark_of link.old }
+{
+    link.conn.receive(piece)
 }
 
 /// Whether octets of an ended connection have waited too long.

@@ -1,6 +1,7 @@
 //! What an operator may want to read.
 
 use crate::end::End;
+use crate::link::Standing;
 use dia_avp::Wire;
 use dia_base::codes::RESULT_CODE;
 use dia_base::{ConnId, NodeNo};
@@ -102,8 +103,12 @@ impl Notes {
         self.add(Note::Lost { conn, peer, why });
     }
 
-    pub(crate) fn refused(&mut self, conn: ConnId, why: End) {
-        self.add(Note::Refused { conn, why });
+    /// A connection is let go. Where a node was up on it, its end was noted when the node here was told of it.
+    pub(crate) fn let_go(&mut self, conn: ConnId, standing: Standing, why: End) {
+        match standing {
+            Standing::Waiting => self.add(Note::Refused { conn, why }),
+            Standing::Up { .. } | Standing::Over { .. } => {}
+        }
     }
 
     pub(crate) fn failed(&mut self, error: NodeError) {

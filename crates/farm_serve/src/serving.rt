@@ -1,11 +1,12 @@
 //! A node with its connections, for those who have sockets.
 
-ghost use Rattle.std.specs.Prelude.{◌<◌, length};
-ghost use Rattle.farm_serve.specs.Desks.{AreSettled};
+ghost use Rattle.std.specs.Prelude.{◌≡◌, ◌<◌, ◌+◌, length, true, IfOk, IfSome, IsNone};
+ghost use Rattle.farm_serve.specs.Desks.{AreSettled, IsDownAt, Tells, kept_by};
+ghost use Rattle.farm_serve.specs.Turns.{IsDown, beginning};
 
 use crate::desk::{Desk, flush_all, greet, place_of};
 use crate::end::{End, Ended, NotTaken, Refusal};
-use crate::link::{Link, Standing, flush_at, is_overdue};
+use crate::link::{Link, Standing, is_overdue};
 use crate::local::{LocalNode, site_of};
 use crate::note::{Note, Notes};
 use dia_avp::Wire;
@@ -34,7 +35,9 @@ fn is_unknown<R, W>(link: &Link<R, W>) -> bool {
 }
 
 /// Whether there is nothing more to do with a connection at this moment.
-fn is_over<R: Read + Device, W: Write + Device>(link: &Link<R, W>, moment: Moment) -> bool {
+fn is_over<R: Read + Device, W: Write + Device>(link: &Link<R, W>, moment: Moment) -> bool
+    ensures { result ≡ true → IsDown link.now.standing }
+{
     match (link.end, link.standing) {
         (None, _) | (Some(_), Standing::Up { .. }) => false,
         (Some((_, since)), Standing::Waiting | Standing::Over { .. }) => {
@@ -43,9 +46,23 @@ fn is_over<R: Read + Device, W: Write + Device>(link: &Link<R, W>, moment: Momen
     }
 }
 
+/// The place of a connection with which there is nothing more to do.
+fn place_of_over<R: Read + Device, W: Write + Device>(
+    links: &[Link<R, W>],
+    moment: Moment,
+) -> Option<usize>
+    ensures within { IfSome result (λ place. place < length links.now) }
+    ensures down { IfSome result (λ place. IsDownAt links.now place) }
+{
+    links.iter().position(|link| is_over(link, moment))
+}
+
 impl<N: Node, R: Read + Device, W: Write + Device> Serving<N, R, W> {
     /// A node without connections, which is all of these nodes of the site. Connections are numbered from 1.
-    pub fn new(alloc: Global, node: N, locals: Vec<LocalNode>) -> Self {
+    pub fn new(alloc: Global, node: N, locals: Vec<LocalNode>) -> Self
+        ensures begins { kept_by result.desk ≡ beginning node }
+        ensures settled { AreSettled result.desk.links.items }
+    {
         Serving {
             desk: Desk {
                 alloc,
@@ -67,7 +84,10 @@ impl<N: Node, R: Read + Device, W: Write + Device> Serving<N, R, W> {
         reader: R,
         writer: W,
         moment: Moment,
-    ) -> Result<ConnId, NotTaken<R, W>> {
+    ) -> Result<ConnId, NotTaken<R, W>>
+        ensures tells { Tells N.on_event self.old.desk self.new.desk }
+        ensures settled { AreSettled self.old.desk.links.items → AreSettled self.new.desk.links.items }
+    {
         let unknown = self
             .desk
             .links
@@ -94,7 +114,10 @@ impl<N: Node, R: Read + Device, W: Write + Device> Serving<N, R, W> {
         reader: R,
         writer: W,
         moment: Moment,
-    ) -> Result<ConnId, NotTaken<R, W>> {
+    ) -> Result<ConnId, NotTaken<R, W>>
+        ensures tells { Tells N.on_event self.old.desk self.new.desk }
+        ensures settled { AreSettled self.old.desk.links.items → AreSettled self.new.desk.links.items }
+    {
         self.add(local, Side::Connects(peer), reader, writer, moment)
     }
 
@@ -106,7 +129,10 @@ impl<N: Node, R: Read + Device, W: Write + Device> Serving<N, R, W> {
         reader: R,
         writer: W,
         moment: Moment,
-    ) -> Result<ConnId, NotTaken<R, W>> {
+    ) -> Result<ConnId, NotTaken<R, W>>
+        ensures tells { Tells N.on_event self.old.desk self.new.desk }
+        ensures settled { AreSettled self.old.desk.links.items → AreSettled self.new.desk.links.items }
+    {
         let (id, watch, acts) = match self.begin(local, side, moment) {
             Ok(begun) => begun,
             Err(why) => return Err(NotTaken {
@@ -115,9 +141,6 @@ impl<N: Node, R: Read + Device, W: Write + Device> Serving<N, R, W> {
                 why,
             }),
         };
-        let accepted = side == Side::Accepts;
-        let alloc = self.desk.alloc;
-        let place = self.desk.links.len();
         if self.desk.links.reserve(1).is_err() {
             let why = Refusal::OutOfMemory;
             return Err(NotTaken {
@@ -126,17 +149,17 @@ impl<N: Node, R: Read + Device, W: Write + Device> Serving<N, R, W> {
                 why,
             });
         }
-        self.desk.links.push_reserved(Link {
+        let mut link = Link {
             id,
             local,
-            accepted,
+            accepted: side == Side::Accepts,
             watch,
-            conn: Conn::new(alloc, reader, writer),
+            conn: Conn::new(self.desk.alloc, reader, writer),
             standing: Standing::Waiting,
             end: None,
-        });
-        self.desk.made = id.0;
-        greet(&mut self.desk.links, place, acts, moment);
+        };
+        greet(&mut link, acts, moment);
+        self.desk.put(link);
         Ok(id)
     }
 
@@ -146,7 +169,9 @@ impl<N: Node, R: Read + Device, W: Write + Device> Serving<N, R, W> {
         local: NodeNo,
         side: Side,
         moment: Moment,
-    ) -> Result<(ConnId, Watch, Acts), Refusal> {
+    ) -> Result<(ConnId, Watch, Acts), Refusal>
+        ensures { IfOk result (λ begun. begun.0.0 ≡ self.now.desk.made + 1) }
+    {
         let Some(site) = site_of(&self.locals, local) else {
             return Err(Refusal::UnknownLocal { local });
         };
@@ -165,26 +190,25 @@ impl<N: Node, R: Read + Device, W: Write + Device> Serving<N, R, W> {
     pub fn readable<P: Wire>(&mut self, conn: ConnId, piece: &mut [u8], moment: Moment)
         requires { 0 < length piece.old }
         ensures settled { AreSettled self.new.desk.links.items }
+        ensures tells { Tells N.on_event self.old.desk self.new.desk }
     {
-        if let Some(place) = place_of(&self.desk.links, conn) {
-            self.desk.receive::<P>(&self.locals, place, piece, moment);
-        }
+        self.desk.receive_on::<P>(&self.locals, conn, piece, moment);
         self.desk.settle::<P>(moment);
     }
 
     /// A connection may take octets: it writes for one turn, at most 64 times.
     pub fn writable<P: Wire>(&mut self, conn: ConnId, moment: Moment)
         ensures settled { AreSettled self.new.desk.links.items }
+        ensures tells { Tells N.on_event self.old.desk self.new.desk }
     {
-        if let Some(place) = place_of(&self.desk.links, conn) {
-            flush_at(&mut self.desk.links[place], moment);
-        }
+        self.desk.flush_on(conn, moment);
         self.desk.settle::<P>(moment);
     }
 
     /// Each connection writes for one turn.
     pub fn write_all<P: Wire>(&mut self, moment: Moment)
         ensures settled { AreSettled self.new.desk.links.items }
+        ensures tells { Tells N.on_event self.old.desk self.new.desk }
     {
         flush_all(&mut self.desk.links, moment);
         self.desk.settle::<P>(moment);
@@ -193,6 +217,7 @@ impl<N: Node, R: Read + Device, W: Write + Device> Serving<N, R, W> {
     /// Time has passed: for the node, and for the life of each connection.
     pub fn tick<P: Wire>(&mut self, moment: Moment)
         ensures settled { AreSettled self.new.desk.links.items }
+        ensures tells { Tells N.on_event self.old.desk self.new.desk }
     {
         self.desk.tick_node::<P>(moment);
         self.desk.tick_all::<P>(&self.locals, moment);
@@ -202,6 +227,7 @@ impl<N: Node, R: Read + Device, W: Write + Device> Serving<N, R, W> {
     /// Something that works for the node elsewhere has something for it.
     pub fn wake<P: Wire>(&mut self, moment: Moment)
         ensures settled { AreSettled self.new.desk.links.items }
+        ensures tells { Tells N.on_event self.old.desk self.new.desk }
     {
         self.desk.wake_node::<P>(moment);
         self.desk.settle::<P>(moment);
@@ -211,6 +237,7 @@ impl<N: Node, R: Read + Device, W: Write + Device> Serving<N, R, W> {
     /// and one that is not up ends at once.
     pub fn close_all<P: Wire>(&mut self, moment: Moment)
         ensures settled { AreSettled self.new.desk.links.items }
+        ensures tells { Tells N.on_event self.old.desk self.new.desk }
     {
         self.desk.close_all::<P>(&self.locals, moment);
         self.desk.settle::<P>(moment);
@@ -218,17 +245,15 @@ impl<N: Node, R: Read + Device, W: Write + Device> Serving<N, R, W> {
 
     /// Takes out a connection that has ended and on which nothing waits to be written any more, or for longer than
     /// [`crate::LINGER`]. The node was told of its end before. To be called until there is none.
-    pub fn take_ended(&mut self, moment: Moment) -> Option<Ended<R, W>> {
-        let place = self
-            .desk
-            .links
-            .iter()
-            .position(|link| is_over(link, moment))?;
+    pub fn take_ended(&mut self, moment: Moment) -> Option<Ended<R, W>>
+        ensures tells { Tells N.on_event self.old.desk self.new.desk }
+        ensures settled { AreSettled self.old.desk.links.items → AreSettled self.new.desk.links.items }
+        ensures none { IsNone result → self.new ≡ self.old }
+    {
+        let place = place_of_over(&self.desk.links, moment)?;
         let (why, _) = self.desk.links[place].end?;
-        let link = self.desk.links.remove(place);
-        if link.standing == Standing::Waiting {
-            self.desk.notes.refused(link.id, why);
-        }
+        let link = self.desk.take_out(place);
+        self.desk.notes.let_go(link.id, link.standing, why);
         Some(Ended {
             conn: link.id,
             local: link.local,

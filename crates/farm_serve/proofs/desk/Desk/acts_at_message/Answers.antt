@@ -1,5 +1,5 @@
 use Rattle.std.proofs.Common.{List, ap}
-use Rattle.farm_serve.specs.Turns.{Kept, Mark}
+use Rattle.farm_serve.specs.Turns.{Mark}
 use Rattle.farm_serve.proofs.Placing.{keeping, same_marks}
 use Rattle.farm_serve.proofs.desk.Desk.acts_at_message.Goals as goal
 

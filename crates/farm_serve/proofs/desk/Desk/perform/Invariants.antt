@@ -1,8 +1,13 @@
 use Rattle.std.proofs.Common.{◌≡◌, length}
+use Rattle.farm_serve.specs.Desks.{kept_by}
+use Rattle.farm_serve.proofs.Telling.{Way}
 use Rattle.farm_serve.proofs.desk.Desk.perform.Given as goal
 
 abbrev pub invariant-loop-act : goal.invariant-loop-act
-invariant-loop-act g l = length l.self.links.items ≡ length l.fn.self.links.items
+invariant-loop-act g l = record {
+  tells : Way g.N.Node.on_event (kept_by l.fn.self) (kept_by l.self);
+  places : length l.self.links.items ≡ length l.fn.self.links.items;
+}
 
 abbrev pub decreases-loop-act : goal.decreases-loop-act
 decreases-loop-act g l = length l.acts

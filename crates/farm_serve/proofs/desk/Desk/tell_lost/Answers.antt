@@ -13,12 +13,15 @@ returns-clause-tells g c =
     let same = same_read links c.args.place c.index_mut.result.now link c.requires.within c.index_mut.ensures.value c.index.ensures in
     way_still _ _ _
     (lost_way c.args.self.now.node c.on_lost-reaction.new.self links c.args.place link c.be_over.new.link c.args.self.now.made c.args.peer c.on_lost-reaction.result.out.items
-    c.on_lost-reaction.result.outcome c.requires.within c.index.ensures (c.requires.up link c.index.ensures) (c.be_over.ensures.mark ∙ ap (λ l. standing_as (mark_of l) (Over c.args.peer)) same) c.on_lost-reaction.ensures)
+    c.on_lost-reaction.result.outcome c.requires.within c.index.ensures (c.requires.up link c.index.ensures)
+    (c.be_over.ensures.mark ∙ ap (λ l. standing_as (mark_of l) (Over c.args.peer)) same) c.on_lost-reaction.ensures)
     c.send_all.ensures.kept
 
 pub returns-clause-fewer : goal.returns-clause-fewer
 returns-clause-fewer g c =
     let links = c.args.self.now.links.items in
     let link = c.index_mut.result.now in
-    let fewer = lost_fewer links c.args.place link c.be_over.new.link c.args.peer c.requires.within c.index_mut.ensures.value (c.requires.up link c.index_mut.ensures.value) c.be_over.ensures.mark in
+    let fewer =
+    lost_fewer links c.args.place link c.be_over.new.link c.args.peer c.requires.within c.index_mut.ensures.value
+    (c.requires.up link c.index_mut.ensures.value) c.be_over.ensures.mark in
     less_at _ _ _ _ (ap (λ (kept : Kept _). ups kept.marks) c.send_all.ensures.kept) refl fewer

@@ -11,5 +11,6 @@ returns-clause-tells g c =
     let same = same_read links c.args.place c.index_mut.result.now link c.requires.within c.index_mut.ensures.value c.index.ensures in
     way_still _ _ _
     (message_way c.args.self.now.node c.on_message-reaction.new.self links c.args.place link c.end_unless_told.new.link c.args.self.now.made c.args.peer c.args.message c.on_message-reaction.result.out.items
-    c.on_message-reaction.result.outcome c.requires.within c.index.ensures (c.requires.up link c.index.ensures) (c.end_unless_told.ensures.mark ∙ ap (λ l. mark_of l) same) c.on_message-reaction.ensures)
+    c.on_message-reaction.result.outcome c.requires.within c.index.ensures (c.requires.up link c.index.ensures)
+    (c.end_unless_told.ensures.mark ∙ ap (λ l. mark_of l) same) c.on_message-reaction.ensures)
     c.send_all.ensures.kept

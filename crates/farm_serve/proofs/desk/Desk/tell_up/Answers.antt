@@ -1,5 +1,4 @@
 use Rattle.std.proofs.Common.{ap, ◌∙◌}
-use Rattle.farm_serve.specs.declared.link.Link.{Link}
 use Rattle.farm_serve.specs.Turns.{standing_as}
 use Rattle.farm_serve.specs.Desks.{mark_of, standing_after}
 use Rattle.farm_serve.proofs.Placing.{same_read}

@@ -1,0 +1,5 @@
+use Rattle.farm_serve.proofs.Telling.{way_then}
+use Rattle.farm_serve.proofs.serving.Serving.readable.Goals as goal
+
+pub returns-clause-tells : goal.returns-clause-tells
+returns-clause-tells g c = way_then c.receive_on.ensures.tells c.settle.ensures.tells

@@ -1,0 +1,5 @@
+use Rattle.farm_serve.proofs.Telling.{no_way, way_then}
+use Rattle.farm_serve.proofs.serving.Serving.writable.Goals as goal
+
+pub returns-clause-tells : goal.returns-clause-tells
+returns-clause-tells g c = way_then (no_way _ _ c.flush_on.ensures.kept) c.settle.ensures.tells
