@@ -19,7 +19,7 @@ import time
 ROOT = os.path.dirname(os.path.dirname(os.path.abspath(__file__)))
 PROGRAM = sys.argv[1] if len(sys.argv) > 1 else f"{ROOT}/crates/farm_live/out/farm_live"
 SITE = f"{ROOT}/examples/live/site.toml"
-RELAY = ("127.0.0.1", 38681)
+RELAY = ("127.0.0.1", 18681)
 IDLE = 10_000
 DEBIT = open(f"{ROOT}/examples/live/first-debit.hex").read().strip()
 
