@@ -1,0 +1,68 @@
+//! How answers are told.
+
+use crate::messages::debit_message;
+use anyhow::Context;
+use cc_book::Book;
+use cc_shared::{CloseError, Receipt, ServeError};
+use cc_view::answer_bytes;
+use dia_avp::PlainWire;
+use dia_base::Identity;
+use dia_message::Message;
+use std::alloc::Global;
+
+/// The answer of a front to the debit, with the reply of this receipt.
+fn answer(alloc: Global, receipt: &Receipt) -> anyhow::Result<Message> {
+    let name = Identity::read(alloc, b"f1.example")?;
+    let realm = Identity::read(alloc, b"ocs.example")?;
+    let message = debit_message(alloc)?;
+    let (request, reply) = (&receipt.request, &receipt.reply);
+    Ok(answer_bytes::<PlainWire>(alloc, &name, &realm, &message, request, reply)?)
+}
+
+/// Whether all these receipts give one answer to the debit.
+pub fn print_answers(rt: &impl Print, alloc: Global, receipts: &[Receipt]) -> anyhow::Result<()> {
+    let first = receipts.first().context("no receipt")?;
+    let expected = answer(alloc, first)?;
+    for receipt in receipts {
+        println!(rt; "equal answers {}", answer(alloc, receipt)? == expected)?;
+    }
+    Ok(())
+}
+
+pub fn print_served(rt: &impl Print, served: &Result<Receipt, ServeError>) -> anyhow::Result<()> {
+    match served {
+        Ok(receipt) => println!(rt;
+            "place {} fresh {} code {}",
+            receipt.place,
+            receipt.fresh,
+            receipt.reply.code.number()
+        )?,
+        Err(error) => println!(rt; "request {}: {}", error.request.number, error.why)?,
+    }
+    Ok(())
+}
+
+pub fn print_book(rt: &impl Print, told: &str, book: &Book) -> anyhow::Result<()> {
+    println!(rt;
+        "{told}: entries {} balance {}",
+        book.history().len(),
+        book.balance(0).unwrap_or(0)
+    )?;
+    Ok(())
+}
+
+pub fn print_finished(rt: &impl Print, finished: &Result<Book, CloseError>) -> anyhow::Result<()> {
+    match finished {
+        Ok(book) => print_book(rt, "finished", book),
+        Err(CloseError::ReceiptNotInHistory { place, book }) => {
+            println!(rt; "a receipt of place {place} is not in the history")?;
+            print_book(rt, "handed back", book)
+        }
+        Err(CloseError::CountsDiffer { book }) => print_book(rt, "the counts differ", book),
+        Err(CloseError::OutOfMemory { book }) => print_book(rt, "out of memory", book),
+        Err(CloseError::Closed) => {
+            println!(rt; "closed")?;
+            Ok(())
+        }
+    }
+}

@@ -1,0 +1,183 @@
+//! What comes of seats and receipts that are handed in, or kept back, and of a sweep through the lock.
+
+ghost use Rattle.std.specs.Prelude.{◌≡◌, ◌≤◌, ◌<◌, ◌^◌};
+
+use crate::lines::print_answers;
+use crate::messages::{book, initial};
+use crate::table::{Table, share};
+use anyhow::Context;
+use cc_book::Book;
+use cc_shared::{Receipt, Sharing};
+use std::alloc::Global;
+use std::marker::Brand;
+use std::sync::Wait;
+use std::sync::ledger::Blank;
+
+/// What is done with a shared book.
+#[derive(Clone, Copy)]
+pub enum Sample {
+    Repeat,
+    Full,
+    Stray,
+    KeptBack,
+    Closed,
+    Sweeps,
+}
+
+/// One request twice through one seat: the second is a repeat, with the reply of the first.
+fn repeat<L: Sharing, R: Wait + Print>(
+    rt: &R,
+    alloc: Global,
+    table: Table<L>,
+) -> anyhow::Result<()> {
+    let mut table = table;
+    table.debit(rt, alloc, 1_000, 0)?;
+    table.debit(rt, alloc, 2_000, 0)?;
+    print_answers(rt, alloc, &table.receipts)?;
+    table.finish(rt, alloc)
+}
+
+/// A book that has one entry at most: the second request is refused, a repeat of the first is not.
+fn full<L: Sharing, R: Wait + Print>(rt: &R, alloc: Global, table: Table<L>) -> anyhow::Result<()> {
+    let mut table = table;
+    table.debit(rt, alloc, 1_000, 0)?;
+    table.debit(rt, alloc, 1_000, 1)?;
+    table.debit(rt, alloc, 1_000, 0)?;
+    table.finish(rt, alloc)
+}
+
+/// The receipt of the sixth request that a book takes.
+fn sixth<L: Sharing, R: Wait + Print>(
+    rt: &R,
+    alloc: Global,
+    blank: Blank,
+    book: Book,
+) -> anyhow::Result<Receipt>
+    requires name { blank.name ≡ L.name }
+    requires parts { (blank.parts ≡ L.parts) × (blank.parts ≡ 1) }
+    requires book { book ≡ L.opened }
+{
+    let mut table = share::<L>(alloc, blank, book, 1)?;
+    for number in 0..6 {
+        table.debit(rt, alloc, 1_000, number)?;
+    }
+    table.receipts.pop().context("refused")
+}
+
+fn another_receipt<R: Wait + Print>(rt: &R, alloc: Global) -> anyhow::Result<Receipt> {
+    let book = book(alloc, 1_000, 10)?;
+    sixth::<Brand, R>(rt, alloc, Blank::new(1), book)
+}
+
+/// A receipt of another book, which has no place in this one.
+fn stray<L: Sharing, R: Wait + Print>(
+    rt: &R,
+    alloc: Global,
+    table: Table<L>,
+) -> anyhow::Result<()> {
+    let mut table = table;
+    let receipt = another_receipt(rt, alloc)?;
+    table.debit(rt, alloc, 1_000, 0)?;
+    table.receipts.push(receipt)?;
+    table.finish(rt, alloc)
+}
+
+/// Two seats, of which the one that has served is kept back.
+fn kept_back<L: Sharing, R: Wait + Print>(
+    rt: &R,
+    alloc: Global,
+    table: Table<L>,
+) -> anyhow::Result<()> {
+    let mut table = table;
+    table.debit(rt, alloc, 1_000, 0)?;
+    let _kept = table.seats.pop();
+    table.finish(rt, alloc)
+}
+
+/// Two handles: once one of them has finished, the other finds the book closed.
+fn closed<L: Sharing, R: Wait + Print>(
+    rt: &R,
+    alloc: Global,
+    table: Table<L>,
+) -> anyhow::Result<()> {
+    let mut table = table;
+    let other = table.split(alloc)?;
+    table.finish(rt, alloc)?;
+    find_closed(rt, alloc, other)
+}
+
+fn find_closed<L: Sharing, R: Wait + Print>(
+    rt: &R,
+    alloc: Global,
+    table: Table<L>,
+) -> anyhow::Result<()> {
+    let mut table = table;
+    table.debit(rt, alloc, 1_000, 7)?;
+    table.print_sweep(rt, 1_000)?;
+    table.print_snapshot(rt, alloc)?;
+    table.finish(rt, alloc)
+}
+
+/// A session that begins at 1000, and is due at twice its validity of 600 seconds after that.
+fn sweeps<L: Sharing, R: Wait + Print>(
+    rt: &R,
+    alloc: Global,
+    table: Table<L>,
+) -> anyhow::Result<()> {
+    let mut table = table;
+    let request = initial(alloc)?;
+    table.serve(rt, alloc, 1_000, request)?;
+    table.print_snapshot(rt, alloc)?;
+    table.print_sweep(rt, 1_200_999)?;
+    table.print_sweep(rt, 1_201_000)?;
+    table.print_snapshot(rt, alloc)?;
+    table.finish(rt, alloc)
+}
+
+fn print<L: Sharing, R: Wait + Print>(
+    rt: &R,
+    alloc: Global,
+    table: Table<L>,
+    sample: Sample,
+) -> anyhow::Result<()> {
+    match sample {
+        Sample::Repeat => repeat(rt, alloc, table),
+        Sample::Full => full(rt, alloc, table),
+        Sample::Stray => stray(rt, alloc, table),
+        Sample::KeptBack => kept_back(rt, alloc, table),
+        Sample::Closed => closed(rt, alloc, table),
+        Sample::Sweeps => sweeps(rt, alloc, table),
+    }
+}
+
+fn run<L: Sharing, R: Wait + Print>(
+    rt: &R,
+    alloc: Global,
+    blank: Blank,
+    book: Book,
+    seats: u64,
+    sample: Sample,
+) -> anyhow::Result<()>
+    requires name { blank.name ≡ L.name }
+    requires parts { (blank.parts ≡ L.parts) × (blank.parts ≡ seats) }
+    requires some { 0 < seats }
+    requires book { book ≡ L.opened }
+{
+    let table = share::<L>(alloc, blank, book, seats)?;
+    print(rt, alloc, table, sample)
+}
+
+/// The sample with a book of 1000 that has so many entries at most, and two seats or one.
+pub fn print_sample<R: Wait + Print>(
+    rt: &R,
+    alloc: Global,
+    limit: u64,
+    two: bool,
+    sample: Sample,
+) -> anyhow::Result<()>
+    requires { limit ≤ 2 ^ 20 }
+{
+    let seats = if two { 2 } else { 1 };
+    let book = book(alloc, 1_000, limit)?;
+    run::<Brand, R>(rt, alloc, Blank::new(seats), book, seats, sample)
+}
