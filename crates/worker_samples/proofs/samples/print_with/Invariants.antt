@@ -1,0 +1,10 @@
+use Rattle.worker_samples.proofs.samples.print_with.Given as goal
+
+abbrev pub ghosts-run-L-Pooling : goal.ghosts-run-L-Pooling
+ghosts-run-L-Pooling g a = record { site = record { name = a.queue.name; realm = a.queue.realm; vendors = a.queue.vendors } }
+
+abbrev pub ghosts-run-L-Sharing : goal.ghosts-run-L-Sharing
+ghosts-run-L-Sharing g a = record { opened = a.book }
+
+abbrev pub ghosts-run-L-Ledger : goal.ghosts-run-L-Ledger
+ghosts-run-L-Ledger g a = record { name = a.blank.name; parts = a.blank.parts }

@@ -1,0 +1,65 @@
+//! Requests, the front that answers them, and a book for them.
+
+ghost use Rattle.std.specs.Prelude.{◌≡◌, ◌≤◌, ◌<◌, ◌^◌, IfOk};
+
+use anyhow::Context;
+use cc_book::{Account, Book, Money};
+use cc_rating::{Tariff, Tariffs, UnitKind};
+use dia_avp::Octets;
+use dia_base::{Identity, Listing};
+use dia_message::{Message, whole_message};
+use front_pool::PoolQueue;
+use std::alloc::Global;
+
+/// A debit of 3200 octets for group 10 (RFC 8506, section 3.1), up to its CC-Request-Number.
+const BEFORE: &str =
+    "010000f8c0000110000000040000000700000064000001074000000e63313b313b310000000001084000001263312e6578616d706c650000000001284000000f6578616d706c65000000011b400000136f63732e6578616d706c6500000001024000000c00000004000001cd40000016333232353140336770702e6f72670000000001a04000000c000000040000019f4000000c";
+
+/// What stands behind the number.
+const BEHIND: &str =
+    "000001b44000000c00000000000001bb40000028000001c24000000c00000000000001bc40000014343931373030303030303031000001c84000002c000001b540000018000001a5400000100000000000000c80000001b04000000c0000000a";
+
+/// The debit, under this CC-Request-Number.
+pub fn debit(alloc: Global, number: u32) -> anyhow::Result<Message> {
+    let text = format!(in alloc; "{BEFORE}{number:08x}{BEHIND}")?;
+    let octets = hex::decode(alloc, text.as_str())?;
+    whole_message(alloc, &octets)?.context("no message")
+}
+
+/// The front f1, at which so many jobs may wait.
+pub fn front(alloc: Global, jobs: usize) -> anyhow::Result<PoolQueue>
+    requires { 0 < jobs }
+    ensures { IfOk result (λ queue. queue.jobs ≡ jobs) }
+{
+    Ok(PoolQueue {
+        name: Identity::read(alloc, b"f1.example")?,
+        realm: Identity::read(alloc, b"ocs.example")?,
+        vendors: Listing::empty(alloc),
+        jobs,
+    })
+}
+
+/// A book of one account of 1000, and 5 for each 1000 octets of group 10.
+pub fn book(alloc: Global) -> anyhow::Result<Book> {
+    let account = Account {
+        id_kind: 0,
+        id: Octets::copy_of(alloc, b"491700000001")?,
+        opening: 1_000,
+    };
+    let tariff = Tariff {
+        group: Some(10),
+        ident: None,
+        kind: UnitKind::Octets,
+        block: 1_000,
+        price: 5,
+        quantum: 5_000,
+        greatest: 10_000,
+    };
+    let money = Money {
+        currency: 978,
+        exponent: -2,
+    };
+    let tariffs = Tariffs::new(alloc, vec![in alloc; tariff]?)?;
+    let accounts = vec![in alloc; account]?;
+    Ok(Book::new(alloc, accounts, tariffs, 600, money, 100)?)
+}

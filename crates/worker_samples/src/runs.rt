@@ -1,0 +1,225 @@
+//! A pool from its start to its end, with what is printed of it.
+
+ghost use Rattle.std.specs.Prelude.{◌≡◌, ◌<◌};
+
+use crate::gates::Signs;
+use crate::messages::debit;
+use anyhow::{Context, bail};
+use cc_book::Book;
+use cc_shared::{Receipt, Seat, SharedBook};
+use dia_avp::PlainWire;
+use dia_base::ConnId;
+use dia_message::Message;
+use front_pool::{Finished, Gate, Job, Pool, PoolQueue, Pooling, Stopped, SubmitError};
+use std::alloc::{AllocError, Global};
+use std::rt::Clock;
+use std::sync::atomic::Ordering;
+use std::sync::ledger::Blank;
+use std::sync::{Arc, Wait};
+use std::thread;
+use std::thread::Threads;
+use std::time::Duration;
+
+/// How often finished jobs are looked for at most, and how many microseconds after the last time.
+const LOOKS: u32 = 100_000;
+
+const PAUSE: u64 = 100;
+
+/// A pool, a handle on its book, what its gate has seen, and the jobs that were collected.
+#[derive(Drop)]
+pub struct Running<L: Pooling> {
+    pub pool: Pool<L>,
+    pub shared: SharedBook<L>,
+    pub signs: Arc<Signs>,
+    pub finished: Vec<Finished>,
+}
+
+/// A pool that was stopped. The jobs that were finished by then are with those that were collected.
+#[derive(Drop)]
+pub struct Ended<L: Pooling> {
+    pub shared: SharedBook<L>,
+    pub seats: Vec<Seat<L>>,
+    pub finished: Vec<Finished>,
+    pub unserved: Vec<Job>,
+}
+
+/// A pool of so many workers.
+pub fn start<L, R, G>(
+    rt: &R,
+    alloc: Global,
+    blank: Blank,
+    book: Book,
+    queue: PoolQueue,
+    workers: u64,
+    gate: G,
+    signs: Arc<Signs>,
+) -> anyhow::Result<Running<L>>
+where
+    L: Pooling + Send + Sync + 'static,
+    R: Threads + Wait + Clock + Copy + Send + 'static,
+    G: Gate + Drop + Send + Sync + 'static,
+    requires name { blank.name ≡ L.name }
+    requires parts { (blank.parts ≡ L.parts) × (blank.parts ≡ workers) }
+    requires book { book ≡ L.opened }
+    requires jobs { 0 < queue.jobs }
+    requires site { L.site ≡ record { name = queue.name; realm = queue.realm; vendors = queue.vendors } }
+    requires some { 0 < workers }
+{
+    let Ok((shared, seats)) = SharedBook::<L>::share(alloc, blank, book, workers) else {
+        return Err(AllocError.into());
+    };
+    let handle = shared.another()?;
+    match Pool::<L>::start::<PlainWire, R, G>(rt, alloc, handle, seats, gate, queue) {
+        Ok(pool) => Ok(Running {
+            pool,
+            shared,
+            signs,
+            finished: Vec::new(alloc),
+        }),
+        Err(_failed) => Err(AllocError.into()),
+    }
+}
+
+impl<L: Pooling> Running<L> {
+    /// Hands over the debit of this number.
+    pub fn submit<R: Wait>(&mut self, rt: &R, alloc: Global, number: u32) -> anyhow::Result<()> {
+        let request = debit(alloc, number)?;
+        match self.pool.submit(rt, ConnId(7), request) {
+            Ok(_number) => Ok(()),
+            Err(_refused) => bail!("refused"),
+        }
+    }
+
+    /// Hands over a debit for which there is no room: it comes back.
+    pub fn print_full<R: Wait + Print>(
+        &mut self,
+        rt: &R,
+        alloc: Global,
+        number: u32,
+    ) -> anyhow::Result<()> {
+        let expected = debit(alloc, number)?;
+        let request = expected.clone()?;
+        let same = match came_back(self.pool.submit(rt, ConnId(7), request)) {
+            Some(back) => back == expected,
+            None => false,
+        };
+        println!(rt; "full, same {same}")?;
+        Ok(())
+    }
+
+    /// Takes so many finished jobs out, or fewer, where no more come.
+    pub fn collect<R: Wait + Clock>(&mut self, rt: &R, count: usize) -> anyhow::Result<()> {
+        for _ in 0..LOOKS {
+            if self.finished.len() >= count {
+                break;
+            }
+            match self.pool.collect(rt) {
+                Some(next) => self.finished.push(next)?,
+                None => thread::sleep(rt, Duration::from_micros(PAUSE)),
+            }
+        }
+        Ok(())
+    }
+
+    pub fn print_late<R: Print>(&self, rt: &R) -> anyhow::Result<()> {
+        let late = self.signs.late.load(Ordering::SeqCst);
+        println!(rt; "holds that met the limit {late}")?;
+        Ok(())
+    }
+
+    /// Stops the pool.
+    pub fn stop<R: Threads + Wait + Clock>(self, rt: &R) -> anyhow::Result<Ended<L>> {
+        let Running {
+            pool,
+            shared,
+            signs: _,
+            finished,
+        } = self;
+        let Stopped {
+            seats,
+            finished: last,
+            unserved,
+        } = pool.stop(rt);
+        let mut ended = Ended {
+            shared,
+            seats,
+            finished,
+            unserved,
+        };
+        ended.keep(last)?;
+        Ok(ended)
+    }
+}
+
+/// The request that was not handed over, for want of room.
+fn came_back(submitted: Result<u64, SubmitError>) -> Option<Message> {
+    match submitted {
+        Ok(_number) => None,
+        Err(error) => match error {
+            SubmitError::PoolFull { request } => Some(request),
+            SubmitError::OutOfMemory { request: _request } => None,
+        },
+    }
+}
+
+/// The receipts of finished jobs.
+fn receipts(alloc: Global, finished: Vec<Finished>) -> anyhow::Result<Vec<Receipt>> {
+    let mut receipts = Vec::new(alloc);
+    for job in finished {
+        let Finished {
+            job: _,
+            conn: _,
+            request: _,
+            answer: _,
+            receipt,
+        } = job;
+        match receipt {
+            Some(receipt) => receipts.push(receipt)?,
+            None => {}
+        }
+    }
+    Ok(receipts)
+}
+
+impl<L: Pooling> Ended<L> {
+    /// Finished jobs more.
+    fn keep(&mut self, finished: Vec<Finished>) -> anyhow::Result<()> {
+        for job in finished {
+            self.finished.push(job)?;
+        }
+        Ok(())
+    }
+
+    /// Closes the book with all seats and receipts.
+    fn close<R: Wait>(self, rt: &R, alloc: Global) -> anyhow::Result<Book> {
+        let Ended {
+            shared,
+            seats,
+            finished,
+            unserved: _,
+        } = self;
+        let receipts = receipts(alloc, finished)?;
+        shared
+            .finish(rt, alloc, seats, &receipts)
+            .ok()
+            .context("not finished")
+    }
+
+    /// Tells what stands in the book.
+    pub fn print_book<R: Wait + Print>(self, rt: &R, alloc: Global) -> anyhow::Result<()> {
+        let book = self.close(rt, alloc)?;
+        let balance = book.balance(0).unwrap_or(0);
+        println!(rt; "entries {} balance {balance}", book.history().len())?;
+        Ok(())
+    }
+
+    /// Tells whether what is finished is what was charged, each by 20.
+    pub fn print_charged<R: Wait + Print>(self, rt: &R, alloc: Global) -> anyhow::Result<()> {
+        let count = self.finished.len();
+        let book = self.close(rt, alloc)?;
+        let spent = 1_000i128.saturating_sub(book.balance(0).unwrap_or(0));
+        let same = book.history().len() == count && spent == (count as i128).saturating_mul(20);
+        println!(rt; "charged what is finished {same}")?;
+        Ok(())
+    }
+}
