@@ -1,8 +1,8 @@
-use Rattle.std.proofs.Common.{rules, ◌≡◌, List, Option, Some, option_map, sym, subst, ap, ◌∙◌, map, string_bytes, inl}
+use Rattle.std.proofs.Common.{subst, ap, ◌∙◌, map, string_bytes, inl}
 use Rattle.clap.specs.Kinds.{HasKind}
 use Rattle.clap.specs.Words.{App, is_simple_and_free, fault_of}
 use Rattle.live_command.specs.CommandLine.{command_line}
-use Rattle.live_command.proofs.CommandLines.{line_is_free, line_is_simple}
+use Rattle.live_command.proofs.CommandLines.{line_is_free}
 use Rattle.live_command.proofs.command.command_of.Goals as goal
 
 pub returns-in-Err-clause-refused : goal.returns-in-Err-clause-refused
