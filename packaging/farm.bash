@@ -1,0 +1,32 @@
+# completions of farm for bash
+_farm() {
+  local word=${COMP_WORDS[COMP_CWORD]} before=${COMP_WORDS[COMP_CWORD - 1]} site i
+  if [ "$COMP_CWORD" -eq 1 ]; then
+    mapfile -t COMPREPLY < <(compgen -W 'relay front send replay report words picture --help --version' -- "$word")
+    return
+  fi
+  case $before in
+    --site)
+      mapfile -t COMPREPLY < <(compgen -f -- "$word")
+      return
+      ;;
+    --log)
+      mapfile -t COMPREPLY < <(compgen -W 'off error warn info debug' -- "$word")
+      return
+      ;;
+    --answers) return ;;
+    --name | --client | --peer)
+      # the names of nodes in the site file that stands in the line
+      for ((i = 2; i < COMP_CWORD; i++)); do [ "${COMP_WORDS[i]}" = --site ] && site=${COMP_WORDS[i + 1]}; done
+      [ -r "${site:-}" ] && mapfile -t COMPREPLY < <(compgen -W "$(sed -n 's/^.*\bname *= *"\([^"]*\)".*$/\1/p' "$site")" -- "$word")
+      return
+      ;;
+  esac
+  case ${COMP_WORDS[1]} in
+    relay) mapfile -t COMPREPLY < <(compgen -W '--site --name --answers --log' -- "$word") ;;
+    front) mapfile -t COMPREPLY < <(compgen -W '--site --answers --log' -- "$word") ;;
+    send) mapfile -t COMPREPLY < <(compgen -W '--site --client --peer --log' -- "$word") ;;
+    replay | report | picture) mapfile -t COMPREPLY < <(compgen -W '--site' -- "$word") ;;
+  esac
+}
+complete -o filenames -F _farm farm
