@@ -1,0 +1,104 @@
+//! What may look wrong in a site that is accepted.
+
+use crate::lines::{Lines, identity_text, node_name, text_of};
+use crate::money::{cost_of, services_of};
+use crate::nodes::kind_word;
+use cc_rating::Tariff;
+use dia_base::{NodeKind, NodeNo};
+use farm_base::{Node, Route, Site};
+use std::alloc::{AllocError, Global};
+
+/// A line for each thing that may look wrong, which begins with `look:`.
+pub fn push_doubts(alloc: Global, lines: &mut Lines, site: &Site) -> Result<(), AllocError> {
+    for (place, node) in site.nodes.as_slice().iter().enumerate() {
+        push_node_doubts(alloc, lines, site, place, node)?;
+    }
+    for route in site.routes.as_slice() {
+        push_route_doubts(alloc, lines, site, route)?;
+    }
+    for tariff in site.tariffs.as_slice() {
+        push_tariff_doubts(alloc, lines, site, tariff)?;
+    }
+    Ok(())
+}
+
+/// A relay or front that nothing can reach, a client that no relay knows.
+fn push_node_doubts(
+    alloc: Global,
+    lines: &mut Lines,
+    site: &Site,
+    place: usize,
+    node: &Node,
+) -> Result<(), AllocError> {
+    let (kind, name) = (kind_word(node.kind), identity_text(alloc, &node.name)?);
+    match node.kind {
+        NodeKind::Relay | NodeKind::Front => {
+            if node.address.is_none() {
+                lines.push(format!(in alloc; "look: {kind} {name} has no address, and cannot serve")?.as_str())?;
+            }
+        }
+        NodeKind::Client => {
+            if !is_linked_with_relay(site, place) {
+                lines.push(format!(in alloc; "look: {kind} {name} is linked with no relay")?.as_str())?;
+            }
+        }
+    }
+    Ok(())
+}
+
+fn is_relay(site: &Site, node: NodeNo) -> bool {
+    match site.nodes.as_slice().get(node.0 as usize) {
+        Some(found) => found.kind == NodeKind::Relay,
+        None => false,
+    }
+}
+
+fn is_linked_with_relay(site: &Site, place: usize) -> bool {
+    site.links.as_slice().iter().any(|link| {
+        (link.from.0 as usize == place && is_relay(site, link.to))
+            || (link.to.0 as usize == place && is_relay(site, link.from))
+    })
+}
+
+/// A route to nobody, or to one host alone.
+fn push_route_doubts(alloc: Global, lines: &mut Lines, site: &Site, route: &Route) -> Result<(), AllocError> {
+    let (at, realm, app) = (node_name(alloc, site, route.at)?, identity_text(alloc, &route.realm)?, route.app);
+    let peers = route.peers.as_slice();
+    let Some(first) = peers.first() else {
+        return lines.push(format!(in alloc; "look: {at} sends {realm}, application {app}, to nobody")?.as_str());
+    };
+    let Some(host) = host_of(site, *first) else {
+        return Ok(());
+    };
+    if peers.len() > 1 && peers.iter().all(|peer| host_of(site, *peer) == Some(host)) {
+        let host = text_of(alloc, host)?;
+        lines.push(format!(in alloc; "look: all peers of {at} for {realm}, application {app}, are on {host}")?.as_str())?;
+    }
+    Ok(())
+}
+
+/// The address of a node without its port.
+fn host_of(site: &Site, node: NodeNo) -> Option<&[u8]> {
+    let found = site.nodes.as_slice().get(node.0 as usize)?;
+    let address = found.address.as_ref()?.as_slice();
+    let colon = address.iter().rposition(|octet| *octet == b':')?;
+    address.get(..colon)
+}
+
+/// A grant that no account can pay.
+fn push_tariff_doubts(alloc: Global, lines: &mut Lines, site: &Site, tariff: &Tariff) -> Result<(), AllocError> {
+    let asked = tariff.quantum.min(tariff.greatest);
+    let Some(cost) = cost_of(tariff, asked) else {
+        return Ok(());
+    };
+    let richest = site.accounts.as_slice().iter().map(|account| account.opening).max();
+    let Some(opening) = richest else {
+        return Ok(());
+    };
+    if opening < 0 || cost > opening as u128 {
+        let services = services_of(alloc, tariff)?;
+        let line = format!(in alloc; "look: a grant of {services} costs {cost}, and no account has more than {opening}")?;
+        lines.push(line.as_str())?;
+    }
+    Ok(())
+}

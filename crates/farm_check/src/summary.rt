@@ -1,0 +1,28 @@
+//! What a site comes to, for somebody who reads it.
+
+use crate::doubts::push_doubts;
+use crate::lines::{Lines, identity_text};
+use crate::money::push_money;
+use crate::nodes::push_nodes;
+use farm_base::Site;
+use std::alloc::{AllocError, Global};
+
+/// The summary of a site that is accepted: the site, its nodes by kind, links, routes, tariffs with what they cost, accounts, and
+/// then what may look wrong, a line each that begins with `look:`.
+pub fn push_summary(alloc: Global, lines: &mut Lines, site: &Site) -> Result<(), AllocError> {
+    push_site(alloc, lines, site)?;
+    push_nodes(alloc, lines, site)?;
+    push_money(alloc, lines, site)?;
+    push_doubts(alloc, lines, site)
+}
+
+fn push_site(alloc: Global, lines: &mut Lines, site: &Site) -> Result<(), AllocError> {
+    let realm = identity_text(alloc, &site.realm)?;
+    lines.push(format!(in alloc; "accepted: realm {realm}")?.as_str())?;
+    let (validity, limit, watchdog) = (site.validity, site.limit, site.watchdog);
+    let line = format!(in alloc; "grants are good for {validity} s; the book takes {limit} entries; the watchdog waits {watchdog} ms")?;
+    lines.push(line.as_str())?;
+    let (workers, queue) = (site.workers, site.queue);
+    let line = format!(in alloc; "each front works on {workers} requests at a time, and {queue} may wait")?;
+    lines.push(line.as_str())
+}
