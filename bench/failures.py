@@ -1,5 +1,6 @@
 #!/usr/bin/env python3
 """What the program does where memory is refused and where its streams fail: bench/failures.py [PROGRAM] [SCHEDULE ..]
+    bench/failures.py --runs [PROGRAM] [SCHEDULE ..]      of the program memory_samples: what is told of a run
     bench/failures.py --random N [--seed S] [PROGRAM]     over random sites and schedules
 
 For each schedule (those of ROWS, if none is named) it runs the proved program, crates/farm_cli/out/farm_cli, with the
@@ -14,7 +15,12 @@ through a small library (LD_PRELOAD; it needs cc) that counts them. What has to 
     a write fails          exit status 1, and what was written before is a beginning of the output
     interrupted, or short  all as it was
 
-With --random N it runs over so many random sites and schedules of examples/models/at_large.py, from --seed on,
+With --runs it is the program memory_samples (crates/memory_samples/out/memory_samples), which prints what is told of a
+run that ended early, and asks a book again after a refusal. Where memory is refused at a step, what is told has to be
+the run of the steps before it, as the program prints it of them alone; and the book has to answer as it would have,
+unless it was refused twice. Where memory is refused before or between, the program ends early, with a beginning of it.
+
+With --random N it is farm_cli over so many random sites and schedules of examples/models/at_large.py, from --seed on,
 with at most 40 calls of a kind that fail, chosen evenly.
 
 A run that ends by a signal, or has not ended after ten seconds, is a finding, as any other. Not part of the gate.
@@ -32,7 +38,7 @@ from concurrent.futures import ThreadPoolExecutor
 from pathlib import Path
 
 TOP = Path(__file__).resolve().parent.parent
-PROGRAM = TOP / "crates/farm_cli/out/farm_cli"
+PROGRAM, SAMPLES = TOP / "crates/farm_cli/out/farm_cli", TOP / "crates/memory_samples/out/memory_samples"
 ROWS = ["debits/first-debit", "failover/failover", "failover/failover-while-picked", "sessions/session-not-due",
         "sessions/session-abandoned", "sessions/session-kept-up", "sessions/answers",
         "refusals/loop-detected", "refusals/front-refusals"]
@@ -195,10 +201,64 @@ def random_cases(runner, seed, count, jobs):
     return findings
 
 
+def steps_before(schedule, count):
+    """The first so many steps of a schedule, as a schedule."""
+    steps = [line for line in schedule.splitlines(keepends=True) if line.strip() and not line.startswith(b"#")]
+    return b"".join(steps[:count])
+
+
+def parts(output):
+    """What is told of the run, and of the book behind it; how many steps the run had (None: it was not opened)."""
+    lines = output.splitlines(keepends=True)
+    ends = b"place", b"no request", b"the history", b"out of memory", b"not opened"
+    at = next((n for n, line in enumerate(lines) if line.startswith(ends)), len(lines))
+    words = lines[0].split() if lines else []
+    at += lines[at:at + 1] == [b"not opened\n"]
+    return b"".join(lines[:at]), b"".join(lines[at:]), int(words[1]) if words[:1] == [b"steps"] else None
+
+
+def told_runs(runner, name, schedule, jobs):
+    """Allocations of memory_samples are refused, one and two. Prints how the runs end, and gives the findings."""
+    (whole, _, _), counts = runner.run([], schedule, "n", 0)
+    told_whole, book, steps = parts(whole)
+    told_of = [parts(runner.run([], steps_before(schedule, count), "n", 0)[0][0])[0] for count in range(steps)]
+    told_of.append(told_whole)
+    findings = []
+    for kind in REFUSALS:
+        letter, names = KINDS[kind][0], Counter()
+        with ThreadPoolExecutor(jobs) as pool:
+            places = range(1, counts[ALLOCATION] + 1)
+            runs = list(pool.map(lambda place: runner.run([], schedule, letter, place)[0], places))
+        for place, found in zip(places, runs):
+            came, well = verdict_of_run(found, told_of, book, kind)
+            names[came] += 1
+            if not well:
+                findings.append(f"{name}: {kind} {place}: {came}: status {found[2]} {found[1]!r} {found[0]!r}")
+        told_of_kind(name, kind, names)
+    return findings
+
+
+def verdict_of_run(found, told_of, book, kind):
+    """The same of a run of memory_samples; `told_of` has what is told of so many steps, the last of all of them."""
+    output, told, status = found
+    told_run, told_book, count = parts(output)
+    if status == 1:
+        early = b"out of memory" in told.lower() and any((it + book).startswith(output) for it in told_of)
+        return "ended early", early or kind == "two refused" and told_run in told_of
+    if status != 0:
+        return f"ended by {status}", False
+    same_book = told_book == book or kind == "two refused"
+    if count is None:
+        return "not opened", output.startswith(b"not opened\n") and same_book
+    came = "as it was" if count == len(told_of) - 1 else "refused at a step"
+    return came, told_run == told_of[count] and same_book
+
+
 def main(words):
     parser = argparse.ArgumentParser(description=__doc__, formatter_class=argparse.RawDescriptionHelpFormatter)
     parser.add_argument("program", nargs="?", type=Path)
     parser.add_argument("schedules", nargs="*", type=Path)
+    parser.add_argument("--runs", action="store_true")
     parser.add_argument("--random", type=int, default=0)
     parser.add_argument("--seed", type=int, default=1)
     parser.add_argument("--site", type=Path)
@@ -207,10 +267,14 @@ def main(words):
     schedules = arguments.schedules or [TOP / f"examples/{row}.schedule" for row in ROWS]
     began, findings = time.monotonic(), []
     with tempfile.TemporaryDirectory() as room:
-        runner, named = Runner((arguments.program or PROGRAM).resolve(), Path(room)), ["--site", arguments.site] if arguments.site else []
+        program = arguments.program or (SAMPLES if arguments.runs else PROGRAM)
+        runner, named = Runner(program.resolve(), Path(room)), ["--site", arguments.site] if arguments.site else []
         if arguments.random:
             findings += random_cases(runner, arguments.seed, arguments.random, arguments.jobs)
         for path in [] if arguments.random else schedules:
+            if arguments.runs:
+                findings += told_runs(runner, path.stem, path.read_bytes(), arguments.jobs)
+                continue
             names, found = each_call(runner, path.stem, ["replay", *named], path.read_bytes(), arguments.jobs)
             findings += found
             for kind in KINDS:
