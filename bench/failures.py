@@ -210,10 +210,13 @@ def steps_before(schedule, count):
 def parts(output):
     """What is told of the run, and of the book behind it; how many steps the run had (None: it was not opened)."""
     lines = output.splitlines(keepends=True)
-    ends = b"place", b"no request", b"the history", b"out of memory", b"not opened"
-    at = next((n for n, line in enumerate(lines) if line.startswith(ends)), len(lines))
+    if lines[:1] == [b"not opened\n"]:
+        return lines[0], b"".join(lines[1:]), None
+    # the run ends with its report: a line of entries, and one for each account
+    at = next((n + 1 for n, line in enumerate(lines) if line.startswith(b"entries")), len(lines))
+    while at < len(lines) and lines[at].startswith(b"account"):
+        at += 1
     words = lines[0].split() if lines else []
-    at += lines[at:at + 1] == [b"not opened\n"]
     return b"".join(lines[:at]), b"".join(lines[at:]), int(words[1]) if words[:1] == [b"steps"] else None
 
 
@@ -243,8 +246,9 @@ def verdict_of_run(found, told_of, book, kind):
     output, told, status = found
     told_run, told_book, count = parts(output)
     if status == 1:
-        early = b"out of memory" in told.lower() and any((it + book).startswith(output) for it in told_of)
-        return "ended early", early or kind == "two refused" and told_run in told_of
+        out_of_memory = any(words in told.lower() for words in (b"out of memory", b"memory allocation failed"))
+        early = out_of_memory and any((it + book).startswith(output) for it in told_of)
+        return "ended early", early or kind == "two refused" and (told_run in told_of or output == b"not opened\n")
     if status != 0:
         return f"ended by {status}", False
     same_book = told_book == book or kind == "two refused"
