@@ -9,7 +9,8 @@ What the RFC leaves open is this farm's choice:
   that can be paid are granted, and are the last; where that is none, the service is answered 4012.
 - A service of the command itself, without Multiple-Services-Credit-Control, gives the command its result; a session
   opens with 2001 alone.
-- The first request with a Session-Id and a CC-Request-Number settles what is answered to all later ones.
+- The first request with a Session-Id and a CC-Request-Number settles what is answered to all later ones: those that ask
+  the same in all that is read get the same reply, and all others 5012 and nothing else.
 - A session is due twice its validity after the moment of its last entry that is no EVENT, whatever its outcome and
   however moments run. A sweep ends the sessions that are due at its moment, with what they hold. It is an entry where
   it ends one, and does nothing where there is no room for that entry.
@@ -38,8 +39,8 @@ class Session:
 
 
 class Book:
-    """`kept` has a reply for each Session-Id and CC-Request-Number; these and the sweeps that ended sessions are the
-    entries of the history."""
+    """`kept` has a request and its reply for each Session-Id and CC-Request-Number; these and the sweeps that ended
+    sessions are the entries of the history."""
 
     def __init__(self, site):
         self.site, self.balances, self.sessions, self.kept = site, dict(site.accounts), {}, {}
@@ -56,16 +57,21 @@ class Book:
         return self.balances[account] - self.reserved(account)
 
     def take(self, request, moment):
-        """The reply to a request: the kept one, or that of a new entry of this moment. Raises Full."""
+        """The reply to a request: the one that is kept for it, or that of a new entry of this moment. Raises Full."""
         key = request.session, request.number
         if key not in self.kept:
             if self.entries >= self.site.limit:
                 raise Full
             turns = {INITIAL: self.initial, UPDATE: self.update, TERMINATION: self.termination, EVENT: self.event}
-            self.kept[key] = turns[request.kind](request)
+            self.kept[key] = request, turns[request.kind](request)
             if request.session in self.sessions and request.kind != EVENT:
                 self.sessions[request.session].deadline = moment + 2 * 1000 * self.site.validity
-        return self.kept[key]
+        return self.kept_reply(request)
+
+    def kept_reply(self, request):
+        """The reply to a request whose Session-Id and CC-Request-Number are kept; None to another one."""
+        taken, reply = self.kept.get((request.session, request.number), (None, None))
+        return reply if taken in (None, request) else Reply(UNABLE_TO_COMPLY)
 
     def sweep(self, moment):
         """Ends the sessions that are due at this moment."""

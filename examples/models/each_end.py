@@ -230,7 +230,7 @@ def told_replies(world, request):
         view = request_of(request, world.site.vendors)
     except Refused:
         return
-    reply = world.book.kept.get((view.session, view.number))
+    reply = world.book.kept_reply(view)
     if reply:
         for front in (name for name, kind in world.site.nodes.items() if kind == FRONT):
             yield credit_control_answer(front, world.site, request, view, reply)

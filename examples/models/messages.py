@@ -81,6 +81,8 @@ def again(message, hop):
 
 
 DEBIT = event(DIRECT_DEBITING, 3200)
+# Event-Timestamp.
+TIMESTAMP = number(55, 0xE000_0000)
 PROXY = group(PROXY_INFO, [text(PROXY_HOST, "p.example"), text(PROXY_STATE, "state")])
 OPENING = request(INITIAL, 0, [service(units(REQUESTED_UNITS))])
 

@@ -43,7 +43,7 @@ class RandomRequests:
         self.services = [(rating_group, None) for rating_group in self.site.group_tariffs]
         self.services += [(None, identifier) for identifier in self.site.ident_tariffs]
         # How many messages there are for one that is broken.
-        self.care = dice.one_of([3, 6, 12, 40])
+        self.care = dice.one_of([1, 3, 6, 12, 40])
 
     def next(self, client):
         """The next message of a client, as it is read from a schedule."""
@@ -305,6 +305,19 @@ class RandomRequests:
         vendor = self.dice.one_of(ODD_VENDORS) if flags & VENDOR else 0
         return self.inserted(avps, Avp(self.dice.one_of(ODD_CODES), self.octets(self.dice.below(9)), flags, vendor))
 
+    def with_one_nested(self, avps):
+        """One AVP inside itself, as a group of its own code, once or deeper than groups may be."""
+        at = self.dice.below(len(avps))
+        avp = avps[at]
+        for _ in range(1 + self.dice.below(6)):
+            avp = replace(avp, value=avp.octets() + (b"" if self.dice.one_in(3) else avps[at].octets()))
+        return [*avps[:at], avp, *avps[at + 1:]]
+
+    def with_one_often(self, avps):
+        """One AVP many times in a row."""
+        at = self.dice.below(len(avps))
+        return avps[:at] + [avps[at]] * (2 + self.dice.below(60)) + avps[at:]
+
     def with_any_known(self, avps):
         """One AVP that stands in commands or groups, in a place where it may not belong."""
         code = self.dice.one_of([*COMMAND_ONCE, *COUNTS, SUBSCRIPTION_ID_DATA, SUBSCRIPTION_ID_TYPE, RATING_GROUP,
@@ -328,6 +341,13 @@ class RandomRequests:
 
     def with_odd_flags(self, message):
         return replace(message, flags=message.flags | self.dice.one_of([ERROR, ERROR | RETRANSMITTED, RESERVED_FLAGS]))
+
+    def with_bits_flipped(self, message):
+        """Some bits of the header behind its length, and of the body, are others."""
+        octets = bytearray(message.octets())
+        for _ in range(1 + self.dice.below(8)):
+            octets[4 + self.dice.below(len(octets) - 4)] ^= 1 << self.dice.below(8)
+        return Message.read(bytes(octets))
 
     def cut_off(self, body):
         return body[:4 * self.dice.below(len(body) // 4 + 1)]
@@ -399,7 +419,9 @@ HARMLESS = [It.with_proxy_info, It.with_proxy_info, It.with_route_record, It.wit
             It.harmless_inside, It.harmless_inside]
 HARMFUL = [It.without_one, It.without_one, It.with_one_twice, It.with_another_first, It.with_another_length,
            It.with_another_length, It.with_another_value, It.with_another_value, It.with_odd_avp, It.with_any_known,
+           It.with_one_nested, It.with_one_often,
            *[It.harmful_inside] * 8]
-ODD_HEADERS = [It.as_answer, It.of_other_command, It.of_other_application, It.not_proxiable, It.with_odd_flags]
+ODD_HEADERS = [It.as_answer, It.of_other_command, It.of_other_application, It.not_proxiable, It.with_odd_flags,
+               It.with_bits_flipped, It.with_bits_flipped]
 ODD_BODIES = [It.cut_off, It.with_zeros, It.of_any_octets, It.with_another_octet, It.with_another_octet,
               It.with_odd_padding, It.with_odd_padding, *[It.with_another_avp_length] * 3]

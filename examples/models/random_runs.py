@@ -49,6 +49,8 @@ class Traveller(Player):
         super().play(step)
         self.figures["steps", step[0]] += 1
         self.figures["steps that applied", step[0]] += self.world.skipped == before
+        if step[0] == "send":
+            self.figures["octets", "sent"] += len(step[-1].octets())
 
     def completed(self, word, arguments):
         step = super().completed(word, arguments)

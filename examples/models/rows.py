@@ -4,16 +4,17 @@ Each function is one example: it yields what the model gives and what has to be,
 """
 from dataclasses import replace
 
-from credit_control import (CC_REQUEST_NUMBER, CC_REQUEST_TYPE, CHECK_BALANCE, DIRECT_DEBITING, INITIAL,
+from credit_control import (CC_REQUEST_NUMBER, CC_REQUEST_TYPE, CHECK_BALANCE, DIRECT_DEBITING, EVENT, INITIAL,
                             MULTIPLE_SERVICES, PRICE_ENQUIRY, REFUND_ACCOUNT, REQUESTED_UNITS, SERVICE_IDENTIFIER,
                             UPDATE, USED_UNITS)
 from diameter import DESTINATION_REALM, RESULT_CODE, ROUTE_RECORD, SESSION_ID, Avp, Message, number, split, text
-from messages import (DEBIT, OPENING, again, appended, changed, event, of_session, of_subscriber, request, service,
-                      termination, to_host, to_realm, units, update, without)
+from messages import (DEBIT, OPENING, TIMESTAMP, again, appended, changed, event, of_session, of_subscriber, request,
+                      service, subscription, termination, to_host, to_realm, units, update, without)
 from row_site import C1, C2, F1, F2, R1, R2, ROW_SITE
 from scenarios import (Script, client_gone, failover, failover_while_picked, host_gone, loop, loop_detected,
-                       lost_answer, nowhere_to_go, passed_over, relayed_debit, restarted_relay, session_abandoned,
-                       session_kept_up, session_not_due, session_of_the_latest_moment, session_swept_from_under)
+                       lost_answer, nowhere_to_go, other_content, passed_over, relayed_debit, restarted_relay,
+                       session_abandoned, session_kept_up, session_not_due, session_of_the_latest_moment,
+                       session_swept_from_under)
 
 DEBIT_OCTETS = (
     "010000f8c0000110000000040000000700000064" "000001074000000e63313b313b310000"
@@ -214,6 +215,30 @@ def faulty_avps():
     yield len(answers(direct(without(DEBIT, SESSION_ID)))[0]) // 2, 88
 
 
+def other_contents():
+    world = other_content().played()
+    refused = answers(world)[1]
+    yield (refused[:8], refused[8:10], result(refused), services_in(refused)), ("0100007c", "40", 5012, [])
+    received = [f"recv {C1} 1 {answer}" for answer in [ANSWER_OCTETS, refused, ANSWER_OCTETS, ANSWER_OCTETS]]
+    yield output(world), printed(received, "steps 25 skipped 0 entries 1", b1=980)
+    with_time = appended(DEBIT, TIMESTAMP)
+    yield (with_time.length, with_time.octets()[-12:].hex()), (260, "000000374000000ce0000000")
+    one = service(units(REQUESTED_UNITS, 1000))
+    two = replace(one, value=number(SERVICE_IDENTIFIER, 1).octets() + one.value)
+    used = update(1, units(REQUESTED_UNITS), units(USED_UNITS, 3000))
+    for opening, first, other in [
+            ([OPENING], used, update(1, units(REQUESTED_UNITS), units(USED_UNITS, 3001))),
+            ([], request(EVENT, 0, [one, two], DIRECT_DEBITING), request(EVENT, 0, [two, one], DIRECT_DEBITING)),
+            ([], DEBIT, appended(DEBIT, subscription("491700000002"))), ([], OPENING, termination(0)),
+            ([OPENING], termination(1), update(1))]:
+        messages = [*opening, first, other, first]
+        world = charged(*((message, 1000 * moment) for moment, message in enumerate(messages, 1)))
+        kept, refused, repeated = answers(world)[-3:]
+        yield (result(refused), services_in(refused), repeated == kept), (5012, [], True)
+        unasked = charged(*((message, 1000 * moment) for moment, message in enumerate([*opening, first], 1)))
+        yield (account(world, 1), len(world.book.sessions)), (account(unasked, 1), len(unasked.book.sessions))
+
+
 def nothing_or_too_early():
     yield output(Script("").played()), printed([], "steps 0 skipped 0 entries 0")
     yield output(Script("").carry(C1, F1).played()), printed([], "steps 1 skipped 1 entries 0")
@@ -341,8 +366,8 @@ def swept_sessions():
 
 ROWS = [octets_are_told, relayed_request, first_debit, repeated_debit, opened_session, short_accounts, part_of_a_grant,
         below_zero, overtaken, looping, passing_over, another_front, one_front_alone, gone_client, unknown_avps,
-        faulty_avps, nothing_or_too_early, events, two_services, limits, relay_lines, lost_and_restarted,
-        swept_sessions]
+        faulty_avps, other_contents, nothing_or_too_early, events, two_services, limits, relay_lines,
+        lost_and_restarted, swept_sessions]
 
 
 def failures():

@@ -2,10 +2,10 @@
 import textwrap
 from dataclasses import replace
 
-from credit_control import CC_REQUEST_NUMBER, RATING_GROUP, REQUESTED_UNITS, USED_UNITS
+from credit_control import CC_REQUEST_NUMBER, DIRECT_DEBITING, RATING_GROUP, REQUESTED_UNITS, USED_UNITS
 from diameter import DESTINATION_REALM, MESSAGE_LIMIT, PROXIABLE, ROUTE_RECORD, Avp, number, text
-from messages import (DEBIT, OPENING, PROXY, again, appended, changed, of_session, to_host, to_realm, units, update,
-                      without)
+from messages import (DEBIT, OPENING, PROXY, TIMESTAMP, again, appended, changed, event, of_session, to_host, to_realm,
+                      units, update, without)
 from row_site import C1, C2, F1, F2, R1, R2, ROW_SITE
 from world import World, spelled_step
 
@@ -254,6 +254,16 @@ def front_refusals():
     return script.send(C1, R1, F1, message=again(proxied, 8)).answer(F1, 2000).carry(F1, R1, C1)
 
 
+def other_content():
+    script = Script("""A debit of 3200 octets is charged. A request with its Session-Id and CC-Request-Number asks for
+        6400: it is refused, UNABLE_TO_COMPLY, and nothing is charged. The debit comes again, and once more with an
+        Event-Timestamp, which a server does not read: each gets the answer of the first.""")
+    script.up((C1, F1))
+    for moment, message in enumerate([DEBIT, event(DIRECT_DEBITING, 6400), DEBIT, appended(DEBIT, TIMESTAMP)], 1):
+        script.send(C1, F1, message=message).answer(F1, 1000 * moment).carry(F1, C1)
+    return script
+
+
 def session_not_due():
     script = Script("""A session is opened at moment 1000, and 25 are reserved. It lasts for twice its validity, 1,200
         seconds from its last request: a sweep one millisecond before that ends nothing, and is no entry.""")
@@ -333,6 +343,7 @@ SCENARIOS = {
     "refusals/relay-refusals": relay_refusals,
     "refusals/no-room": no_room,
     "refusals/front-refusals": front_refusals,
+    "refusals/other-content": other_content,
     "sessions/session-not-due": session_not_due,
     "sessions/session-abandoned": session_abandoned,
     "sessions/session-kept-up": session_kept_up,

@@ -14,7 +14,8 @@ with units granted, used and reserved (5.1.2), the last units (5.6), the four on
   that can be paid are granted, and are the last; where that is none, the service is answered 4012.
 - A service of the command itself, without Multiple-Services-Credit-Control, gives the command its result; a session
   opens with 2001 alone.
-- The first request with a Session-Id and a CC-Request-Number settles what is answered to all later ones.
+- The first request with a Session-Id and a CC-Request-Number settles what is answered to all later ones: those that ask
+  the same get the same reply, and all others 5012 and nothing else.
 
 It writes sessions-at-random.schedule and sessions-at-random.out into the folder that is given, examples/random/ in this
 repository, where they are stored.
@@ -159,6 +160,11 @@ class Request:
         return named or self.services
 
 
+def content_of(request):
+    """A request without what a server does not read in it."""
+    return replace(request, hop=0, end=0, flags=0)
+
+
 @dataclass(frozen=True)
 class Reply:
     """`body` is what stands in an answer behind CC-Request-Number and CC-Session-Failover."""
@@ -267,8 +273,9 @@ class Book:
         key = request.session, request.number
         if key not in self.kept:
             turns = {INITIAL: self.initial, UPDATE: self.update, TERMINATION: self.termination, EVENT: self.event}
-            self.kept[key] = turns[request.kind](request)
-        return self.kept[key]
+            self.kept[key] = content_of(request), turns[request.kind](request)
+        content, reply = self.kept[key]
+        return reply if content == content_of(request) else Reply(UNABLE_TO_COMPLY)
 
     @staticmethod
     def account_of(request):

@@ -3,7 +3,7 @@
 
 The model is written from the rules, and knows nothing of the program: a debit costs 5 for each 1000 octets that it
 begins, and is made where the account has as much; the first debit with a CC-Request-Number settles what is answered to
-all later ones. It writes two-at-a-time.schedule and two-at-a-time.out into the folder that is given, examples/random/
+all later ones, 5012 to those that ask for something else. It writes two-at-a-time.schedule and two-at-a-time.out into the folder that is given, examples/random/
 in this repository, where they are stored.
 """
 import sys
@@ -11,7 +11,8 @@ from dataclasses import dataclass, replace
 
 ROUNDS = 100
 OPENINGS = [1000, 12, 4, 27, 25]
-COMMAND_UNSUPPORTED, APPLICATION_UNSUPPORTED, CREDIT_LIMIT_REACHED, USER_UNKNOWN = 3001, 3007, 4012, 5030
+COMMAND_UNSUPPORTED, APPLICATION_UNSUPPORTED, CREDIT_LIMIT_REACHED = 3001, 3007, 4012
+UNABLE_TO_COMPLY, USER_UNKNOWN = 5012, 5030
 
 # Units that a debit asks for: none, blocks that are begun and blocks that are full.
 UNITS = [0, 1, 999, 1000, 1001, 3200, 4000, 5000, 50_000]
@@ -105,9 +106,11 @@ class Model:
             return refusal(turn, APPLICATION_UNSUPPORTED)
         if turn.kind == "command":
             return refusal(turn, COMMAND_UNSUPPORTED)
+        content = turn.units, turn.subscriber
         if turn.number not in self.kept:
-            self.kept[turn.number] = self.debit(turn)
-        return credit_control_answer(turn, *self.kept[turn.number])
+            self.kept[turn.number] = content, self.debit(turn)
+        taken, reply = self.kept[turn.number]
+        return credit_control_answer(turn, *(reply if taken == content else (UNABLE_TO_COMPLY, None)))
 
     def debit(self, turn):
         cost = -(-turn.units // 1000) * 5

@@ -20,7 +20,7 @@ use Rattle.cc_book.specs.declared.entry.Entry.{Entry}
 use Rattle.cc_book.specs.declared.entry.Entry.TheVariants.{Take}
 use Rattle.cc_book.specs.declared.session.OpenSession.{OpenSession}
 use Rattle.cc_book.specs.declared.terms.Terms.{Terms}
-use Rattle.cc_book.specs.AccountMachine.{post, posting_of, postings_of, reply_to}
+use Rattle.cc_book.specs.AccountMachine.{post, posting_of, postings_of, repeat_reply, reply_to}
 use Rattle.cc_book.specs.Duplicate.{Key, key_of}
 use Rattle.cc_book.specs.History.{IsKeptAt, IsNew}
 use Rattle.cc_book.specs.Posting.{Posting}
@@ -35,7 +35,7 @@ use Rattle.cc_book.specs.declared.book.BookRefusal.TheVariants.{OutOfMemory}
 use Rattle.cc_book.specs.declared.plan.Plan.{Plan}
 use Rattle.cc_book.specs.declared.plan.Taken.{Taken}
 use Rattle.cc_book.specs.Planning.{IsTaking, PlansWith}
-use Rattle.cc_book.specs.Taking.{IsBook, Ledger, answer_of}
+use Rattle.cc_book.specs.Taking.{AnswersRepeat, IsBook, Ledger, answer_of}
 use Rattle.cc_book.proofs.Sessions.{open_at_place}
 use Rattle.cc_book.proofs.Replies.{answer_of-fresh, answer_of-kept}
 use Rattle.cc_book.proofs.Outcomes.{take-stands}
@@ -211,7 +211,7 @@ pub kept-answered : (terms : Terms) (limit : ℕ) (history : List Entry) (reques
     → IsOk (answer_of (ledger_of terms limit history) request)
 kept-answered terms limit history request taken place at =
     ap (λ (r : Result Answered BookRefusal). is_ok r)
-    (answer_of-kept (ledger_of terms limit history) request taken place (reply_to terms (take place history) taken) at refl)
+    (answer_of-kept (ledger_of terms limit history) request taken place (repeat_reply terms (take place history) taken request) at refl)
 
 pub new-answered : (terms : Terms) (limit : ℕ) (history : List Entry) (request : CcRequest) → IsNew history (key_of request) → length history < limit
     → IsOk (answer_of (ledger_of terms limit history) request)
@@ -234,22 +234,22 @@ module _ {terms : Terms} {limit : ℕ} {history : List Entry} {replies : List (O
   kept-some key place taken at = subst (λ (o : Option CcReply). IsSome o) (sym (kept-reply terms history replies key place taken book.replies_kept at)) refl
 
   answered-kept : (request taken : CcRequest) (place : ℕ) (answered : Answered) → IsKeptAt history (key_of request) place taken
-      → IfSome (slice_index_or replies place None) (λ reply. answered ≡ record { reply = reply; place = place; fresh = false })
-      → answered ≡ record { reply = reply_to terms (take place history) taken; place = place; fresh = false }
+      → IfSome (slice_index_or replies place None) (AnswersRepeat taken request place answered)
+      → answered ≡ record { reply = repeat_reply terms (take place history) taken request; place = place; fresh = false }
   answered-kept request taken place answered at is =
-      some_if (λ (r : CcReply). answered ≡ record { reply = r; place = place; fresh = false }) (slice_index_or replies place None)
+      some_if (AnswersRepeat taken request place answered) (slice_index_or replies place None)
       (reply_to terms (take place history) taken)
       (kept-reply terms history replies (key_of request) place taken book.replies_kept at) is
 
   pub answer-kept : (request taken : CcRequest) (place : ℕ) (answered : Answered) → IsKeptAt history (key_of request) place taken
-      → IfSome (slice_index_or replies place None) (λ reply. answered ≡ record { reply = reply; place = place; fresh = false })
+      → IfSome (slice_index_or replies place None) (AnswersRepeat taken request place answered)
       → answer_of (ledger_of terms limit history) request ≡ Ok answered
   answer-kept request taken place answered at is =
-      answer_of-kept (ledger_of terms limit history) request taken place (reply_to terms (take place history) taken) at refl
+      answer_of-kept (ledger_of terms limit history) request taken place (repeat_reply terms (take place history) taken request) at refl
       ∙ ap (λ (a : Answered). Ok a) (sym (answered-kept request taken place answered at is))
 
   pub not-fresh : (request taken : CcRequest) (place : ℕ) (answered : Answered) → IsKeptAt history (key_of request) place taken
-      → IfSome (slice_index_or replies place None) (λ reply. answered ≡ record { reply = reply; place = place; fresh = false }) → answered.fresh ≡ false
+      → IfSome (slice_index_or replies place None) (AnswersRepeat taken request place answered) → answered.fresh ≡ false
   not-fresh request taken place answered at is = ap (λ (a : Answered). a.fresh) (answered-kept request taken place answered at is)
 
   pub answer-fresh : (moment : Moment) (request : CcRequest) (outcome : Outcome) → IsNew history (key_of request) → length history < limit

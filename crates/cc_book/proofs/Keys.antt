@@ -4,16 +4,18 @@ use Rattle.std.specs.Prelude.{◌⊎◌, ◌↔◌, slice_get}
 use Rattle.std.specs.List.{position_or_len, list_all, IsDistinct, AllByRecursion}
 use Rattle.std.proofs.lemmas.List.{append-nil}
 use Rattle.dia_base.specs.declared.number.Moment.{Moment}
+use Rattle.cc_view.specs.declared.code.ResultCode.TheVariants.{UnableToComply}
 use Rattle.cc_view.specs.declared.reply.CcReply.{CcReply}
 use Rattle.cc_view.specs.declared.request.CcRequest.{CcRequest}
 use Rattle.cc_book.specs.declared.entry.Entry.{Entry}
 use Rattle.cc_book.specs.declared.entry.Entry.TheVariants.{Take, Sweep}
 use Rattle.cc_book.specs.declared.terms.Terms.{Terms}
-use Rattle.cc_book.specs.AccountMachine.{reply_to, reply_at, kept_from, kept_reply}
+use Rattle.cc_book.specs.AccountMachine.{code_alone, reply_to, reply_at, repeat_reply, kept_from, kept_reply}
 use Rattle.cc_book.specs.Duplicate.{Key, key_of, same_session, same_key, has_key}
 use Rattle.cc_book.specs.History.{keys_of, ended_sessions, IsLegal, place_of, IsNew, IsKeptAt}
 use Rattle.cc_book.specs.Laws.{RepliesToEntry}
 use Rattle.std.proofs.lemmas.Bool.{and_from, and_parts}
+use Rattle.cc_book.proofs.SameRequests.{same_request-other, same_request-self}
 use Rattle.cc_book.proofs.Sessions.{equal_number, same_number, same_session-equal, same_session-met, same_session-self}
 
 not_true : (b : Bool) → not b ≡ true → b ≡ false
@@ -22,45 +24,49 @@ not_true false e = refl
 
 -- ---- a kept request
 
-kept_here : (terms : Terms) (before after : List Entry) (key : Key) (entry : Entry) (moment : Moment) (request : CcRequest)
-    → Some entry ≡ Some (Take moment request) → same_key (key_of request) key ≡ true
-    → kept_from terms before (entry ∷ after) key ≡ Some (reply_to terms (before ++ []) request)
-kept_here terms before after key entry moment request is same =
-    let taken : entry ≡ Take moment request = cc in
-    subst (λ (e : Entry). kept_from terms before (e ∷ after) key ≡ Some (reply_to terms (before ++ []) request)) (sym taken)
-    (ap (λ (b : Bool). cond b (Some (reply_to terms before request)) (kept_from terms (before ++ Take moment request ∷ []) after key)) same
-    ∙ ap (λ (h : List Entry). Some (reply_to terms h request)) (sym (append-nil before)))
+kept_here : (terms : Terms) (before after : List Entry) (request : CcRequest) (entry : Entry) (moment : Moment) (taken : CcRequest)
+    → Some entry ≡ Some (Take moment taken) → same_key (key_of taken) (key_of request) ≡ true
+    → kept_from terms before (entry ∷ after) request ≡ Some (repeat_reply terms (before ++ []) taken request)
+kept_here terms before after request entry moment taken is same =
+    let entered : entry ≡ Take moment taken = cc in
+    subst (λ (e : Entry). kept_from terms before (e ∷ after) request ≡ Some (repeat_reply terms (before ++ []) taken request)) (sym entered)
+    (ap (λ (b : Bool). cond b (Some (repeat_reply terms before taken request)) (kept_from terms (before ++ Take moment taken ∷ []) after request)) same
+    ∙ ap (λ (h : List Entry). Some (repeat_reply terms h taken request)) (sym (append-nil before)))
 
-kept_later : (terms : Terms) (before after : List Entry) (key : Key) (entry : Entry) → has_key key entry ≡ false
-    → kept_from terms before (entry ∷ after) key ≡ kept_from terms (before ++ entry ∷ []) after key
-kept_later terms before after key entry other = ap (λ (b : Bool). cond b (reply_at terms before entry) (kept_from terms (before ++ entry ∷ []) after key)) other
+kept_later : (terms : Terms) (before after : List Entry) (request : CcRequest) (entry : Entry) → has_key (key_of request) entry ≡ false
+    → kept_from terms before (entry ∷ after) request ≡ kept_from terms (before ++ entry ∷ []) after request
+kept_later terms before after request entry other =
+    ap (λ (b : Bool). cond b (reply_at terms before request entry) (kept_from terms (before ++ entry ∷ []) after request)) other
 
-kept_from-at : (terms : Terms) (before history : List Entry) (key : Key) (place : ℕ) (moment : Moment) (request : CcRequest) → IsNew (take place history) key
-    → slice_get history place ≡ Some (Take moment request) → same_key (key_of request) key ≡ true
-    → kept_from terms before history key ≡ Some (reply_to terms (before ++ take place history) request)
-kept_from-at terms before [] key place moment request new is same = absurd cc
-kept_from-at terms before (entry ∷ after) key zero moment request new is same = kept_here terms before after key entry moment request is same
-kept_from-at terms before (entry ∷ after) key (suc place) moment request new is same =
-    let parts = and_parts (not (has_key key entry)) (list_all (λ (e : Entry). not (has_key key e)) (take place after)) new in
-    kept_later terms before after key entry (not_true (has_key key entry) parts.0)
-    ∙ kept_from-at terms (before ++ entry ∷ []) after key place moment request parts.1 is same
-    ∙ ap (λ (h : List Entry). Some (reply_to terms h request)) (append_assoc before (entry ∷ []) (take place after))
+kept_from-at : (terms : Terms) (before history : List Entry) (request : CcRequest) (place : ℕ) (moment : Moment) (taken : CcRequest)
+    → IsNew (take place history) (key_of request) → slice_get history place ≡ Some (Take moment taken) → same_key (key_of taken) (key_of request) ≡ true
+    → kept_from terms before history request ≡ Some (repeat_reply terms (before ++ take place history) taken request)
+kept_from-at terms before [] request place moment taken new is same = absurd cc
+kept_from-at terms before (entry ∷ after) request zero moment taken new is same = kept_here terms before after request entry moment taken is same
+kept_from-at terms before (entry ∷ after) request (suc place) moment taken new is same =
+    let parts =
+    and_parts (not (has_key (key_of request) entry)) (list_all (λ (e : Entry). not (has_key (key_of request) e)) (take place after)) new in
+    kept_later terms before after request entry (not_true (has_key (key_of request) entry) parts.0)
+    ∙ kept_from-at terms (before ++ entry ∷ []) after request place moment taken parts.1 is same
+    ∙ ap (λ (h : List Entry). Some (repeat_reply terms h taken request)) (append_assoc before (entry ∷ []) (take place after))
 
 pub kept_reply-at : (terms : Terms) (history : List Entry) (request : CcRequest) (place : ℕ) (taken : CcRequest)
-    → IsKeptAt history (key_of request) place taken → kept_reply terms history request ≡ Some (reply_to terms (take place history) taken)
+    → IsKeptAt history (key_of request) place taken → kept_reply terms history request ≡ Some (repeat_reply terms (take place history) taken request)
 unfolding kept_reply
 kept_reply-at terms history request place taken kept =
-    kept_from-at terms [] history (key_of request) place kept.moment taken kept.new_before kept.entry kept.same
+    kept_from-at terms [] history request place kept.moment taken kept.new_before kept.entry kept.same
 
-kept_from-new : (terms : Terms) (before history : List Entry) (key : Key) → IsNew history key → kept_from terms before history key ≡ None
-kept_from-new terms before [] key new = refl
-kept_from-new terms before (entry ∷ after) key new =
-    let parts = and_parts (not (has_key key entry)) (list_all (λ (e : Entry). not (has_key key e)) after) new in
-    kept_later terms before after key entry (not_true (has_key key entry) parts.0) ∙ kept_from-new terms (before ++ entry ∷ []) after key parts.1
+kept_from-new : (terms : Terms) (before history : List Entry) (request : CcRequest) → IsNew history (key_of request)
+    → kept_from terms before history request ≡ None
+kept_from-new terms before [] request new = refl
+kept_from-new terms before (entry ∷ after) request new =
+    let parts = and_parts (not (has_key (key_of request) entry)) (list_all (λ (e : Entry). not (has_key (key_of request) e)) after) new in
+    kept_later terms before after request entry (not_true (has_key (key_of request) entry) parts.0)
+    ∙ kept_from-new terms (before ++ entry ∷ []) after request parts.1
 
 pub kept_reply-new : (terms : Terms) (history : List Entry) (request : CcRequest) → IsNew history (key_of request) → kept_reply terms history request ≡ None
 unfolding kept_reply
-kept_reply-new terms history request new = kept_from-new terms [] history (key_of request) new
+kept_reply-new terms history request new = kept_from-new terms [] history request new
 
 -- no reply is kept
 new_by : (b : Bool) (entry : Option CcReply) (more : Bool) (later : Option CcReply) → (b ≡ true → entry ≢ None) → (later ≡ None → more ≡ true)
@@ -68,39 +74,40 @@ new_by : (b : Bool) (entry : Option CcReply) (more : Bool) (later : Option CcRep
 new_by true entry more later some next e = absurd (some refl e)
 new_by false entry more later some next e = next e
 
-takes_reply : (terms : Terms) (before : List Entry) (key : Key) (entry : Entry) → has_key key entry ≡ true → reply_at terms before entry ≢ None
-takes_reply terms before key (Take moment request) has e = absurd cc
-takes_reply terms before key (Sweep moment) has e = absurd cc
+takes_reply : (terms : Terms) (before : List Entry) (request : CcRequest) (entry : Entry) → has_key (key_of request) entry ≡ true
+    → reply_at terms before request entry ≢ None
+takes_reply terms before request (Take moment taken) has e = absurd cc
+takes_reply terms before request (Sweep moment) has e = absurd cc
 
-new_from : (terms : Terms) (before history : List Entry) (key : Key) → kept_from terms before history key ≡ None → IsNew history key
-new_from terms before [] key e = refl
-new_from terms before (entry ∷ after) key e =
-    new_by (has_key key entry) (reply_at terms before entry) (list_all (λ (other : Entry). not (has_key key other)) after)
-    (kept_from terms (before ++ entry ∷ []) after key)
-    (takes_reply terms before key entry) (new_from terms (before ++ entry ∷ []) after key) e
+new_from : (terms : Terms) (before history : List Entry) (request : CcRequest) → kept_from terms before history request ≡ None → IsNew history (key_of request)
+new_from terms before [] request e = refl
+new_from terms before (entry ∷ after) request e =
+    new_by (has_key (key_of request) entry) (reply_at terms before request entry) (list_all (λ (other : Entry). not (has_key (key_of request) other)) after)
+    (kept_from terms (before ++ entry ∷ []) after request)
+    (takes_reply terms before request entry) (new_from terms (before ++ entry ∷ []) after request) e
 
 pub new-without_reply : (terms : Terms) (history : List Entry) (request : CcRequest) → kept_reply terms history request ≡ None → IsNew history (key_of request)
 unfolding kept_reply
-new-without_reply terms history request e = new_from terms [] history (key_of request) e
+new-without_reply terms history request e = new_from terms [] history request e
 
 -- ---- a kept reply is that to an entry
 
 of_here : (terms : Terms) (before after : List Entry) (request : CcRequest) (entry : Entry) (reply : CcReply) → has_key (key_of request) entry ≡ true
-    → reply_at terms before entry ≡ Some reply
+    → reply_at terms before request entry ≡ Some reply
     → RepliesToEntry terms (before ++ entry ∷ after) request reply
 of_here terms before after request (Take moment taken) reply same e =
     record { before = before; moment = moment; taken = taken; after = after; among = refl; same = same; is_reply = cc }
 of_here terms before after request (Sweep moment) reply same e = absurd cc
 
 of_by : (terms : Terms) (before after : List Entry) (request : CcRequest) (entry : Entry) (reply : CcReply) (b : Bool) → has_key (key_of request) entry ≡ b
-    → (kept_from terms (before ++ entry ∷ []) after (key_of request) ≡ Some reply → RepliesToEntry terms (before ++ entry ∷ after) request reply)
-    → cond b (reply_at terms before entry) (kept_from terms (before ++ entry ∷ []) after (key_of request)) ≡ Some reply
+    → (kept_from terms (before ++ entry ∷ []) after request ≡ Some reply → RepliesToEntry terms (before ++ entry ∷ after) request reply)
+    → cond b (reply_at terms before request entry) (kept_from terms (before ++ entry ∷ []) after request) ≡ Some reply
     → RepliesToEntry terms (before ++ entry ∷ after) request reply
 of_by terms before after request entry reply true has later e = of_here terms before after request entry reply has e
 of_by terms before after request entry reply false has later e = later e
 
 kept_from-of : (terms : Terms) (before history : List Entry) (request : CcRequest) (reply : CcReply)
-    → kept_from terms before history (key_of request) ≡ Some reply → RepliesToEntry terms (before ++ history) request reply
+    → kept_from terms before history request ≡ Some reply → RepliesToEntry terms (before ++ history) request reply
 kept_from-of terms before [] request reply e = absurd cc
 kept_from-of terms before (entry ∷ after) request reply e =
     of_by terms before after request entry reply (has_key (key_of request) entry) refl
@@ -242,18 +249,18 @@ kept_stays_by : (b : Bool) (here later grown : Option CcReply) (reply : CcReply)
 kept_stays_by true here later grown reply more e = e
 kept_stays_by false here later grown reply more e = more e
 
-kept_from-stays : (terms : Terms) (before history more : List Entry) (key : Key) (reply : CcReply) → kept_from terms before history key ≡ Some reply
-    → kept_from terms before (history ++ more) key ≡ Some reply
-kept_from-stays terms before [] more key reply e = absurd cc
-kept_from-stays terms before (entry ∷ after) more key reply e =
-    kept_stays_by (has_key key entry) (reply_at terms before entry) (kept_from terms (before ++ entry ∷ []) after key)
-    (kept_from terms (before ++ entry ∷ []) (after ++ more) key) reply
-    (kept_from-stays terms (before ++ entry ∷ []) after more key reply) e
+kept_from-stays : (terms : Terms) (before history more : List Entry) (request : CcRequest) (reply : CcReply)
+    → kept_from terms before history request ≡ Some reply → kept_from terms before (history ++ more) request ≡ Some reply
+kept_from-stays terms before [] more request reply e = absurd cc
+kept_from-stays terms before (entry ∷ after) more request reply e =
+    kept_stays_by (has_key (key_of request) entry) (reply_at terms before request entry) (kept_from terms (before ++ entry ∷ []) after request)
+    (kept_from terms (before ++ entry ∷ []) (after ++ more) request) reply
+    (kept_from-stays terms (before ++ entry ∷ []) after more request reply) e
 
 pub kept_reply-stays : (terms : Terms) (history more : List Entry) (request : CcRequest) (reply : CcReply) → kept_reply terms history request ≡ Some reply
     → kept_reply terms (history ++ more) request ≡ Some reply
 unfolding kept_reply
-kept_reply-stays terms history more request reply e = kept_from-stays terms [] history more (key_of request) reply e
+kept_reply-stays terms history more request reply e = kept_from-stays terms [] history more request reply e
 
 -- a key that no later request has
 others_at : (key : Key) (history after : List Entry) (moment : Moment) (request : CcRequest)
@@ -296,14 +303,42 @@ take_front : (before after : List Entry) → take (length before) (before ++ aft
 take_front [] after = refl
 take_front (b ∷ before) after = ap (λ (xs : List Entry). b ∷ xs) (take_front before after)
 
+key-new_before : (key : Key) (before : List Entry) (request : CcRequest) → same_key (key_of request) key ≡ true
+    → IsNew before (key_of request) → IsNew before key
+key-new_before key before request same new =
+    let parts = and_parts (eqb request.number key.number) (same_session request.session key.session) same in
+    let number : request.number ≡ key.number = equal_number request.number key.number parts.0 in
+    let session : request.session ≡ key.session = same_session-equal request.session key.session parts.1 in
+    let is : key_of request ≡ key = λ i. record { session = session i; number = number i } in
+    subst (IsNew before) is new
+
+-- a repeat of a request that was taken, whatever else it asks
+pub kept_reply-repeat : (terms : Terms) (before after : List Entry) (moment : Moment) (taken request : CcRequest)
+    → IsLegal terms (before ++ Take moment taken ∷ after) → same_key (key_of taken) (key_of request) ≡ true
+    → kept_reply terms (before ++ Take moment taken ∷ after) request ≡ Some (repeat_reply terms before taken request)
+unfolding kept_reply
+kept_reply-repeat terms before after moment taken request legal same =
+    let front = take_front before (Take moment taken ∷ after) in
+    let new : IsNew (take (length before) (before ++ Take moment taken ∷ after)) (key_of request) =
+    subst (λ (h : List Entry). IsNew h (key_of request)) (sym front)
+    (key-new_before (key_of request) before taken same (new_before before after moment taken legal.distinct)) in
+    kept_from-at terms [] (before ++ Take moment taken ∷ after) request (length before) moment taken new
+    (get_behind before after (Take moment taken)) same
+    ∙ ap (λ (h : List Entry). Some (repeat_reply terms h taken request)) front
+
+-- the very request, and another content
+pub repeat_reply-same : (terms : Terms) (before : List Entry) (request : CcRequest) → repeat_reply terms before request request ≡ reply_to terms before request
+repeat_reply-same terms before request =
+    ap (λ (b : Bool). cond b (reply_to terms before request) (code_alone UnableToComply)) (same_request-self request)
+
+pub repeat_reply-other : (terms : Terms) (before : List Entry) (taken request : CcRequest) → taken ≢ request
+    → repeat_reply terms before taken request ≡ code_alone UnableToComply
+repeat_reply-other terms before taken request other =
+    ap (λ (b : Bool). cond b (reply_to terms before taken) (code_alone UnableToComply)) (same_request-other taken request other)
+
 pub kept_reply-first : (terms : Terms) (before after : List Entry) (moment : Moment) (request : CcRequest)
     → IsLegal terms (before ++ Take moment request ∷ after)
     → kept_reply terms (before ++ Take moment request ∷ after) request ≡ Some (reply_to terms before request)
-unfolding kept_reply
 kept_reply-first terms before after moment request legal =
-    let front = take_front before (Take moment request ∷ after) in
-    let new : IsNew (take (length before) (before ++ Take moment request ∷ after)) (key_of request) =
-    subst (λ (h : List Entry). IsNew h (key_of request)) (sym front) (new_before before after moment request legal.distinct) in
-    kept_from-at terms [] (before ++ Take moment request ∷ after) (key_of request) (length before) moment request new
-    (get_behind before after (Take moment request)) (same_key-self (key_of request))
-    ∙ ap (λ (h : List Entry). Some (reply_to terms h request)) front
+    kept_reply-repeat terms before after moment request request legal (same_key-self (key_of request))
+    ∙ ap (λ (r : CcReply). Some r) (repeat_reply-same terms before request)

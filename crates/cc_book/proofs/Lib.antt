@@ -24,6 +24,7 @@ pub mod Outcomes
 pub mod Placing
 pub mod Postings
 pub mod Replies
+pub mod SameRequests
 pub mod Sessions
 pub mod Stands
 pub mod Sums

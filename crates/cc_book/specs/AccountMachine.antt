@@ -25,7 +25,8 @@ use Rattle.cc_book.specs.declared.entry.Entry.{Entry}
 use Rattle.cc_book.specs.declared.entry.Entry.TheVariants.{Take, Sweep}
 use Rattle.cc_rating.specs.declared.tariff.Tariff.{Tariff}
 use Rattle.cc_book.specs.declared.terms.Terms.{Terms}
-use Rattle.cc_book.specs.Duplicate.{Key, has_key, key_of, same_session}
+use Rattle.cc_book.specs.Content.{same_request}
+use Rattle.cc_book.specs.Duplicate.{has_key, key_of, same_session}
 use Rattle.cc_book.specs.Posting.{Posting, debits_to}
 use Rattle.cc_book.specs.ServiceRating.{asked_of, asking_cost, tariff_of, unit_code, used_total}
 use Rattle.cc_book.specs.Reservation.{reserved_by}
@@ -341,14 +342,21 @@ reply_to terms history request = reply_after terms (postings_of terms history) r
 
 -- ---- the reply that is kept
 
-abbrev pub reply_at : Terms → List Entry → Entry → Option CcReply
-reply_at terms before (Take moment request) = Some (reply_to terms before request)
-reply_at terms before (Sweep moment) = None
+-- The reply to a request whose key a taken one has: the reply to that one, if it is this very request; to another content
+-- DIAMETER_UNABLE_TO_COMPLY alone.
+abbrev pub repeat_reply : Terms → List Entry → CcRequest → CcRequest → CcReply
+repeat_reply terms before taken request = if same_request taken request then reply_to terms before taken else code_alone UnableToComply
 
-abbrev pub kept_from : Terms → List Entry → List Entry → Key → Option CcReply
-kept_from terms before [] key = None
-kept_from terms before (entry ∷ after) key = if has_key key entry then reply_at terms before entry else kept_from terms (before ++ entry ∷ []) after key
+abbrev pub reply_at : Terms → List Entry → CcRequest → Entry → Option CcReply
+reply_at terms before request (Take moment taken) = Some (repeat_reply terms before taken request)
+reply_at terms before request (Sweep moment) = None
 
--- the reply to the first request with the key of this one, after the entries before that request
+abbrev pub kept_from : Terms → List Entry → List Entry → CcRequest → Option CcReply
+kept_from terms before [] request = None
+kept_from terms before (entry ∷ after) request =
+    if has_key (key_of request) entry then reply_at terms before request entry else kept_from terms (before ++ entry ∷ []) after request
+
+-- The reply to a request whose key is kept, by the first request with that key and the entries before it; none where the
+-- key is new.
 unfoldable pub kept_reply : Terms → List Entry → CcRequest → Option CcReply
-kept_reply terms history request = kept_from terms [] history (key_of request)
+kept_reply terms history request = kept_from terms [] history request

@@ -12,7 +12,7 @@ use Rattle.cc_book.specs.declared.entry.Entry.{Entry}
 use Rattle.cc_book.specs.declared.entry.Entry.TheVariants.{Take, Sweep}
 use Rattle.cc_rating.specs.declared.tariff.Tariff.{Tariff}
 use Rattle.cc_book.specs.declared.terms.Terms.{Terms}
-use Rattle.cc_book.specs.AccountMachine.{code_alone, grants_after, postings_of, reply_to}
+use Rattle.cc_book.specs.AccountMachine.{code_alone, grants_after, postings_of, repeat_reply, reply_to}
 use Rattle.cc_book.specs.Balance.{debit_of}
 use Rattle.cc_book.specs.Duplicate.{key_of, same_key}
 use Rattle.cc_book.specs.Posting.{Posting}
@@ -21,8 +21,8 @@ use Rattle.cc_book.specs.Session.{is_of}
 use Rattle.cc_rating.specs.Rating.{cost_of}
 use Rattle.cc_rating.specs.Tariffs.{rates}
 
--- A reply is that to an entry of the history: the account machine's to a taken request with the key of this
--- one, after the entries before it.
+-- A reply is by an entry of the history, a taken request with the key of this one: the account machine's reply to it,
+-- after the entries before it, if it is this very request, else DIAMETER_UNABLE_TO_COMPLY alone.
 pub record RepliesToEntry (terms : Terms) (history : List Entry) (request : CcRequest) (reply : CcReply) : Type 0 where
   pub before : List Entry
   pub moment : Moment
@@ -30,7 +30,7 @@ pub record RepliesToEntry (terms : Terms) (history : List Entry) (request : CcRe
   pub after : List Entry
   pub among : history ≡ before ++ Take moment taken ∷ after
   pub same : IsTrue (same_key (key_of taken) (key_of request))
-  pub is_reply : reply ≡ reply_to terms before taken
+  pub is_reply : reply ≡ repeat_reply terms before taken request
 
 -- the sum of amounts of the accounts below a place
 abbrev pub total_below : ℕ → (ℕ → ℤ) → ℤ

@@ -1,5 +1,6 @@
 pub mod AccountMachine
 pub mod Balance
+pub mod Content
 pub mod Duplicate
 pub mod History
 pub mod Laws

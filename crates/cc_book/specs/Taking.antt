@@ -1,6 +1,7 @@
 -- What the book answers to a request, and what it keeps.
 use Rattle.std.specs.Prelude.{◌≡◌, ℕ, zero, suc, ◌<◌, ◌≤◌, ◌^◌, List, [], ◌∷◌, ◌++◌, length, map, Bool, true, false, nat_le, if◌then◌else◌, Option, Some, None, unwrap_or, Result, Ok, Err, IsOk, IsOkAnd, ℤ}
 use Rattle.dia_base.specs.declared.number.Moment.{Moment}
+use Rattle.cc_view.specs.declared.code.ResultCode.TheVariants.{UnableToComply}
 use Rattle.cc_view.specs.declared.reply.CcReply.{CcReply}
 use Rattle.cc_view.specs.declared.request.CcRequest.{CcRequest}
 use Rattle.cc_book.specs.declared.book.Answered.{Answered}
@@ -10,7 +11,8 @@ use Rattle.cc_book.specs.declared.entry.Entry.{Entry}
 use Rattle.cc_book.specs.declared.entry.Entry.TheVariants.{Take, Sweep}
 use Rattle.cc_book.specs.declared.session.OpenSession.{OpenSession}
 use Rattle.cc_book.specs.declared.terms.Terms.{Terms}
-use Rattle.cc_book.specs.AccountMachine.{reply_to, kept_reply, postings_of}
+use Rattle.cc_book.specs.AccountMachine.{code_alone, reply_to, kept_reply, postings_of}
+use Rattle.cc_book.specs.Content.{same_request}
 use Rattle.cc_book.specs.Duplicate.{key_of}
 use Rattle.cc_book.specs.History.{IsLegal, ended_sessions, place_of}
 use Rattle.cc_book.specs.Standing.{Stands, sessions_after}
@@ -26,7 +28,8 @@ answer_new ledger request =
     if nat_le ledger.limit (length ledger.history) then Err (Full ledger.limit)
     else Ok (record { reply = reply_to ledger.terms ledger.history request; place = length ledger.history; fresh = true })
 
--- A request with a kept key gets the kept reply, another one the account machine's, where the book is not full.
+-- A request with a kept key gets the reply that is kept for it, another one the account machine's, where the book is not
+-- full.
 abbrev pub answer_by : Ledger → CcRequest → ℕ → Option CcReply → Result Answered BookRefusal
 answer_by ledger request place None = answer_new ledger request
 answer_by ledger request place (Some reply) = Ok (record { reply = reply; place = place; fresh = false })
@@ -34,6 +37,12 @@ answer_by ledger request place (Some reply) = Ok (record { reply = reply; place 
 abbrev pub answer_of : Ledger → CcRequest → Result Answered BookRefusal
 answer_of ledger request =
     answer_by ledger request (unwrap_or (place_of ledger.history (key_of request)) 0) (kept_reply ledger.terms ledger.history request)
+
+-- The answer to a request with the key of the one that was taken at a place: the reply that is kept there, if it is this
+-- very request, else DIAMETER_UNABLE_TO_COMPLY alone.
+abbrev pub AnswersRepeat : CcRequest → CcRequest → ℕ → Answered → CcReply → Type 0
+AnswersRepeat taken request place answered kept =
+    answered ≡ record { reply = if same_request taken request then kept else code_alone UnableToComply; place = place; fresh = false }
 
 -- a call answered so, unless memory ran out for what is not refused
 abbrev pub AnswersWith : Result Answered BookRefusal → Result Answered BookRefusal → Type 0

@@ -137,7 +137,8 @@ impl Book {
     }
 
     /// Takes a request (RFC 8506, section 6). One whose key is kept gets the kept reply and its place, and nothing
-    /// changes, whatever else it holds. Another one is charged and appended, unless the history is at its limit: Full.
+    /// changes; with another content than the request that was taken under this key it gets DIAMETER_UNABLE_TO_COMPLY
+    /// alone in place of that reply. Another one is charged and appended, unless the history is at its limit: Full.
     /// Memory is wanted only for what is not refused. After a refusal the book is unchanged. It is a plan that is
     /// committed at once.
     pub fn take(

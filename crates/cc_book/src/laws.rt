@@ -1,7 +1,7 @@
 //! Laws of the account book, in the words of a reader who knows none of its code.
 #![tactic(auto, unfolding(crate::specs::AccountMachine::postings_of, crate::specs::AccountMachine::reply_to, crate::specs::Balance::balance_of, crate::specs::Balance::open_sessions_of, crate::specs::Balance::reserved_of, crate::specs::Balance::spent_by,))]
 
-ghost use Rattle.std.specs.Prelude.{◌≡◌, ◌≢◌, ℕ, ◌+◌, ◌<◌, ◌≤◌, All, List, find, [], ◌∷◌, ◌++◌, ◌↔◌, length, None, Some, true, false, codes, if◌then◌else◌, pos, negsuc, ◌-ℤ◌, ◌≤ℤ◌, ◌<ℤ◌, Ok, Err, sum_by, unwrap_or};
+ghost use Rattle.std.specs.Prelude.{◌≡◌, ◌≢◌, ℕ, ◌+◌, ◌<◌, ◌≤◌, All, IsTrue, List, find, [], ◌∷◌, ◌++◌, ◌↔◌, length, None, Some, true, false, codes, if◌then◌else◌, pos, negsuc, ◌-ℤ◌, ◌≤ℤ◌, ◌<ℤ◌, Ok, Err, sum_by, unwrap_or};
 ghost use Rattle.std.specs.Int.{int_max};
 ghost use Rattle.dia_base.specs.declared.number.Moment.{Moment};
 ghost use Rattle.cc_view.specs.Answer.Fitting.{Fits};
@@ -24,6 +24,7 @@ ghost use Rattle.cc_book.specs.declared.entry.Entry.TheVariants.{Take, Sweep};
 ghost use Rattle.cc_book.specs.declared.terms.Terms.{Terms};
 ghost use Rattle.cc_book.specs.AccountMachine.{account_of, charged_account, code_alone, free_after, free_to_grant, grants_after, opening_at, total_of, postings_of, reply_to, kept_reply};
 ghost use Rattle.cc_book.specs.Balance.{debit_of, balance_of, open_sessions_of, reserved_of};
+ghost use Rattle.cc_book.specs.Content.{same_request};
 ghost use Rattle.cc_book.specs.Duplicate.{key_of, same_key};
 ghost use Rattle.cc_book.specs.History.{IsLegal, IsNew, ended_sessions, place_of};
 ghost use Rattle.cc_book.specs.Laws.{HasLimits, IsRefused, RepliesToEntry, cost_of_reply, debits_of, grants_alive, total_below};
@@ -57,13 +58,27 @@ pub fn kept_reply_is_the_first()
         kept_reply terms (before ++ Take moment request ∷ after) request ≡ Some (reply_to terms before request) }
 {}
 
+/// In a legal history a request with the key of a taken one, but with another content, gets DIAMETER_UNABLE_TO_COMPLY
+/// alone: it is not told what was granted for something else.
+pub fn other_contents_are_refused()
+    ensures { (terms : Terms) (before after : List Entry) (moment : Moment) (taken request : CcRequest) →
+        IsLegal terms (before ++ Take moment taken ∷ after) → IsTrue (same_key (key_of taken) (key_of request)) → taken ≢ request →
+        kept_reply terms (before ++ Take moment taken ∷ after) request ≡ Some (code_alone UnableToComply) }
+{}
+
+/// Two requests ask the same exactly where they are equal: nothing that is read in them is left out.
+pub fn same_requests_are_equal()
+    ensures { (one other : CcRequest) → IsTrue (same_request one other) ↔ (one ≡ other) }
+{}
+
 /// The reply that is kept stays when the history grows.
 pub fn kept_reply_stays()
     ensures { (terms : Terms) (history more : List Entry) (request : CcRequest) (reply : CcReply) →
         kept_reply terms history request ≡ Some reply → kept_reply terms (history ++ more) request ≡ Some reply }
 {}
 
-/// A reply that is kept is the account machine's to an entry of the history after the entries before it.
+/// A reply that is kept is the account machine's to an entry of the history, this very request, after the entries before
+/// it, or DIAMETER_UNABLE_TO_COMPLY alone, where that entry is another content with the key of this request.
 pub fn kept_replies_are_of_entries()
     ensures { (terms : Terms) (history : List Entry) (request : CcRequest) (reply : CcReply) →
         kept_reply terms history request ≡ Some reply → RepliesToEntry terms history request reply }

@@ -1,8 +1,8 @@
 //! The account book of online charging: its history, and what it replies to a request (RFC 8506).
 //!
 //! - [`Book`]: a history of entries, from which every balance and every reply is made. [`Book::take`] charges a
-//!   request and keeps it; a repeat gets the kept reply. [`Book::quote`] says what `take` would answer.
-//!   [`Book::sweep`] ends the sessions that sent no request for twice their validity.
+//!   request and keeps it; a repeat gets the kept reply, and one with another content a refusal. [`Book::quote`] says
+//!   what `take` would answer. [`Book::sweep`] ends the sessions that sent no request for twice their validity.
 //! - [`Plan`]: what a request does, found out by [`Book::plan`], which alone may refuse or want memory, and done by
 //!   [`Book::commit`]. Between the two an answer can be spelled: a book is not charged for one that cannot be.
 //! - [`Account`], [`Money`], [`Entry`], [`Answered`], [`BookRefusal`]: what goes in and comes out.
@@ -14,8 +14,9 @@
 //!
 //! The reply to a request stands in `specs/AccountMachine`, what entries do to accounts in `specs/Posting` and
 //! `specs/Balance`, sessions and reservations in `specs/Session` and `specs/Reservation`, what services ask and used
-//! in `specs/ServiceRating`, the history in `specs/History` and `specs/Duplicate`, how a request is found in it in
-//! `specs/Places`, what it has left in `specs/Standing`, a call in `specs/Taking`, and its two halves in `specs/Planning`.
+//! in `specs/ServiceRating`, the history in `specs/History`, which requests are one in `specs/Duplicate` and
+//! `specs/Content`, how a request is found in it in `specs/Places`, what it has left in `specs/Standing`, a call in
+//! `specs/Taking`, and its two halves in `specs/Planning`.
 //! `specs/RowExample` and `specs/SessionExample` are worked examples. The functions of `laws` have no body: their
 //! contracts are laws of these definitions.
 //!
@@ -37,6 +38,7 @@
 mod account;
 mod asking;
 mod book;
+mod content;
 mod copy;
 mod entry;
 mod event;
@@ -54,6 +56,7 @@ mod terms;
 
 pub use account::{Account, Money};
 pub use book::{Answered, Book, BookRefusal, free_place, kept_answer};
+pub use content::same_request;
 pub use copy::{RequestCopy, copy_of_reply};
 pub use entry::Entry;
 pub use laws::{
@@ -63,12 +66,12 @@ pub use laws::{
     first_known_subscription_is_charged, grants_are_of_what_is_free, grants_are_reserved,
     kept_replies_are_of_entries, kept_reply_is_the_first, kept_reply_stays, keys_are_distinct,
     keys_are_session_and_number, legal_histories_grow, new_keys_have_no_reply,
-    openings_grant_what_is_free, openings_less_debits_are_balances, other_requests_are_refused,
-    refunds_are_debits_below_zero, repeats_change_nothing, replies_fit, replies_grant_units,
-    requests_leave_other_accounts_alone, requests_leave_other_services_alone,
-    requests_leave_other_sessions_alone, services_are_held_once, services_share_what_is_free,
-    sessions_and_services_stand_apart, sessions_last_twice_their_validity,
-    sessions_pay_for_what_is_used, sweeps_end_a_session_once,
+    openings_grant_what_is_free, openings_less_debits_are_balances, other_contents_are_refused,
+    other_requests_are_refused, refunds_are_debits_below_zero, repeats_change_nothing, replies_fit,
+    replies_grant_units, requests_leave_other_accounts_alone, requests_leave_other_services_alone,
+    requests_leave_other_sessions_alone, same_requests_are_equal, services_are_held_once,
+    services_share_what_is_free, sessions_and_services_stand_apart,
+    sessions_last_twice_their_validity, sessions_pay_for_what_is_used, sweeps_end_a_session_once,
     sweeps_end_sessions_at_their_deadline, sweeps_end_what_is_due, sweeps_release_what_was_held,
     tariff_kinds_choose_the_count, terminations_debit_and_end, the_empty_history_is_legal,
     updates_debit_and_then_grant,

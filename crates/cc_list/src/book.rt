@@ -92,7 +92,8 @@ impl ListBook {
     }
 
     /// Takes a request (RFC 8506, section 6). One whose key is kept gets the kept reply and its place, and nothing
-    /// changes, whatever else it holds. Another one is charged and appended, unless the history is at its limit: Full.
+    /// changes; with another content than the request that was taken under this key it gets DIAMETER_UNABLE_TO_COMPLY
+    /// alone in place of that reply. Another one is charged and appended, unless the history is at its limit: Full.
     /// Memory is wanted only for what is not refused. After a refusal the book is unchanged. It is a plan that is
     /// committed at once.
     pub fn take(
@@ -120,8 +121,8 @@ impl ListBook {
         ensures good { IfOk result (IsGoodFor self.now) }
         ensures after { IfOk result (λ plan. after_plan self.now plan ≡ (if (answer_planned plan).fresh then with_take self.now moment request.now else self.now)) }
     {
-        if let Some((place, _)) = kept(&self.history, request) {
-            let answered = kept_answer(alloc, &self.replies, place)?;
+        if let Some((place, taken)) = kept(&self.history, request) {
+            let answered = kept_answer(alloc, &self.replies, place, taken, request)?;
             return Ok(Plan {
                 answered,
                 taken: None,

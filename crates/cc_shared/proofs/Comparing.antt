@@ -1,4 +1,4 @@
--- What `==` says of the parts of a request and of a reply.
+-- What `==` says of the parts of a reply.
 use Rattle.std.proofs.Common.{◌≡◌, ℕ, Bool, ◌&&◌, eqb, List, Option, Some, None, refl, ap, rules}
 use Rattle.std.specs.Bool.{Decides}
 use Rattle.std.specs.Cmp.{booleans_Decides}
@@ -12,45 +12,8 @@ use Rattle.dia_base.specs.declared.number.Code.{Code}
 use Rattle.cc_view.specs.declared.code.ResultCode.{ResultCode}
 use Rattle.cc_view.specs.contracts.code.ResultCode.{the_type}
 use Rattle.cc_view.specs.declared.reply.ServiceReply.{ServiceReply}
-use Rattle.cc_view.specs.declared.request.Service.{Service}
 use Rattle.cc_view.specs.declared.request.ServiceName.{ServiceName}
-use Rattle.cc_view.specs.declared.request.Subscription.{Subscription}
-
-option_decides : {A : Type 0} {E : A → A → Bool} → ((a b : A) → Decides (E a b) (a ≡ b)) → (x y : Option A) → Decides (option_eq E x y) (x ≡ y)
-option_decides each None None = (λ _. refl, λ _. refl)
-option_decides each None (Some y) = (λ e. absurd cc, λ e. absurd cc)
-option_decides each (Some x) None = (λ e. absurd cc, λ e. absurd cc)
-option_decides each (Some x) (Some y) = (λ e. ap Some ((each x y).0 e), λ e. (each x y).1 cc)
-
-list_decides : {A : Type 0} {E : A → A → Bool} → ((a b : A) → Decides (E a b) (a ≡ b)) → (x y : List A) → Decides (pointwise E x y) (x ≡ y)
-list_decides each x y = slice_eq-Decides each x y _ refl
-
-number_decides : (x y : Option ℕ) → Decides (option_eq eqb x y) (x ≡ y)
-number_decides x y = option_decides Decides-eqb x y
-
-asked_decides : (x y : Option (List (Option ℕ))) → Decides (option_eq (pointwise (option_eq eqb)) x y) (x ≡ y)
-asked_decides x y = option_decides (λ a b. list_decides number_decides a b) x y
-
-service_from : (a b : Service) → (a.group ≡ b.group) × ((a.ident ≡ b.ident) × ((a.bare ≡ b.bare) × ((a.asked ≡ b.asked) × (a.used ≡ b.used)))) → a ≡ b
-service_from a b h = λ i. record { group = h.0 i; ident = h.1.0 i; bare = h.1.1.0 i; asked = h.1.1.1.0 i; used = h.1.1.1.1 i }
-
-service_to : (a b : Service) → a ≡ b → (a.group ≡ b.group) × ((a.ident ≡ b.ident) × ((a.bare ≡ b.bare) × ((a.asked ≡ b.asked) × (a.used ≡ b.used))))
-service_to a b e = (ap (λ (s : Service). s.group) e, (ap (λ (s : Service). s.ident) e, (ap (λ (s : Service). s.bare) e, (ap (λ (s : Service). s.asked) e, ap (λ (s : Service). s.used) e))))
-
-pub service_decides : (a b : Service)
-    → Decides (option_eq eqb a.group b.group && (option_eq eqb a.ident b.ident && (beq a.bare b.bare && (option_eq (pointwise (option_eq eqb)) a.asked b.asked && pointwise eqb a.used b.used)))) (a ≡ b)
-service_decides a b =
-    Decides-like _ (service_from a b) (service_to a b)
-    (Decides-and _ _ (number_decides a.group b.group) (Decides-and _ _ (number_decides a.ident b.ident) (Decides-and _ _ (booleans_Decides a.bare b.bare)
-    (Decides-and _ _ (asked_decides a.asked b.asked) (list_decides Decides-eqb a.used b.used)))))
-
-subscription_from : (a b : Subscription) → (a.kind ≡ b.kind) × (a.text ≡ b.text) → a ≡ b
-subscription_from a b h = λ i. record { kind = h.0 i; text = h.1 i }
-
-pub subscription_decides : (a b : Subscription) → Decides (eqb a.kind b.kind && pointwise eqb a.text b.text) (a ≡ b)
-subscription_decides a b =
-    Decides-like _ (subscription_from a b) (λ e. (ap (λ (s : Subscription). s.kind) e, ap (λ (s : Subscription). s.text) e))
-    (Decides-and _ _ (Decides-eqb a.kind b.kind) (list_decides Decides-eqb a.text b.text))
+use Rattle.cc_book.proofs.SameRequests.{number_decides, option_decides}
 
 name_from : (a b : ServiceName) → (a.group ≡ b.group) × (a.ident ≡ b.ident) → a ≡ b
 name_from a b h = λ i. record { group = h.0 i; ident = h.1 i }

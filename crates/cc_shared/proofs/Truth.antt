@@ -14,11 +14,11 @@ use Rattle.cc_book.specs.declared.book.BookRefusal.TheVariants.{Full}
 use Rattle.cc_book.specs.declared.entry.Entry.{Entry}
 use Rattle.cc_book.specs.declared.entry.Entry.TheVariants.{Take, Sweep}
 use Rattle.cc_book.specs.declared.terms.Terms.{Terms}
-use Rattle.cc_book.specs.AccountMachine.{reply_to, kept_from, kept_reply}
+use Rattle.cc_book.specs.AccountMachine.{repeat_reply, reply_to, kept_reply}
 use Rattle.cc_book.specs.Duplicate.{Key, has_key, key_of, same_key}
 use Rattle.cc_book.specs.History.{IsKeptAt, IsLegal, IsNew, entry_key, keys_of, place_of}
 use Rattle.cc_book.specs.Taking.{Ledger, answer_by, answer_of}
-use Rattle.cc_book.proofs.Keys.{kept_reply-first, key-same}
+use Rattle.cc_book.proofs.Keys.{kept_reply-repeat, key-same, repeat_reply-same}
 use Rattle.cc_book.proofs.Replies.{answer_of-fresh, answer_of-full, answer_of-kept}
 use Rattle.cc_shared.specs.declared.receipt.Receipt.{Receipt}
 use Rattle.cc_shared.specs.Receipts.{Fits, IsTakenAt, IsTrueReceipt, Tells}
@@ -112,13 +112,13 @@ fresh_is_true ledger request legal = record {
     legal = legal;
     place = refl;
     taken = request;
-    told = record { same = same_key-self request; reply = refl; own = λ _. refl };
+    told = record { same = same_key-self request; reply = sym (repeat_reply-same ledger.terms ledger.history request); own = λ _. refl };
   };
   last = λ _. refl;
 }
 
 kept_is_true : (ledger : Ledger) (request : CcRequest) → IsLegal ledger.terms ledger.history → (kept : Kept ledger.history (key_of request))
-    → IsTrueAnswer ledger request (answered (reply_to ledger.terms (take kept.place ledger.history) kept.taken) kept.place false)
+    → IsTrueAnswer ledger request (answered (repeat_reply ledger.terms (take kept.place ledger.history) kept.taken request) kept.place false)
 kept_is_true ledger request legal kept = record {
   true_receipt = record {
     before = take kept.place ledger.history;
@@ -140,8 +140,8 @@ new_is_true ledger request a legal new is = elim (cases_lt (length ledger.histor
 
 old_is_true : (ledger : Ledger) (request : CcRequest) (a : Answered) → IsLegal ledger.terms ledger.history → Kept ledger.history (key_of request) → answer_of ledger request ≡ Ok a → IsTrueAnswer ledger request a
 old_is_true ledger request a legal kept is =
-    let e = answer_of-kept ledger request kept.taken kept.place (reply_to ledger.terms (take kept.place ledger.history) kept.taken) kept.at refl in
-    let same : answered (reply_to ledger.terms (take kept.place ledger.history) kept.taken) kept.place false ≡ a = cc in
+    let e = answer_of-kept ledger request kept.taken kept.place (repeat_reply ledger.terms (take kept.place ledger.history) kept.taken request) kept.at refl in
+    let same : answered (repeat_reply ledger.terms (take kept.place ledger.history) kept.taken request) kept.place false ≡ a = cc in
     subst (λ (x : Answered). IsTrueAnswer ledger request x) same (kept_is_true ledger request legal kept)
 
 pub answer_is_true : (ledger : Ledger) (request : CcRequest) (a : Answered) → IsLegal ledger.terms ledger.history → answer_of ledger request ≡ Ok a → IsTrueAnswer ledger request a
@@ -152,20 +152,13 @@ answer_is_true ledger request a legal is = elim (new_or_kept ledger.history (key
 
 -- ---- which receipts stand in the history
 
-kept_by_key : (terms : Terms) (history : List Entry) (one other : CcRequest) → key_of one ≡ key_of other → kept_reply terms history one ≡ kept_reply terms history other
-unfolding kept_reply
-kept_by_key terms history one other same = ap (λ (key : Key). kept_from terms [] history key) same
-
--- the reply that is kept for a request is that to the take with its key
+-- the reply that is kept for a request is by the take with its key
 pub kept_there : (terms : Terms) (history : List Entry) (place : ℕ) (moment : Moment) (taken request : CcRequest) → IsLegal terms history → slice_get history place ≡ Some (Take moment taken)
-    → IsTrue (same_key (key_of taken) (key_of request)) → kept_reply terms history request ≡ Some (reply_to terms (take place history) taken)
+    → IsTrue (same_key (key_of taken) (key_of request)) → kept_reply terms history request ≡ Some (repeat_reply terms (take place history) taken request)
 kept_there terms history place moment taken request legal at same =
     let a = around history place (Take moment taken) at in
-    let parts = (key-same taken request).0 same in
-    let keys : key_of request ≡ key_of taken = λ i. record { session = sym parts.0 i; number = sym parts.1 i } in
-    kept_by_key terms history request taken keys
-    ∙ ap (λ (h : List Entry). kept_reply terms h taken) a.is
-    ∙ kept_reply-first terms (take place history) a.after moment taken (subst (λ (h : List Entry). IsLegal terms h) a.is legal)
+    ap (λ (h : List Entry). kept_reply terms h request) a.is
+    ∙ kept_reply-repeat terms (take place history) a.after moment taken request (subst (λ (h : List Entry). IsLegal terms h) a.is legal) same
 
 -- what a book answers to a request whose reply is kept
 pub repeat_is_answered : (ledger : Ledger) (request : CcRequest) (reply : CcReply) (a : Answered) → kept_reply ledger.terms ledger.history request ≡ Some reply → answer_of ledger request ≡ Ok a → a.reply ≡ reply
@@ -200,7 +193,7 @@ pub fits_where_same : (book : Ledger) (receipt : Receipt) (taken : CcRequest) (k
     → IsTrue (same_key (key_of taken) (key_of receipt.request)) × (receipt.fresh ≡ true → taken ≡ receipt.request) → answer_of book receipt.request ≡ Ok kept → Decides same (receipt.reply ≡ kept.reply)
     → MatchBool same (Fits book.terms book.history receipt) (Fits book.terms book.history receipt → ⊥)
 fits_where_same book receipt taken kept same legal at may is decides =
-    let reply = reply_to book.terms (take receipt.place book.history) taken in
+    let reply = repeat_reply book.terms (take receipt.place book.history) taken receipt.request in
     let there = kept_there book.terms book.history receipt.place at.moment taken receipt.request legal at.entry may.0 in
     let answer : kept.reply ≡ reply = repeat_is_answered book receipt.request reply kept there is in
     fits_by same (Fits book.terms book.history receipt) (receipt.reply ≡ kept.reply) decides
@@ -211,4 +204,4 @@ pub never_full : (book : Ledger) (receipt : Receipt) (taken : CcRequest) (limit 
     → IsTrue (same_key (key_of taken) (key_of receipt.request)) → answer_of book receipt.request ≡ Err (Full limit) → ⊥
 never_full book receipt taken limit legal at same is =
     let there = kept_there book.terms book.history receipt.place at.moment taken receipt.request legal at.entry same in
-    repeat_is_not_full book receipt.request (reply_to book.terms (take receipt.place book.history) taken) limit there is
+    repeat_is_not_full book receipt.request (repeat_reply book.terms (take receipt.place book.history) taken receipt.request) limit there is

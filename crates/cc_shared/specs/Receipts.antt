@@ -5,16 +5,17 @@ use Rattle.cc_view.specs.declared.request.CcRequest.{CcRequest}
 use Rattle.cc_book.specs.declared.entry.Entry.{Entry}
 use Rattle.cc_book.specs.declared.entry.Entry.TheVariants.{Take}
 use Rattle.cc_book.specs.declared.terms.Terms.{Terms}
-use Rattle.cc_book.specs.AccountMachine.{reply_to}
+use Rattle.cc_book.specs.AccountMachine.{repeat_reply}
 use Rattle.cc_book.specs.Duplicate.{key_of, same_key}
 use Rattle.cc_book.specs.History.{IsLegal}
 use Rattle.cc_shared.specs.declared.receipt.Receipt.{Receipt}
 
--- What a receipt tells of the request that was taken under its key, after these entries: the account machine's reply
--- to that request is the receipt's. A fresh receipt's own request is the one that was taken.
+-- What a receipt tells of the request that was taken under its key, after these entries: its reply is the account
+-- machine's, if its own request is the one that was taken, else DIAMETER_UNABLE_TO_COMPLY alone. A fresh receipt's own
+-- request is the one that was taken.
 pub record Tells (terms : Terms) (before : List Entry) (taken : CcRequest) (receipt : Receipt) : Type 0 where
   pub same : IsTrue (same_key (key_of taken) (key_of receipt.request))
-  pub reply : receipt.reply ≡ reply_to terms before taken
+  pub reply : receipt.reply ≡ repeat_reply terms before taken receipt.request
   pub own : receipt.fresh ≡ true → taken ≡ receipt.request
 
 -- A receipt is true: what it tells holds after a legal history that has as many entries as its place says.

@@ -7,8 +7,8 @@ ghost use Rattle.cc_view.specs.declared.request.CcRequest.{CcRequest};
 ghost use Rattle.cc_shared.specs.Receipts.{Fits, IsTakenAt};
 
 use crate::receipt::Receipt;
-use crate::same::{same_reply, same_request};
-use cc_book::{Book, BookRefusal, Entry};
+use crate::same::same_reply;
+use cc_book::{Book, BookRefusal, Entry, same_request};
 use cc_view::CcRequest;
 use dia_base::Moment;
 use std::alloc::{AllocError, Global};

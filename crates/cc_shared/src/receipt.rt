@@ -10,6 +10,7 @@ pub struct Receipt {
     pub reply: CcReply,
     /// The place of the request's entry in the history, from 0.
     pub place: u64,
-    /// Whether the request was appended by that call. A repeat has the place and the reply of the first.
+    /// Whether the request was appended by that call. A repeat has the place and the reply of the first, or, with another
+    /// content, that place and DIAMETER_UNABLE_TO_COMPLY alone.
     pub fresh: bool,
 }

@@ -1,5 +1,5 @@
 -- What is promised of every run: who is answered what, and what the book stands on.
-use Rattle.std.specs.Prelude.{◌≡◌, ℕ, ◌-◌, ◌≤◌, true, false, ◌&&◌, ◌||◌, List, [], ◌∷◌, ◌++◌, find, All, Contains, length, Some, IsSome, Ok, slice_get}
+use Rattle.std.specs.Prelude.{◌≡◌, ◌≢◌, ℕ, ◌-◌, ◌≤◌, true, false, ◌&&◌, ◌||◌, List, [], ◌∷◌, ◌++◌, find, All, Contains, length, Some, IsSome, Ok, slice_get}
 use Rattle.dia_base.specs.declared.number.ConnId.{ConnId}
 use Rattle.dia_base.specs.declared.number.Moment.{Moment}
 use Rattle.dia_base.specs.declared.number.NodeNo.{NodeNo}
@@ -7,7 +7,7 @@ use Rattle.dia_avp.specs.declared.avp.RawAvp.{RawAvp}
 use Rattle.dia_avp.specs.AvpReading.{split_of}
 use Rattle.dia_message.specs.declared.message.Message.{Message}
 use Rattle.dia_message.specs.Traffic.{Traffic}
-use Rattle.cc_view.specs.declared.code.ResultCode.TheVariants.{LoopDetected}
+use Rattle.cc_view.specs.declared.code.ResultCode.TheVariants.{LoopDetected, UnableToComply}
 use Rattle.cc_view.specs.declared.refusal.Refusal.{Refusal}
 use Rattle.cc_view.specs.declared.reply.CcReply.{CcReply}
 use Rattle.cc_view.specs.declared.request.CcRequest.{CcRequest}
@@ -17,7 +17,7 @@ use Rattle.cc_view.specs.RequestView.{view_of}
 use Rattle.cc_book.specs.declared.entry.Entry.{Entry}
 use Rattle.cc_book.specs.declared.entry.Entry.TheVariants.{Take, Sweep}
 use Rattle.cc_book.specs.declared.terms.Terms.{Terms}
-use Rattle.cc_book.specs.AccountMachine.{reply_to}
+use Rattle.cc_book.specs.AccountMachine.{code_alone, reply_to}
 use Rattle.cc_book.specs.Duplicate.{key_of, same_key}
 use Rattle.cc_book.specs.History.{IsLegal}
 use Rattle.cc_book.specs.Taking.{Ledger}
@@ -110,21 +110,17 @@ WasSent sent conn message = Contains sent (conn, message)
 abbrev pub WasRequested : Traffic → ConnId → Message → Type 0
 WasRequested sent conn message = WasSent sent conn message × (message.header.request ≡ true)
 
--- whatever clients have sent with the key of this request has its content
-abbrev pub HasOneContent : Site → Traffic → CcRequest → Type 0
-HasOneContent site sent request = (conn : ConnId) (message : Message) (other : CcRequest) → WasRequested sent conn message →
-    view_of site.vendors message ≡ Ok other → same_key (key_of other) (key_of request) ≡ true → other ≡ request
+-- The account machine's reply to a request: where this very request stands in the book, the reply to it, after the
+-- entries before it; where another content stands there with its key, DIAMETER_UNABLE_TO_COMPLY alone.
+pub data IsMachineReply (book : Ledger) (request : CcRequest) (reply : CcReply) : Type 0 where
+  to_this :
+      (before : List Entry) (moment : Moment) (after : List Entry) → book.history ≡ before ++ Take moment request ∷ after
+      → reply ≡ reply_to book.terms before request → IsMachineReply book request reply
+  to_another_content :
+      (before : List Entry) (moment : Moment) (taken : CcRequest) (after : List Entry) → book.history ≡ before ++ Take moment taken ∷ after
+      → same_key (key_of taken) (key_of request) ≡ true → taken ≢ request → reply ≡ code_alone UnableToComply → IsMachineReply book request reply
 
--- the account machine's reply to this very request, after the entries of the book that stand before it
-pub record IsMachineReply (book : Ledger) (request : CcRequest) (reply : CcReply) : Type 0 where
-  pub before : List Entry
-  pub moment : Moment
-  pub after : List Entry
-  pub in_order : book.history ≡ before ++ Take moment request ∷ after
-  pub is_reply : reply ≡ reply_to book.terms before request
-
--- The answer of a front, with the book's reply, to a request that a client sent on the connection. Unless requests
--- with one key differ in content, that is the account machine's reply to this very request.
+-- The answer of a front to a request that a client sent on the connection, with the account machine's reply to it.
 pub record AnswersRequest (site : Site) (journal : Journal) (conn : ConnId) (answer : Message) : Type 0 where
   pub node : NodeNo
   pub name : List ℕ
@@ -133,7 +129,7 @@ pub record AnswersRequest (site : Site) (journal : Journal) (conn : ConnId) (ans
   pub message : Message
   pub requested : WasRequested journal.sent conn message
   pub answered : IsBookAnswer (front_site site name) journal.book message answer
-  pub by_machine : HasOneContent site journal.sent answered.request → IsMachineReply journal.book answered.request answered.reply
+  pub by_machine : IsMachineReply journal.book answered.request answered.reply
 
 -- What a node refused for a message on the connection: that message there, or, where a relay is at an end of the
 -- connection, one that descends from it, wherever that stood.

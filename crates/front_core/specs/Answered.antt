@@ -12,8 +12,9 @@ use Rattle.front_core.specs.declared.site.FrontSite.{FrontSite}
 use Rattle.front_core.specs.Cause.{ArrivalCause, ChargeCause}
 use Rattle.front_core.specs.FrontState.{FrontState}
 
--- The answer of a front of this site to a message: its reply is the one that the book keeps under the message's
--- key, which is the account machine's to the first request with that key (RFC 8506, section 8.2).
+-- The answer of a front of this site to a message: its reply is the one that the book keeps for the message. If the
+-- first request with the message's key is this very request, that is the account machine's to it (RFC 8506, section
+-- 8.2); else it is DIAMETER_UNABLE_TO_COMPLY alone.
 pub record IsBookAnswer (site : FrontSite) (ledger : Ledger) (message answer : Message) : Type 0 where
   pub request : CcRequest
   pub view : view_of site.vendors message ≡ Ok request

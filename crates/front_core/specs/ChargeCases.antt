@@ -13,7 +13,7 @@ use Rattle.cc_book.specs.AccountMachine.{reply_to, kept_reply}
 use Rattle.cc_book.specs.Taking.{Ledger, with_take}
 use Rattle.front_core.specs.declared.site.FrontSite.{FrontSite}
 
--- A message that is no request of credit control is refused. A request with a kept key gets the kept reply.
+-- A message that is no request of credit control is refused. A request with a kept key gets the reply that is kept for it.
 -- A new one gets the account machine's, and is taken, where the book has room; else it is refused.
 pub data IsCharge (site : FrontSite) (ledger : Ledger) (moment : Moment) (message : Message) : Message → Ledger → Type 0 where
   refuses :

@@ -12,11 +12,11 @@ use Rattle.cc_view.specs.RequestView.{view_of}
 use Rattle.cc_book.specs.declared.entry.Entry.{Entry}
 use Rattle.cc_book.specs.declared.entry.Entry.TheVariants.{Take}
 use Rattle.cc_book.specs.declared.terms.Terms.{Terms}
-use Rattle.cc_book.specs.AccountMachine.{kept_reply, reply_to}
+use Rattle.cc_book.specs.AccountMachine.{kept_reply, repeat_reply, reply_to}
 use Rattle.cc_book.specs.Duplicate.{key_of}
 use Rattle.cc_book.specs.History.{IsLegal}
 use Rattle.cc_book.specs.Taking.{Ledger, with_take}
-use Rattle.cc_book.proofs.Keys.{kept_reply-of, key-same, keys-apart}
+use Rattle.cc_book.proofs.Keys.{kept_reply-of, key-same, keys-apart, repeat_reply-same}
 use Rattle.cc_shared.specs.declared.receipt.Receipt.{Receipt}
 use Rattle.cc_shared.specs.Receipts.{Fits}
 use Rattle.cc_shared.proofs.Truth.{kept_there}
@@ -88,7 +88,8 @@ charged site ledger message receipt legal within view fits same =
     let inside = a.within in
     let long : length before ≡ place = length-take-le place ledger.history (omega arith) in
     let room : length before < ledger.limit = omega arith in
-    let reply : receipt.reply ≡ reply_to terms before request = fits.told.reply ∙ ap (λ (r : CcRequest). reply_to terms before r) same in
+    let reply : receipt.reply ≡ reply_to terms before request =
+    fits.told.reply ∙ ap (λ (r : CcRequest). repeat_reply terms before r request) same ∙ repeat_reply-same terms before request in
     let expected = answer_to site.name site.realm message request (reply_to terms before request) in
     let done : IsCharge site (as_of ledger place) moment message expected (with_take (as_of ledger place) moment request) =
     takes request view new room in

@@ -3,7 +3,7 @@
 ghost use Rattle.std.specs.Prelude.{◌≡◌, ◌≤◌, ◌<◌, ◌^◌};
 
 use crate::lines::print_answers;
-use crate::messages::{book, initial};
+use crate::messages::{book, debit_with_time, initial, larger_debit};
 use crate::table::{Table, share};
 use anyhow::Context;
 use cc_book::Book;
@@ -24,7 +24,8 @@ pub enum Sample {
     Sweeps,
 }
 
-/// One request twice through one seat: the second is a repeat, with the reply of the first.
+/// Four times one Session-Id and CC-Request-Number through one seat: a request, another that asks for more, the first
+/// again, and once more with what a server does not read.
 fn repeat<L: Sharing, R: Wait + Print>(
     rt: &R,
     alloc: Global,
@@ -32,7 +33,9 @@ fn repeat<L: Sharing, R: Wait + Print>(
 ) -> anyhow::Result<()> {
     let mut table = table;
     table.debit(rt, alloc, 1_000, 0)?;
-    table.debit(rt, alloc, 2_000, 0)?;
+    table.serve(rt, alloc, 2_000, larger_debit(alloc)?)?;
+    table.debit(rt, alloc, 3_000, 0)?;
+    table.serve(rt, alloc, 4_000, debit_with_time(alloc)?)?;
     print_answers(rt, alloc, &table.receipts)?;
     table.finish(rt, alloc)
 }

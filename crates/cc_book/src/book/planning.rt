@@ -1,13 +1,16 @@
 //! A request is planned, and what is planned is committed.
 
-ghost use Rattle.std.specs.Prelude.{◌≡◌, IfOk, IfSome, IsSome, None, false, if◌then◌else◌, slice_index_or};
+ghost use Rattle.std.specs.Prelude.{◌≡◌, IfOk, IfSome, IsSome, None, if◌then◌else◌, slice_index_or};
+ghost use Rattle.cc_book.specs.Taking.{AnswersRepeat};
 
 use super::{Answered, Book, BookRefusal, free_place};
+use crate::content::same_request;
 use crate::copy::{RequestCopy, copy_of_reply};
 use crate::entry::Entry;
 use crate::key::kept;
 use crate::plan::{Plan, Taken};
-use cc_view::{CcReply, CcRequest};
+use crate::terms::code_alone;
+use cc_view::{CcReply, CcRequest, ResultCode};
 use dia_base::Moment;
 use std::alloc::{AllocError, Global};
 
@@ -27,8 +30,8 @@ impl Book {
         ensures good { IfOk result (IsGoodFor self.now) }
         ensures after { IfOk result (λ plan. after_plan self.now plan ≡ (if (answer_planned plan).fresh then with_take self.now moment request.now else self.now)) }
     {
-        if let Some((place, _)) = kept(&self.history, &self.places, request) {
-            let answered = kept_answer(alloc, &self.replies, place)?;
+        if let Some((place, taken)) = kept(&self.history, &self.places, request) {
+            let answered = kept_answer(alloc, &self.replies, place, taken, request)?;
             return Ok(Plan {
                 answered,
                 taken: None,
@@ -89,15 +92,25 @@ impl Book {
     }
 }
 
-/// The answer to a repeat: the reply that is kept at this place.
+/// The answer to a request with the key of the one that was taken at this place: the reply that is kept there, if it is
+/// this very request. Another content gets DIAMETER_UNABLE_TO_COMPLY and nothing else, for which no memory is wanted.
 pub fn kept_answer(
     alloc: Global,
     replies: &[Option<CcReply>],
     place: usize,
+    taken: &CcRequest,
+    request: &CcRequest,
 ) -> Result<Answered, AllocError>
     requires { IsSome (slice_index_or replies.now place None) }
-    ensures { IfOk result (λ answered. IfSome (slice_index_or replies.now place None) (λ reply. answered ≡ record { reply = reply; place = place; fresh = false })) }
+    ensures { IfOk result (λ answered. IfSome (slice_index_or replies.now place None) (AnswersRepeat taken.now request.now place answered)) }
 {
+    if !same_request(taken, request) {
+        return Ok(Answered {
+            reply: code_alone(alloc, ResultCode::UnableToComply),
+            place: place as u64,
+            fresh: false,
+        });
+    }
     match &replies[place] {
         Some(reply) => Ok(Answered {
             reply: copy_of_reply(alloc, reply)?,

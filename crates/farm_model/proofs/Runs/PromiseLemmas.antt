@@ -12,14 +12,17 @@ use Rattle.dia_base.proofs.Counting.{count-cons, one}
 use Rattle.dia_message.specs.declared.message.Message.{Message}
 use Rattle.dia_message.specs.declared.message.Out.{Out}
 use Rattle.dia_message.specs.Traffic.{Traffic}
+use Rattle.cc_view.specs.declared.code.ResultCode.TheVariants.{UnableToComply}
 use Rattle.cc_view.specs.declared.reply.CcReply.{CcReply}
 use Rattle.cc_view.specs.declared.request.CcRequest.{CcRequest}
 use Rattle.cc_view.specs.Answer.{answer_to, refusal_of}
 use Rattle.cc_book.specs.declared.entry.Entry.{Entry}
 use Rattle.cc_book.specs.declared.entry.Entry.TheVariants.{Take, Sweep}
 use Rattle.cc_book.specs.declared.terms.Terms.{Terms}
-use Rattle.cc_book.specs.AccountMachine.{kept_reply, reply_to}
+use Rattle.cc_book.specs.AccountMachine.{code_alone, kept_reply, reply_to}
+use Rattle.cc_book.specs.Content.{same_request}
 use Rattle.cc_book.specs.Laws.{RepliesToEntry}
+use Rattle.cc_book.proofs.SameRequests.{same_request-decides}
 use Rattle.front_core.specs.Answered.{IsBookAnswer}
 use Rattle.front_core.specs.Counts.{is_with, requests_with, answers_with}
 use Rattle.relay_core.specs.declared.node.RelaySite.{RelaySite}
@@ -41,14 +44,14 @@ use Rattle.farm_model.specs.FrontTurns.{KeepsFronts}
 use Rattle.farm_model.specs.InFlight.{KeepsTraffic}
 use Rattle.farm_base.specs.Nodes.{is_node, is_client, is_front, is_relay, kind_in, means_front, means_relay, name_in, name_at}
 use Rattle.farm_model.specs.Promise.{Journal, IsEndOf, IsNamed, IsFrontNamed, ComesTo, AnswersOn, itself, over_relay, HasOneClient, IsRefusedThere}
-use Rattle.farm_model.specs.Promise.{IsRightAnswer, IsOfRun, HasOneContent, IsMachineReply, RefusesLoop, RefusesWhatComesBack}
+use Rattle.farm_model.specs.Promise.{IsRightAnswer, IsOfRun, IsMachineReply, to_another_content, to_this, RefusesLoop, RefusesWhatComesBack}
 use Rattle.farm_model.specs.Promise.{AppliedOrChangedNothing, journal_then, AnsweredInTime, KeepsPromise, HasComeBack, RefusesWhatComesRound}
 use Rattle.farm_model.specs.OwnCauses.{HaveOwnCauses}
 use Rattle.farm_model.specs.RelayRuns.{events_in, RunsAsRelay}
 use Rattle.farm_model.specs.Run.{Past, front_site, relay_site, skipped_in, trace_of, Transition}
 use Rattle.farm_model.specs.SetUp.{BeginsEmpty, KeepsSetUp}
 use Rattle.farm_model.specs.World.{Ends, WorldState, relay_at}
-use Rattle.farm_model.proofs.Lists.Among.{Has-right, Contains-has, all_of}
+use Rattle.farm_model.proofs.Lists.Among.{Contains-has, all_of}
 use Rattle.farm_model.proofs.Moves.AsFarm.{parties, ends_of, client_in, server_in}
 use Rattle.farm_model.proofs.Applied.CanApply.{skipped_are}
 use Rattle.farm_model.proofs.Wiring.Joined.{nodes_are}
@@ -139,22 +142,23 @@ module _ (site : Site) (all : Ends) (past : Past) (w : WorldState) (h : RunHolds
           (t.0, t.1, (Contains-has t.2, t.3), t.4, (c.0, c.1, Contains-has c.2))
       go (Sweep moment) there_is t = Contains-has (h.heard.sweeps moment there_is)
 
-  -- where requests of one key are one request, its entry is the one that is replied to
+  -- the entry with the key of a request is this very request, or another content
+  by_entry : (request : CcRequest) (reply : CcReply) (t : RepliesToEntry w.book.terms w.book.history request reply) (same : Bool)
+      → same_request t.taken request ≡ same → reply ≡ cond same (reply_to w.book.terms t.before t.taken) (code_alone UnableToComply)
+      → IsMachineReply w.book request reply
+  by_entry request reply t true e is =
+      let this : t.taken ≡ request = (same_request-decides t.taken request).0 e in
+      to_this t.before t.moment t.after (subst (λ (r : CcRequest). w.book.history ≡ t.before ++ Take t.moment r ∷ t.after) this t.among)
+      (is ∙ ap (reply_to w.book.terms t.before) this)
+  by_entry request reply t false e is =
+      to_another_content t.before t.moment t.taken t.after t.among t.same
+      (λ this. true≢false (sym ((same_request-decides t.taken request).1 this) ∙ e)) is
+
   by_machine : RepliesAreOfEntries → (name : List ℕ) (message answer : Message) (answered : IsBookAnswer (front_site site name) w.book message answer) →
-      HasOneContent site w.sent answered.request → IsMachineReply w.book answered.request answered.reply
-  by_machine of_entries name message answer answered same_content =
+      IsMachineReply w.book answered.request answered.reply
+  by_machine of_entries name message answer answered =
       let t = of_entries w.book.terms w.book.history answered.request answered.reply answered.kept in
-      let there_is : Has (Take t.moment t.taken) w.book.history = subst (λ (es : List Entry). Has (Take t.moment t.taken) es) (sym t.among)
-      (Has-right t.before here) in
-      let from = of_run (Take t.moment t.taken) there_is in
-      let is : t.taken ≡ answered.request = same_content from.0 from.1 t.taken from.2 from.3 t.same in
-      record {
-        before = t.before;
-        moment = t.moment;
-        after = t.after;
-        in_order = subst (λ (r : CcRequest). w.book.history ≡ t.before ++ Take t.moment r ∷ t.after) is t.among;
-        is_reply = t.is_reply ∙ ap (reply_to w.book.terms t.before) is;
-      }
+      by_entry answered.request answered.reply t (same_request t.taken answered.request) refl t.is_reply
 
   -- ---- what was received
 

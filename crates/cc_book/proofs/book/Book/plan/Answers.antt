@@ -9,7 +9,7 @@ use Rattle.cc_book.specs.Duplicate.{key_of}
 use Rattle.cc_book.specs.History.{IsKeptAt, IsNew}
 use Rattle.cc_book.specs.Planning.{IsRepeated, IsTakenWith}
 use Rattle.cc_book.specs.Standing.{IsOutcome}
-use Rattle.cc_book.specs.Taking.{Ledger, answer_of, with_take}
+use Rattle.cc_book.specs.Taking.{AnswersRepeat, Ledger, answer_of, with_take}
 use Rattle.cc_book.proofs.Books.{answer-fresh, answer-kept, kept-answered, kept-some, new-answered, no_memory, not-fresh, planned-outcome, small-book}
 use Rattle.cc_book.proofs.Replies.{answer_of-full}
 use Rattle.cc_book.proofs.book.Book.plan.Goals as goal
@@ -18,47 +18,47 @@ use Rattle.cc_book.proofs.book.Book.plan.Goals as goal
 
 pub kept_answer-requires : goal.kept_answer-requires
 kept_answer-requires c =
-    let at = subst (λ (h : List Entry). IsKeptAt h (key_of c.args.request.now) c.in-Some.place c.in-Some.field-0-1.now) c.deref.ensures.value
+    let at = subst (λ (h : List Entry). IsKeptAt h (key_of c.args.request.now) c.in-Some.place c.in-Some.taken.now) c.deref.ensures.value
     c.in-Some.ensures in
     subst (λ (rs : List (Option CcReply)). IsSome (slice_index_or rs c.in-Some.place None)) (sym c.deref-in-Some.ensures.value)
-    (kept-some c.self.invariant.0 (key_of c.args.request.now) c.in-Some.place c.in-Some.field-0-1.now at)
+    (kept-some c.self.invariant.0 (key_of c.args.request.now) c.in-Some.place c.in-Some.taken.now at)
 
 pub returns-in-Some-clause-answer : goal.returns-in-Some-clause-answer
 returns-in-Some-clause-answer c =
-    let at = subst (λ (h : List Entry). IsKeptAt h (key_of c.args.request.now) c.in-Some.place c.in-Some.field-0-1.now) c.deref.ensures.value
+    let at = subst (λ (h : List Entry). IsKeptAt h (key_of c.args.request.now) c.in-Some.place c.in-Some.taken.now) c.deref.ensures.value
     c.in-Some.ensures in
     let answered =
     subst (λ (rs : List (Option CcReply)). IfSome (slice_index_or rs c.in-Some.place None)
-    (λ reply. c.in_ok-answered.answered ≡ record { reply = reply; place = c.in-Some.place; fresh = false })) c.deref-in-Some.ensures.value
+    (AnswersRepeat c.in-Some.taken.now c.args.request.now c.in-Some.place c.in_ok-answered.answered)) c.deref-in-Some.ensures.value
     c.in_ok-answered.ensures in
     sym (ap (λ (l : Ledger). answer_of l c.args.request.now) c.self.view_is)
-    ∙ answer-kept c.self.invariant.0 c.args.request.now c.in-Some.field-0-1.now c.in-Some.place c.in_ok-answered.answered at answered
+    ∙ answer-kept c.self.invariant.0 c.args.request.now c.in-Some.taken.now c.in-Some.place c.in_ok-answered.answered at answered
 
 pub returns-in-Some-clause-good : goal.returns-in-Some-clause-good
 returns-in-Some-clause-good c =
-    let at = subst (λ (h : List Entry). IsKeptAt h (key_of c.args.request.now) c.in-Some.place c.in-Some.field-0-1.now) c.deref.ensures.value
+    let at = subst (λ (h : List Entry). IsKeptAt h (key_of c.args.request.now) c.in-Some.place c.in-Some.taken.now) c.deref.ensures.value
     c.in-Some.ensures in
     let answered =
     subst (λ (rs : List (Option CcReply)). IfSome (slice_index_or rs c.in-Some.place None)
-    (λ reply. c.in_ok-answered.answered ≡ record { reply = reply; place = c.in-Some.place; fresh = false })) c.deref-in-Some.ensures.value
+    (AnswersRepeat c.in-Some.taken.now c.args.request.now c.in-Some.place c.in_ok-answered.answered)) c.deref-in-Some.ensures.value
     c.in_ok-answered.ensures in
     subst (λ (l : Ledger). IsRepeated l c.in_ok-answered.answered) c.self.view_is
     (record {
       request = c.args.request.now;
-      answer = answer-kept c.self.invariant.0 c.args.request.now c.in-Some.field-0-1.now c.in-Some.place c.in_ok-answered.answered at answered;
-      repeats = not-fresh c.self.invariant.0 c.args.request.now c.in-Some.field-0-1.now c.in-Some.place c.in_ok-answered.answered at answered;
+      answer = answer-kept c.self.invariant.0 c.args.request.now c.in-Some.taken.now c.in-Some.place c.in_ok-answered.answered at answered;
+      repeats = not-fresh c.self.invariant.0 c.args.request.now c.in-Some.taken.now c.in-Some.place c.in_ok-answered.answered at answered;
     })
 
 pub returns-in-Some-clause-after : goal.returns-in-Some-clause-after
 returns-in-Some-clause-after c =
-    let at = subst (λ (h : List Entry). IsKeptAt h (key_of c.args.request.now) c.in-Some.place c.in-Some.field-0-1.now) c.deref.ensures.value
+    let at = subst (λ (h : List Entry). IsKeptAt h (key_of c.args.request.now) c.in-Some.place c.in-Some.taken.now) c.deref.ensures.value
     c.in-Some.ensures in
     let answered =
     subst (λ (rs : List (Option CcReply)). IfSome (slice_index_or rs c.in-Some.place None)
-    (λ reply. c.in_ok-answered.answered ≡ record { reply = reply; place = c.in-Some.place; fresh = false })) c.deref-in-Some.ensures.value
+    (AnswersRepeat c.in-Some.taken.now c.args.request.now c.in-Some.place c.in_ok-answered.answered)) c.deref-in-Some.ensures.value
     c.in_ok-answered.ensures in
     let old : c.in_ok-answered.answered.fresh ≡ false =
-    not-fresh c.self.invariant.0 c.args.request.now c.in-Some.field-0-1.now c.in-Some.place c.in_ok-answered.answered at answered in
+    not-fresh c.self.invariant.0 c.args.request.now c.in-Some.taken.now c.in-Some.place c.in_ok-answered.answered at answered in
     sym (ap (λ (b : Bool). if b then with_take c.args.self.now c.args.moment c.args.request.now else c.args.self.now) old)
 
 -- ---- a new one
@@ -110,10 +110,10 @@ returns-clause-good c =
 
 pub returns-in_err-answered-clause-answer : goal.returns-in_err-answered-clause-answer
 returns-in_err-answered-clause-answer c =
-    let at = subst (λ (h : List Entry). IsKeptAt h (key_of c.args.request.now) c.in-Some.place c.in-Some.field-0-1.now) c.deref.ensures.value
+    let at = subst (λ (h : List Entry). IsKeptAt h (key_of c.args.request.now) c.in-Some.place c.in-Some.taken.now) c.deref.ensures.value
     c.in-Some.ensures in
     no_memory _ c.from_residual.result (subst (λ (l : Ledger). IsOk (answer_of l c.args.request.now)) c.self.view_is
-    (kept-answered c.self.inside.terms c.self.inside.limit c.self.inside.history.items c.args.request.now c.in-Some.field-0-1.now c.in-Some.place at))
+    (kept-answered c.self.inside.terms c.self.inside.limit c.self.inside.history.items c.args.request.now c.in-Some.taken.now c.in-Some.place at))
     c.from_residual.ensures.1
 
 pub returns-in_err-outcome-clause-answer : goal.returns-in_err-outcome-clause-answer
