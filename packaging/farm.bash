@@ -2,7 +2,7 @@
 _farm() {
   local word=${COMP_WORDS[COMP_CWORD]} before=${COMP_WORDS[COMP_CWORD - 1]} site i
   if [ "$COMP_CWORD" -eq 1 ]; then
-    mapfile -t COMPREPLY < <(compgen -W 'relay front send replay report words picture --help --version' -- "$word")
+    mapfile -t COMPREPLY < <(compgen -W 'relay front send check replay report words picture --help --version' -- "$word")
     return
   fi
   case $before in
@@ -26,7 +26,7 @@ _farm() {
     relay) mapfile -t COMPREPLY < <(compgen -W '--site --name --answers --log' -- "$word") ;;
     front) mapfile -t COMPREPLY < <(compgen -W '--site --answers --log' -- "$word") ;;
     send) mapfile -t COMPREPLY < <(compgen -W '--site --client --peer --log' -- "$word") ;;
-    replay | report | picture) mapfile -t COMPREPLY < <(compgen -W '--site' -- "$word") ;;
+    check | replay | report | picture) mapfile -t COMPREPLY < <(compgen -W '--site' -- "$word") ;;
   esac
 }
 complete -o filenames -F _farm farm

@@ -1,15 +1,16 @@
 //! What may look wrong in a site that is accepted.
 
 use crate::lines::{Lines, identity_text, node_name, text_of};
-use crate::money::{cost_of, services_of};
+use crate::money::{cost_by, services_of};
 use crate::nodes::kind_word;
-use cc_rating::Tariff;
+use cc_rating::{Tariff, Tariffs};
 use dia_base::{NodeKind, NodeNo};
 use farm_base::{Node, Route, Site};
 use std::alloc::{AllocError, Global};
 
 /// A line for each thing that may look wrong, which begins with `look:`.
-pub fn push_doubts(alloc: Global, lines: &mut Lines, site: &Site) -> Result<(), AllocError> {
+pub fn push_doubts(alloc: Global, lines: &mut Lines, site: &Site, tariffs: &Tariffs) -> Result<(), AllocError> {
+    push_empty_tables(lines, site)?;
     for (place, node) in site.nodes.as_slice().iter().enumerate() {
         push_node_doubts(alloc, lines, site, place, node)?;
     }
@@ -17,12 +18,26 @@ pub fn push_doubts(alloc: Global, lines: &mut Lines, site: &Site) -> Result<(), 
         push_route_doubts(alloc, lines, site, route)?;
     }
     for tariff in site.tariffs.as_slice() {
-        push_tariff_doubts(alloc, lines, site, tariff)?;
+        push_tariff_doubts(alloc, lines, site, tariffs, tariff)?;
     }
     Ok(())
 }
 
-/// A relay or front that nothing can reach, a client that no relay knows.
+/// Tables without an entry, which a farm that charges cannot do without.
+fn push_empty_tables(lines: &mut Lines, site: &Site) -> Result<(), AllocError> {
+    if site.nodes.is_empty() {
+        lines.push("look: there is no node")?;
+    }
+    if site.tariffs.is_empty() {
+        lines.push("look: there is no tariff: every service is refused, DIAMETER_RATING_FAILED")?;
+    }
+    if site.accounts.is_empty() {
+        lines.push("look: there is no account: every request is refused, DIAMETER_USER_UNKNOWN")?;
+    }
+    Ok(())
+}
+
+/// A relay or front that cannot serve, a client that no relay knows.
 fn push_node_doubts(
     alloc: Global,
     lines: &mut Lines,
@@ -55,8 +70,7 @@ fn is_relay(site: &Site, node: NodeNo) -> bool {
 
 fn is_linked_with_relay(site: &Site, place: usize) -> bool {
     site.links.as_slice().iter().any(|link| {
-        (link.from.0 as usize == place && is_relay(site, link.to))
-            || (link.to.0 as usize == place && is_relay(site, link.from))
+        link.from.0 as usize == place && is_relay(site, link.to) || link.to.0 as usize == place && is_relay(site, link.from)
     })
 }
 
@@ -65,7 +79,7 @@ fn push_route_doubts(alloc: Global, lines: &mut Lines, site: &Site, route: &Rout
     let (at, realm, app) = (node_name(alloc, site, route.at)?, identity_text(alloc, &route.realm)?, route.app);
     let peers = route.peers.as_slice();
     let Some(first) = peers.first() else {
-        return lines.push(format!(in alloc; "look: {at} sends {realm}, application {app}, to nobody")?.as_str());
+        return lines.push(format!(in alloc; "look: {at} sends requests for {realm}, application {app}, to nobody")?.as_str());
     };
     let Some(host) = host_of(site, *first) else {
         return Ok(());
@@ -86,19 +100,26 @@ fn host_of(site: &Site, node: NodeNo) -> Option<&[u8]> {
 }
 
 /// A grant that no account can pay.
-fn push_tariff_doubts(alloc: Global, lines: &mut Lines, site: &Site, tariff: &Tariff) -> Result<(), AllocError> {
-    let asked = tariff.quantum.min(tariff.greatest);
-    let Some(cost) = cost_of(tariff, asked) else {
-        return Ok(());
-    };
-    let richest = site.accounts.as_slice().iter().map(|account| account.opening).max();
-    let Some(opening) = richest else {
+fn push_tariff_doubts(
+    alloc: Global,
+    lines: &mut Lines,
+    site: &Site,
+    tariffs: &Tariffs,
+    tariff: &Tariff,
+) -> Result<(), AllocError> {
+    let units = tariff.quantum.min(tariff.greatest);
+    let (Some(cost), Some(opening)) = (cost_by(tariffs, tariff, units), greatest_opening(site)) else {
         return Ok(());
     };
     if opening < 0 || cost > opening as u128 {
         let services = services_of(alloc, tariff)?;
-        let line = format!(in alloc; "look: a grant of {services} costs {cost}, and no account has more than {opening}")?;
+        let line = format!(in alloc; "look: tariff {services}: a grant of {units} costs {cost}, and no account opens with more than {opening}")?;
         lines.push(line.as_str())?;
     }
     Ok(())
+}
+
+/// The greatest opening of an account.
+fn greatest_opening(site: &Site) -> Option<i64> {
+    site.accounts.as_slice().iter().map(|account| account.opening).max()
 }

@@ -3,6 +3,7 @@
 ghost use Rattle.std.specs.Prelude.{◌≡◌};
 ghost use Rattle.farm_check.specs.declared.fault.CheckFault.TheVariants.{OutOfMemory};
 
+use farm_site::SiteFault;
 use std::alloc::{AllocError, AllocFailed};
 use thiserror::Error;
 
@@ -13,9 +14,9 @@ pub enum CheckFault {
     Words,
     #[error("the site file cannot be read")]
     SiteFile,
-    /// The fault of the site, with its place and what was expected.
-    #[error("{0}")]
-    Site(String),
+    /// The first fault of the site file, and what is told of it: its own line, its place, and what was expected there.
+    #[error("{1}")]
+    Site(SiteFault, String),
     #[error("the output cannot be written")]
     Write,
     #[error("out of memory")]
@@ -29,7 +30,7 @@ impl CheckFault {
         match self {
             CheckFault::SiteFile | CheckFault::Write => 1,
             CheckFault::Words => 2,
-            CheckFault::Site(_) => 3,
+            CheckFault::Site(_, _) => 3,
             CheckFault::OutOfMemory => 4,
         }
     }

@@ -1,9 +1,15 @@
-//! Keys that no table of a site file knows, with the key that may be meant.
+//! Keys of a site file that nothing reads, with the key that may be meant.
 
-use crate::entries::TABLES;
 use crate::lines::Lines;
+use crate::parts::TABLES;
 use std::alloc::{AllocError, Global};
 use toml::Table;
+
+/// The most keys that have a line.
+const LINE_LIMIT: usize = 20;
+
+/// The most characters of a key that are looked at.
+const KEY_LIMIT: usize = 64;
 
 /// The keys of the file itself.
 const OWN_KEYS: [&str; 14] = [
@@ -11,57 +17,83 @@ const OWN_KEYS: [&str; 14] = [
     "account",
 ];
 
-/// The keys of the entries of a table.
-fn keys_of(table: &str) -> &'static [&'static str] {
-    match table {
-        "node" => &["name", "kind", "address"],
-        "link" => &["from", "to"],
-        "route" => &["at", "realm", "app", "peers"],
-        "tariff" => &["group", "ident", "kind", "block", "price", "quantum", "greatest"],
-        "account" => &["type", "id", "opening"],
-        _ => &[],
-    }
-}
+/// The keys of the entries of each table, in the order of [`TABLES`].
+const ENTRY_KEYS: [&[&str]; 5] = [
+    &["name", "kind", "address"],
+    &["from", "to"],
+    &["at", "realm", "app", "peers"],
+    &["group", "ident", "kind", "block", "price", "quantum", "greatest"],
+    &["type", "id", "opening"],
+];
 
-/// A line for each key of the file that nothing reads.
+/// A line for each key of the file that nothing reads, up to a limit.
 pub fn push_unknown_keys(alloc: Global, lines: &mut Lines, file: &[u8]) -> Result<(), AllocError> {
     let Ok(document) = toml::table_from_slice(alloc, file) else {
         return Ok(());
     };
-    push_unknown(alloc, lines, "the file", &document, &OWN_KEYS)?;
-    for table in TABLES {
-        push_of_table(alloc, lines, &document, table)?;
+    let mut count = push_unknown(alloc, lines, "the file", &document, &OWN_KEYS, 0)?;
+    for (table, known) in TABLES.iter().zip(ENTRY_KEYS.iter()) {
+        count = push_of_table(alloc, lines, &document, table, known, count)?;
+    }
+    let more = count.saturating_sub(LINE_LIMIT);
+    if more > 0 {
+        lines.push(format!(in alloc; "look: and {more} more")?.as_str())?;
     }
     Ok(())
 }
 
-/// The keys of a table's entries that nothing reads.
-fn push_of_table(alloc: Global, lines: &mut Lines, document: &Table, table: &str) -> Result<(), AllocError> {
+/// Those of a table's entries, of which so many were found before; how many are found then.
+fn push_of_table(
+    alloc: Global,
+    lines: &mut Lines,
+    document: &Table,
+    table: &str,
+    known: &[&str],
+    before: usize,
+) -> Result<usize, AllocError> {
+    let mut count = before;
     let Some(value) = document.get(table) else {
-        return Ok(());
+        return Ok(count);
     };
     let Some(entries) = value.as_array() else {
-        return Ok(());
+        return Ok(count);
     };
-    for (before, entry) in entries.iter().enumerate() {
+    for (place, entry) in entries.iter().enumerate() {
         if let Some(fields) = entry.as_table() {
-            let number = before.saturating_add(1);
-            let place = format!(in alloc; "{table} {number}")?;
-            push_unknown(alloc, lines, place.as_str(), fields, keys_of(table))?;
+            let number = place.saturating_add(1);
+            let words = format!(in alloc; "{table} {number}")?;
+            count = push_unknown(alloc, lines, words.as_str(), fields, known, count)?;
         }
     }
-    Ok(())
+    Ok(count)
 }
 
-fn push_unknown(alloc: Global, lines: &mut Lines, place: &str, fields: &Table, known: &[&str]) -> Result<(), AllocError> {
+/// Those of one table, of which so many were found before; how many are found then.
+fn push_unknown(
+    alloc: Global,
+    lines: &mut Lines,
+    place: &str,
+    fields: &Table,
+    known: &[&str],
+    before: usize,
+) -> Result<usize, AllocError> {
+    let mut count = before;
     for key in fields.keys() {
         let key = key.as_str();
         if !known.iter().any(|other| *other == key) {
-            let nearest = nearest_of(alloc, key, known)?;
-            lines.push(format!(in alloc; "look: {place} has a key {key}, which nothing reads; {nearest} is the nearest that there is")?.as_str())?;
+            if count < LINE_LIMIT {
+                lines.push(unknown_line(alloc, place, key, known)?.as_str())?;
+            }
+            count = count.saturating_add(1);
         }
     }
-    Ok(())
+    Ok(count)
+}
+
+fn unknown_line(alloc: Global, place: &str, key: &str, known: &[&str]) -> Result<String, AllocError> {
+    let word: String = key.chars().take(KEY_LIMIT).collect(alloc)?;
+    let nearest = nearest_of(alloc, word.as_str(), known)?;
+    format!(in alloc; "look: {place} has a key {word:?} that nothing reads; the nearest that is read is {nearest}")
 }
 
 /// The known key that takes the fewest changes of letters.

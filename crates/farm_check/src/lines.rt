@@ -4,8 +4,8 @@ use dia_base::{Identity, NodeNo};
 use farm_base::Site;
 use std::alloc::{AllocError, Global};
 
-/// The lines that are told, each with its line feed.
-#[derive(Drop)]
+/// The lines that are told.
+#[derive(Debug, Drop)]
 pub struct Lines {
     text: String,
 }
@@ -19,12 +19,24 @@ impl Lines {
 
     /// One line more.
     pub fn push(&mut self, line: &str) -> Result<(), AllocError> {
-        self.text.push_str(line)?;
+        if !self.text.is_empty() {
+            self.text.push_str("\n")?;
+        }
+        self.text.push_str(line)
+    }
+
+    /// Ends the last line.
+    pub fn end(&mut self) -> Result<(), AllocError> {
         self.text.push_str("\n")
     }
 
     pub fn as_bytes(&self) -> &[u8] {
         self.text.as_bytes()
+    }
+
+    /// The lines as one text.
+    pub fn into_text(self) -> String {
+        self.text
     }
 }
 
@@ -46,15 +58,20 @@ pub fn node_name(alloc: Global, site: &Site, node: NodeNo) -> Result<String, All
     }
 }
 
+/// One word more, behind a comma where others stand before it.
+pub fn push_listed(list: &mut String, word: &str) -> Result<(), AllocError> {
+    if !list.is_empty() {
+        list.push_str(", ")?;
+    }
+    list.push_str(word)
+}
+
 /// The names of these nodes, one behind the other.
 pub fn node_names(alloc: Global, site: &Site, nodes: &[NodeNo]) -> Result<String, AllocError> {
     let mut names = String::new(alloc);
-    for (place, node) in nodes.iter().enumerate() {
-        if place > 0 {
-            names.push_str(", ")?;
-        }
+    for node in nodes {
         let name = node_name(alloc, site, *node)?;
-        names.push_str(name.as_str())?;
+        push_listed(&mut names, name.as_str())?;
     }
     Ok(names)
 }

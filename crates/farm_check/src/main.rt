@@ -2,29 +2,71 @@
 //! stands and what was expected there.
 #![tactic(auto)]
 
+ghost use Rattle.std.specs.Prelude.{◌≢◌, IfErr, IfOk, OnOk};
+ghost use Rattle.std.specs.Io.KnownBytes.{Keeps};
+ghost use Rattle.farm_check.specs.Checking.{IsAccepted, IsRefused};
+
 mod doubts;
-mod entries;
 mod expected;
 mod fault;
 mod keys;
 mod lines;
 mod money;
+mod names;
 mod nodes;
-mod place;
+mod parts;
+mod places;
 mod summary;
+mod told;
 
-use farm_site::{SiteFault, site_of_octets};
-use farm_text::{ReadFault, read_text, write_text};
+use farm_site::{SITE_LIMIT, SiteFault, site_of_octets};
+use farm_text::{ReadFault, TEXT_LIMIT, read_text, write_text};
 use fault::CheckFault;
 use keys::push_unknown_keys;
 use lines::Lines;
-use place::fault_text;
 use std::alloc::Global;
 use std::fs::File;
-use std::io::ErrorKind;
+use std::io::{ErrorKind, Write};
 use std::process::ExitCode;
 use std::{env, io};
 use summary::push_summary;
+use told::fault_text;
+
+// A text is read up to one octet above its limit.
+const _: () = prove!(SITE_LIMIT == TEXT_LIMIT);
+
+/// What is told of a site file: its summary where it is accepted, else its first fault.
+fn told_of(alloc: Global, file: &[u8]) -> Result<Lines, CheckFault>
+    ensures ok { IfOk result (λ _. IsAccepted file.now) }
+    ensures fault { IfErr result (IsRefused file.now) }
+{
+    match site_of_octets(alloc, file) {
+        Ok(site) => {
+            let mut lines = Lines::new(alloc);
+            push_summary(alloc, &mut lines, &site)?;
+            push_unknown_keys(alloc, &mut lines, file)?;
+            lines.end()?;
+            Ok(lines)
+        }
+        Err(SiteFault::OutOfMemory) => Err(CheckFault::OutOfMemory),
+        Err(fault) => Err(CheckFault::Site(fault, fault_text(alloc, file, fault)?)),
+    }
+}
+
+/// Writes what is told of a site file that is accepted.
+fn check_file<W: Write>(alloc: Global, file: &[u8], writer: &mut W) -> Result<(), CheckFault>
+    ensures ok { OnOk result (IsAccepted file.now) }
+    ensures fault { IfErr result (λ fault. fault ≢ CheckFault.Write → IsRefused file.now fault) }
+
+    // Nothing is written before all is known.
+    ensures nothing { IfErr result (λ fault. fault ≢ CheckFault.Write → Keeps (W.contents writer.old) (W.contents writer.new)) }
+{
+    let lines = told_of(alloc, file)?;
+    match write_text(writer, lines.as_bytes()) {
+        Ok(()) => Ok(()),
+        Err(_) => Err(CheckFault::Write),
+    }
+}
 
 /// The words behind the program's name.
 fn words_of(rt: &HostRuntime) -> Result<Vec<String>, CheckFault> {
@@ -47,31 +89,13 @@ fn site_file(rt: &HostRuntime, path: &str) -> Result<Vec<u8>, CheckFault> {
     }
 }
 
-/// What is told of a site file: its summary where it is accepted, else its fault with the place.
-fn told_of(alloc: Global, file: &[u8]) -> Result<Lines, CheckFault> {
-    match site_of_octets(alloc, file) {
-        Ok(site) => {
-            let mut lines = Lines::new(alloc);
-            push_summary(alloc, &mut lines, &site)?;
-            push_unknown_keys(alloc, &mut lines, file)?;
-            Ok(lines)
-        }
-        Err(SiteFault::OutOfMemory) => Err(CheckFault::OutOfMemory),
-        Err(fault) => Err(CheckFault::Site(fault_text(alloc, file, fault)?)),
-    }
-}
-
 /// Checks the site file that the words of the command line name.
 fn check(rt: &HostRuntime) -> Result<(), CheckFault> {
     let words = words_of(rt)?;
     match words.as_slice() {
         [option, path] if option.as_str() == "--site" => {
             let file = site_file(rt, path.as_str())?;
-            let lines = told_of(rt.alloc(), &file)?;
-            match write_text(&mut io::writer(rt), lines.as_bytes()) {
-                Ok(()) => Ok(()),
-                Err(_) => Err(CheckFault::Write),
-            }
+            check_file(rt.alloc(), &file, &mut io::writer(rt))
         }
         _ => Err(CheckFault::Words),
     }

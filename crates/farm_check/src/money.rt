@@ -1,27 +1,32 @@
 //! Tariffs and accounts of a site: what units cost, and what the accounts come to.
 
+ghost use Rattle.std.specs.Prelude.{◌≡◌, option_map};
+ghost use Rattle.std.specs.List.{find};
+ghost use Rattle.cc_rating.specs.Rating.{cost_of};
+ghost use Rattle.cc_rating.specs.Tariffs.{rates};
+
 use crate::lines::Lines;
-use cc_rating::{Tariff, UnitKind};
+use cc_rating::{Tariff, Tariffs, UnitKind};
 use farm_base::Site;
 use std::alloc::{AllocError, Global};
 
 /// The tariffs in the order of the file, then how many accounts there are.
-pub fn push_money(alloc: Global, lines: &mut Lines, site: &Site) -> Result<(), AllocError> {
+pub fn push_money(alloc: Global, lines: &mut Lines, site: &Site, tariffs: &Tariffs) -> Result<(), AllocError> {
     let (currency, exponent) = (site.currency, site.exponent);
     let line = format!(in alloc; "amounts are in units of 10 to the {exponent} of currency {currency}")?;
     lines.push(line.as_str())?;
     for tariff in site.tariffs.as_slice() {
-        lines.push(tariff_line(alloc, tariff)?.as_str())?;
+        lines.push(tariff_line(alloc, tariffs, tariff)?.as_str())?;
     }
     let (count, sum) = (site.accounts.len(), opening_sum(site));
-    lines.push(format!(in alloc; "{count} accounts, with openings of {sum} in all")?.as_str())
+    lines.push(format!(in alloc; "accounts: {count}, with openings of {sum} in all")?.as_str())
 }
 
-/// The sum of all openings.
+/// The sum of all openings; so many numbers of 64 bits as there can be accounts do not come to the limits of 128.
 fn opening_sum(site: &Site) -> i128 {
     let mut sum: i128 = 0;
     for account in site.accounts.as_slice() {
-        sum = sum.saturating_add(account.opening as i128);
+        sum = sum.saturating_add(i128::from(account.opening));
     }
     sum
 }
@@ -35,12 +40,13 @@ pub fn services_of(alloc: Global, tariff: &Tariff) -> Result<String, AllocError>
     }
 }
 
-/// What so many units cost, in minor units; none for a tariff that is out of its ranges.
-pub fn cost_of(tariff: &Tariff, units: u64) -> Option<u128> {
-    if tariff.is_in_range() {
-        Some(tariff.cost(units as u128))
-    } else {
-        None
+/// What so many units cost by the tariff that rates the services of this one, in minor units.
+pub fn cost_by(tariffs: &Tariffs, tariff: &Tariff, units: u64) -> Option<u128>
+    ensures { result ≡ option_map (λ found. cost_of found units) (find (rates tariff.now.group tariff.now.ident) tariffs.now) }
+{
+    match tariffs.find(tariff.group, tariff.ident) {
+        Some(found) => Some(found.cost(units as u128)),
+        None => None,
     }
 }
 
@@ -53,10 +59,10 @@ fn sample_of(kind: UnitKind) -> (u64, &'static str) {
     }
 }
 
-fn tariff_line(alloc: Global, tariff: &Tariff) -> Result<String, AllocError> {
+fn tariff_line(alloc: Global, tariffs: &Tariffs, tariff: &Tariff) -> Result<String, AllocError> {
     let (units, words) = sample_of(tariff.kind);
-    let services = services_of(alloc, tariff)?;
-    let (one, greatest) = (cost_of(tariff, units).unwrap_or(0), tariff.greatest);
-    let most = cost_of(tariff, greatest).unwrap_or(0);
+    let (services, greatest) = (services_of(alloc, tariff)?, tariff.greatest);
+    let one = cost_by(tariffs, tariff, units).unwrap_or(0);
+    let most = cost_by(tariffs, tariff, greatest).unwrap_or(0);
     format!(in alloc; "tariff {services}: {words} costs {one}; at most {greatest} are granted at once, for {most}")
 }
