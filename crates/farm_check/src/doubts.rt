@@ -9,7 +9,12 @@ use farm_base::{Node, Route, Site};
 use std::alloc::{AllocError, Global};
 
 /// A line for each thing that may look wrong, which begins with `look:`.
-pub fn push_doubts(alloc: Global, lines: &mut Lines, site: &Site, tariffs: &Tariffs) -> Result<(), AllocError> {
+pub fn push_doubts(
+    alloc: Global,
+    lines: &mut Lines,
+    site: &Site,
+    tariffs: &Tariffs,
+) -> Result<(), AllocError> {
     push_empty_tables(lines, site)?;
     for (place, node) in site.nodes.as_slice().iter().enumerate() {
         push_node_doubts(alloc, lines, site, place, node)?;
@@ -49,12 +54,16 @@ fn push_node_doubts(
     match node.kind {
         NodeKind::Relay | NodeKind::Front => {
             if node.address.is_none() {
-                lines.push(format!(in alloc; "look: {kind} {name} has no address, and cannot serve")?.as_str())?;
+                lines.push(format!(in alloc;
+                    "look: {kind} {name} has no address, and cannot serve"
+                )?.as_str())?;
             }
         }
         NodeKind::Client => {
             if !is_linked_with_relay(site, place) {
-                lines.push(format!(in alloc; "look: {kind} {name} is linked with no relay")?.as_str())?;
+                lines.push(format!(in alloc;
+                    "look: {kind} {name} is linked with no relay"
+                )?.as_str())?;
             }
         }
     }
@@ -70,23 +79,37 @@ fn is_relay(site: &Site, node: NodeNo) -> bool {
 
 fn is_linked_with_relay(site: &Site, place: usize) -> bool {
     site.links.as_slice().iter().any(|link| {
-        link.from.0 as usize == place && is_relay(site, link.to) || link.to.0 as usize == place && is_relay(site, link.from)
+        link.from.0 as usize == place && is_relay(site, link.to)
+            || link.to.0 as usize == place && is_relay(site, link.from)
     })
 }
 
 /// A route to nobody, or to one host alone.
-fn push_route_doubts(alloc: Global, lines: &mut Lines, site: &Site, route: &Route) -> Result<(), AllocError> {
-    let (at, realm, app) = (node_name(alloc, site, route.at)?, identity_text(alloc, &route.realm)?, route.app);
+fn push_route_doubts(
+    alloc: Global,
+    lines: &mut Lines,
+    site: &Site,
+    route: &Route,
+) -> Result<(), AllocError> {
+    let (at, realm, app) = (
+        node_name(alloc, site, route.at)?,
+        identity_text(alloc, &route.realm)?,
+        route.app,
+    );
     let peers = route.peers.as_slice();
     let Some(first) = peers.first() else {
-        return lines.push(format!(in alloc; "look: {at} sends requests for {realm}, application {app}, to nobody")?.as_str());
+        return lines.push(format!(in alloc;
+            "look: {at} sends requests for {realm}, application {app}, to nobody"
+        )?.as_str());
     };
     let Some(host) = host_of(site, *first) else {
         return Ok(());
     };
     if peers.len() > 1 && peers.iter().all(|peer| host_of(site, *peer) == Some(host)) {
         let host = text_of(alloc, host)?;
-        lines.push(format!(in alloc; "look: all peers of {at} for {realm}, application {app}, are on {host}")?.as_str())?;
+        lines.push(format!(in alloc;
+            "look: all peers of {at} for {realm}, application {app}, are on {host}"
+        )?.as_str())?;
     }
     Ok(())
 }
@@ -108,12 +131,15 @@ fn push_tariff_doubts(
     tariff: &Tariff,
 ) -> Result<(), AllocError> {
     let units = tariff.quantum.min(tariff.greatest);
-    let (Some(cost), Some(opening)) = (cost_by(tariffs, tariff, units), greatest_opening(site)) else {
+    let (Some(cost), Some(opening)) = (cost_by(tariffs, tariff, units), greatest_opening(site))
+    else {
         return Ok(());
     };
     if opening < 0 || cost > opening as u128 {
         let services = services_of(alloc, tariff)?;
-        let line = format!(in alloc; "look: tariff {services}: a grant of {units} costs {cost}, and no account opens with more than {opening}")?;
+        let line = format!(in alloc;
+            "look: tariff {services}: a grant of {units} costs {cost}, and no account opens with more than {opening}"
+        )?;
         lines.push(line.as_str())?;
     }
     Ok(())
@@ -121,5 +147,9 @@ fn push_tariff_doubts(
 
 /// The greatest opening of an account.
 fn greatest_opening(site: &Site) -> Option<i64> {
-    site.accounts.as_slice().iter().map(|account| account.opening).max()
+    site.accounts
+        .as_slice()
+        .iter()
+        .map(|account| account.opening)
+        .max()
 }

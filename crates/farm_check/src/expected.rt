@@ -20,7 +20,8 @@ pub fn key_of(fault: SiteFault) -> Option<Key> {
 pub fn expected_at(fault: SiteFault) -> &'static str {
     match fault {
         SiteFault::NotToml => "TOML in UTF-8, of at most 16777216 octets",
-        SiteFault::BadLink => "two nodes that are not linked yet, and not two clients or two fronts",
+        SiteFault::BadLink =>
+            "two nodes that are not linked yet, and not two clients or two fronts",
         SiteFault::OutOfMemory => "memory",
         SiteFault::Missing { key: Key::Group } => "group or ident, an integer, 0 to 4294967295",
         SiteFault::Twice { key } => expected_once(key),
@@ -41,9 +42,30 @@ fn expected_once(key: Key) -> &'static str {
         Key::Group => "another group in each tariff",
         Key::Ident => "another ident in each tariff, and no group beside it",
         Key::Id => "another type or id in each account",
-        Key::Realm | Key::Validity | Key::Limit | Key::Workers | Key::Queue | Key::Vendors | Key::Currency | Key::Exponent => "it once",
-        Key::Watchdog | Key::Node | Key::Link | Key::Tariff | Key::Account | Key::Kind | Key::Address | Key::From => "it once",
-        Key::To | Key::At | Key::App | Key::Peers | Key::Block | Key::Price | Key::Quantum | Key::Greatest => "it once",
+        Key::Realm
+        | Key::Validity
+        | Key::Limit
+        | Key::Workers
+        | Key::Queue
+        | Key::Vendors
+        | Key::Currency
+        | Key::Exponent => "it once",
+        Key::Watchdog
+        | Key::Node
+        | Key::Link
+        | Key::Tariff
+        | Key::Account
+        | Key::Kind
+        | Key::Address
+        | Key::From => "it once",
+        Key::To
+        | Key::At
+        | Key::App
+        | Key::Peers
+        | Key::Block
+        | Key::Price
+        | Key::Quantum
+        | Key::Greatest => "it once",
         Key::IdKind | Key::Opening => "it once",
     }
 }
@@ -57,9 +79,31 @@ fn most_of(key: Key) -> &'static str {
         Key::Tariff => "at most 1024 tariffs",
         Key::Account => "at most 65536 accounts",
         Key::Peers => "at most 16 peers",
-        Key::Realm | Key::Validity | Key::Limit | Key::Workers | Key::Queue | Key::Vendors | Key::Currency | Key::Exponent => "fewer",
-        Key::Watchdog | Key::Name | Key::Kind | Key::Address | Key::From | Key::To | Key::At | Key::App | Key::Group => "fewer",
-        Key::Ident | Key::Block | Key::Price | Key::Quantum | Key::Greatest | Key::IdKind | Key::Id | Key::Opening => "fewer",
+        Key::Realm
+        | Key::Validity
+        | Key::Limit
+        | Key::Workers
+        | Key::Queue
+        | Key::Vendors
+        | Key::Currency
+        | Key::Exponent => "fewer",
+        Key::Watchdog
+        | Key::Name
+        | Key::Kind
+        | Key::Address
+        | Key::From
+        | Key::To
+        | Key::At
+        | Key::App
+        | Key::Group => "fewer",
+        Key::Ident
+        | Key::Block
+        | Key::Price
+        | Key::Quantum
+        | Key::Greatest
+        | Key::IdKind
+        | Key::Id
+        | Key::Opening => "fewer",
     }
 }
 
@@ -75,8 +119,10 @@ fn value_of(key: Key) -> &'static str {
         Key::Currency => "an integer, 0 to 999 (ISO 4217; 978 is the euro)",
         Key::Exponent => "an integer, -9 to 9 (-2 for cents)",
         Key::Watchdog => "an integer, 100 to 600000 (milliseconds)",
-        Key::Node | Key::Link | Key::Route | Key::Tariff | Key::Account => "a list of tables, with a header in two brackets for each entry",
-        Key::Kind => "relay, front or client for a node; time, octets or units for a tariff; a text",
+        Key::Node | Key::Link | Key::Route | Key::Tariff | Key::Account =>
+            "a list of tables, with a header in two brackets for each entry",
+        Key::Kind =>
+            "relay, front or client for a node; time, octets or units for a tariff; a text",
         Key::Address => "a text with an IP address and a port, as 127.0.0.1:3868 or [::1]:3868",
         Key::From | Key::To => "the name of a node",
         Key::At => "the name of a relay",
@@ -84,7 +130,8 @@ fn value_of(key: Key) -> &'static str {
         Key::Peers => "a list of names of relays and fronts that are linked with the relay",
         Key::Block => "an integer, 1 to 4294967296",
         Key::Price => "an integer, 0 to 1048576",
-        Key::Quantum | Key::Greatest => "an integer, 1 to 9223372036854775807, for time to 4294967295",
+        Key::Quantum | Key::Greatest =>
+            "an integer, 1 to 9223372036854775807, for time to 4294967295",
         Key::IdKind => "an integer, 0 to 4",
         Key::Id => "a text of 1 to 64 visible ASCII characters",
         Key::Opening => "an integer, -4611686018427387904 to 4611686018427387904",

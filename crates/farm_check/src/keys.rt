@@ -13,8 +13,8 @@ const KEY_LIMIT: usize = 64;
 
 /// The keys of the file itself.
 const OWN_KEYS: [&str; 14] = [
-    "realm", "validity", "limit", "workers", "queue", "vendors", "currency", "exponent", "watchdog", "node", "link", "route", "tariff",
-    "account",
+    "realm", "validity", "limit", "workers", "queue", "vendors", "currency", "exponent",
+    "watchdog", "node", "link", "route", "tariff", "account",
 ];
 
 /// The keys of the entries of each table, in the order of [`TABLES`].
@@ -22,7 +22,9 @@ const ENTRY_KEYS: [&[&str]; 5] = [
     &["name", "kind", "address"],
     &["from", "to"],
     &["at", "realm", "app", "peers"],
-    &["group", "ident", "kind", "block", "price", "quantum", "greatest"],
+    &[
+        "group", "ident", "kind", "block", "price", "quantum", "greatest",
+    ],
     &["type", "id", "opening"],
 ];
 
@@ -90,10 +92,17 @@ fn push_unknown(
     Ok(count)
 }
 
-fn unknown_line(alloc: Global, place: &str, key: &str, known: &[&str]) -> Result<String, AllocError> {
+fn unknown_line(
+    alloc: Global,
+    place: &str,
+    key: &str,
+    known: &[&str],
+) -> Result<String, AllocError> {
     let word: String = key.chars().take(KEY_LIMIT).collect(alloc)?;
     let nearest = nearest_of(alloc, word.as_str(), known)?;
-    format!(in alloc; "look: {place} has a key {word:?} that nothing reads; the nearest that is read is {nearest}")
+    format!(in alloc;
+        "look: {place} has a key {word:?} that nothing reads; the nearest that is read is {nearest}"
+    )
 }
 
 /// The known key that takes the fewest changes of letters.
@@ -118,14 +127,25 @@ fn changes_between(alloc: Global, one: &[u8], other: &[u8]) -> Result<usize, All
 }
 
 /// The changes to each beginning of the other word, with one letter more of the first.
-fn next_row(alloc: Global, row: &[usize], octet: u8, other: &[u8]) -> Result<Vec<usize>, AllocError> {
+fn next_row(
+    alloc: Global,
+    row: &[usize],
+    octet: u8,
+    other: &[u8],
+) -> Result<Vec<usize>, AllocError> {
     let mut diagonal = row.first().copied().unwrap_or(0);
     let mut left = diagonal.saturating_add(1);
     let mut next = Vec::new(alloc);
     next.push(left)?;
     for (above, theirs) in row.iter().skip(1).zip(other) {
-        let changed = if *theirs == octet { diagonal } else { diagonal.saturating_add(1) };
-        left = changed.min(above.saturating_add(1)).min(left.saturating_add(1));
+        let changed = if *theirs == octet {
+            diagonal
+        } else {
+            diagonal.saturating_add(1)
+        };
+        left = changed
+            .min(above.saturating_add(1))
+            .min(left.saturating_add(1));
         next.push(left)?;
         diagonal = *above;
     }

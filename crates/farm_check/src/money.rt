@@ -11,9 +11,16 @@ use farm_base::Site;
 use std::alloc::{AllocError, Global};
 
 /// The tariffs in the order of the file, then how many accounts there are.
-pub fn push_money(alloc: Global, lines: &mut Lines, site: &Site, tariffs: &Tariffs) -> Result<(), AllocError> {
+pub fn push_money(
+    alloc: Global,
+    lines: &mut Lines,
+    site: &Site,
+    tariffs: &Tariffs,
+) -> Result<(), AllocError> {
     let (currency, exponent) = (site.currency, site.exponent);
-    let line = format!(in alloc; "amounts are in units of 10 to the {exponent} of currency {currency}")?;
+    let line = format!(in alloc;
+        "amounts are in units of 10 to the {exponent} of currency {currency}"
+    )?;
     lines.push(line.as_str())?;
     for tariff in site.tariffs.as_slice() {
         lines.push(tariff_line(alloc, tariffs, tariff)?.as_str())?;
@@ -64,5 +71,7 @@ fn tariff_line(alloc: Global, tariffs: &Tariffs, tariff: &Tariff) -> Result<Stri
     let (services, greatest) = (services_of(alloc, tariff)?, tariff.greatest);
     let one = cost_by(tariffs, tariff, units).unwrap_or(0);
     let most = cost_by(tariffs, tariff, greatest).unwrap_or(0);
-    format!(in alloc; "tariff {services}: {words} costs {one}; at most {greatest} are granted at once, for {most}")
+    format!(in alloc;
+        "tariff {services}: {words} costs {one}; at most {greatest} are granted at once, for {most}"
+    )
 }

@@ -11,7 +11,10 @@ use toml::Table;
 /// The names of the nodes that may stand at this key of an entry, one behind the other.
 pub fn names_for(alloc: Global, text: &str, entry: Entry, key: Key) -> Result<String, AllocError> {
     let mut names = String::new(alloc);
-    let (Some(site), Ok(document)) = (site_before(alloc, text, entry), toml::table_from_str(alloc, text)) else {
+    let (Some(site), Ok(document)) = (
+        site_before(alloc, text, entry),
+        toml::table_from_str(alloc, text),
+    ) else {
         return Ok(names);
     };
     let relay = relay_of(&site, &document, entry);
@@ -48,7 +51,13 @@ fn place_of(node: NodeNo) -> usize {
 
 /// The node that an entry names at `at`.
 fn relay_of(site: &Site, document: &Table, entry: Entry) -> Option<usize> {
-    let fields = document.get(entry.table)?.as_array()?.get(entry.number.saturating_sub(1))?;
+    let fields = document
+        .get(entry.table)?
+        .as_array()?
+        .get(entry.number.saturating_sub(1))?;
     let name = fields.get("at")?.as_str()?.as_bytes();
-    site.nodes.as_slice().iter().position(|node| node.name.as_slice().eq_ignore_ascii_case(name))
+    site.nodes
+        .as_slice()
+        .iter()
+        .position(|node| node.name.as_slice().eq_ignore_ascii_case(name))
 }

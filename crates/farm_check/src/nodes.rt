@@ -16,7 +16,12 @@ pub fn push_nodes(alloc: Global, lines: &mut Lines, site: &Site) -> Result<(), A
     push_routes(alloc, lines, site)
 }
 
-fn push_kind(alloc: Global, lines: &mut Lines, site: &Site, kind: NodeKind) -> Result<(), AllocError> {
+fn push_kind(
+    alloc: Global,
+    lines: &mut Lines,
+    site: &Site,
+    kind: NodeKind,
+) -> Result<(), AllocError> {
     for node in site.nodes.as_slice() {
         if node.kind == kind {
             lines.push(node_line(alloc, node)?.as_str())?;
@@ -46,7 +51,10 @@ fn node_line(alloc: Global, node: &Node) -> Result<String, AllocError> {
 }
 
 fn link_line(alloc: Global, site: &Site, link: Link) -> Result<String, AllocError> {
-    let (from, to) = (node_name(alloc, site, link.from)?, node_name(alloc, site, link.to)?);
+    let (from, to) = (
+        node_name(alloc, site, link.from)?,
+        node_name(alloc, site, link.to)?,
+    );
     format!(in alloc; "{from} connects to {to}")
 }
 
@@ -54,7 +62,11 @@ fn link_line(alloc: Global, site: &Site, link: Link) -> Result<String, AllocErro
 fn push_routes(alloc: Global, lines: &mut Lines, site: &Site) -> Result<(), AllocError> {
     let routes = site.routes.as_slice();
     for (place, route) in routes.iter().enumerate() {
-        if !routes.iter().take(place).any(|other| is_beside(other, route)) {
+        if !routes
+            .iter()
+            .take(place)
+            .any(|other| is_beside(other, route))
+        {
             let (realm, app) = (identity_text(alloc, &route.realm)?, route.app);
             lines.push(format!(in alloc; "requests for {realm}, application {app}:")?.as_str())?;
             push_routes_beside(alloc, lines, site, route)?;
@@ -69,7 +81,12 @@ fn is_beside(one: &Route, other: &Route) -> bool {
 }
 
 /// The routes for the realm and the application of this one, it among them.
-fn push_routes_beside(alloc: Global, lines: &mut Lines, site: &Site, route: &Route) -> Result<(), AllocError> {
+fn push_routes_beside(
+    alloc: Global,
+    lines: &mut Lines,
+    site: &Site,
+    route: &Route,
+) -> Result<(), AllocError> {
     for other in site.routes.as_slice() {
         if is_beside(other, route) {
             lines.push(route_line(alloc, site, other)?.as_str())?;

@@ -57,7 +57,11 @@ fn part_of_table(alloc: Global, text: &str, place: usize, count: usize, fault: S
         let number = fewest_entries(alloc, text, place, count, fault);
         return Part::Entry(Entry { table, number });
     }
-    if is_of_table(fault, table) { Part::Table(table) } else { Part::Own }
+    if is_of_table(fault, table) {
+        Part::Table(table)
+    } else {
+        Part::Own
+    }
 }
 
 /// Whether a fault is told of the table itself.
@@ -109,7 +113,13 @@ fn has_fault(alloc: Global, text: &str, place: usize, count: usize, fault: SiteF
 }
 
 /// The fewest entries of the table at this place with which the fault is there, where it is there with so many.
-fn fewest_entries(alloc: Global, text: &str, place: usize, count: usize, fault: SiteFault) -> usize {
+fn fewest_entries(
+    alloc: Global,
+    text: &str,
+    place: usize,
+    count: usize,
+    fault: SiteFault,
+) -> usize {
     let (mut without, mut with) = (0usize, count);
     for _ in 0..usize::BITS {
         let middle = without.saturating_add(with.saturating_sub(without) / 2);

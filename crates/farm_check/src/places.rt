@@ -49,7 +49,12 @@ pub fn place_of_header(text: &str, entry: Entry) -> Option<Place> {
 pub fn place_of_table(text: &str, table: &str) -> Option<Place> {
     for (before, line) in text.lines().enumerate() {
         let words = line.trim_start();
-        if let Some(rest) = words.strip_prefix("[").unwrap_or(words).trim_start().strip_prefix(table) {
+        if let Some(rest) = words
+            .strip_prefix("[")
+            .unwrap_or(words)
+            .trim_start()
+            .strip_prefix(table)
+        {
             if rest.trim_start().starts_with("]") || rest.trim_start().starts_with("=") {
                 return Some(place_in(before, line, words));
             }

@@ -40,9 +40,13 @@ fn push_site(alloc: Global, lines: &mut Lines, site: &Site) -> Result<(), AllocE
     let realm = identity_text(alloc, &site.realm)?;
     lines.push(format!(in alloc; "accepted: realm {realm}")?.as_str())?;
     let (validity, limit, watchdog) = (site.validity, site.limit, site.watchdog);
-    let line = format!(in alloc; "grants are good for {validity} s; the book takes {limit} entries; the watchdog waits {watchdog} ms")?;
+    let line = format!(in alloc;
+        "grants are good for {validity} s; the book takes {limit} entries; the watchdog waits {watchdog} ms"
+    )?;
     lines.push(line.as_str())?;
     let (workers, queue) = (site.workers, site.queue);
-    let line = format!(in alloc; "each front works on {workers} requests at a time, and {queue} may wait")?;
+    let line = format!(in alloc;
+        "each front works on {workers} requests at a time, and {queue} may wait"
+    )?;
     lines.push(line.as_str())
 }

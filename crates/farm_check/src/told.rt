@@ -31,7 +31,10 @@ fn place_line(alloc: Global, text: &str, fault: SiteFault) -> Result<String, All
         return broken_line(alloc, text);
     }
     let part = part_at_fault(alloc, text, fault);
-    let (place, expected) = (place_text(alloc, text, part, fault)?, expected_text(alloc, text, part, fault)?);
+    let (place, expected) = (
+        place_text(alloc, text, part, fault)?,
+        expected_text(alloc, text, part, fault)?,
+    );
     format!(in alloc; "{place}: expected {expected}")
 }
 
@@ -52,7 +55,12 @@ fn broken_line(alloc: Global, text: &str) -> Result<String, AllocError> {
 }
 
 /// The place of a part, or of the value of the fault's key in it.
-fn place_text(alloc: Global, text: &str, part: Part, fault: SiteFault) -> Result<String, AllocError> {
+fn place_text(
+    alloc: Global,
+    text: &str,
+    part: Part,
+    fault: SiteFault,
+) -> Result<String, AllocError> {
     let key = match key_of(fault) {
         Some(key) => key.as_str(),
         None => "",
@@ -78,7 +86,12 @@ fn place_text(alloc: Global, text: &str, part: Part, fault: SiteFault) -> Result
 }
 
 /// What was expected: of a name that is unknown those that may stand there.
-fn expected_text(alloc: Global, text: &str, part: Part, fault: SiteFault) -> Result<String, AllocError> {
+fn expected_text(
+    alloc: Global,
+    text: &str,
+    part: Part,
+    fault: SiteFault,
+) -> Result<String, AllocError> {
     let expected = expected_at(fault);
     if let (SiteFault::UnknownName { key }, Part::Entry(entry)) = (fault, part) {
         let names = names_for(alloc, text, entry, key)?;
