@@ -1,0 +1,3 @@
+pub mod Prefixes
+pub mod Rules
+pub mod Spelling
