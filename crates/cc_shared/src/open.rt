@@ -1,7 +1,7 @@
 //! The value behind the lock: a book, and the count of its takes.
 
 ghost use Rattle.std.specs.Prelude.{◌≡◌, ◌+◌, ◌≤◌, ◌<◌, ◌^◌, IfErr, IfOk, length, sum, vec_len, if◌then◌else◌};
-ghost use Rattle.cc_book.specs.Taking.{AnswersWith, SweepsWith, answer_of, is_fresh, sweep_answer};
+ghost use Rattle.cc_book.specs.Taking.{AnswersWith, SweepsWith, after_sweep_with, answer_of, is_fresh, sweep_answer, with_take};
 ghost use Rattle.cc_shared.specs.Sharing.{Stood, standings_of};
 ghost use Rattle.cc_shared.specs.Closing.{FinishesWith};
 
@@ -66,6 +66,7 @@ impl<L: Sharing> OpenBook<L> {
     ) -> Result<Answered, BookRefusal>
         ensures stood { Stood L.opened self.old }
         ensures answer { AnswersWith (answer_of self.old request.now) result }
+        ensures after { self.new ≡ (if is_fresh result then with_take self.old moment request.now else self.old) }
         ensures count { seat.new ≡ (if is_fresh result then seat.old + 1 else seat.old) }
         ensures place { seat.old ≤ length self.old.history }
     {
@@ -83,6 +84,7 @@ impl<L: Sharing> OpenBook<L> {
     pub fn sweep(&mut self, moment: Moment) -> Result<u64, BookRefusal>
         ensures stood { Stood L.opened self.old }
         ensures answer { SweepsWith (sweep_answer self.old moment) result }
+        ensures after { self.new ≡ after_sweep_with self.old moment result }
     {
         let _entries = self.book.history().len();
         self.book.sweep(moment)

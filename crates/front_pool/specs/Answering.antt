@@ -1,5 +1,6 @@
 -- What a job is answered.
 use Rattle.std.specs.Prelude.{◌≡◌, List, [], ◌∷◌, Option, Some, None, IfSome, Ok, Err}
+use Rattle.dia_base.specs.declared.number.NodeNo.{NodeNo}
 use Rattle.dia_message.specs.declared.message.Message.{Message}
 use Rattle.cc_view.specs.declared.code.ResultCode.TheVariants.{TooBusy}
 use Rattle.cc_view.specs.declared.refusal.Refusal.{Refusal}
@@ -37,9 +38,17 @@ pub data Answers (site : PoolSite) (terms : Terms) (message : Message) : Option 
 abbrev pub IsAnswered : PoolSite → Terms → Finished → Type 0
 IsAnswered site terms finished = Answers site terms finished.request finished.answer finished.receipt
 
+-- it is answered in the name of the front that it names
+abbrev pub IsAnsweredByOne : (NodeNo → PoolSite) → Terms → Finished → Type 0
+IsAnsweredByOne sites terms finished = IsAnswered (sites finished.front) terms finished
+
+-- it is answered in the name of this front
+abbrev pub IsAnsweredBy : NodeNo → (NodeNo → PoolSite) → Terms → Finished → Type 0
+IsAnsweredBy front sites terms finished = (finished.front ≡ front) × IsAnswered (sites front) terms finished
+
 -- these jobs, one after the other, were finished as these, each by one answer
-abbrev pub AreServed : PoolSite → Terms → List Job → List Finished → Type 0
-AreServed site terms [] [] = Unit {0}
-AreServed site terms [] (finished ∷ more) = ⊥
-AreServed site terms (job ∷ jobs) [] = ⊥
-AreServed site terms (job ∷ jobs) (finished ∷ more) = (job ≡ job_of finished) × IsAnswered site terms finished × AreServed site terms jobs more
+abbrev pub AreServed : (NodeNo → PoolSite) → Terms → List Job → List Finished → Type 0
+AreServed sites terms [] [] = Unit {0}
+AreServed sites terms [] (finished ∷ more) = ⊥
+AreServed sites terms (job ∷ jobs) [] = ⊥
+AreServed sites terms (job ∷ jobs) (finished ∷ more) = (job ≡ job_of finished) × IsAnsweredByOne sites terms finished × AreServed sites terms jobs more

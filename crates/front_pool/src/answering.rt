@@ -3,7 +3,7 @@
 ghost use Rattle.std.specs.Prelude.{◌≡◌, IfSome, Ok};
 ghost use Rattle.cc_view.specs.Answer.{answer_to};
 ghost use Rattle.cc_view.specs.RequestView.{view_of};
-ghost use Rattle.front_pool.specs.Answering.{Answers, IsAnswered, too_busy};
+ghost use Rattle.front_pool.specs.Answering.{Answers, IsAnsweredByOne, too_busy};
 ghost use Rattle.front_pool.specs.Jobs.{job_of};
 
 use crate::gate::Gate;
@@ -12,7 +12,7 @@ use crate::site::{PoolSite, Pooling};
 use cc_shared::{Receipt, Seat, SharedBook};
 use cc_view::{CcRequest, Refusal, ResultCode, answer_bytes, refusal_bytes};
 use dia_avp::Wire;
-use dia_base::Moment;
+use dia_base::{Moment, NodeNo};
 use dia_message::Message;
 use front_core::{Prepared, prepare};
 use std::alloc::Global;
@@ -109,18 +109,20 @@ fn work<W: Wire, L: Pooling, R: Wait + Clock, G: Gate>(
     }
 }
 
-/// Finishes a job.
+/// Finishes a job in the name of a front, which is this one.
 pub fn finish<W: Wire, L: Pooling, R: Wait + Clock, G: Gate>(
     rt: &R,
     alloc: Global,
     shared: &SharedBook<L>,
     seat: &mut Seat<L>,
+    front: NodeNo,
     site: &PoolSite,
     gate: &G,
     job: Job,
 ) -> Finished
+    requires { site.now ≡ L.site front }
     ensures job { job_of result ≡ job }
-    ensures answered { IsAnswered site.now L.opened.terms result }
+    ensures answered { IsAnsweredByOne L.site L.opened.terms result }
 {
     let (written, receipt) = work::<W, L, R, G>(rt, alloc, shared, seat, site, gate, &job);
     let Job {
@@ -130,6 +132,7 @@ pub fn finish<W: Wire, L: Pooling, R: Wait + Clock, G: Gate>(
     } = job;
     Finished {
         job: number,
+        front,
         conn,
         request,
         answer: written,

@@ -7,6 +7,7 @@ ghost use Rattle.crossbeam_queue.specs.Passes.{IsPassOf};
 use crate::control::Control;
 use crate::queues::{FinishedPass, FinishedQueue, JobPass, JobQueue};
 use crate::site::{PoolQueue, PoolSite, Pooling};
+use dia_base::NodeNo;
 use std::alloc::{AllocError, Global};
 use std::sync::Arc;
 
@@ -15,6 +16,7 @@ use std::sync::Arc;
 pub struct Desk<L: Pooling, G> {
     pub jobs: Arc<JobQueue>,
     pub finished: Arc<FinishedQueue<L>>,
+    pub front: NodeNo,
     pub site: Arc<PoolSite>,
     pub gate: Arc<G>,
     pub control: Arc<Control>,
@@ -28,8 +30,9 @@ impl<L: Pooling, G: Drop> Desk<L, G> {
         queue: PoolQueue,
     ) -> Result<(Self, JobPass, FinishedPass), AllocError>
         requires jobs { 0 < queue.jobs }
-        requires site { L.site ≡ record { name = queue.name; realm = queue.realm; vendors = queue.vendors } }
-        ensures site { IfOk result (λ made. arc_value made.0.site ≡ L.site) }
+        requires site { L.site queue.front ≡ record { name = queue.name; realm = queue.realm; vendors = queue.vendors } }
+        ensures front { IfOk result (λ made. made.0.front ≡ queue.front) }
+        ensures site { IfOk result (λ made. arc_value made.0.site ≡ L.site made.0.front) }
         ensures jobs { IfOk result (λ made. IsPassOf (arc_value made.0.jobs) made.1) }
         ensures finished { IfOk result (λ made. IsPassOf (arc_value made.0.finished) made.2) }
     {
@@ -43,6 +46,7 @@ impl<L: Pooling, G: Drop> Desk<L, G> {
         let desk = Desk {
             jobs: Arc::new(alloc, jobs)?,
             finished: Arc::new(alloc, finished)?,
+            front: queue.front,
             site: Arc::new(alloc, site)?,
             gate: Arc::new(alloc, gate)?,
             control: Arc::new(alloc, Control::new())?,
@@ -52,11 +56,13 @@ impl<L: Pooling, G: Drop> Desk<L, G> {
 
     /// The same desk, for one worker more.
     pub fn another(&self) -> Result<Self, AllocError>
-        ensures { IfOk result (λ desk. arc_value desk.site ≡ arc_value self.now.site) }
+        ensures front { IfOk result (λ desk. desk.front ≡ self.now.front) }
+        ensures site { IfOk result (λ desk. arc_value desk.site ≡ arc_value self.now.site) }
     {
         Ok(Desk {
             jobs: Arc::try_clone(&self.jobs)?,
             finished: Arc::try_clone(&self.finished)?,
+            front: self.front,
             site: Arc::try_clone(&self.site)?,
             gate: Arc::try_clone(&self.gate)?,
             control: Arc::try_clone(&self.control)?,

@@ -5,7 +5,7 @@ ghost use Rattle.std.specs.Bool.{Decides};
 
 use crate::site::Pooling;
 use cc_shared::{Receipt, Seat};
-use dia_base::ConnId;
+use dia_base::{ConnId, NodeNo};
 use dia_message::Message;
 
 /// A request that was handed over: its number, which no other of its pool has, and the connection that it came on.
@@ -21,10 +21,12 @@ pub struct Job {
 pub struct Finished {
     /// Its number.
     pub job: u64,
+    /// The front in whose name it is answered.
+    pub front: NodeNo,
     /// The connection that it came on.
     pub conn: ConnId,
     pub request: Message,
-    /// None where memory was refused for an answer. The node drops that connection then.
+    /// None where memory was refused for an answer. Nothing can be sent then, and those who collect it are to say so.
     pub answer: Option<Message>,
     /// The book's receipt. None where the book was not asked, or did not serve.
     pub receipt: Option<Receipt>,

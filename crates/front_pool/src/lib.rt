@@ -4,7 +4,7 @@
 //!   a finished answer out, [`Pool::stop`] ends all threads and gives everything back.
 //! - [`Gate`]: is passed by a job before the book is asked and once it is answered. [`Wakes`] is the gate that wakes whoever
 //!   waits for answers, by a [`Wake`]; [`NoGate`] holds nobody.
-//! - [`Pooling`]: names one pool: the sharing of its book, and the front in whose name it answers.
+//! - [`Pooling`]: names the pools on one book: its sharing, and what the answers of each front name.
 //!
 //! Jobs and finished answers travel in two bounded queues. A worker takes a job, reads the request in it, has it served
 //! through its seat, and spells the answer; the book's lock is held for the serving alone. The pool keeps each job until
@@ -15,7 +15,7 @@
 //! [`fresh_receipts_are_charges`], over `specs/Charging`.
 //!
 //! ```text
-//! let queue = PoolQueue { name, realm, vendors, jobs: 1024 };
+//! let queue = PoolQueue { front, name, realm, vendors, jobs: 1024 };
 //! let mut pool = Pool::start::<PlainWire, _, _>(&rt, alloc, shared.another()?, seats, Wakes { waker }, queue)?;
 //! let number = pool.submit(&rt, conn, request)?;          // a full queue hands the request back
 //! while let Some(finished) = pool.collect(&rt) {

@@ -1,10 +1,10 @@
 //! A pool: the jobs that were handed over, and the threads that work on them.
 
-ghost use Rattle.std.specs.Prelude.{◌≡◌, ◌+◌, ◌≤◌, [], ◌++◌, length, All, IfSome, MatchBool, vec_len, vec_capacity};
+ghost use Rattle.std.specs.Prelude.{◌≡◌, ◌+◌, ◌≤◌, [], ◌++◌, length, All, IfSome, MatchBool, true, vec_len, vec_capacity};
 ghost use Rattle.std.specs.List.Sorted.{IsPermutation};
 ghost use Rattle.std.specs.Arc.{arc_value};
 ghost use Rattle.crossbeam_queue.specs.Passes.{IsPassOf};
-ghost use Rattle.front_pool.specs.Answering.{IsAnswered};
+ghost use Rattle.front_pool.specs.Answering.{IsAnsweredBy, IsAnsweredByOne};
 ghost use Rattle.front_pool.specs.Jobs.{job_of, jobs_of};
 ghost use Rattle.front_pool.specs.Keeping.{Balances, Collects, HandsBack, IsAt, IsTakenOff, new_pool};
 
@@ -15,7 +15,7 @@ use crate::job::{Finished, Job, Stopped, is_of};
 use crate::queues::{FinishedPass, FinishedQueue, JobPass, JobQueue, Puts, TakesAnswered};
 use crate::site::Pooling;
 use cc_shared::{Seat, SharedBook};
-use dia_base::ConnId;
+use dia_base::{ConnId, NodeNo};
 use dia_message::Message;
 use std::alloc::Global;
 use std::marker::Model;
@@ -32,6 +32,7 @@ const NOT_YET: u64 = 1;
 /// over and not collected.
 #[derive(Drop)]
 pub struct Pool<L: Pooling> {
+    front: NodeNo,
     jobs: Arc<JobQueue>,
     job_pass: JobPass,
     finished: Arc<FinishedQueue<L>>,
@@ -55,7 +56,7 @@ impl<L: Pooling> Model for Pool<L> {
 
     ghost Value = { PoolState };
 
-    ghost view = { λ p. record { workers = vec_len p.workers; last = p.last; unanswered = p.unanswered.items } };
+    ghost view = { λ p. record { front = p.front; workers = vec_len p.workers; last = p.last; unanswered = p.unanswered.items } };
 
     ghost invariant = { λ p. IsPassOf (arc_value p.jobs) p.job_pass × IsPassOf (arc_value p.finished) p.finished_pass
         × (p.seats.items ≡ []) × (vec_len p.workers ≤ vec_capacity p.seats)
@@ -76,16 +77,18 @@ impl<L: Pooling> Pool<L> {
         requires jobs { IsPassOf (arc_value desk.jobs) job_pass }
         requires finished { IsPassOf (arc_value desk.finished) finished_pass }
         requires seats { (seats.items ≡ []) × (vec_len workers ≤ vec_capacity seats) }
-        ensures { result ≡ new_pool (vec_len workers) }
+        ensures { result ≡ new_pool desk.front (vec_len workers) }
     {
         let Desk {
             jobs,
             finished,
+            front,
             site: _,
             gate: _,
             control,
         } = desk;
         Pool {
+            front,
             jobs,
             job_pass,
             finished,
@@ -144,10 +147,10 @@ impl<L: Pooling> Pool<L> {
     /// A finished job. None where none is.
     pub fn collect<R: Wait>(&mut self, rt: &R) -> Option<Finished>
         ensures collects { Collects self.old result self.new }
-        ensures answered { IfSome result (λ finished. IsAnswered L.site L.opened.terms finished) }
+        ensures answered { IfSome result (λ finished. IsAnsweredBy self.old.front L.site L.opened.terms finished) }
     {
         let finished = self.take(rt)?;
-        if take_off(&mut self.unanswered, &finished) {
+        if take_off(self.front, &mut self.unanswered, &finished) {
             Some(finished)
         } else {
             None
@@ -157,7 +160,7 @@ impl<L: Pooling> Pool<L> {
     /// What a worker has put among the finished jobs. None where nothing is.
     fn take<R: Wait>(&mut self, rt: &R) -> Option<Finished>
         ensures same { self.new ≡ self.old }
-        ensures answered { IfSome result (λ finished. IsAnswered L.site L.opened.terms finished) }
+        ensures answered { IfSome result (λ finished. IsAnsweredByOne L.site L.opened.terms finished) }
     {
         self.finished
             .pop_as::<TakesAnswered<L>, R>(rt, &mut self.finished_pass)
@@ -167,9 +170,10 @@ impl<L: Pooling> Pool<L> {
     /// is there once: finished, or, where no worker has finished it, unserved. It takes no memory.
     pub fn stop<R: Threads + Wait + Clock>(self, rt: &R) -> Stopped<L>
         ensures balances { Balances self (length result.seats.items) result.finished.items result.unserved.items }
-        ensures answered { All (λ finished. IsAnswered L.site L.opened.terms finished) result.finished.items }
+        ensures answered { All (IsAnsweredBy self.front L.site L.opened.terms) result.finished.items }
     {
         let Pool {
+            front,
             jobs: _,
             job_pass: _,
             finished,
@@ -186,6 +190,7 @@ impl<L: Pooling> Pool<L> {
         let count = workers.len() as u64;
         let (finished, unserved) = drain::<L, R>(
             rt,
+            front,
             &finished,
             finished_pass,
             &control,
@@ -214,11 +219,15 @@ fn place_of(jobs: &[Job], finished: &Finished) -> Option<usize>
     None
 }
 
-/// Takes off the job that is finished, where it is among these.
-fn take_off(jobs: &mut Vec<Job>, finished: &Finished) -> bool
+/// Takes off the job that is finished in the name of this front, where it is among these.
+fn take_off(front: NodeNo, jobs: &mut Vec<Job>, finished: &Finished) -> bool
+    ensures front { result ≡ true → finished.now.front ≡ front }
     ensures taken { MatchBool result (IsTakenOff (job_of finished.now) jobs.old.items jobs.new.items) (jobs.new.items ≡ jobs.old.items) }
     ensures len { MatchBool result (vec_len jobs.new + 1 ≡ vec_len jobs.old) (vec_len jobs.new ≡ vec_len jobs.old) }
 {
+    if finished.front != front {
+        return false;
+    }
     let Some(place) = place_of(jobs, finished) else {
         return false;
     };
@@ -229,6 +238,7 @@ fn take_off(jobs: &mut Vec<Job>, finished: &Finished) -> bool
 /// Takes finished jobs out until all of so many workers have ended and no more is there: those, and the jobs that are left.
 fn drain<L: Pooling, R: Wait + Clock>(
     rt: &R,
+    front: NodeNo,
     queue: &FinishedQueue<L>,
     pass: FinishedPass,
     control: &Control,
@@ -240,7 +250,7 @@ fn drain<L: Pooling, R: Wait + Clock>(
     requires empty { room.items ≡ [] }
     requires room { vec_len unanswered ≤ vec_capacity room }
     ensures jobs { IsPermutation unanswered.items (jobs_of result.0.items ++ result.1.items) }
-    ensures answered { All (λ finished. IsAnswered L.site L.opened.terms finished) result.0.items }
+    ensures answered { All (IsAnsweredBy front L.site L.opened.terms) result.0.items }
 {
     let mut pass = pass;
     let mut left = unanswered;
@@ -249,7 +259,7 @@ fn drain<L: Pooling, R: Wait + Clock>(
         let all_ended = control.ended() >= workers;
         match queue.pop_as::<TakesAnswered<L>, R>(rt, &mut pass) {
             Some(next) => {
-                if take_off(&mut left, &next) {
+                if take_off(front, &mut left, &next) {
                     finished.push_reserved(next);
                 }
             }

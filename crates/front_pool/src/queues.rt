@@ -32,10 +32,10 @@ pub struct FinishedRule<L> {
 }
 
 impl<L: Pooling> Protocol<Finished, Moves<Finished>> for FinishedRule<L> {
-    ghost use Rattle.front_pool.specs.Answering.{IsAnswered};
+    ghost use Rattle.front_pool.specs.Answering.{IsAnsweredByOne};
     ghost use Rattle.front_pool.specs.Moving.{Balanced, no_moves};
 
-    ghost holds = { Balanced (IsAnswered L.site L.opened.terms) };
+    ghost holds = { Balanced (IsAnsweredByOne L.site L.opened.terms) };
 
     ghost first = { no_moves };
 }
@@ -79,10 +79,10 @@ pub struct TakesAnswered<L> {
 
 impl<L: Pooling> Outcome<Finished, Moves<Finished>> for TakesAnswered<L> {
     ghost use Rattle.std.specs.Prelude.{◌≡◌};
-    ghost use Rattle.front_pool.specs.Answering.{IsAnswered};
+    ghost use Rattle.front_pool.specs.Answering.{IsAnsweredByOne};
     ghost use Rattle.front_pool.specs.Moving.{with_taken};
 
-    ghost then = { λ v x w. IsAnswered L.site L.opened.terms x × (w ≡ with_taken v x) };
+    ghost then = { λ v x w. IsAnsweredByOne L.site L.opened.terms x × (w ≡ with_taken v x) };
 }
 
 impl<L: Pooling> Lesson<Finished, Moves<Finished>> for TakesAnswered<L> {

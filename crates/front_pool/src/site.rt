@@ -1,12 +1,14 @@
 //! What a pool is made with, and what names it.
 
 use cc_shared::Sharing;
-use dia_base::{Identity, Listing};
+use dia_base::{Identity, Listing, NodeNo};
 use std::marker::Brand;
 
 /// What a pool is made with.
 #[derive(Debug, Drop)]
 pub struct PoolQueue {
+    /// The front in whose name its answers are.
+    pub front: NodeNo,
     /// The Origin-Host of its answers.
     pub name: Identity,
     /// Their Origin-Realm.
@@ -28,16 +30,17 @@ pub struct PoolSite {
     pub vendors: Listing<u32>,
 }
 
-/// Names one pool: the sharing of its book, and the front in whose name it answers. Each call of a program that starts a
-/// pool picks it.
+/// Names the pools on one book: its sharing, and the fronts in whose names they answer, by their numbers. Each call of a
+/// program that starts pools picks it.
 pub trait Pooling: Sharing {
+    ghost use Rattle.dia_base.specs.declared.number.NodeNo.{NodeNo};
     ghost use Rattle.front_pool.specs.declared.site.PoolSite.{PoolSite};
 
-    ghost site: { PoolSite };
+    ghost site: { NodeNo → PoolSite };
 }
 
 impl Pooling for Brand {
     ghost use Rattle.std.specs.Prelude.{[]};
 
-    ghost site = { record { name = []; realm = []; vendors = [] } };
+    ghost site = { λ front. record { name = []; realm = []; vendors = [] } };
 }

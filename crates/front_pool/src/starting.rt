@@ -31,7 +31,7 @@ where
     L: Pooling + Send + Sync + 'static,
     R: Threads + Wait + Clock + Copy + Send + 'static,
     G: Gate + Drop + Send + Sync + 'static,
-    requires { arc_value desk.now.site ≡ L.site }
+    requires { arc_value desk.now.site ≡ L.site desk.now.front }
 {
     let Ok(own) = desk.another() else {
         return Err(seat);
@@ -68,8 +68,8 @@ impl<L: Pooling + Send + Sync + 'static> Pool<L> {
         R: Threads + Wait + Clock + Copy + Send + 'static,
         G: Gate + Drop + Send + Sync + 'static,
         requires jobs { 0 < queue.jobs }
-        requires site { L.site ≡ record { name = queue.name; realm = queue.realm; vendors = queue.vendors } }
-        ensures pool { IfOk result (λ pool. pool ≡ new_pool (length seats.items)) }
+        requires site { L.site queue.front ≡ record { name = queue.name; realm = queue.realm; vendors = queue.vendors } }
+        ensures pool { IfOk result (λ pool. pool ≡ new_pool queue.front (length seats.items)) }
         ensures failed { IfErr result (λ failed. length failed.seats.items ≡ length seats.items) }
     {
         let Ok(mut workers) = Vec::with_capacity(alloc, seats.len()) else {

@@ -3,7 +3,7 @@
 ghost use Rattle.std.specs.Prelude.{◌≡◌, IfSome, IfNone, IfErr, OnOk};
 ghost use Rattle.std.specs.Arc.{arc_value};
 ghost use Rattle.crossbeam_queue.specs.Passes.{IsPassOf, view};
-ghost use Rattle.front_pool.specs.Answering.{AreServed, IsAnswered};
+ghost use Rattle.front_pool.specs.Answering.{AreServed, IsAnsweredByOne};
 ghost use Rattle.front_pool.specs.Jobs.{job_of};
 ghost use Rattle.front_pool.specs.Moving.{no_moves};
 ghost use Rattle.front_pool.specs.Working.{WorksOff, no_turns, with_job_finished, with_job_taken};
@@ -47,14 +47,14 @@ impl<L: Pooling, G> Model for Worker<L, G> {
 
     ghost view = { λ w. record { taken = (known_to w.job_pass).taken; finished = (known_to w.finished_pass).put } };
 
-    ghost invariant = { λ w. (arc_value w.desk.site ≡ L.site) × IsPassOf (arc_value w.desk.jobs) w.job_pass
+    ghost invariant = { λ w. (arc_value w.desk.site ≡ L.site w.desk.front) × IsPassOf (arc_value w.desk.jobs) w.job_pass
         × IsPassOf (arc_value w.desk.finished) w.finished_pass };
 }
 
 impl<L: Pooling, G: Gate + Drop> Worker<L, G> {
     /// A worker that has done nothing yet.
     pub fn new(desk: Desk<L, G>, shared: SharedBook<L>, seat: Seat<L>) -> Self
-        requires { arc_value desk.site ≡ L.site }
+        requires { arc_value desk.site ≡ L.site desk.front }
         ensures { result ≡ no_turns }
     {
         let job_pass = desk.jobs.pass();
@@ -78,7 +78,7 @@ impl<L: Pooling, G: Gate + Drop> Worker<L, G> {
 
     /// Puts a finished job where it is collected. One for which there is no room comes back.
     fn put<R: Wait>(&mut self, rt: &R, finished: Finished) -> Result<(), Finished>
-        requires { IsAnswered L.site L.opened.terms finished }
+        requires { IsAnsweredByOne L.site L.opened.terms finished }
         ensures ok { OnOk result (self.new ≡ with_job_finished self.old finished) }
         ensures err { IfErr result (λ back. (back ≡ finished) × (self.new ≡ self.old)) }
     {
@@ -89,7 +89,7 @@ impl<L: Pooling, G: Gate + Drop> Worker<L, G> {
 
     /// Puts a finished job where it is collected, and waits for room.
     fn hand_in<R: Wait + Clock>(&mut self, rt: &R, finished: Finished)
-        requires { IsAnswered L.site L.opened.terms finished }
+        requires { IsAnsweredByOne L.site L.opened.terms finished }
         ensures { self.new ≡ with_job_finished self.old finished }
     {
         let mut finished = finished;
@@ -113,6 +113,7 @@ impl<L: Pooling, G: Gate + Drop> Worker<L, G> {
             alloc,
             &self.shared,
             &mut self.seat,
+            self.desk.front,
             &self.desk.site,
             &*self.desk.gate,
             job,

@@ -6,7 +6,7 @@ use anyhow::Context;
 use cc_book::{Account, Book, Money};
 use cc_rating::{Tariff, Tariffs, UnitKind};
 use dia_avp::Octets;
-use dia_base::{Identity, Listing};
+use dia_base::{Identity, Listing, NodeNo};
 use dia_message::{Message, whole_message};
 use front_pool::PoolQueue;
 use std::alloc::Global;
@@ -32,6 +32,7 @@ pub fn front(alloc: Global, jobs: usize) -> anyhow::Result<PoolQueue>
     ensures { IfOk result (λ queue. queue.jobs ≡ jobs) }
 {
     Ok(PoolQueue {
+        front: NodeNo(0),
         name: Identity::read(alloc, b"f1.example")?,
         realm: Identity::read(alloc, b"ocs.example")?,
         vendors: Listing::empty(alloc),

@@ -62,7 +62,7 @@ where
     requires parts { (blank.parts ≡ L.parts) × (blank.parts ≡ workers) }
     requires book { book ≡ L.opened }
     requires jobs { 0 < queue.jobs }
-    requires site { L.site ≡ record { name = queue.name; realm = queue.realm; vendors = queue.vendors } }
+    requires site { L.site queue.front ≡ record { name = queue.name; realm = queue.realm; vendors = queue.vendors } }
     requires some { 0 < workers }
 {
     let Ok((shared, seats)) = SharedBook::<L>::share(alloc, blank, book, workers) else {
@@ -168,6 +168,7 @@ fn receipts(alloc: Global, finished: Vec<Finished>) -> anyhow::Result<Vec<Receip
     for job in finished {
         let Finished {
             job: _,
+            front: _,
             conn: _,
             request: _,
             answer: _,

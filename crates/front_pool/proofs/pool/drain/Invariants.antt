@@ -2,7 +2,7 @@ use Rattle.std.proofs.Common.{◌+◌, ◌≤◌, ◌++◌, vec_len, vec_capacit
 use Rattle.std.specs.Prelude.{All}
 use Rattle.std.specs.List.Sorted.{IsPermutation}
 use Rattle.crossbeam_queue.specs.Passes.{IsPassOf}
-use Rattle.front_pool.specs.Answering.{IsAnswered}
+use Rattle.front_pool.specs.Answering.{IsAnsweredBy}
 use Rattle.front_pool.specs.Jobs.{jobs_of}
 use Rattle.front_pool.proofs.pool.drain.Given as goal
 
@@ -12,6 +12,6 @@ invariant-loop g l = record {
   finite : (goal.iterator-loop g).is_finite l.iterator';
   pass : IsPassOf l.queue l.pass;
   jobs : IsPermutation l.fn.unanswered.items (jobs_of l.finished.items ++ l.left.items);
-  answered : All (IsAnswered g.L.Pooling.site g.L.Sharing.opened.terms) l.finished.items;
+  answered : All (IsAnsweredBy l.fn.front g.L.Pooling.site g.L.Sharing.opened.terms) l.finished.items;
   room : vec_len l.left + vec_len l.finished ≤ vec_capacity l.finished;
 }

@@ -1,0 +1,171 @@
+-- The fronts of a process, each with its workers, and what they do at each event of a node.
+use Rattle.std.specs.Prelude.{◌≡◌, ◌==◌, ◌<◌, ◌-◌, ℕ, min, Bool, true, not, List, [], ◌∷◌, ◌++◌, filter, length, position, Option, Some, None, Result, Ok, Err, MatchOption, get_or, slice_get, slice_set, if◌then◌else◌}
+use Rattle.dia_base.specs.declared.number.ConnId.{ConnId}
+use Rattle.dia_base.specs.declared.number.Moment.{Moment}
+use Rattle.dia_base.specs.declared.number.NodeNo.{NodeNo}
+use Rattle.dia_message.specs.declared.message.Message.{Message}
+use Rattle.dia_message.specs.declared.message.Out.{Out}
+use Rattle.dia_message.specs.Traffic.{Traffic}
+use Rattle.cc_book.specs.declared.book.BookRefusal.{BookRefusal}
+use Rattle.cc_book.specs.declared.book.BookRefusal.TheVariants as refused
+use Rattle.cc_book.specs.declared.terms.Terms.{Terms}
+use Rattle.cc_book.specs.Taking.{Ledger}
+use Rattle.cc_shared.specs.Sharing.{Sweeps}
+use Rattle.farm_base.specs.declared.site.Node.{Node}
+use Rattle.farm_base.specs.declared.site.Site.{Site}
+use Rattle.front_core.specs.FrontState.{is_among}
+use Rattle.farm_node.specs.Events.{NodeEvent}
+use Rattle.farm_node.specs.Events.{up, message, lost, tick, wake}
+use Rattle.farm_node.specs.declared.error.NodeError.{NodeError}
+use Rattle.farm_node.specs.declared.error.NodeError.TheVariants as fault
+use Rattle.farm_node.specs.Nodes.{Does, Refuses}
+use Rattle.front_pool.specs.declared.job.Finished.{Finished}
+use Rattle.front_pool.specs.declared.site.PoolSite.{PoolSite}
+use Rattle.front_pool.specs.Answering.{IsAnsweredBy, too_busy}
+use Rattle.front_pool.specs.Keeping.{Collects, PoolState, new_pool, with_job}
+
+abbrev pub name_of : Option Node → List ℕ
+name_of None = []
+name_of (Some node) = node.name
+
+-- what the answers of a front of a site name, and the vendors that it knows
+abbrev pub site_of : Site → NodeNo → PoolSite
+site_of site front = record { name = name_of (slice_get site.nodes front.0); realm = site.realm; vendors = site.vendors }
+
+-- A front with its workers: the connections that are up, and the pool, which knows its number.
+pub record FrontState : Type 0 where
+  pub connections : List ConnId
+  pub pool : PoolState
+
+-- a front with so many workers, before anything has happened to it
+abbrev pub new_front : NodeNo → ℕ → FrontState
+new_front node workers = record { connections = []; pool = new_pool node workers }
+
+-- These fronts, each with so many workers, for which there are so many seats: the first to come have as many as there are left.
+abbrev pub new_fronts : List NodeNo → ℕ → ℕ → List FrontState
+new_fronts [] workers seats = []
+new_fronts (node ∷ nodes) workers seats = new_front node (min workers seats) ∷ new_fronts nodes workers (seats - workers)
+
+abbrev pub with_connection : FrontState → ConnId → FrontState
+with_connection front conn = if is_among front.connections conn then front else record front { connections = front.connections ++ conn ∷ [] }
+
+abbrev pub without_connection : FrontState → ConnId → FrontState
+without_connection front conn = record front { connections = filter (λ c. not (c.0 == conn.0)) front.connections }
+
+-- A request is a job more. What is no request is ignored.
+abbrev pub with_message : FrontState → ConnId → Message → FrontState
+with_message front conn m = if m.header.request then record front { pool = with_job front.pool conn m } else front
+
+-- what a front does with a message: it answers nothing yet, or DIAMETER_TOO_BUSY at once, or has no memory even for that
+abbrev pub OnMessage : (NodeNo → PoolSite) → FrontState → ConnId → Message → Result (Option Out) NodeError → FrontState → Type 0
+OnMessage sites old conn m (Ok None) new = new ≡ with_message old conn m
+OnMessage sites old conn m (Ok (Some out)) new = (m.header.request ≡ true) × (out.items ≡ (conn, too_busy (sites old.pool.front) m) ∷ []) × (new ≡ old)
+OnMessage sites old conn m (Err error) new = (m.header.request ≡ true) × (error ≡ fault.OutOfMemory) × (new ≡ old)
+
+-- what goes out for an answer on a connection
+abbrev pub sent_on : ConnId → Option Message → Traffic
+sent_on conn None = []
+sent_on conn (Some answer) = (conn, answer) ∷ []
+
+-- What goes out for a finished job: its answer, on the connection that it came on, if that is up. Where there is no answer,
+-- nothing.
+abbrev pub sent_for : FrontState → Finished → Traffic
+sent_for front finished = if is_among front.connections finished.conn then sent_on finished.conn finished.answer else []
+
+abbrev pub outcome_of : Option Message → Result (Unit {0}) NodeError
+outcome_of None = Err fault.OutOfMemory
+outcome_of (Some answer) = Ok tt
+
+-- What is told of a finished job: that memory was missing for its answer, where that would go out.
+abbrev pub outcome_for : FrontState → Finished → Result (Unit {0}) NodeError
+outcome_for front finished = if is_among front.connections finished.conn then outcome_of finished.answer else Ok tt
+
+-- one front of these does something, and no other
+pub record AtOne (old : List FrontState) (place : ℕ) (Step : FrontState → FrontState → Type 0) (new : List FrontState) : Type 0 where
+  pub below : place < length old
+  pub front : FrontState
+  pub was : front ≡ get_or old place front
+  pub next : FrontState
+  pub step : Step front next
+  pub is : new ≡ slice_set old place next
+
+-- A finished job is collected at a front: it was handed over there, and is answered in its name.
+pub record CollectsOne (sites : NodeNo → PoolSite) (terms : Terms) (finished : Finished) (old new : FrontState) : Type 0 where
+  pub collects : Collects old.pool (Some finished) new.pool
+  pub answered : IsAnsweredBy old.pool.front sites terms finished
+  pub connections_are : new.connections ≡ old.connections
+
+-- Finished jobs are collected, one after the other, at any of these fronts, and what goes out for each goes behind what went out
+-- for those before it. It ends where memory is missing, for a job more or for the answer of one that is collected, and says so.
+pub data Collecting (sites : NodeNo → PoolSite) (terms : Terms) (old : List FrontState) :
+    Traffic → Result (Unit {0}) NodeError → List FrontState → Type 0 where
+  begins : (sent : Traffic) (new : List FrontState) → sent ≡ [] → new ≡ old → Collecting sites terms old sent (Ok tt) new
+  goes_on :
+      (sent : Traffic) (mid : List FrontState) (place : ℕ) (finished : Finished) (all : Traffic) (outcome : Result (Unit {0}) NodeError) (new : List FrontState)
+      → Collecting sites terms old sent (Ok tt) mid → (one : AtOne mid place (CollectsOne sites terms finished) new)
+      → all ≡ sent ++ sent_for one.next finished → outcome ≡ outcome_for one.next finished → Collecting sites terms old all outcome new
+  wants_memory :
+      (sent : Traffic) (new : List FrontState) → Collecting sites terms old sent (Ok tt) new → Collecting sites terms old sent (Err fault.OutOfMemory) new
+
+-- what was collected before, and more: wherever the collecting began
+abbrev pub CollectsMore : (NodeNo → PoolSite) → Terms → List FrontState → Traffic → Traffic → Result (Unit {0}) NodeError → List FrontState → Type 0
+CollectsMore sites terms old sent all outcome new =
+    (before : List FrontState) → Collecting sites terms before sent (Ok tt) old → Collecting sites terms before all outcome new
+
+-- what is told where a job more was looked for, whether there was one or not
+abbrev pub told_of_one : Result Bool NodeError → Result (Unit {0}) NodeError
+told_of_one (Ok some) = Ok tt
+told_of_one (Err error) = Err error
+
+-- whether a front is this node
+abbrev pub is_node : NodeNo → FrontState → Bool
+is_node node front = front.pool.front.0 == node.0
+
+-- whether a connection is up at a front
+abbrev pub is_up : ConnId → FrontState → Bool
+is_up conn front = is_among front.connections conn
+
+-- how a node tells of what a front has done with a message
+abbrev pub IsToldAs : Result (Option Out) NodeError → Traffic → Result (Unit {0}) NodeError → Type 0
+IsToldAs (Ok None) sent outcome = (sent ≡ []) × (outcome ≡ Ok tt)
+IsToldAs (Ok (Some out)) sent outcome = (sent ≡ out.items) × (outcome ≡ Ok tt)
+IsToldAs (Err error) sent outcome = (sent ≡ []) × (outcome ≡ Err error)
+
+-- A message at one front, as a node tells of it.
+pub record Handles (sites : NodeNo → PoolSite) (conn : ConnId) (m : Message) (sent : Traffic) (outcome : Result (Unit {0}) NodeError)
+    (old new : FrontState) : Type 0 where
+  pub answer : Result (Option Out) NodeError
+  pub does : OnMessage sites old conn m answer new
+  pub tells : IsToldAs answer sent outcome
+
+-- How a node tells of what was collected and of a sweep: the first fault, if there is one.
+abbrev pub told_of_tick : Result (Unit {0}) NodeError → Result ℕ BookRefusal → Result (Unit {0}) NodeError
+told_of_tick (Err error) swept = Err error
+told_of_tick (Ok done) (Ok ended) = Ok tt
+told_of_tick (Ok done) (Err (refused.Full limit)) = Err (fault.BookFull limit)
+told_of_tick (Ok done) (Err refused.OutOfMemory) = Err fault.OutOfMemory
+
+-- Time has passed: what is finished is collected, and the book swept, whatever came of the collecting.
+pub record Ticks (sites : NodeNo → PoolSite) (opened : Ledger) (moment : Moment) (old : List FrontState) (sent : Traffic)
+    (outcome : Result (Unit {0}) NodeError) (new : List FrontState) : Type 0 where
+  pub collected : Result (Unit {0}) NodeError
+  pub collecting : Collecting sites opened.terms old sent collected new
+  pub swept : Result ℕ BookRefusal
+  pub sweeps : Sweeps opened moment swept
+  pub told : outcome ≡ told_of_tick collected swept
+
+-- What happens to a node that is these fronts. Each front has its own pool of workers, and all share one book, which went on from
+-- the one that was opened.
+abbrev pub OnFrontsEvent : (NodeNo → PoolSite) → Ledger → List FrontState → NodeEvent → Traffic → Result (Unit {0}) NodeError → List FrontState → Type 0
+OnFrontsEvent sites opened old (up local peer conn) sent outcome new =
+    MatchOption (position (is_node local) old) (Refuses old (fault.UnknownNode local) sent outcome new)
+    (λ place. Does old (λ out next. (out ≡ []) × AtOne old place (λ front after. after ≡ with_connection front conn) next) sent outcome new)
+OnFrontsEvent sites opened old (message conn m) sent outcome new =
+    MatchOption (position (is_up conn) old) (Refuses old (fault.UnknownConn conn) sent outcome new)
+    (λ place. AtOne old place (Handles sites conn m sent outcome) new)
+-- What came on it stays, and may still be charged.
+OnFrontsEvent sites opened old (lost conn) sent outcome new =
+    (sent ≡ []) × (outcome ≡ Ok tt)
+    × MatchOption (position (is_up conn) old) (new ≡ old) (λ place. AtOne old place (λ front after. after ≡ without_connection front conn) new)
+OnFrontsEvent sites opened old (tick moment) sent outcome new = Ticks sites opened moment old sent outcome new
+OnFrontsEvent sites opened old wake sent outcome new = Collecting sites opened.terms old sent outcome new

@@ -1,0 +1,166 @@
+//! One front: its connections, and its workers.
+
+ghost use Rattle.std.specs.Prelude.{◌≡◌, [], ◌∷◌, ◌++◌, ◌<◌, IfOk, IfSome, IfNone, OnOk, OnErr, vec_len, vec_capacity};
+ghost use Rattle.front_pool.specs.Answering.{too_busy};
+ghost use Rattle.pool_node.specs.Fronts.{CollectsOne, OnMessage, is_node, is_up, outcome_for, sent_for, with_connection, without_connection};
+
+use cc_view::{Refusal, ResultCode, refusal_bytes};
+use dia_avp::Wire;
+use dia_base::{ConnId, NodeNo};
+use dia_message::{Message, Out};
+use farm_node::NodeError;
+use front_pool::{Finished, Pool, PoolSite, Pooling, SubmitError};
+use std::alloc::{AllocError, Global};
+use std::marker::Model;
+use std::sync::Wait;
+
+/// A front with worker threads of its own.
+#[derive(Drop)]
+pub struct PoolFront<L: Pooling> {
+    node: NodeNo,
+    site: PoolSite,
+    connections: Vec<ConnId>,
+    pool: Pool<L>,
+}
+
+impl<L: Pooling> Model for PoolFront<L> {
+    ghost use Rattle.std.specs.Prelude.{◌≡◌};
+    ghost use Rattle.pool_node.specs.Fronts.{FrontState};
+
+    ghost Value = { FrontState };
+
+    ghost view = { λ f. record { connections = f.connections.items; pool = f.pool } };
+
+    ghost invariant = { λ f. (f.pool.front ≡ f.node) × (f.site ≡ L.site f.node) };
+}
+
+/// DIAMETER_TOO_BUSY in the name of a front.
+fn busy<W: Wire>(
+    alloc: Global,
+    site: &PoolSite,
+    conn: ConnId,
+    message: &Message,
+) -> Result<Out, AllocError>
+    ensures { IfOk result (λ out. out.items ≡ (conn, too_busy site.now message.now) ∷ []) }
+{
+    let busy = Refusal {
+        code: ResultCode::TooBusy,
+        failed: None,
+    };
+    let answer = refusal_bytes::<W>(alloc, &site.name, &site.realm, message, &busy)?;
+    Out::of_one(alloc, conn, answer)
+}
+
+impl<L: Pooling> PoolFront<L> {
+    /// A front with its workers, and no connection.
+    pub fn new(alloc: Global, node: NodeNo, site: PoolSite, pool: Pool<L>) -> Self
+        requires node { pool.front ≡ node }
+        requires site { site ≡ L.site node }
+        ensures { result ≡ record { connections = []; pool = pool } }
+    {
+        PoolFront {
+            node,
+            site,
+            connections: Vec::new(alloc),
+            pool,
+        }
+    }
+
+    /// Whether it is this node.
+    pub fn is_node(&self, node: NodeNo) -> bool
+        ensures { result ≡ is_node node self.now }
+    {
+        self.node.0 == node.0
+    }
+
+    /// Whether a connection is up.
+    pub fn is_up(&self, conn: ConnId) -> bool
+        ensures { result ≡ is_up conn self.now }
+    {
+        self.connections.contains(&conn)
+    }
+
+    /// A connection comes up. One that is up already changes nothing.
+    pub fn conn_up(&mut self, conn: ConnId) -> Result<(), AllocError>
+        ensures ok { OnOk result (self.new ≡ with_connection self.old conn) }
+        ensures err { OnErr result (self.new ≡ self.old) }
+    {
+        if !self.connections.contains(&conn) {
+            self.connections.push(conn)?;
+        }
+        Ok(())
+    }
+
+    /// A connection is lost. Requests that came on it may still be charged, and their answers go nowhere. It takes no
+    /// memory.
+    pub fn conn_lost(&mut self, conn: ConnId)
+        ensures { self.new ≡ without_connection self.old conn }
+    {
+        self.connections.retain(|up| up.0 != conn.0);
+    }
+
+    /// A message came on a connection. A request is handed to the workers; one that they hand back, for want of room or of
+    /// memory, is answered 3004 at once. A message that is no request is ignored.
+    pub fn on_message<W: Wire, R: Wait>(
+        &mut self,
+        rt: &R,
+        alloc: Global,
+        conn: ConnId,
+        message: Message,
+    ) -> Result<Option<Out>, NodeError>
+        ensures { OnMessage L.site self.old conn message result self.new }
+    {
+        if !message.header.request {
+            return Ok(None);
+        }
+        let request = match self.pool.submit(rt, conn, message) {
+            Ok(_number) => return Ok(None),
+            Err(SubmitError::PoolFull { request } | SubmitError::OutOfMemory { request }) => {
+                request
+            }
+        };
+        match busy::<W>(alloc, &self.site, conn, &request) {
+            Ok(out) => Ok(Some(out)),
+            Err(_) => Err(NodeError::OutOfMemory),
+        }
+    }
+
+    /// A finished job. None where none is.
+    pub fn collect<R: Wait>(&mut self, rt: &R) -> Option<Finished>
+        ensures some { IfSome result (λ finished. CollectsOne L.site L.opened.terms finished self.old self.new) }
+        ensures none { IfNone result (self.new ≡ self.old) }
+    {
+        self.pool.collect(rt)
+    }
+
+    /// Puts the answer of a finished job behind what is sent, where its connection is up. It is a fault where it has none,
+    /// for want of memory.
+    pub fn post(
+        &self,
+        finished: Finished,
+        sent: &mut Vec<(ConnId, Message)>,
+    ) -> Result<(), NodeError>
+        requires { vec_len sent.old < vec_capacity sent.old }
+        ensures sent { sent.new.items ≡ sent.old.items ++ sent_for self.now finished }
+        ensures outcome { result ≡ outcome_for self.now finished }
+    {
+        if !self.is_up(finished.conn) {
+            return Ok(());
+        }
+        let Finished {
+            job: _,
+            front: _,
+            conn,
+            request: _,
+            answer,
+            receipt: _,
+        } = finished;
+        match answer {
+            Some(answer) => {
+                sent.push_reserved((conn, answer));
+                Ok(())
+            }
+            None => Err(NodeError::OutOfMemory),
+        }
+    }
+}

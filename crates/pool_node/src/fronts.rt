@@ -1,0 +1,180 @@
+//! All fronts of a site as one node.
+
+ghost use Rattle.std.specs.Prelude.{◌≡◌, ◌<◌, length, position};
+ghost use Rattle.pool_node.specs.Fronts.{CollectsMore, OnFrontsEvent, is_node, is_up, told_of_one, told_of_tick};
+
+use crate::front::PoolFront;
+use cc_book::BookRefusal;
+use cc_shared::SharedBook;
+use dia_avp::Wire;
+use dia_base::{ConnId, Listing, Moment, NodeNo};
+use dia_message::{Message, Out};
+use farm_node::{Node, NodeError, Reaction};
+use front_pool::Pooling;
+use std::alloc::Global;
+use std::marker::Model;
+use std::sync::Wait;
+
+/// The most finished jobs that are collected of a front at one event.
+pub const COLLECT_LIMIT: u32 = 1_024;
+
+/// All fronts of a site in one process, on one book, each with workers of its own. `R` is what their threads run on.
+#[derive(Drop)]
+pub struct PoolFronts<L: Pooling, R> {
+    rt: R,
+    shared: SharedBook<L>,
+    fronts: Vec<PoolFront<L>>,
+}
+
+impl<L: Pooling, R> Model for PoolFronts<L, R> {
+    ghost use Rattle.std.specs.Prelude.{List};
+    ghost use Rattle.pool_node.specs.Fronts.{FrontState};
+
+    ghost Value = { List FrontState };
+
+    ghost view = { λ p. p.fronts.items };
+}
+
+/// The place of the front that is this node.
+fn place_of_node<L: Pooling>(fronts: &[PoolFront<L>], node: NodeNo) -> Option<usize>
+    ensures { result ≡ position (is_node node) fronts.now }
+{
+    fronts.iter().position(|front| front.is_node(node))
+}
+
+/// The place of the front at which a connection is up.
+fn place_of_conn<L: Pooling>(fronts: &[PoolFront<L>], conn: ConnId) -> Option<usize>
+    ensures { result ≡ position (is_up conn) fronts.now }
+{
+    fronts.iter().position(|front| front.is_up(conn))
+}
+
+/// What a node says that has sent this.
+fn reaction(sent: Vec<(ConnId, Message)>, outcome: Result<(), NodeError>) -> Reaction
+    ensures sent { result.out.items ≡ sent.items }
+    ensures outcome { result.outcome ≡ outcome }
+{
+    let out = Out {
+        items: Listing::from_vec(sent),
+    };
+    Reaction { out, outcome }
+}
+
+/// How a node tells of what it has collected and of a sweep: the first fault, if there is one.
+fn outcome_of_tick(
+    collected: Result<(), NodeError>,
+    swept: Result<u64, BookRefusal>,
+) -> Result<(), NodeError>
+    ensures { result ≡ told_of_tick collected swept }
+{
+    match (collected, swept) {
+        (Err(error), _) => Err(error),
+        (Ok(()), Ok(_ended)) => Ok(()),
+        (Ok(()), Err(BookRefusal::Full { limit })) => Err(NodeError::BookFull { limit }),
+        (Ok(()), Err(BookRefusal::OutOfMemory)) => Err(NodeError::OutOfMemory),
+    }
+}
+
+impl<L: Pooling, R: Wait> PoolFronts<L, R> {
+    /// These fronts, whose workers serve on this book.
+    pub fn new(rt: R, shared: SharedBook<L>, fronts: Vec<PoolFront<L>>) -> Self
+        ensures { result ≡ fronts.items }
+    {
+        PoolFronts { rt, shared, fronts }
+    }
+
+    /// Collects a finished job of a front and puts its answer behind what is sent. Whether there was one. It is a fault where
+    /// there is no room for its answer, and nothing is collected then, or where it has none, for want of memory.
+    fn collect_one(
+        &mut self,
+        place: usize,
+        sent: &mut Vec<(ConnId, Message)>,
+    ) -> Result<bool, NodeError>
+        requires { place < length self.old }
+        ensures collects { CollectsMore L.site L.opened.terms self.old sent.old.items sent.new.items (told_of_one result) self.new }
+        ensures places { length self.new ≡ length self.old }
+    {
+        if sent.reserve(1).is_err() {
+            return Err(NodeError::OutOfMemory);
+        }
+        let front = &mut self.fronts[place];
+        let Some(finished) = front.collect(&self.rt) else {
+            return Ok(false);
+        };
+        front.post(finished, sent)?;
+        Ok(true)
+    }
+
+    /// Collects what is finished at a front.
+    fn collect_at(
+        &mut self,
+        place: usize,
+        sent: &mut Vec<(ConnId, Message)>,
+    ) -> Result<(), NodeError>
+        requires { place < length self.old }
+        ensures collects { CollectsMore L.site L.opened.terms self.old sent.old.items sent.new.items result self.new }
+        ensures places { length self.new ≡ length self.old }
+    {
+        for round in 0..COLLECT_LIMIT {
+            if !self.collect_one(place, sent)? {
+                break;
+            }
+        }
+        Ok(())
+    }
+
+    /// Collects what is finished at all fronts.
+    fn collect_all(&mut self, sent: &mut Vec<(ConnId, Message)>) -> Result<(), NodeError>
+        ensures collects { CollectsMore L.site L.opened.terms self.old sent.old.items sent.new.items result self.new }
+    {
+        for place in 0..self.fronts.len() {
+            self.collect_at(place, sent)?;
+        }
+        Ok(())
+    }
+}
+
+impl<L: Pooling, R: Wait> Node for PoolFronts<L, R> {
+    ghost on_event = { OnFrontsEvent L.site L.opened };
+
+    fn on_up(&mut self, alloc: Global, local: NodeNo, _peer: NodeNo, conn: ConnId) -> Reaction {
+        let Some(place) = place_of_node(&self.fronts, local) else {
+            return Reaction::refuses(alloc, NodeError::UnknownNode { node: local });
+        };
+        match self.fronts[place].conn_up(conn) {
+            Ok(()) => Reaction::nothing(alloc),
+            Err(_) => Reaction::refuses(alloc, NodeError::OutOfMemory),
+        }
+    }
+
+    fn on_message<W: Wire>(&mut self, alloc: Global, conn: ConnId, message: Message) -> Reaction {
+        let Some(place) = place_of_conn(&self.fronts, conn) else {
+            return Reaction::refuses(alloc, NodeError::UnknownConn { conn });
+        };
+        match self.fronts[place].on_message::<W, R>(&self.rt, alloc, conn, message) {
+            Ok(None) => Reaction::nothing(alloc),
+            Ok(Some(out)) => Reaction::sends(out),
+            Err(error) => Reaction::refuses(alloc, error),
+        }
+    }
+
+    fn on_lost<W: Wire>(&mut self, alloc: Global, conn: ConnId) -> Reaction {
+        if let Some(place) = place_of_conn(&self.fronts, conn) {
+            self.fronts[place].conn_lost(conn);
+        }
+        Reaction::nothing(alloc)
+    }
+
+    fn on_tick<W: Wire>(&mut self, alloc: Global, moment: Moment) -> Reaction {
+        let mut sent = Vec::new(alloc);
+        let collected = self.collect_all(&mut sent);
+        let swept = self.shared.sweep(&self.rt, moment);
+        reaction(sent, outcome_of_tick(collected, swept))
+    }
+
+    fn on_wake<W: Wire>(&mut self, alloc: Global) -> Reaction {
+        let mut sent = Vec::new(alloc);
+        let collected = self.collect_all(&mut sent);
+        reaction(sent, collected)
+    }
+}

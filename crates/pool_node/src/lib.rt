@@ -1,0 +1,17 @@
+//! All fronts of a site as one node, each with worker threads of its own, on one account book.
+//!
+//! - [`PoolFronts`]: the node. A request goes to the workers of the front that it came to; at each tick, and when a worker
+//!   has waked the node, what is finished is collected and sent on the connection that it came on, if that is still up.
+//! - [`PoolFront`]: one front: its connections, and its [`front_pool::Pool`].
+//! - [`start_fronts`]: starts the fronts of a site. [`COLLECT_LIMIT`]: how much is collected of a front at one event.
+//!
+//! What the node does at each event stands in `specs/Fronts`.
+#![tactic(auto)]
+
+mod front;
+mod fronts;
+mod start;
+
+pub use front::PoolFront;
+pub use fronts::{COLLECT_LIMIT, PoolFronts};
+pub use start::{Bell, StartFault, start_fronts};

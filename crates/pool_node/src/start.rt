@@ -1,0 +1,153 @@
+//! How the fronts of a process are started.
+
+ghost use Rattle.std.specs.Prelude.{◌≡◌, ◌<◌, ◌-◌, length, min, IfOk};
+ghost use Rattle.dia_base.specs.declared.number.NodeNo.{NodeNo};
+ghost use Rattle.pool_node.specs.Fronts.{new_front, new_fronts, site_of};
+
+use crate::front::PoolFront;
+use crate::fronts::PoolFronts;
+use cc_shared::{Seat, SharedBook};
+use dia_avp::Wire;
+use dia_base::{Listing, NodeNo};
+use farm_base::Site;
+use front_pool::{Pool, PoolQueue, PoolSite, Pooling, Wake, Wakes};
+use std::alloc::{AllocError, AllocFailed, Global};
+use std::rt::Clock;
+use std::sync::{Arc, Wait};
+use std::thread::Threads;
+use thiserror::Error;
+
+/// Why the fronts of a process are not started.
+#[derive(Clone, Copy, Debug, PartialEq, Eq, Error)]
+pub enum StartFault {
+    #[error("out of memory")]
+    OutOfMemory,
+    /// A worker has no thread, or no memory.
+    #[error("a worker cannot be started")]
+    NoWorker,
+    #[error("node {} is none of the site", node.0)]
+    UnknownNode { node: NodeNo },
+}
+
+impl From<AllocError> for StartFault {
+    fn from(_e: AllocError) -> StartFault {
+        StartFault::OutOfMemory
+    }
+}
+
+impl<T: Drop> From<AllocFailed<T>> for StartFault {
+    fn from(_e: AllocFailed<T>) -> StartFault {
+        StartFault::OutOfMemory
+    }
+}
+
+/// What the workers of several fronts wake, when they have an answer.
+#[derive(Drop)]
+pub struct Bell<K> {
+    pub waker: Arc<K>,
+}
+
+impl<K: Wake> Wake for Bell<K> {
+    fn wake(&self) {
+        self.waker.wake();
+    }
+}
+
+/// What the answers of a front name.
+fn site_of(alloc: Global, site: &Site, node: NodeNo) -> Result<PoolSite, StartFault>
+    ensures { IfOk result (λ made. made ≡ site_of site.now node) }
+{
+    let Some(at) = site.nodes.as_slice().get(node.0 as usize) else {
+        return Err(StartFault::UnknownNode { node });
+    };
+    let vendors = Vec::from_slice(alloc, site.vendors.as_slice())?;
+    Ok(PoolSite {
+        name: at.name.clone()?,
+        realm: site.realm.clone()?,
+        vendors: Listing::from_vec(vendors),
+    })
+}
+
+/// Takes so many seats, or all, where there are not as many. Where memory is refused none is taken.
+fn take_seats<L: Pooling>(seats: &mut Vec<Seat<L>>, count: u32) -> Result<Vec<Seat<L>>, AllocError>
+    ensures taken { IfOk result (λ taken. length taken.items ≡ min count (length seats.old.items)) }
+    ensures left { IfOk result (λ taken. length seats.new.items ≡ length seats.old.items - count) }
+{
+    let left = seats.len().saturating_sub(count as usize);
+    seats.split_off(left)
+}
+
+/// Starts a front, with a worker for each seat.
+fn start_front<W, L, R, K>(
+    rt: &R,
+    alloc: Global,
+    shared: &SharedBook<L>,
+    seats: Vec<Seat<L>>,
+    site: &Site,
+    node: NodeNo,
+    waker: Bell<K>,
+) -> Result<PoolFront<L>, StartFault>
+where
+    W: Wire + Send + 'static,
+    L: Pooling + Send + Sync + 'static,
+    R: Threads + Wait + Clock + Copy + Send + 'static,
+    K: Wake + Drop + Send + Sync + 'static,
+    requires site { (front : NodeNo) → L.site front ≡ site_of site.now front }
+    requires queue { 0 < site.now.queue }
+    ensures { IfOk result (λ front. front ≡ new_front node (length seats.items)) }
+{
+    let own = site_of(alloc, site, node)?;
+    let named = site_of(alloc, site, node)?;
+    let queue = PoolQueue {
+        front: node,
+        name: named.name,
+        realm: named.realm,
+        vendors: named.vendors,
+        jobs: site.queue as usize,
+    };
+    let handle = shared.another()?;
+    match Pool::<L>::start::<W, R, Wakes<Bell<K>>>(
+        rt,
+        alloc,
+        handle,
+        seats,
+        Wakes { waker },
+        queue,
+    ) {
+        Ok(pool) => Ok(PoolFront::new(alloc, node, own, pool)),
+        Err(_failed) => Err(StartFault::NoWorker),
+    }
+}
+
+/// Starts these fronts of a site, on one book, each with as many workers as the site says, for which there is a seat. The
+/// workers wake by `waker` when they have an answer. Where that fails, the process has no use for those that were started.
+pub fn start_fronts<W, L, R, K>(
+    rt: R,
+    alloc: Global,
+    shared: SharedBook<L>,
+    seats: Vec<Seat<L>>,
+    site: &Site,
+    nodes: &[NodeNo],
+    waker: K,
+) -> Result<PoolFronts<L, R>, StartFault>
+where
+    W: Wire + Send + 'static,
+    L: Pooling + Send + Sync + 'static,
+    R: Threads + Wait + Clock + Copy + Send + 'static,
+    K: Wake + Drop + Send + Sync + 'static,
+    requires site { (front : NodeNo) → L.site front ≡ site_of site.now front }
+    requires queue { 0 < site.now.queue }
+    ensures { IfOk result (λ fronts. fronts ≡ new_fronts nodes.now site.now.workers (length seats.items)) }
+{
+    let mut seats = seats;
+    let waker = Arc::new(alloc, waker)?;
+    let mut fronts = Vec::with_capacity(alloc, nodes.len())?;
+    for node in nodes {
+        let own = take_seats(&mut seats, site.workers)?;
+        let bell = Bell {
+            waker: Arc::try_clone(&waker)?,
+        };
+        fronts.push(start_front::<W, L, R, K>(&rt, alloc, &shared, own, site, *node, bell)?)?;
+    }
+    Ok(PoolFronts::new(rt, shared, fronts))
+}
