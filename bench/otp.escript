@@ -1,7 +1,9 @@
 #!/usr/bin/env escript
 %% A client of another make: the diameter application of Erlang/OTP. It connects to the relay of examples/live as
-%% c1.example, sends an EVENT, an INITIAL and an UPDATE, writes "restart" and waits until the relay was killed and started
-%% again, and sends the TERMINATION. A line for each answer; status 1 where one is not as it is to be. Run by bench/otp.
+%% c1.example, sends an EVENT, an INITIAL and an UPDATE, is asked whether it lives, writes "restart" and waits until the relay was
+%% killed and started again. Then it asks whether the relay lives, and sends the TERMINATION, behind which the relay disconnects.
+%% It writes "once more", waits until the relay is there again, and disconnects itself. A line for each answer, and for what OTP
+%% has counted; status 1 where something is not as it is to be. Run by bench/otp.
 -module(otp).
 -export([peer_up/3, peer_down/3, pick_peer/4, prepare_request/3, prepare_retransmit/3, handle_answer/4, handle_error/4, handle_request/3]).
 -mode(compile).
@@ -35,10 +37,18 @@ main([Port, Dictionary]) ->
     expect("EVENT", 2001, 3200, call(Event, 4, 0, #{'Requested-Action' => [0]}, [#{asked => 3200}])),
     expect("INITIAL", 2001, 5000, call(Session, 1, 0, #{}, [#{asked => none}])),
     expect("UPDATE", 2001, 5000, call(Session, 2, 1, #{}, [#{asked => none, used => 4000}])),
+    timer:sleep(4500),
+    counted("watchdogs received and answered", 3, [{{0, 280, 1}, recv}, {{0, 280, 0}, send}]),
     io:format("restart~n"),
     wait(down),
     wait(up),
+    timer:sleep(18000),
+    counted("watchdogs sent and answered", 2, [{{0, 280, 1}, send}, {{0, 280, 0}, recv}]),
     expect("TERMINATION", 2001, none, call(Session, 3, 2, #{}, [#{used => 3000}])),
+    wait(down),
+    counted("disconnects received and answered", 1, [{{0, 282, 1}, recv}, {{0, 282, 0}, send}]),
+    io:format("once more~n"),
+    wait(up),
     ok = diameter:stop_service(?SERVICE),
     io:format("done~n"),
     halt(0).
@@ -61,6 +71,20 @@ wait(What) ->
         io:format("not ~p after 40 s~n", [What]),
         halt(1)
     end.
+
+%% that OTP has counted so many of each of these, on all connections
+counted(What, Least, Counters) ->
+    All = lists:append([Counts || {_, Counts} <- diameter:service_info(?SERVICE, statistics)]),
+    Sums = [lists:sum([Count || {Key, Count} <- All, counts(Key, Counter)]) || Counter <- Counters],
+    io:format("~s: ~p~n", [What, Sums]),
+    case lists:all(fun(Sum) -> Sum >= Least end, Sums) of
+        true -> ok;
+        false -> io:format("and not ~p of each~n", [Least]), halt(1)
+    end.
+
+%% answers are counted with their Result-Code too, which is left out here
+counts(Key, Key) -> true;
+counts(_, _) -> false.
 
 call(Session, Type, Number, More, Services) ->
     Request = maps:merge(More, #{

@@ -26,7 +26,8 @@ _farm() {
     relay) mapfile -t COMPREPLY < <(compgen -W '--site --name --answers --log' -- "$word") ;;
     front) mapfile -t COMPREPLY < <(compgen -W '--site --answers --log' -- "$word") ;;
     send) mapfile -t COMPREPLY < <(compgen -W '--site --client --peer --log' -- "$word") ;;
-    check | replay | report | picture) mapfile -t COMPREPLY < <(compgen -W '--site' -- "$word") ;;
+    picture) mapfile -t COMPREPLY < <(compgen -W '--site --from --to' -- "$word") ;;
+    check | replay | report) mapfile -t COMPREPLY < <(compgen -W '--site' -- "$word") ;;
   esac
 }
 complete -o filenames -F _farm farm

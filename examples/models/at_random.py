@@ -28,6 +28,9 @@ WEIGHTS = {"up": 5, "send": 6, "deliver": 14, "pick": 6, "charge": 6, "emit": 6,
            "restart": 1}
 # The same, where the book is swept among other steps.
 WITH_SWEEPS = {**WEIGHTS, "sweep": 1}
+# The same, where nodes learn of their connections apart.
+WITH_ENDS = {"up": 3, "accept": 6, "opened": 12, "send": 8, "deliver": 22, "pick": 8, "charge": 8, "emit": 8, "refuse": 1,
+             "lose": 1, "drop": 5, "crash": 1, "cut": 1, "restart": 1, "sweep": 1}
 # The words that bring what is under way to its end.
 ENDING = ("deliver", "pick", "charge", "emit")
 UNDER_WAY = 8
@@ -80,6 +83,7 @@ RING = Scene(site_named("ring"), hosts=[F1, F2, F3, F3, R2, R3, C1, "F2.EXAMPLE"
              extras=[rated(20, CC_TIME, asked=None), rated(20, CC_TIME, asked=61, used=59),
                      rated(20, CC_TIME, asked=600, used=61), pieces(7, 1), pieces(7, None), pieces(7, 11)],
              weights=WEIGHTS | {"deliver": 20, "cut": 2, "lose": 2})
+ENDS = replace(RING, weights=WITH_ENDS)
 
 
 class Requests:
@@ -306,11 +310,14 @@ COMMENTS = {
     "sweeps": "# Sessions of two clients, by relays and directly, with minutes between their requests, losses, cuts,\n"
               "# restarts, and sweeps that end some and not others, chosen at random by models/at_random.py.\n",
     "ring": "# Requests of three clients by a ring of relays, with losses, cuts, restarts and what is sent again,\n"
-            "# chosen at random by models/at_random.py.\n"}
+            "# chosen at random by models/at_random.py.\n",
+    "ends": "# Requests of three clients by a ring of relays, whose nodes learn apart that connections are made and have\n"
+            "# ended, and crash unnoticed, chosen at random by models/at_random.py.\n"}
 STORED = {"random/relays-at-random": ("relays", 160), "random/skips-at-random": ("skips", 64),
           "random/sweeps-at-random": ("sweeps", 55)}
 # Those that are stored beside a site file.
-STORED_BY_SITE = {"ring": {"at-random-1": ("ring", 46), "at-random-2": ("ring", 36), "at-random-3": ("ring", 37)}}
+STORED_BY_SITE = {"ring": {"at-random-1": ("ring", 46), "at-random-2": ("ring", 36), "at-random-3": ("ring", 37),
+                           "ends-at-random": ("ends", 1)}}
 
 
 def relays(seed, scene=ROW):
@@ -343,11 +350,15 @@ def ring(seed):
     return relays(seed, RING)
 
 
-KINDS = {"relays": relays, "skips": skips, "sweeps": sweeps, "ring": ring}
+def ends(seed):
+    return relays(seed, ENDS)
+
+
+KINDS = {"relays": relays, "skips": skips, "sweeps": sweeps, "ring": ring, "ends": ends}
 
 
 def site_of_kind(kind):
-    return RING.site if kind == "ring" else ROW.site
+    return RING.site if kind in ("ring", "ends") else ROW.site
 
 
 def schedule(kind, seed):

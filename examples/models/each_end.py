@@ -15,25 +15,23 @@ import sys
 from collections import Counter
 from dataclasses import replace
 
-from at_random import RING, ROW, Dice, Player, Requests
+from at_random import RING, ROW, WITH_ENDS, Dice, Player, Requests
 from credit_control import Refused, credit_control_answer, request_of
 from diameter import ERROR, FAILED_AVP, ORIGIN_HOST, RESULT_CODE, NoList, first, refusal, split
-from messages import DEBIT, again
+from ends import (crashed_relay, crashed_unnoticed, cut_where_one_knows, faster_way, given_up, old_front_charges_first,
+                  old_front_reads_on, one_end_alone)
 from nodes import Relay
 from random_requests import RandomRequests
 from random_sites import RandomSite
-from row_site import C1, F1, F2, R1, R2, ROW_SITE
+from row_site import C1, F1, R1, ROW_SITE
 from rows import answer_with, output, printed
 from scenarios import Script
 from site_data import CLIENT, FRONT, RELAY
 from site_file import site_of
-from site_stories import R3, site_named
+from site_stories import site_named
 from world import Connection, World
 
 RUNS = 200
-# How often a step of each word is chosen among those that apply.
-WEIGHTS = {"up": 3, "accept": 6, "opened": 12, "send": 8, "deliver": 22, "pick": 8, "charge": 8, "emit": 8, "refuse": 1,
-           "lose": 1, "drop": 5, "crash": 1, "cut": 1, "restart": 1, "sweep": 1}
 STEPS = 160
 # So many odd things of a run are told at most.
 MANY = 3
@@ -41,39 +39,23 @@ MANY = 3
 
 # ---- Worked examples
 
-def relayed(*pairs):
-    """c1's debit has come to r1, which has sent it to f1; r1 is connected with f2 too."""
-    return Script("").up((C1, R1), (R1, F1), (R1, F2), *pairs).send(C1, R1, message=DEBIT)
-
-
-def by_the_other_front(script, moment=1000):
-    return script.carry(R1, F2).answer(F2, moment).carry(F2, R1, C1)
-
-
 def the_old_front_reads_on():
     """r1 drops f1 and sends to f2, which charges; f1 reads what was sent before, and answers nobody."""
-    script = by_the_other_front(relayed().step("drop", R1, F1)).carry(R1, F1).answer(F1, 2000)
-    yield (output(script.played()),
+    script = old_front_reads_on()
+    yield (output(script.first(16).played()),
            printed([f"recv {C1} 1 {answer_with(front=b'f2')}"], "steps 16 skipped 0 entries 1", b1=980))
-    beyond = script.step("deliver", F1, R1, 0).played()
-    yield output(beyond)[-7], "end steps 17 skipped 1 entries 1"
+    yield output(script.played())[-7], "end steps 17 skipped 1 entries 1"
 
 
 def the_old_front_charges_first():
     """The same, but f1 charges before f2 does: f2 gives the kept reply."""
-    script = by_the_other_front(relayed().step("drop", R1, F1).carry(R1, F1).answer(F1, 1000), 2000)
-    yield (output(script.played()),
+    yield (output(old_front_charges_first().played()),
            printed([f"recv {C1} 1 {answer_with(front=b'f2')}"], "steps 16 skipped 0 entries 1", b1=980))
 
 
 def the_new_way_is_faster():
     """r1 has sent to r2, drops it, and sends by r3, which sends to r2 too: r2 reads what came by r3 first."""
-    site = site_named("ring")
-    script = Script("").up((C1, R1), (R1, R2), (R1, R3), (R2, R3), (R2, F2)).send(C1, R1, message=DEBIT)
-    script.step("drop", R1, R2).carry(R1, R3, R2, F2).carry(R1, R2, F2)
-    script.answer(F2, 1000).answer(F2, 2000)
-    script.carry(F2, R2).carry(F2, R2).carry(R2, R3, R1, C1)
-    world = script.step("deliver", R2, R1, 0).played(site)
+    world = faster_way().played(site_named("ring"))
     yield ([(client, conn, message.octets().hex()) for client, conn, message in world.received],
            [(C1, 1, answer_with(front=b"f2"))])
     yield (world.book.entries, world.skipped, world.steps), (1, 1, 25)
@@ -81,39 +63,31 @@ def the_new_way_is_faster():
 
 def nobody_is_there_any_more():
     """r1 crashes with a request pending; f1 answers into nothing; c1 drops, connects and sends again: one charge."""
-    script = Script("").up((C1, R1), (R1, F1)).send(C1, R1, F1, message=DEBIT).step("crash", R1).answer(F1, 1000)
-    script.step("deliver", F1, R1, 0).step("up", C1, R1).step("drop", C1, R1).step("drop", F1, R1)
-    script.up((C1, R1), (R1, F1)).send(C1, R1, F1, message=again(DEBIT, 8)).answer(F1, 2000).carry(F1, R1, C1)
-    yield (output(script.played()),
+    yield (output(crashed_relay().played()),
            printed([f"recv {C1} 3 {answer_with(8)}"], "steps 23 skipped 2 entries 1", b1=980))
 
 
-def one_end_alone():
+def one_end_drops():
     """r1 takes a connection and drops it before c1 has learned of it: c1 sends into nothing until it drops it too."""
-    script = Script("").step("accept", R1, C1).step("drop", R1, C1)
-    yield script.step("accept", R1, C1).played().skipped, 1
-    yield script.step("opened", C1, R1).step("send", C1, R1, DEBIT).step("deliver", C1, R1, 0).played().skipped, 2
-    yield script.step("accept", R1, C1).step("drop", C1, R1).step("drop", C1, R1).played().skipped, 4
-    yield script.step("accept", R1, C1).step("opened", C1, R1).up((R1, F1)).played().skipped, 4
-    script.send(C1, R1, F1, message=DEBIT).answer(F1, 1000).carry(F1, R1, C1)
+    script = one_end_alone()
+    yield [script.first(steps).played().skipped for steps in (3, 6, 9, 12)], [1, 2, 4, 4]
     yield (output(script.played()),
            printed([f"recv {C1} 2 {answer_with()}"], "steps 20 skipped 4 entries 1", b1=980))
 
 
-def given_up():
+def one_end_is_given_up():
     """c1 gives a connection up of which it has not learned: nothing happens to c1, and r1 has to drop it too."""
-    script = Script("").step("accept", R1, C1).step("send", C1, R1, DEBIT).step("drop", C1, R1)
-    yield script.played().skipped, 1
-    yield script.step("opened", C1, R1).step("drop", C1, R1).step("accept", R1, C1).played().skipped, 4
-    world = script.step("drop", R1, C1).step("accept", R1, C1).played()
+    script = given_up()
+    yield [script.first(steps).played().skipped for steps in (3, 6)], [1, 4]
+    world = script.played()
     yield (world.skipped, world.made, world.knows(R1, C1), world.knows(C1, R1)), (4, 2, True, False)
 
 
-def crashed_unnoticed():
+def a_front_has_crashed():
     """f1 crashes: there is no new connection before r1 has dropped the old one, whichever of the two opens it."""
-    script = Script("").up((R1, F1)).step("crash", F1).step("accept", F1, R1).step("accept", R1, F1).step("up", R1, F1)
-    yield script.played().skipped, 3
-    world = script.step("drop", R1, F1).step("accept", F1, R1).played()
+    script = crashed_unnoticed()
+    yield script.first(5).played().skipped, 3
+    world = script.played()
     yield (world.skipped, world.made, world.knows(F1, R1), world.knows(R1, F1)), (3, 2, True, False)
 
 
@@ -122,15 +96,14 @@ def nobody_but_servers_crashes():
     yield (world.skipped, world.knows(C1, R1), world.knows(R1, C1)), (3, True, True)
 
 
-def cut_where_one_knows():
+def one_knows_what_is_cut():
     """A cut ends a connection that one of the two knows, and not one that nobody knows."""
-    script = Script("").step("accept", R1, C1).step("cut", C1, R1).step("accept", R1, C1)
-    world = script.step("drop", R1, C1).step("cut", C1, R1).played()
+    world = cut_where_one_knows().played()
     yield (world.skipped, world.made, len(world.connections)), (1, 2, 1)
 
 
 ROWS = [the_old_front_reads_on, the_old_front_charges_first, the_new_way_is_faster, nobody_is_there_any_more,
-        one_end_alone, given_up, crashed_unnoticed, nobody_but_servers_crashes, cut_where_one_knows]
+        one_end_drops, one_end_is_given_up, a_front_has_crashed, nobody_but_servers_crashes, one_knows_what_is_cut]
 
 
 def failures():
@@ -364,7 +337,7 @@ class Wanderer(Player):
     """Chooses steps of all words, and drops and crashes whatever is under way."""
 
     def __init__(self, dice, scene, made):
-        super().__init__(dice, replace(scene, weights=WEIGHTS))
+        super().__init__(dice, replace(scene, weights=WITH_ENDS))
         self.world, self.faults, self.odd = made(scene.site), [], []
         self.told = AtOnce(scene.site) if made is Watched else None
         self.requests = Requests(dice, scene) if scene.hosts else RandomRequests(dice, self.world)

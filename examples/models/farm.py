@@ -5,17 +5,16 @@
     farm.py report [--site FILE]     the same without what clients receive
     farm.py write FOLDER             writes the model's own schedules into a folder, each with its output; those over
                                      sites of their own below sites/
-    farm.py random KIND SEED         prints a schedule chosen at random; KIND is relays, skips, sweeps or
-                                     ring
+    farm.py random KIND SEED         prints a schedule chosen at random; KIND is relays, skips, sweeps,
+                                     ring or ends
     farm.py check FOLDER             plays worked examples, compares each .schedule of the folder with its .out, and
                                      compares random runs of farms whose relays choose identifiers in different ways
 
 Its parts: diameter.py has messages, credit_control.py requests and answers, book.py the accounts, site_data.py what a
 site is, row_site.py the row site, site_file.py how a site file is read, nodes.py clients, fronts and relays, world.py
 the farm, its steps and its output, program.py the command line, messages.py, scenarios.py and site_stories.py the
-schedules written by hand, at_random.py those that are chosen, rows.py the worked examples, each_end.py those of
-connections of which the two nodes learn apart, by the steps `accept`, `opened`, `drop` and `crash`, which the program
-does not know yet. Three programs stand beside it: request.py prints a request for a schedule of one's own, follow.py
+schedules written by hand, ends.py those of connections of which the two nodes learn apart, at_random.py those that are
+chosen, rows.py and each_end.py the worked examples. Three programs stand beside it: request.py prints a request for a schedule of one's own, follow.py
 what a schedule puts in flight at each step, and at_large.py compares the program with the model in random runs.
 """
 import sys
@@ -25,6 +24,7 @@ import each_end
 import program
 from at_random import KINDS, STORED, STORED_BY_SITE, Dice, schedule, site_of_kind
 from each_end import found_in
+from ends import ENDS, ENDS_OF_THE_RING
 from program import run
 from row_site import ROW_SITE
 from rows import ROWS, failures
@@ -79,6 +79,10 @@ def stored_schedules():
         yield name, ROW_SITE, script().text()
     for name, (kind, seed) in STORED.items():
         yield name, ROW_SITE, schedule(kind, seed)
+    for name, script in ENDS.items():
+        yield name, ROW_SITE, script().text()
+    for name, script in ENDS_OF_THE_RING.items():
+        yield f"sites/ring/{name}", site_named("ring"), script().text()
     for site, stories in STORIES.items():
         for name, script in stories.items():
             yield f"sites/{site}/{name}", site_named(site), script().text()

@@ -16,11 +16,12 @@ from site_file import site_of
 from world import World
 
 LEAST_STEPS, MOST_STEPS = 20, 500
-# How steps are weighed: mostly brought home, with many losses, with many messages under way, with workers that are slow
-# or refuse, and with sweeps.
-WEIGHTS = {"up": 20, "send": 24, "deliver": 70, "pick": 30, "charge": 30, "emit": 30, "refuse": 1, "lose": 2, "cut": 2,
-           "restart": 1, "sweep": 1}
+# How steps are weighed: mostly brought home, with many losses, with many ends that go alone, with many messages under way,
+# with workers that are slow or refuse, and with sweeps.
+WEIGHTS = {"up": 20, "accept": 4, "opened": 16, "send": 24, "deliver": 70, "pick": 30, "charge": 30, "emit": 30, "refuse": 1,
+           "lose": 2, "cut": 2, "drop": 4, "restart": 1, "crash": 1, "sweep": 1}
 MOODS = [WEIGHTS, WEIGHTS, WEIGHTS | {"cut": 10, "restart": 5, "lose": 10},
+         WEIGHTS | {"accept": 16, "opened": 30, "drop": 16, "crash": 5},
          WEIGHTS | {"send": 80, "pick": 6, "charge": 8, "emit": 6}, WEIGHTS | {"refuse": 10, "emit": 8, "cut": 6},
          WEIGHTS | {"sweep": 12}]
 UNDER_WAY = [4, 8, 8, 16, 60]

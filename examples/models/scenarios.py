@@ -41,6 +41,12 @@ class Script:
     def answer(self, front, moment, worker=0):
         return self.charge(front, worker, moment).step("emit", front, worker)
 
+    def first(self, count):
+        """The schedule of the first steps alone."""
+        script = Script(self.comment)
+        script.steps = self.steps[:count]
+        return script
+
     def text(self):
         comment = textwrap.wrap(self.comment, 116, break_on_hyphens=False)
         return "".join([f"# {line}\n" for line in comment] + [spelled_step(*step) for step in self.steps])

@@ -6,8 +6,18 @@ use dia_message::Message;
 /// One step of the farm. A step that does not apply is skipped when the schedule is run.
 #[derive(Debug, Drop, PartialEq, Eq)]
 pub enum Step {
-    /// A connection between two nodes comes up.
+    /// A connection between two nodes comes up, and both know it: `Accept` and then `Opened`.
     Up {
+        a: NodeNo,
+        b: NodeNo,
+    },
+    /// A node accepts a connection that another one opens. It knows the connection; the other does not yet.
+    Accept {
+        at: NodeNo,
+        from: NodeNo,
+    },
+    /// The node that opens a connection learns that it is made, even where the other has dropped it by then.
+    Opened {
         a: NodeNo,
         b: NodeNo,
     },
@@ -29,14 +39,24 @@ pub enum Step {
         to: NodeNo,
         place: u64,
     },
-    /// The connection between two nodes ends, with all that is in flight on it. First the one learns it, then
+    /// All that is in flight between two nodes is lost, and their connection ends: `Drop` by the one, then by
     /// the other.
     Cut {
         a: NodeNo,
         b: NodeNo,
     },
-    /// A relay or a front begins anew: its connections end, and all that it held is gone.
+    /// A node learns that its connection with another one has ended; of one that it has not learned of yet it
+    /// never will. What is on its way to it is gone. The other node knows nothing of that.
+    Drop {
+        a: NodeNo,
+        b: NodeNo,
+    },
+    /// A relay or a front begins anew, and all that it held is gone: `Crash`, and then `Drop` by each of its peers.
     Restart {
+        node: NodeNo,
+    },
+    /// A relay or a front forgets everything, and what is on its way to it is gone. Its peers know nothing of that.
+    Crash {
         node: NodeNo,
     },
     /// An idle worker takes the first job of the front's queue. Workers count from 0.

@@ -3,6 +3,7 @@
 ghost use Rattle.std.specs.Prelude.{◌≡◌};
 ghost use Rattle.farm_check.specs.declared.fault.CheckFault.TheVariants.{OutOfMemory};
 
+use farm_access::AccessFault;
 use farm_site::SiteFault;
 use std::alloc::{AllocError, AllocFailed};
 use thiserror::Error;
@@ -17,6 +18,9 @@ pub enum CheckFault {
     /// The first fault of the site file, and what is told of it: its own line, its place, and what was expected there.
     #[error("{1}")]
     Site(SiteFault, String),
+    /// What the file says of where a node may connect from is refused; and what is told of it, likewise.
+    #[error("{1}")]
+    Access(AccessFault, String),
     #[error("the output cannot be written")]
     Write,
     #[error("out of memory")]
@@ -30,7 +34,7 @@ impl CheckFault {
         match self {
             CheckFault::SiteFile | CheckFault::Write => 1,
             CheckFault::Words => 2,
-            CheckFault::Site(_, _) => 3,
+            CheckFault::Site(_, _) | CheckFault::Access(_, _) => 3,
             CheckFault::OutOfMemory => 4,
         }
     }

@@ -19,7 +19,7 @@ const OWN_KEYS: [&str; 14] = [
 
 /// The keys of the entries of each table, in the order of [`TABLES`].
 const ENTRY_KEYS: [&[&str]; 5] = [
-    &["name", "kind", "address"],
+    &["name", "kind", "address", "from"],
     &["from", "to"],
     &["at", "realm", "app", "peers"],
     &[

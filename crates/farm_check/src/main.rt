@@ -14,6 +14,7 @@ mod lines;
 mod money;
 mod names;
 mod nodes;
+mod origins;
 mod parts;
 mod places;
 mod summary;
@@ -24,6 +25,7 @@ use farm_text::{ReadFault, TEXT_LIMIT, read_text, write_text};
 use fault::CheckFault;
 use keys::push_unknown_keys;
 use lines::Lines;
+use origins::{check_origins, push_open_nodes};
 use std::alloc::Global;
 use std::fs::File;
 use std::io::{ErrorKind, Write};
@@ -42,8 +44,10 @@ fn told_of(alloc: Global, file: &[u8]) -> Result<Lines, CheckFault>
 {
     match site_of_octets(alloc, file) {
         Ok(site) => {
+            check_origins(alloc, file)?;
             let mut lines = Lines::new(alloc);
             push_summary(alloc, &mut lines, &site)?;
+            push_open_nodes(alloc, &mut lines, &site, file)?;
             push_unknown_keys(alloc, &mut lines, file)?;
             lines.end()?;
             Ok(lines)

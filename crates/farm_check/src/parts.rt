@@ -85,7 +85,7 @@ fn entry_count(document: &Table, table: &str) -> usize {
 
 /// The file up to so many entries of the table at this place, with the tables that are checked before it; none where that
 /// cannot be had.
-fn beginning_of(alloc: Global, text: &str, place: usize, count: usize) -> Option<String> {
+pub fn beginning_of(alloc: Global, text: &str, place: usize, count: usize) -> Option<String> {
     let mut document = toml::table_from_str(alloc, text).ok()?;
     for (other, table) in TABLES.iter().enumerate() {
         if other > place {

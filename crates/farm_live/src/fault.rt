@@ -1,11 +1,14 @@
 //! Why the program does not do what it is asked to do.
 
+use farm_access::AccessFault;
 use farm_client::LinesFault;
 use farm_loop::LoopFault;
 use farm_place::PlaceFault;
 use farm_site::SiteFault;
 use live_command::LiveFault;
+use pool_node::StartFault;
 use std::alloc::{AllocError, AllocFailed};
+use std::io;
 use thiserror::Error;
 
 /// Why the program does not do what it is asked to do.
@@ -19,6 +22,9 @@ pub enum Fault {
     /// What the site file spells is refused, or memory ran out while it was read.
     #[error("{0}")]
     Site(SiteFault),
+    /// What it says of who may connect from where is refused, or memory ran out.
+    #[error("{0}")]
+    Access(AccessFault),
     /// The site has no such node, or one without an address.
     #[error("{0}")]
     Place(PlaceFault),
@@ -30,6 +36,9 @@ pub enum Fault {
     Write,
     #[error("{0}")]
     Loop(LoopFault),
+    /// The workers of the fronts are not started.
+    #[error("{0}")]
+    Start(StartFault),
     /// The connection of a client has ended before each request was answered.
     #[error("the connection has ended")]
     Ended,
@@ -40,6 +49,18 @@ pub enum Fault {
 impl From<LoopFault> for Fault {
     fn from(fault: LoopFault) -> Fault {
         Fault::Loop(fault)
+    }
+}
+
+impl From<io::Error> for Fault {
+    fn from(error: io::Error) -> Fault {
+        Fault::Loop(error.into())
+    }
+}
+
+impl From<StartFault> for Fault {
+    fn from(fault: StartFault) -> Fault {
+        Fault::Start(fault)
     }
 }
 
@@ -67,18 +88,22 @@ pub fn status_of(fault: &Fault) -> u8 {
             | LiveFault::NotUtf8,
         ) => 2,
         Fault::Site(SiteFault::OutOfMemory)
+        | Fault::Access(AccessFault::OutOfMemory)
         | Fault::Words(LiveFault::OutOfMemory)
         | Fault::Place(PlaceFault::OutOfMemory)
         | Fault::Lines(LinesFault::OutOfMemory)
         | Fault::Loop(LoopFault::OutOfMemory)
+        | Fault::Start(StartFault::OutOfMemory)
         | Fault::OutOfMemory => 4,
         Fault::Site(_)
+        | Fault::Access(_)
         | Fault::Place(PlaceFault::NoAddress | PlaceFault::UnknownName { .. })
         | Fault::Lines(LinesFault::NoMessage { .. }) => 3,
         Fault::SiteFile
         | Fault::Read
         | Fault::Write
         | Fault::Loop(LoopFault::Sockets(_))
+        | Fault::Start(StartFault::NoWorker | StartFault::UnknownNode { .. })
         | Fault::Ended => 1,
     }
 }

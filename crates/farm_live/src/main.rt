@@ -1,11 +1,13 @@
 //! Nodes of a Diameter farm over TCP, and a client that sends requests to them.
 //!
 //! - `program`: words, site file, and what is asked for: to serve as a relay or as all fronts, or to send.
+//! - `waker`: how the workers of fronts end the wait of the loop.
 //! - `fault`: why the program does not do it, and its exit status.
 #![tactic(auto)]
 
 mod fault;
 mod program;
+mod waker;
 
 use fault::{Fault, status_of};
 use live_command::LiveFault;

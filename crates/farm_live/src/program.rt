@@ -1,30 +1,41 @@
 //! What the program does, from the words of its command line on.
 
-ghost use Rattle.std.specs.Prelude.{IfOk};
+ghost use Rattle.std.specs.Prelude.{◌≡◌, ◌<◌, IfOk};
+ghost use Rattle.dia_base.specs.declared.number.NodeNo.{NodeNo};
 ghost use Rattle.farm_base.specs.CheckedSite.{IsChecked};
+ghost use Rattle.pool_node.specs.Fronts.{site_of};
 
 use crate::Logger;
 use crate::fault::Fault;
+use crate::waker::LoopWaker;
+use cc_book::Book;
+use cc_shared::SharedBook;
+use dia_avp::PlainWire;
 use dia_message::Message;
+use farm_access::Access;
 use farm_base::Site;
 use farm_client::{Sender, line_of, messages_of};
-use farm_loop::Live;
+use farm_loop::{Live, Sockets};
 use farm_node::Node;
 use farm_place::{Place, PlaceFault, fronts_of, place_of, place_of_client, place_of_relay};
-use farm_serve::{FrontAt, Fronts};
 use farm_site::site_of_octets;
 use farm_text::{ReadFault, read_text};
 use farm_world::{empty_book, relays_of};
+use front_pool::Pooling;
 use live_command::{LiveCommand, LiveFault, Task, command_of};
 use log::Logged;
 use log::sink::Console;
+use pool_node::start_fronts;
 use relay_core::Relay;
 use std::env;
 use std::fs::File;
 use std::io::ErrorKind;
+use std::marker::Brand;
 use std::net::Net;
 use std::rt::Clock;
 use std::sync::Wait;
+use std::sync::ledger::Blank;
+use std::thread::Threads;
 
 /// The words behind the program's name.
 fn words_of(rt: &HostRuntime) -> Result<Vec<String>, LiveFault> {
@@ -38,36 +49,43 @@ fn words_of(rt: &HostRuntime) -> Result<Vec<String>, LiveFault> {
     }
 }
 
-/// The site of a file.
-fn site_at(rt: &HostRuntime, path: &str) -> Result<Site, Fault>
-    ensures { IfOk result IsChecked }
-{
+/// The octets of the site file.
+fn site_file(rt: &HostRuntime, path: &str) -> Result<Vec<u8>, Fault> {
     let Ok(mut file) = File::open(rt, path) else {
         return Err(Fault::SiteFile);
     };
-    let octets = match read_text(rt.alloc(), &mut file) {
-        Ok(octets) => octets,
-        Err(ReadFault::OutOfMemory) => return Err(Fault::OutOfMemory),
-        Err(ReadFault::Failed) => return Err(Fault::SiteFile),
-    };
-    match site_of_octets(rt.alloc(), &octets) {
-        Ok(site) => Ok(site),
-        Err(fault) => Err(Fault::Site(fault)),
+    match read_text(rt.alloc(), &mut file) {
+        Ok(octets) => Ok(octets),
+        Err(ReadFault::OutOfMemory) => Err(Fault::OutOfMemory),
+        Err(ReadFault::Failed) => Err(Fault::SiteFile),
     }
 }
 
-/// Serves until so many answers were sent; 0 for ever.
+/// The site that a file spells.
+fn site_of(rt: &HostRuntime, file: &[u8]) -> Result<Site, Fault>
+    ensures { IfOk result IsChecked }
+{
+    site_of_octets(rt.alloc(), file).map_err(Fault::Site)
+}
+
+/// Who may connect to the nodes of the site from where, as its file spells it.
+fn access_of(rt: &HostRuntime, file: &[u8]) -> Result<Access, Fault> {
+    Access::read(rt.alloc(), file).map_err(Fault::Access)
+}
+
+/// Serves those who may connect until so many answers were sent; 0 for ever.
 fn serve<O: Wait + Net + Clock, N: Node + Drop>(
     os: &O,
     log: &Logger,
     site: &Site,
+    access: &Access,
     live: &mut Live<N>,
     answers: u64,
 ) -> Result<(), Fault> {
     for _ in os.forever() {
-        live.turn(os, log, site)?;
+        live.turn(os, log, site, access)?;
         if answers > 0 && live.serving.answers() >= answers {
-            return close(os, log, site, live);
+            return close(os, log, site, access, live);
         }
     }
     Ok(())
@@ -78,6 +96,7 @@ fn close<O: Wait + Net + Clock, N: Node + Drop>(
     os: &O,
     log: &Logger,
     site: &Site,
+    access: &Access,
     live: &mut Live<N>,
 ) -> Result<(), Fault> {
     live.close(os)?;
@@ -85,7 +104,7 @@ fn close<O: Wait + Net + Clock, N: Node + Drop>(
         if live.serving.count() == 0 {
             return Ok(());
         }
-        live.turn(os, log, site)?;
+        live.turn(os, log, site, access)?;
     }
     Ok(())
 }
@@ -108,6 +127,7 @@ fn serve_relay<O: Wait + Net + Clock>(
     rt: &HostRuntime,
     log: &Logger,
     site: &Site,
+    access: &Access,
     name: &str,
     answers: u64,
 ) -> Result<(), Fault>
@@ -118,7 +138,7 @@ fn serve_relay<O: Wait + Net + Clock>(
     let mut places = Vec::with_capacity(rt.alloc(), 1)?;
     places.push(place)?;
     let mut live = Live::new(os, rt.alloc(), site, relay, places)?;
-    serve(os, log, site, &mut live, answers)
+    serve(os, log, site, access, &mut live, answers)
 }
 
 /// The places of all fronts of the site.
@@ -133,35 +153,64 @@ fn places_of_fronts(rt: &HostRuntime, site: &Site) -> Result<Vec<Place>, Fault>
     Ok(places)
 }
 
-/// All fronts of the site with their book.
-fn fronts_with_book(rt: &HostRuntime, site: &Site) -> Result<Fronts, Fault>
-    requires { IsChecked site.now }
-{
-    let made = farm_world::fronts_of(rt.alloc(), site)?;
-    let mut fronts = Vec::with_capacity(rt.alloc(), made.len())?;
-    for at in made {
-        fronts.push(FrontAt {
-            node: at.node,
-            front: at.front,
-        })?;
-    }
-    Ok(Fronts::new(fronts, empty_book(rt.alloc(), site)?))
-}
-
-/// Serves as all fronts of the site.
-fn serve_fronts<O: Wait + Net + Clock>(
+/// Serves as all fronts of the site, on this book, with so many workers.
+fn serve_on<L, O>(
     os: &O,
     rt: &HostRuntime,
     log: &Logger,
     site: &Site,
+    access: &Access,
+    answers: u64,
+    blank: Blank,
+    book: Book,
+    workers: u64,
+) -> Result<(), Fault>
+where
+    L: Pooling + Send + Sync + 'static,
+    O: Threads + Wait + Net + Clock + Copy + Send + 'static,
+    requires checked { IsChecked site.now }
+    requires name { blank.name ≡ L.name }
+    requires parts { (blank.parts ≡ L.parts) × (blank.parts ≡ workers) }
+    requires book { book ≡ L.opened }
+    requires some { 0 < workers }
+    requires site { (front : NodeNo) → L.site front ≡ site_of site.now front }
+{
+    let places = places_of_fronts(rt, site)?;
+    let nodes = fronts_of(rt.alloc(), site)?;
+    let sockets = Sockets::new(os, rt.alloc())?;
+    let waker = LoopWaker(sockets.waker()?);
+    let Ok((shared, seats)) = SharedBook::<L>::share(rt.alloc(), blank, book, workers) else {
+        return Err(Fault::OutOfMemory);
+    };
+    let fronts = start_fronts::<PlainWire, L, O, LoopWaker>(
+        *os,
+        rt.alloc(),
+        shared,
+        seats,
+        site,
+        &nodes,
+        waker,
+    )?;
+    let mut live = Live::over(os, rt.alloc(), site, sockets, fronts, places)?;
+    serve(os, log, site, access, &mut live, answers)
+}
+
+/// Serves as all fronts of the site, each with as many workers as the site says.
+fn serve_fronts<O: Threads + Wait + Net + Clock + Copy + Send + 'static>(
+    os: &O,
+    rt: &HostRuntime,
+    log: &Logger,
+    site: &Site,
+    access: &Access,
     answers: u64,
 ) -> Result<(), Fault>
     requires { IsChecked site.now }
 {
-    let places = places_of_fronts(rt, site)?;
-    let fronts = fronts_with_book(rt, site)?;
-    let mut live = Live::new(os, rt.alloc(), site, fronts, places)?;
-    serve(os, log, site, &mut live, answers)
+    let fronts = fronts_of(rt.alloc(), site)?.len() as u64;
+    let workers = fronts.saturating_mul(u64::from(site.workers)).max(1);
+    let book = empty_book(rt.alloc(), site)?;
+    let blank = Blank::new(workers);
+    serve_on::<Brand, O>(os, rt, log, site, access, answers, blank, book, workers)
 }
 
 /// The messages of standard input.
@@ -191,6 +240,7 @@ fn send<O: Wait + Net + Clock>(
     rt: &HostRuntime,
     log: &Logger,
     site: &Site,
+    access: &Access,
     client: &str,
     peer: &str,
 ) -> Result<(), Fault>
@@ -208,34 +258,39 @@ fn send<O: Wait + Net + Clock>(
     let mut printed = 0;
     for _ in os.forever() {
         if live.serving.node().is_done() {
-            return close(os, log, site, &mut live);
+            return close(os, log, site, access, &mut live);
         }
         if live.has_lost() {
             return Err(Fault::Ended);
         }
-        live.turn(os, log, site)?;
+        live.turn(os, log, site, access)?;
         printed = print_answers(rt, live.serving.node().answers(), printed)?;
     }
     Ok(())
 }
 
 /// Carries out a command.
-fn carry_out<O: Wait + Net + Clock>(
+fn carry_out<O: Threads + Wait + Net + Clock + Copy + Send + 'static>(
     os: &O,
     rt: &HostRuntime,
     command: &LiveCommand,
 ) -> Result<(), Fault> {
     let log = Logged::new(*rt, command.level, Console(*rt));
-    let site = site_at(rt, &command.site)?;
+    let file = site_file(rt, &command.site)?;
+    let site = site_of(rt, &file)?;
+    let access = access_of(rt, &file)?;
     match &command.task {
-        Task::Relay { name, answers } => serve_relay(os, rt, &log, &site, name, *answers),
-        Task::Fronts { answers } => serve_fronts(os, rt, &log, &site, *answers),
-        Task::Send { client, peer } => send(os, rt, &log, &site, client, peer),
+        Task::Relay { name, answers } => serve_relay(os, rt, &log, &site, &access, name, *answers),
+        Task::Fronts { answers } => serve_fronts(os, rt, &log, &site, &access, *answers),
+        Task::Send { client, peer } => send(os, rt, &log, &site, &access, client, peer),
     }
 }
 
-/// Does what the words of the command line ask for. Of `os` come the sockets, and the leave to wait.
-pub fn farm<O: Wait + Net + Clock>(os: &O, rt: &HostRuntime) -> Result<(), Fault> {
+/// Does what the words of the command line ask for. Of `os` come the sockets, the threads, and the leave to wait.
+pub fn farm<O>(os: &O, rt: &HostRuntime) -> Result<(), Fault>
+where
+    O: Threads + Wait + Net + Clock + Copy + Send + 'static,
+{
     let words = words_of(rt).map_err(Fault::Words)?;
     let command = command_of(rt.alloc(), &words).map_err(Fault::Words)?;
     carry_out(os, rt, &command)

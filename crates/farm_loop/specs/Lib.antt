@@ -1,1 +1,2 @@
 pub mod Dialing
+pub mod Tokens

@@ -3,6 +3,7 @@
 //!
 //! - [`Live`]: such a process. [`Live::turn`] waits 100 milliseconds at most, reads and writes what is ready, and ends with
 //!   one tick; who calls it says when to end, by [`Live::close`].
+//! - [`Sockets`]: its sockets. [`Sockets::waker`] ends a wait from another thread, and the node is woken then.
 //! - [`Dial`]: a connection that it makes itself, again and again.
 //! - [`LoopFault`]: why it cannot go on.
 //!
@@ -24,6 +25,7 @@ use farm_serve::Serving;
 pub use fault::LoopFault;
 pub use half::Half;
 pub use live::Live;
+pub use sockets::Sockets;
 
 /// A node with its connections over sockets.
 pub type Served<N> = Serving<N, Counted<Half>, Counted<Half>>;

@@ -8,16 +8,17 @@ use crate::sockets::{Ready, Sockets, Source, token_of};
 use crate::{Served, tell};
 use dia_avp::PlainWire;
 use dia_base::{ConnId, Moment, NodeNo};
+use farm_access::{Access, canonical};
 use farm_base::Site;
 use farm_net::Counted;
 use farm_node::Node;
 use farm_place::{Place, socket_of};
-use farm_serve::{LocalNode, NOTE_LIMIT, Note, Serving};
+use farm_serve::{LocalNode, NOTE_LIMIT, Note, Refusal, Serving};
 use log::Log;
 use mio::net::TcpStream;
 use std::alloc::Global;
 use std::io::ErrorKind;
-use std::net::{Net, SocketAddr};
+use std::net::{IpAddr, Net, SocketAddr};
 use std::rt::Clock;
 
 /// The most connections that are taken of one listener in a turn.
@@ -67,6 +68,19 @@ impl<N: Node + Drop> Live<N> {
         node: N,
         places: Vec<Place>,
     ) -> Result<Self, LoopFault> {
+        let sockets = Sockets::new(os, alloc)?;
+        Live::over(os, alloc, site, sockets, node, places)
+    }
+
+    /// The same over sockets of which somebody has the waker.
+    pub fn over<O: Clock>(
+        os: &O,
+        alloc: Global,
+        site: &Site,
+        sockets: Sockets,
+        node: N,
+        places: Vec<Place>,
+    ) -> Result<Self, LoopFault> {
         let dials = dials_of(alloc, site, &places)?;
         let mut addresses = Vec::with_capacity(alloc, places.len())?;
         let mut locals = Vec::with_capacity(alloc, places.len())?;
@@ -85,7 +99,7 @@ impl<N: Node + Drop> Live<N> {
         Ok(Live {
             alloc,
             serving: Serving::new(alloc, node, locals),
-            sockets: Sockets::new(os, alloc)?,
+            sockets,
             dials,
             addresses,
             listens: false,
@@ -100,19 +114,21 @@ impl<N: Node + Drop> Live<N> {
         self.addresses.clear();
     }
 
-    /// One turn: waits 100 milliseconds at most, reads and writes what is ready, and ends with one tick.
+    /// One turn: waits 100 milliseconds at most, reads and writes what is ready, takes connections from where nodes may come,
+    /// and ends with one tick.
     pub fn turn<O: Net + Clock, L: Log>(
         &mut self,
         os: &O,
         log: &L,
         site: &Site,
+        access: &Access,
     ) -> Result<(), LoopFault> {
         let at_once = self.collect_again()?;
         self.sockets.wait(at_once)?;
         let moment = self.timer.now(os)?;
         self.read_again(moment);
         self.serve_ready(moment);
-        self.accept_all(log, site, moment);
+        self.accept_all(log, site, access, moment);
         self.dial_all(os, log, site, moment);
         self.serving.tick::<PlainWire>(moment);
         self.serving.write_all::<PlainWire>(moment);
@@ -190,6 +206,7 @@ impl<N: Node + Drop> Live<N> {
 
     fn serve_one(&mut self, ready: Ready, moment: Moment) {
         match ready.source {
+            Source::Waker => self.serving.wake::<PlainWire>(moment),
             Source::Listener { place } => {
                 if let Some(listening) = self.sockets.listeners.get_mut(place) {
                     listening.is_ready = true;
@@ -207,10 +224,10 @@ impl<N: Node + Drop> Live<N> {
     }
 
     /// Takes the connections that wait at listeners.
-    fn accept_all<L: Log>(&mut self, log: &L, site: &Site, moment: Moment) {
+    fn accept_all<L: Log>(&mut self, log: &L, site: &Site, access: &Access, moment: Moment) {
         for place in 0..self.sockets.listeners.len() {
             for _ in 0..ACCEPT_LIMIT {
-                if !self.accept_one(log, site, place, moment) {
+                if !self.accept_one(log, site, access, place, moment) {
                     break;
                 }
             }
@@ -218,7 +235,14 @@ impl<N: Node + Drop> Live<N> {
     }
 
     /// Takes one connection of a listener; whether there may be another one.
-    fn accept_one<L: Log>(&mut self, log: &L, site: &Site, place: usize, moment: Moment) -> bool {
+    fn accept_one<L: Log>(
+        &mut self,
+        log: &L,
+        site: &Site,
+        access: &Access,
+        place: usize,
+        moment: Moment,
+    ) -> bool {
         let Some(listening) = self.sockets.listeners.get_mut(place) else {
             return false;
         };
@@ -227,8 +251,9 @@ impl<N: Node + Drop> Live<N> {
         }
         let local = listening.local;
         match listening.listener.accept() {
-            Ok((stream, _)) => {
-                self.take(log, site, local, stream, moment);
+            Ok((stream, peer)) => {
+                let address = canonical(peer.ip());
+                self.take(log, site, access, local, stream, address, moment);
                 true
             }
             Err(error) => {
@@ -241,15 +266,26 @@ impl<N: Node + Drop> Live<N> {
         }
     }
 
-    /// Takes a connection that somebody has made to a node of this process.
+    /// Takes a connection that somebody has made to a node of this process, from this address. One from where no node may
+    /// come is closed, and nothing is read of it.
     fn take<L: Log>(
         &mut self,
         log: &L,
         site: &Site,
+        access: &Access,
         local: NodeNo,
         stream: TcpStream,
+        address: IpAddr,
         moment: Moment,
     ) {
+        if !access.admits(address) {
+            tell::not_admitted(log, site, local, address);
+            return;
+        }
+        let Ok(barred) = access.barred(self.alloc, address) else {
+            tell::not_taken(log, site, local, Refusal::OutOfMemory);
+            return;
+        };
         let (reader, writer) = match halves(self.alloc, stream) {
             Ok(both) => both,
             Err(error) => {
@@ -257,11 +293,17 @@ impl<N: Node + Drop> Live<N> {
                 return;
             }
         };
-        match self
-            .serving
-            .accept(local, Counted::new(reader), Counted::new(writer), moment)
-        {
-            Ok(conn) => self.register(log, conn),
+        match self.serving.accept(
+            local,
+            barred,
+            Counted::new(reader),
+            Counted::new(writer),
+            moment,
+        ) {
+            Ok(conn) => {
+                tell::taken(log, site, local, conn, address);
+                self.register(log, conn);
+            }
             Err(refused) => tell::not_taken(log, site, local, refused.why),
         }
     }

@@ -1,8 +1,11 @@
 //! The sockets of a process: who listens, and which are ready.
 
+ghost use Rattle.std.specs.Prelude.{◌≡◌};
+ghost use Rattle.farm_loop.specs.Tokens.{IsOf, token_for};
+
 use dia_base::{ConnId, NodeNo};
 use mio::net::TcpListener;
-use mio::{Events, Interest, Poll, Registry, Token};
+use mio::{Events, Interest, Poll, Registry, Token, Waker};
 use std::alloc::Global;
 use std::io;
 use std::net::{Net, SocketAddr};
@@ -29,6 +32,8 @@ pub struct Listening {
 /// What a report is of.
 #[derive(Clone, Copy)]
 pub enum Source {
+    /// What works for the node elsewhere has woken the loop.
+    Waker,
     Listener { place: usize },
     Conn { conn: ConnId },
 }
@@ -53,20 +58,31 @@ pub struct Sockets {
     pub piece: Vec<u8>,
 }
 
+/// The token of the waker, which no connection has: their numbers begin with 1.
+const WAKER: Token = Token(0);
+
 /// The token of a connection: its number.
-pub fn token_of(conn: ConnId) -> Token {
+pub fn token_of(conn: ConnId) -> Token
+    ensures { result.0 ≡ token_for (Source.Conn conn) }
+{
     Token(conn.0 as usize)
 }
 
 /// The token of a listener: those at the top, which no connection reaches.
-fn token_of_listener(place: usize) -> Token {
+fn token_of_listener(place: usize) -> Token
+    ensures { result.0 ≡ token_for (Source.Listener place) }
+{
     Token(usize::MAX - place)
 }
 
 /// Whose token it is.
-fn source_of(token: Token, listeners: usize) -> Source {
+fn source_of(token: Token, listeners: usize) -> Source
+    ensures { IsOf listeners token.0 result }
+{
     let place = usize::MAX - token.0;
-    if place < listeners {
+    if token == WAKER {
+        Source::Waker
+    } else if place < listeners {
         Source::Listener { place }
     } else {
         Source::Conn {
@@ -85,6 +101,11 @@ impl Sockets {
             ready: Vec::with_capacity(alloc, EVENT_LIMIT)?,
             piece: Vec::from_elem(alloc, 0u8, PIECE)?,
         })
+    }
+
+    /// What ends a wait of the loop from another thread. One is made at most.
+    pub fn waker(&self) -> io::Result<Waker> {
+        Waker::new(self.poll.registry(), WAKER)
     }
 
     /// Where sources are registered.

@@ -1,10 +1,10 @@
 //! What an operator reads of what happens.
 
-use dia_base::NodeNo;
+use dia_base::{ConnId, NodeNo};
 use farm_base::Site;
 use farm_serve::{Note, Refusal};
 use log::{Log, info, warn};
-use std::net::SocketAddr;
+use std::net::{IpAddr, SocketAddr};
 use std::{fmt, io};
 
 /// A node of a site by its name.
@@ -32,6 +32,18 @@ impl fmt::Display for Named<'_> {
 pub fn listens<L: Log>(log: &L, site: &Site, node: NodeNo, address: SocketAddr) {
     let name = Named { site, node };
     info!(log; target: "farm", "{name} listens on {address}");
+}
+
+/// A connection that somebody has made from this address is taken.
+pub fn taken<L: Log>(log: &L, site: &Site, node: NodeNo, conn: ConnId, address: IpAddr) {
+    let name = Named { site, node };
+    info!(log; target: "farm", "connection {}: {name} takes it from {address}", conn.0);
+}
+
+/// A connection from where no node may come is closed.
+pub fn not_admitted<L: Log>(log: &L, site: &Site, node: NodeNo, address: IpAddr) {
+    let name = Named { site, node };
+    warn!(log; target: "farm", "{name} refuses a connection from {address}: no node may come from there");
 }
 
 /// A connection that somebody has made is not taken.

@@ -1,4 +1,5 @@
 -- Lists: what is among their items, and what becomes of them.
+pub mod Agreeing
 pub mod Among
 pub mod Finding
 pub mod ListLemmas

@@ -5,4 +5,5 @@ pub mod RowSiteLemmas
 pub mod RunHolds
 pub mod RunLemmas
 pub mod Running
+pub mod SmallSteps
 pub mod Starting

@@ -1,13 +1,12 @@
 -- How connections, fronts and relays hang together, between two steps and over each step.
-pub mod AnswerStands
 pub mod Apart
 pub mod ApartAfterStep
 pub mod Ending
 pub mod Joined
 pub mod KindsAgree
-pub mod KnowsAfterCut
+pub mod KnowsAfterCrash
+pub mod KnowsAfterEnd
 pub mod KnowsAfterLoss
-pub mod KnowsAfterRestart
 pub mod KnowsAfterStep
 pub mod KnowsAfterUp
 pub mod KnowsAtStart

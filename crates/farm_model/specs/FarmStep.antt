@@ -1,5 +1,5 @@
 -- One step of the farm.
-use Rattle.std.specs.Prelude.{◌≡◌, ℕ, ◌+◌, Bool, true, false, not, ◌&&◌, ◌||◌, List, [], ◌∷◌, ◌++◌, length, MatchBool, Option, Some, None, slice_get}
+use Rattle.std.specs.Prelude.{◌≡◌, ℕ, ◌+◌, Bool, true, false, not, ◌&&◌, ◌||◌, List, [], ◌∷◌, ◌++◌, length, MatchBool, Option, Some, None, is_some, slice_get}
 use Rattle.std.specs.Prelude.{remove, if◌then◌else◌}
 use Rattle.std.specs.List.{find}
 use Rattle.dia_base.specs.declared.number.ConnId.{ConnId}
@@ -18,15 +18,15 @@ use Rattle.farm_model.specs.declared.state.Direction.{Direction}
 use Rattle.farm_model.specs.declared.state.FrontAt.{FrontAt}
 use Rattle.farm_model.specs.declared.state.RelayAt.{RelayAt}
 use Rattle.farm_base.specs.declared.step.Step.{Step}
-use Rattle.farm_base.specs.declared.step.Step.TheVariants.{Up, Send, Deliver, Lose, Cut, Restart, Pick, Charge, Refuse, Emit, Sweep}
+use Rattle.farm_base.specs.declared.step.Step.TheVariants.{Up, Accept, Opened, Send, Deliver, Lose, Cut, Drop, Restart, Crash, Pick, Charge, Refuse, Emit, Sweep}
 use Rattle.farm_model.specs.Arrival.{Arrives}
 use Rattle.farm_base.specs.Lists.{replace_first}
-use Rattle.farm_model.specs.Loss.{LossAt, LearnLosses, after_cut, losses_of_cut, after_restart, losses_of_restart}
+use Rattle.farm_model.specs.Loss.{LossAt, EndGoes, end_with, CutsBoth, after_crash, peers_of, DropAll}
 use Rattle.farm_base.specs.Nodes.{is_client, is_front, is_relay, is_linked}
-use Rattle.farm_model.specs.World.{WorldState, is_between, is_connected, conn_between, with_message, with_traffic_from, with_front, front_at, with_relay}
+use Rattle.farm_model.specs.World.{WorldState, is_between, is_heard, is_unheard, is_connected, knows, conn_known, with_message_from, with_traffic_from, with_front, front_at, with_relay}
 use Rattle.farm_model.specs.World.{relay_at}
 
--- ---- up: a new connection, which both nodes learn
+-- ---- accept, opened, up: a new connection, which first the one node learns and then the other
 
 -- the number of the next connection
 abbrev pub next_conn : WorldState → ConnId
@@ -53,35 +53,56 @@ abbrev pub with_link_at : NodeNo → NodeNo → ConnId → List RelayAt → List
 with_link_at node peer conn relays = with_link_of node peer conn relays (relay_at node relays)
 
 -- a direction without messages
-abbrev pub empty_direction : ConnId → NodeNo → NodeNo → Direction
-empty_direction conn from to = record { conn = conn; from = from; to = to; messages = [] }
+abbrev pub empty_direction : ConnId → NodeNo → NodeNo → Bool → Direction
+empty_direction conn from to known = record { conn = conn; from = from; to = to; known = known; messages = [] }
 
+-- the one node has opened it, and the other, which it connects to, knows it
 abbrev pub with_new_connection : WorldState → NodeNo → NodeNo → WorldState
 with_new_connection w a b = record w {
-  directions = w.directions ++ empty_direction (next_conn w) a b ∷ empty_direction (next_conn w) b a ∷ [];
-  fronts = with_connection_at b (next_conn w) (with_connection_at a (next_conn w) w.fronts);
-  relays = with_link_at b a (next_conn w) (with_link_at a b (next_conn w) w.relays);
+  directions = w.directions ++ empty_direction (next_conn w) a b true ∷ empty_direction (next_conn w) b a false ∷ [];
+  fronts = with_connection_at b (next_conn w) w.fronts;
+  relays = with_link_at b a (next_conn w) w.relays;
   ends = w.ends ++ (a, b) ∷ [];
 }
 
--- the site links them and there is no connection yet
+-- the site links them, and there is no connection, or both have dropped it
 abbrev pub can_connect : Site → WorldState → NodeNo → NodeNo → Bool
 can_connect site w a b = is_linked site a b && not (is_connected w.directions a b)
 
+abbrev pub after_accept : Site → WorldState → NodeNo → NodeNo → Option WorldState
+after_accept site w at from = if can_connect site w from at then Some (with_new_connection w from at) else None
+
+-- the node that has opened it learns that it is made
+abbrev pub after_opened_on : WorldState → NodeNo → NodeNo → Option Direction → Option WorldState
+after_opened_on w a b None = None
+after_opened_on w a b (Some direction) = Some (record w {
+  directions = replace_first (is_unheard b a) (record direction { known = true }) w.directions;
+  fronts = with_connection_at a direction.conn w.fronts;
+  relays = with_link_at a b direction.conn w.relays;
+})
+
+abbrev pub after_opened : WorldState → NodeNo → NodeNo → Option WorldState
+after_opened w a b = after_opened_on w a b (find (is_unheard b a) w.directions)
+
+abbrev pub opened_if : NodeNo → NodeNo → Option WorldState → Option WorldState
+opened_if a b None = None
+opened_if a b (Some w) = after_opened w a b
+
+-- one after the other
 abbrev pub after_up : Site → WorldState → NodeNo → NodeNo → Option WorldState
-after_up site w a b = if can_connect site w a b then Some (with_new_connection w a b) else None
+after_up site w a b = opened_if a b (after_accept site w b a)
 
--- ---- send: a client's message joins the list of its direction
+-- ---- send: a client that knows its connection puts a message in flight, which is lost where the other has dropped it
 
-abbrev pub after_send_in : WorldState → NodeNo → NodeNo → Message → Option Direction → Option WorldState
-after_send_in w client to message None = None
-after_send_in w client to message (Some direction) = Some (record w {
-  directions = replace_first (is_between client to) (with_message message direction) w.directions;
-  sent = w.sent ++ (direction.conn, message) ∷ [];
+abbrev pub after_send_on : WorldState → NodeNo → Message → Option ConnId → Option WorldState
+after_send_on w client message None = None
+after_send_on w client message (Some conn) = Some (record w {
+  directions = with_message_from client w.directions conn message;
+  sent = w.sent ++ (conn, message) ∷ [];
 })
 
 abbrev pub after_send : Site → WorldState → NodeNo → NodeNo → Message → Option WorldState
-after_send site w client to message = if is_client site client then after_send_in w client to message (find (is_between client to) w.directions) else None
+after_send site w client to message = if is_client site client then after_send_on w client message (conn_known w.directions client to) else None
 
 -- ---- deliver and lose: a message leaves its list, and the other node gets it, or nobody does
 
@@ -91,21 +112,29 @@ pub record Flight : Type 0 where
   pub message : Message
   pub directions : List Direction
 
-abbrev pub flight_of : List Direction → NodeNo → NodeNo → ℕ → Direction → Option Message → Option Flight
-flight_of directions from to place direction None = None
-flight_of directions from to place direction (Some message) = Some (record {
+abbrev pub flight_of : (Direction → Bool) → List Direction → ℕ → Direction → Option Message → Option Flight
+flight_of test directions place direction None = None
+flight_of test directions place direction (Some message) = Some (record {
   conn = direction.conn;
   message = message;
-  directions = replace_first (is_between from to) (record direction { messages = remove direction.messages place }) directions;
+  directions = replace_first test (record direction { messages = remove direction.messages place }) directions;
 })
 
-abbrev pub flight_in : List Direction → NodeNo → NodeNo → ℕ → Option Direction → Option Flight
-flight_in directions from to place None = None
-flight_in directions from to place (Some direction) = flight_of directions from to place direction (slice_get direction.messages place)
+abbrev pub flight_in : (Direction → Bool) → List Direction → ℕ → Option Direction → Option Flight
+flight_in test directions place None = None
+flight_in test directions place (Some direction) = flight_of test directions place direction (slice_get direction.messages place)
 
--- the message at this place of those in flight from one node to another, from 0
+-- the message at this place, from 0, of those in flight in the first direction that passes
+abbrev pub flight_where : (Direction → Bool) → List Direction → ℕ → Option Flight
+flight_where test directions place = flight_in test directions place (find test directions)
+
+-- of those in flight from one node to another, which knows the connection
 abbrev pub flight_at : List Direction → NodeNo → NodeNo → ℕ → Option Flight
-flight_at directions from to place = flight_in directions from to place (find (is_between from to) directions)
+flight_at directions from to place = flight_where (is_heard from to) directions place
+
+-- and whether it knows it or not
+abbrev pub loss_at : List Direction → NodeNo → NodeNo → ℕ → Option Flight
+loss_at directions from to place = flight_where (is_between from to) directions place
 
 abbrev pub Delivers : Site → WorldState → NodeNo → Option Flight → Bool → WorldState → Type 0
 Delivers site w to None applied next = (applied ≡ false) × (next ≡ w)
@@ -160,19 +189,29 @@ after_charge_at w node worker moment (Some front) = with_charge w node (after_ch
 abbrev pub after_sweep_at : WorldState → Moment → WorldState
 after_sweep_at w moment = record w { book = after_sweep w.book moment }
 
--- ---- cut and restart: connections end, and one node after the other learns it
+-- ---- drop, cut, crash and restart: connections end, and one node after the other learns it
 
-abbrev pub Cuts : WorldState → NodeNo → NodeNo → Option ConnId → Bool → List LossAt → WorldState → Type 0
-Cuts w a b None applied losses next = (applied ≡ false) × (losses ≡ []) × (next ≡ w)
-Cuts w a b (Some conn) applied losses next = (applied ≡ true) × LearnLosses (losses_of_cut a b conn) (after_cut w conn) losses next
+abbrev pub DropsIt : WorldState → NodeNo → Option Direction → Bool → List LossAt → WorldState → Type 0
+DropsIt w a found applied losses next = (applied ≡ is_some found) × EndGoes w a found losses next
+
+-- one of the two knows it at least
+abbrev pub can_cut : WorldState → NodeNo → NodeNo → Bool
+can_cut w a b = knows w.directions a b || knows w.directions b a
+
+abbrev pub Cuts : WorldState → NodeNo → NodeNo → Bool → List LossAt → WorldState → Type 0
+Cuts w a b applied losses next =
+    MatchBool (can_cut w a b) ((applied ≡ true) × CutsBoth w a b losses next) ((applied ≡ false) × (losses ≡ []) × (next ≡ w))
 
 abbrev pub can_restart : Site → NodeNo → Bool
 can_restart site node = is_relay site node || is_front site node
 
+abbrev pub after_crash_at : Site → WorldState → NodeNo → Option WorldState
+after_crash_at site w node = if can_restart site node then Some (after_crash w node) else None
+
 abbrev pub Restarts : Site → WorldState → NodeNo → Bool → List LossAt → WorldState → Type 0
 Restarts site w node applied losses next =
     MatchBool (can_restart site node)
-    ((applied ≡ true) × LearnLosses (losses_of_restart node w.directions) (after_restart w node) losses next)
+    ((applied ≡ true) × DropAll node (peers_of node w.directions) (after_crash w node) losses next)
     ((applied ≡ false) × (losses ≡ []) × (next ≡ w))
 
 -- ---- any step
@@ -182,15 +221,19 @@ abbrev pub Outcome : Option WorldState → Bool → WorldState → WorldState �
 Outcome None applied old new = (applied ≡ false) × (new ≡ old)
 Outcome (Some next) applied old new = (applied ≡ true) × (new ≡ next)
 
--- one step of the farm; of a cut and a restart it lists who learned of a lost connection
+-- one step of the farm; of a cut, a drop and a restart it lists who learned of a lost connection
 abbrev pub FarmStep : Site → WorldState → Step → Bool → List LossAt → WorldState → Type 0
 FarmStep site old (Up a b) applied losses new = Outcome (after_up site old a b) applied old new × (losses ≡ [])
+FarmStep site old (Accept at from) applied losses new = Outcome (after_accept site old at from) applied old new × (losses ≡ [])
+FarmStep site old (Opened a b) applied losses new = Outcome (after_opened old a b) applied old new × (losses ≡ [])
 FarmStep site old (Send client to message) applied losses new = Outcome (after_send site old client to message) applied old new × (losses ≡ [])
 FarmStep site old (Deliver from to place) applied losses new = Delivers site old to (flight_at old.directions from to place) applied new × (losses ≡ [])
-FarmStep site old (Lose from to place) applied losses new = Outcome (after_lost_message old (flight_at old.directions from to place)) applied old new ×
+FarmStep site old (Lose from to place) applied losses new = Outcome (after_lost_message old (loss_at old.directions from to place)) applied old new ×
     (losses ≡ [])
-FarmStep site old (Cut a b) applied losses new = Cuts old a b (conn_between old.directions a b) applied losses new
+FarmStep site old (Cut a b) applied losses new = Cuts old a b applied losses new
+FarmStep site old (Drop a b) applied losses new = DropsIt old a (end_with old.directions a b) applied losses new
 FarmStep site old (Restart node) applied losses new = Restarts site old node applied losses new
+FarmStep site old (Crash node) applied losses new = Outcome (after_crash_at site old node) applied old new × (losses ≡ [])
 FarmStep site old (Pick front worker) applied losses new = Outcome (after_pick_at old front worker (front_at front old.fronts)) applied old new × (losses ≡ [])
 FarmStep site old (Charge front worker moment) applied losses new =
     Outcome (after_charge_at old front worker moment (front_at front old.fronts)) applied old new × (losses ≡ [])

@@ -2,6 +2,7 @@
 -- and after it.
 use Rattle.std.specs.Prelude.{◌≡◌, ℕ, ◌≤◌, Bool, true, false, ◌&&◌, ◌||◌, ◌==◌, List, [], ◌∷◌, ◌++◌, map, filter, filter_map, count_by, Contains, Option}
 use Rattle.std.specs.Prelude.{option_map, slice_get, remove, if◌then◌else◌}
+use Rattle.std.specs.List.{list_any}
 use Rattle.dia_base.specs.declared.number.ConnId.{ConnId}
 use Rattle.dia_base.specs.declared.number.NodeNo.{NodeNo}
 use Rattle.dia_message.specs.declared.message.Message.{Message}
@@ -9,7 +10,7 @@ use Rattle.dia_message.specs.Traffic.{Traffic}
 use Rattle.farm_base.specs.declared.site.Site.{Site}
 use Rattle.farm_model.specs.declared.state.Direction.{Direction}
 use Rattle.farm_base.specs.declared.step.Step.{Step}
-use Rattle.farm_base.specs.declared.step.Step.TheVariants.{Send, Deliver, Lose, Cut, Restart, Emit}
+use Rattle.farm_base.specs.declared.step.Step.TheVariants.{Opened, Send, Deliver, Lose, Cut, Drop, Restart, Crash, Emit}
 use Rattle.farm_base.specs.Nodes.{is_node, is_client, is_front, is_relay}
 use Rattle.farm_model.specs.Run.{Transition}
 
@@ -19,16 +20,29 @@ use Rattle.farm_model.specs.Run.{Transition}
 abbrev pub goes : NodeNo → NodeNo → Direction → Bool
 goes from to direction = is_node direction.from from && is_node direction.to to
 
--- Its connection ends at the step: it is cut, whichever of its nodes is named first, or a relay or a front at an end
--- of it begins anew.
-abbrev pub ends_at : Site → Step → Direction → Bool
-ends_at site (Cut a b) direction = goes a b direction || goes b a direction
-ends_at site (Restart node) direction = (is_relay site node || is_front site node) && (is_node direction.from node || is_node direction.to node)
-ends_at site step direction = false
+-- the node knows its connection with the other one
+abbrev pub knows_other : List Direction → NodeNo → NodeNo → Bool
+knows_other directions a b = list_any (λ direction. goes b a direction && direction.known) directions
+
+-- The node that it goes to drops its connection at the step, or forgets it, where these directions stand: by itself, or
+-- with the other node where the connection is cut, whichever of its nodes is named first, as long as one of them knows it.
+-- A relay or a front that crashes does so with all of its connections, and one that begins anew with its peers.
+abbrev pub ends_at : Site → Step → List Direction → Direction → Bool
+ends_at site (Cut a b) directions direction = (knows_other directions a b || knows_other directions b a) && (goes a b direction || goes b a direction)
+ends_at site (Drop a b) directions direction = goes b a direction
+ends_at site (Restart node) directions direction =
+    (is_relay site node || is_front site node) && (is_node direction.from node || is_node direction.to node)
+ends_at site (Crash node) directions direction = (is_relay site node || is_front site node) && is_node direction.to node
+ends_at site step directions direction = false
+
+-- whether that node knows the connection after the step
+abbrev pub known_after : Step → Direction → Bool
+known_after (Opened a b) direction = goes b a direction || direction.known
+known_after step direction = direction.known
 
 -- what the step leaves of its messages: all but the one that is delivered or lost
 abbrev pub left_by : Step → Direction → List Message
-left_by (Deliver from to place) direction = if goes from to direction then remove direction.messages place else direction.messages
+left_by (Deliver from to place) direction = if goes from to direction && direction.known then remove direction.messages place else direction.messages
 left_by (Lose from to place) direction = if goes from to direction then remove direction.messages place else direction.messages
 left_by step direction = direction.messages
 
@@ -39,6 +53,7 @@ grows_at (Send client to message) direction = goes client to direction
 grows_at (Deliver from to place) direction = is_node direction.from to
 grows_at (Emit front worker) direction = is_node direction.from front
 grows_at (Cut a b) direction = is_node direction.from a || is_node direction.from b
+grows_at (Drop a b) direction = is_node direction.from a
 grows_at (Restart node) direction = true
 grows_at step direction = false
 
@@ -51,34 +66,36 @@ message_at place direction = option_map (λ message. (direction.conn, message)) 
 -- a client's message, on its connection with the node
 abbrev pub sent_at : Site → Step → List Direction → Traffic
 sent_at site (Send client to message) directions = if is_client site client
-    then map (λ direction. (direction.conn, message)) (filter (goes client to) directions) else []
+    then map (λ direction. (direction.conn, message)) (filter (λ direction. goes to client direction && direction.known) directions) else []
 sent_at site step directions = []
 
 -- the message that is delivered to a client
 abbrev pub received_at : Site → Step → List Direction → Traffic
-received_at site (Deliver from to place) directions = if is_client site to then filter_map (message_at place) (filter (goes from to) directions) else []
+received_at site (Deliver from to place) directions = if is_client site to then filter_map (message_at place)
+    (filter (λ direction. goes from to direction && direction.known) directions) else []
 received_at site step directions = []
 
 -- ---- the whole
 
 -- What is promised of each step.
 pub record KeepsTraffic (site : Site) (t : Transition) : Type 0 where
-  -- What is in flight stays so, in its order, until it is delivered or lost, or its connection ends. Others come behind
-  -- it only where a node may send.
-  pub in_flight : (direction : Direction) → Contains t.before.directions direction → ends_at site t.step direction ≡ false →
+  -- What is in flight stays so, in its order, until it is delivered or lost, or the node that it goes to drops its
+  -- connection. Others come behind it only where a node may send.
+  pub in_flight : (direction : Direction) → Contains t.before.directions direction → ends_at site t.step t.before.directions direction ≡ false →
       (more : List Message) × (grows_at t.step direction ≡ false → more ≡ []) ×
-      Contains t.after.directions (record direction { messages = left_by t.step direction ++ more })
+      Contains t.after.directions (record direction { known = known_after t.step direction; messages = left_by t.step direction ++ more })
   -- On a connection that comes up nothing is in flight.
   pub begun : (direction : Direction) → Contains t.after.directions direction →
       ((other : Direction) → Contains t.before.directions other → (other.conn.0 == direction.conn.0) ≡ false) → direction.messages ≡ []
-  -- Of a connection that ends nothing is left.
-  pub ended : (direction other : Direction) → Contains t.before.directions direction → ends_at site t.step direction ≡ true →
-      Contains t.after.directions other → (other.conn.0 == direction.conn.0) ≡ false
+  -- On one that a node drops nothing comes to it any more.
+  pub ended : (direction other : Direction) → Contains t.before.directions direction → ends_at site t.step t.before.directions direction ≡ true →
+      Contains t.after.directions other → (other.conn.0 == direction.conn.0 && is_node other.to direction.to) ≡ false
   -- Two nodes have one connection at most.
   pub one_each : (from to : NodeNo) → count_by (goes from to) t.after.directions ≤ 1
-  -- What a client sends on a connection that stands is in flight behind what was there.
+  -- What a client sends on a connection that it knows is in flight behind what was there, where the other node has not
+  -- dropped it.
   pub posted : (client to : NodeNo) (message : Message) (direction : Direction) → t.step ≡ Send client to message → is_client site client ≡ true →
-      Contains t.before.directions direction → goes client to direction ≡ true →
+      knows_other t.before.directions client to ≡ true → Contains t.before.directions direction → goes client to direction ≡ true →
       Contains t.after.directions (record direction { messages = direction.messages ++ message ∷ [] })
   -- It is told as sent, and nothing else is.
   pub sent : t.after.sent ≡ t.before.sent ++ sent_at site t.step t.before.directions

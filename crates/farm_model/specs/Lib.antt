@@ -12,4 +12,5 @@ pub mod Promise
 pub mod RelayRuns
 pub mod Run
 pub mod SetUp
+pub mod SmallSteps
 pub mod World

@@ -1,5 +1,5 @@
 -- What is promised of every run: who is answered what, and what the book stands on.
-use Rattle.std.specs.Prelude.{◌≡◌, ◌≢◌, ℕ, ◌-◌, ◌≤◌, true, false, ◌&&◌, ◌||◌, List, [], ◌∷◌, ◌++◌, find, All, Contains, length, Some, IsSome, Ok, slice_get}
+use Rattle.std.specs.Prelude.{◌≡◌, ◌≢◌, ℕ, ◌-◌, ◌≤◌, true, false, ◌&&◌, ◌||◌, List, [], ◌∷◌, ◌++◌, All, Contains, length, Some, Ok, slice_get}
 use Rattle.dia_base.specs.declared.number.ConnId.{ConnId}
 use Rattle.dia_base.specs.declared.number.Moment.{Moment}
 use Rattle.dia_base.specs.declared.number.NodeNo.{NodeNo}
@@ -43,8 +43,9 @@ use Rattle.farm_base.specs.Nodes.{is_node, is_client, is_relay, is_linked}
 use Rattle.farm_model.specs.OwnCauses.{HaveOwnCauses}
 use Rattle.farm_model.specs.RelayRuns.{RunsAsRelay}
 use Rattle.farm_model.specs.Run.{Past, Transition, IsTrace, steps_in, front_site}
-use Rattle.farm_model.specs.World.{Ends, WorldState, is_outward, with_message_from}
+use Rattle.farm_model.specs.World.{Ends, WorldState, with_message_from}
 use Rattle.farm_model.specs.SetUp.{BeginsEmpty, KeepsSetUp}
+use Rattle.farm_model.specs.SmallSteps.{AppliesInSmallSteps}
 
 -- What all states of a run share, and what grows alone as it goes on: the transitions so far, the connections
 -- that were made, what clients have sent, and the book.
@@ -194,14 +195,13 @@ IsOfRun site past sent (Sweep moment) = WasSwept past moment
 -- ---- loops
 
 -- The step delivers a request to a relay: wherever this holds of the relay, its name and the request, it puts
--- DIAMETER_LOOP_DETECTED in flight on the connection that it came on, which stands in that direction, and nothing
--- else happens.
+-- DIAMETER_LOOP_DETECTED in flight on the connection that it came on, as long as the other node has not dropped that
+-- (then it goes nowhere), and nothing else happens.
 abbrev pub RefusesAsLoop : (NodeNo → List ℕ → Message → Type 0) → Site → Transition → Type 0
 RefusesAsLoop Loops site t = (from node : NodeNo) (place : ℕ) (conn : ConnId) (message : Message) (directions : List Direction) (name : List ℕ) →
     t.step ≡ Deliver from node place →
     flight_at t.before.directions from node place ≡ Some (record { conn = conn; message = message; directions = directions }) → message.header.request ≡ true →
     is_relay site node ≡ true → IsNamed site node name → Loops node name message →
-    IsSome (find (is_outward node conn) directions) ×
     t.after ≡ record t.before { directions = with_message_from node directions conn (refusal_of name site.realm message (refusal_with LoopDetected)) }
 
 -- where it finds itself in a Route-Record (RFC 6733, section 6.1.3)
@@ -265,6 +265,7 @@ pub record KeepsPromise (site : Site) (past : Past) (trace : Trace) : Type 0 whe
   pub skipped : All AppliedOrChangedNothing past
   pub applied : All (AppliesWhereItCan site) past
   pub skips : trace.skipped ≡ could_not_apply site past
+  pub small_steps : All (AppliesInSmallSteps site) past
   pub book_and_ends : All (KeepsBookAndEnds site) past
   pub fronts : All (KeepsFronts site) past
   pub relays : (node : NodeNo) (name : List ℕ) → is_relay site node ≡ true → IsNamed site node name → RunsAsRelay site past node name

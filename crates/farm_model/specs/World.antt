@@ -1,5 +1,5 @@
 -- The farm between two steps.
-use Rattle.std.specs.Prelude.{Bool, not, ◌&&◌, ◌==◌, List, [], ◌∷◌, ◌++◌, filter, Option, Some, None, option_map}
+use Rattle.std.specs.Prelude.{Bool, not, ◌&&◌, ◌||◌, ◌==◌, List, [], ◌∷◌, ◌++◌, filter, Option, Some, None, option_map, if◌then◌else◌}
 use Rattle.std.specs.List.{find, list_any}
 use Rattle.dia_base.specs.declared.number.ConnId.{ConnId}
 use Rattle.dia_base.specs.declared.number.NodeNo.{NodeNo}
@@ -19,7 +19,7 @@ abbrev pub Ends : Type 0
 Ends = List (NodeNo × NodeNo)
 
 pub record WorldState : Type 0 where
-  -- two for each connection
+  -- for each connection those that go to a node which has not dropped it
   pub directions : List Direction
   pub fronts : List FrontAt
   pub relays : List RelayAt
@@ -43,16 +43,36 @@ is_on conn direction = direction.conn.0 == conn.0
 abbrev pub is_outward : NodeNo → ConnId → Direction → Bool
 is_outward node conn direction = is_node direction.from node && is_on conn direction
 
+-- whether a node's messages on a connection come in this direction
+abbrev pub is_inward : NodeNo → ConnId → Direction → Bool
+is_inward node conn direction = is_node direction.to node && is_on conn direction
+
+-- whether messages go from the one node to the other, which knows the connection, or does not yet
+abbrev pub is_heard : NodeNo → NodeNo → Direction → Bool
+is_heard from to direction = is_between from to direction && direction.known
+
+abbrev pub is_unheard : NodeNo → NodeNo → Direction → Bool
+is_unheard from to direction = is_between from to direction && not direction.known
+
+-- the two have a connection, which one of them at least has not dropped
 abbrev pub is_connected : List Direction → NodeNo → NodeNo → Bool
-is_connected directions a b = list_any (is_between a b) directions
+is_connected directions a b = list_any (is_between a b) directions || list_any (is_between b a) directions
 
--- the connection between two nodes
-abbrev pub conn_between : List Direction → NodeNo → NodeNo → Option ConnId
-conn_between directions a b = option_map (λ direction. direction.conn) (find (is_between a b) directions)
+-- the node knows a connection with the other one
+abbrev pub knows : List Direction → NodeNo → NodeNo → Bool
+knows directions a b = list_any (is_heard b a) directions
 
--- the directions but for those of a connection that ends, with what is in flight on it
-abbrev pub without_conn : ConnId → List Direction → List Direction
-without_conn conn directions = filter (λ direction. not (is_on conn direction)) directions
+-- which one
+abbrev pub conn_known : List Direction → NodeNo → NodeNo → Option ConnId
+conn_known directions a b = option_map (λ direction. direction.conn) (find (is_heard b a) directions)
+
+-- the directions but for the one to a node on a connection, with what is in flight in it
+abbrev pub without_end : NodeNo → ConnId → List Direction → List Direction
+without_end node conn directions = filter (λ direction. not (is_inward node conn direction)) directions
+
+-- without what is in flight between two nodes
+abbrev pub emptied : NodeNo → NodeNo → Direction → Direction
+emptied a b direction = if is_between a b direction || is_between b a direction then record direction { messages = [] } else direction
 
 -- one more message in flight
 abbrev pub with_message : Message → Direction → Direction

@@ -6,12 +6,15 @@ use dia_message::Message;
 use front_core::Front;
 use relay_core::Relay;
 
-/// One direction of a connection, with the messages in flight in it. A connection has two.
+/// One direction of a connection, with the messages in flight in it. A connection that is made has two, each of
+/// which stands until the node that it goes to has dropped the connection.
 #[derive(Debug, Drop)]
 pub struct Direction {
     pub conn: ConnId,
     pub from: NodeNo,
     pub to: NodeNo,
+    /// Whether the node that it goes to knows the connection: one that opens it learns of it later than the other.
+    pub known: bool,
     /// What is in flight, the first sent first.
     pub messages: Listing<Message>,
 }

@@ -79,14 +79,7 @@ fn push_steps(
 ) -> Result<(), AllocError> {
     for (place, row) in rows.iter().enumerate() {
         let y = layout.y_of(place, 0).saturating_add(HALF);
-        let number = place.saturating_add(1);
-        let digits = format!(in alloc; "{number}")?;
-        svg.words(
-            Class::Note,
-            Anchor::End,
-            Point::new(NUMBERS, y),
-            digits.as_bytes(),
-        )?;
+        push_number(alloc, svg, row.number, y)?;
         let word = row.word;
         let skipped = if matches!(&row.event, Event::Skipped) {
             " (skipped)"
@@ -104,14 +97,38 @@ fn push_steps(
     Ok(())
 }
 
+/// The number of a step, or a mark where the steps before stand.
+fn push_number(
+    alloc: Global,
+    svg: &mut Svg,
+    number: Option<usize>,
+    y: usize,
+) -> Result<(), AllocError> {
+    let digits = match number {
+        Some(number) => format!(in alloc; "{number}")?,
+        None => String::from_str(alloc, "..")?,
+    };
+    svg.words(
+        Class::Note,
+        Anchor::End,
+        Point::new(NUMBERS, y),
+        digits.as_bytes(),
+    )
+}
+
 /// The connections that were made and those that ended.
 fn push_connections(svg: &mut Svg, layout: &Layout, rows: &[Row]) -> Result<(), AllocError> {
     for (place, row) in rows.iter().enumerate() {
         let y = layout.y_of(place, 0);
-        if let Event::Connected { a, b } = &row.event {
-            push_connected(svg, &ends(layout, *a, *b, y))?;
+        match &row.event {
+            Event::Connected { a, b } => push_connected(svg, &ends(layout, *a, *b, y))?,
+            Event::Learned { node, peer } => {
+                push_apart(svg, Class::Connection, &ends(layout, *node, *peer, y))?;
+            }
+            Event::Skipped | Event::Plain | Event::At { .. } => {}
         }
         push_ended(svg, layout, &row.ended.connections, y)?;
+        push_dropped(svg, layout, &row.ended.ends, y)?;
     }
     Ok(())
 }
@@ -128,6 +145,19 @@ fn push_ended(
     Ok(())
 }
 
+/// A bar for each node that alone has dropped its connection.
+fn push_dropped(
+    svg: &mut Svg,
+    layout: &Layout,
+    dropped: &[(NodeNo, NodeNo)],
+    y: usize,
+) -> Result<(), AllocError> {
+    for (node, peer) in dropped {
+        push_apart(svg, Class::Cut, &ends(layout, *node, *peer, y))?;
+    }
+    Ok(())
+}
+
 /// The places of two nodes at this height.
 fn ends(layout: &Layout, a: NodeNo, b: NodeNo, y: usize) -> [Point; 2] {
     let from = layout.x_of(a).unwrap_or(0);
@@ -139,6 +169,12 @@ fn push_connected(svg: &mut Svg, ends: &[Point; 2]) -> Result<(), AllocError> {
     svg.line(Class::Connection, ends)?;
     svg.circle(Class::Connection, ends[0], 3)?;
     svg.circle(Class::Connection, ends[1], 3)
+}
+
+/// The first of the two nodes alone has learned that their connection is made, or has ended.
+fn push_apart(svg: &mut Svg, class: Class, ends: &[Point; 2]) -> Result<(), AllocError> {
+    svg.dashes(class, ends)?;
+    svg.circle(class, ends[0], 3)
 }
 
 fn class_of(kind: MessageKind) -> Class {

@@ -3,7 +3,7 @@
 use crate::accounts::Purse;
 use crate::notes::account_name;
 use crate::svg::{Anchor, Class, Point, Svg};
-use crate::timeline::Timeline;
+use crate::timeline::{Event, LeftOut, Row, Timeline};
 use farm_world::Site;
 use std::alloc::{AllocError, Global};
 
@@ -18,12 +18,16 @@ const LEFT: usize = 14;
 
 /// What the marks mean.
 const LEGEND: [&str; 5] = [
-    "CCR, CCA: Credit-Control-Request and -Answer, with Hop-by-Hop Identifier;",
-    "T: may have been sent before; an answer has its Result-Code in words.",
+    "CCR, CCA: Credit-Control-Request and -Answer, with CC-Request-Type,",
+    "Hop-by-Hop Identifier, T (may have been sent before), and Result-Code;",
     "o--o: connection made; thick bar: connection ended; cross: message lost;",
     "dashed: still on its way; held: reserved for open sessions;",
     "skipped: the step does not apply.",
 ];
+
+/// The same, in a run whose nodes learn of a connection apart.
+const LEGEND_APART: &str =
+    "dashes with a circle: one node alone learns of a connection, or of its end.";
 
 /// The lines, in their order.
 #[derive(Drop)]
@@ -84,13 +88,21 @@ pub fn ending_of(
     for line in LEGEND {
         ending.push(Class::Note, String::from_str(alloc, line)?)?;
     }
+    if timeline.rows.iter().any(learns_apart) {
+        ending.push(Class::Note, String::from_str(alloc, LEGEND_APART)?)?;
+    }
     Ok(ending)
+}
+
+/// Whether one node alone has learned that a connection is made, or has ended.
+fn learns_apart(row: &Row) -> bool {
+    matches!(row.event, Event::Learned { .. }) || !row.ended.ends.is_empty()
 }
 
 fn push_left_out(
     alloc: Global,
     ending: &mut Ending,
-    steps: usize,
+    left_out: LeftOut,
     in_flight: usize,
 ) -> Result<(), AllocError> {
     if in_flight > 0 {
@@ -99,11 +111,18 @@ fn push_left_out(
             format!(in alloc; "Not drawn: messages still on their way: {in_flight}")?,
         )?;
     }
-    if steps > 0 {
+    let (before, behind, next) = (left_out.before, left_out.behind, left_out.next);
+    if before > 0 {
+        ending.push(
+            Class::Cut,
+            format!(in alloc; "Left out: {before} steps before these")?,
+        )?;
+    }
+    if behind > 0 {
         ending.push(
             Class::Cut,
             format!(in alloc;
-                "Left out: {steps} further steps; the book is that after all of them"
+                "Left out: {behind} further steps (--from {next}); the book is that after all of them"
             )?,
         )?;
     }

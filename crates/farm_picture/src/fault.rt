@@ -18,7 +18,7 @@ pub enum PictureFault {
     Write,
     #[error("{0}")]
     Script(ScriptFault),
-    #[error("usage: picture [--site FILE] < SCHEDULE > PICTURE.svg")]
+    #[error("usage: picture [--site FILE] [--from STEP] [--to STEP] < SCHEDULE > PICTURE.svg")]
     Words,
     #[error("the site file cannot be read")]
     SiteFile,

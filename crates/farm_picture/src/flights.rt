@@ -40,13 +40,19 @@ impl Lane {
     fn is_of(&self, direction: &Direction) -> bool {
         self.conn == direction.conn && self.from == direction.from && self.to == direction.to
     }
+
+    fn is_back_of(&self, other: &Lane) -> bool {
+        self.conn == other.conn && self.from == other.to && self.to == other.from
+    }
 }
 
 /// What ended with connections at one row.
 #[derive(Drop)]
 pub struct Ended {
-    /// The two nodes of each connection.
+    /// The two nodes of each connection that both have dropped now.
     pub connections: Vec<(NodeNo, NodeNo)>,
+    /// The node that alone has dropped a connection now, and the node at its other end.
+    pub ends: Vec<(NodeNo, NodeNo)>,
     /// How many messages were lost with them.
     pub messages: usize,
 }
@@ -58,9 +64,9 @@ pub struct Flights {
     all: Vec<Flight>,
 }
 
-/// Whether a connection stands.
-fn stands(directions: &[Direction], conn: ConnId) -> bool {
-    directions.iter().any(|direction| direction.conn == conn)
+/// Whether the direction of a lane stands: the node that it goes to has not dropped the connection.
+fn stands(directions: &[Direction], lane: &Lane) -> bool {
+    directions.iter().any(|direction| lane.is_of(direction))
 }
 
 impl Flights {
@@ -110,7 +116,7 @@ impl Flights {
         }
     }
 
-    /// The messages on connections that do not stand any more are lost at this row.
+    /// The messages to nodes that have dropped their connection are lost at this row.
     pub fn end_with_connections(
         &mut self,
         alloc: Global,
@@ -118,24 +124,35 @@ impl Flights {
         row: usize,
     ) -> Result<Ended, AllocError> {
         let mut connections = Vec::new(alloc);
+        let mut ends = Vec::new(alloc);
         let mut lost = Vec::new(alloc);
         for lane in &self.lanes {
-            if !stands(directions, lane.conn) {
+            if !stands(directions, lane) {
                 lost.extend_from_slice(&lane.flights)?;
-                if lane.from <= lane.to {
+                if !self.ends_with(directions, lane) {
+                    ends.push((lane.to, lane.from))?;
+                } else if lane.from <= lane.to {
                     connections.push((lane.from, lane.to))?;
                 }
             }
         }
-        self.lanes.retain(|lane| stands(directions, lane.conn));
+        self.lanes.retain(|lane| stands(directions, lane));
         for (place, flight) in lost.iter().enumerate() {
             let line = place.saturating_add(1);
             self.end(*flight, FlightEnd::Lost { row, line });
         }
         Ok(Ended {
             connections,
+            ends,
             messages: lost.len(),
         })
+    }
+
+    /// Whether the lane back on the same connection ends now too.
+    fn ends_with(&self, directions: &[Direction], lane: &Lane) -> bool {
+        self.lanes
+            .iter()
+            .any(|back| back.is_back_of(lane) && !stands(directions, back))
     }
 
     /// What the directions hold beyond what is known of them was put in flight at this row.

@@ -1,7 +1,7 @@
 //! Messages in a few words.
 
 use dia_avp::{AvpFault, PlainWire, RawAvp, Wire, u32_of};
-use dia_base::codes::{CREDIT_CONTROL_COMMAND, RESULT_CODE};
+use dia_base::codes::{CC_REQUEST_TYPE, CREDIT_CONTROL_COMMAND, RESULT_CODE};
 use dia_message::{Header, Message};
 use std::alloc::{AllocError, Global};
 
@@ -21,22 +21,39 @@ pub struct Label {
     pub words: String,
 }
 
-/// The name of a message, its Hop-by-Hop Identifier, the flag T where it is set, and the Result-Code in
-/// words where it has one.
+/// The name of a message, the CC-Request-Type of a Credit-Control message in words, its Hop-by-Hop Identifier, the flag T
+/// where it is set, and the Result-Code of an answer in words, where it has one.
 pub fn label_of(alloc: Global, message: &Message) -> Result<Label, AllocError> {
     let header = &message.header;
+    let avps = avps_of(alloc, message)?;
     let mut words = String::new(alloc);
     push_name(&mut words, header)?;
+    push_request_type(&mut words, header, &avps)?;
     let hop = header.hop;
     write!(words, " 0x{hop:x}")?;
     if header.resent {
         words.push_str(" T")?;
     }
-    push_result(alloc, &mut words, message)?;
+    push_result(&mut words, header, &avps)?;
     Ok(Label {
         kind: kind_of(header),
         words,
     })
+}
+
+/// The AVPs of a message; none where its body is no list of AVPs.
+fn avps_of(alloc: Global, message: &Message) -> Result<Vec<RawAvp>, AllocError> {
+    match PlainWire::split(alloc, &message.body) {
+        Ok(avps) => Ok(avps),
+        Err(AvpFault::OutOfMemory) => Err(AllocError),
+        Err(_) => Ok(Vec::new(alloc)),
+    }
+}
+
+/// The number in the first AVP with this code, where there is one and it is four octets long.
+fn number_at(avps: &[RawAvp], code: u32) -> Option<u32> {
+    let avp = avps.iter().find(|avp| avp.code == code && avp.vendor == 0)?;
+    u32_of(avp)
 }
 
 fn kind_of(header: &Header) -> MessageKind {
@@ -57,27 +74,37 @@ fn push_name(out: &mut String, header: &Header) -> Result<(), AllocError> {
     }
 }
 
-/// Adds the first Result-Code of an answer.
-fn push_result(alloc: Global, out: &mut String, message: &Message) -> Result<(), AllocError> {
-    if message.header.request {
+/// Adds the first CC-Request-Type of a Credit-Control message in words, where it has one of the four.
+fn push_request_type(out: &mut String, header: &Header, avps: &[RawAvp]) -> Result<(), AllocError> {
+    if header.command != CREDIT_CONTROL_COMMAND {
         return Ok(());
     }
-    let avps = match PlainWire::split(alloc, &message.body) {
-        Ok(avps) => avps,
-        Err(AvpFault::OutOfMemory) => return Err(AllocError),
-        Err(_) => return Ok(()),
-    };
-    match avps.iter().find(|avp| is_result(avp)) {
-        Some(avp) => match u32_of(avp) {
-            Some(number) => push_result_name(out, number),
-            None => Ok(()),
-        },
+    match number_at(avps, CC_REQUEST_TYPE).and_then(|number| request_type_name(number)) {
+        Some(name) => write!(out, " {name}"),
         None => Ok(()),
     }
 }
 
-fn is_result(avp: &RawAvp) -> bool {
-    avp.code == RESULT_CODE && avp.vendor == 0
+/// The types of requests (RFC 8506, section 8.3).
+fn request_type_name(number: u32) -> Option<&'static str> {
+    match number {
+        1 => Some("INITIAL"),
+        2 => Some("UPDATE"),
+        3 => Some("TERMINATION"),
+        4 => Some("EVENT"),
+        _ => None,
+    }
+}
+
+/// Adds the first Result-Code of an answer.
+fn push_result(out: &mut String, header: &Header, avps: &[RawAvp]) -> Result<(), AllocError> {
+    if header.request {
+        return Ok(());
+    }
+    match number_at(avps, RESULT_CODE) {
+        Some(number) => push_result_name(out, number),
+        None => Ok(()),
+    }
 }
 
 /// Adds the name of a Result-Code without the `DIAMETER_` before it, or its number where no node of the

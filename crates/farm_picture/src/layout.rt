@@ -1,6 +1,6 @@
 //! Places: of the columns, one for each node that takes part, and of the rows, one for each step.
 
-use crate::flights::{Flight, FlightEnd};
+use crate::flights::{Ended, Flight, FlightEnd};
 use crate::notes::Note;
 use crate::timeline::{Event, Row, Timeline};
 use dia_base::{NodeKind, NodeNo};
@@ -115,12 +115,19 @@ fn takes_part(timeline: &Timeline, node: NodeNo) -> bool {
         .flights()
         .iter()
         .any(|flight| flight.from == node || flight.to == node)
-        || timeline.rows.iter().any(|row| concerns(&row.event, node))
+        || timeline.rows.iter().any(|row| concerns(&row.event, node) || ends_at(&row.ended, node))
+}
+
+/// Whether an end of a connection at this node, or at the node that it was with, is gone.
+fn ends_at(ended: &Ended, node: NodeNo) -> bool {
+    let mut gone = ended.connections.iter().chain(ended.ends.iter());
+    gone.any(|(a, b)| *a == node || *b == node)
 }
 
 fn concerns(event: &Event, node: NodeNo) -> bool {
     match event {
         Event::Connected { a, b } => *a == node || *b == node,
+        Event::Learned { node: at, peer } => *at == node || *peer == node,
         Event::At { node: at, .. } => *at == node,
         Event::Skipped | Event::Plain => false,
     }

@@ -1,5 +1,6 @@
 //! A run of the farm as a picture: it reads a schedule from standard input, runs it over the row site,
-//! or over the site of a file with `--site FILE`, and writes an SVG.
+//! or over the site of a file with `--site FILE`, and writes an SVG of its first steps, or of those that `--from` and `--to`
+//! name.
 #![tactic(auto)]
 
 ghost use Rattle.std.specs.Prelude.{◌≢◌, IfErr, IfOk, IsOkUnless, OnOk};
@@ -9,6 +10,7 @@ ghost use Rattle.farm_base.specs.RowSite.{the_row_site};
 ghost use Rattle.farm_picture.specs.Painting.{IsSchedule, GivesSchedule, GivesScheduleOfFile};
 
 mod accounts;
+mod asked;
 mod drawing;
 mod ending;
 mod escape;
@@ -17,10 +19,12 @@ mod flights;
 mod labels;
 mod layout;
 mod notes;
+mod part;
 mod svg;
 mod timeline;
 mod ways;
 
+use asked::asked_in;
 use dia_avp::PlainWire;
 use dia_base::SCHEDULE_LIMIT;
 use drawing::draw;
@@ -29,6 +33,7 @@ use farm_site::{SITE_LIMIT, SiteFault, site_of_octets};
 use farm_text::{ReadFault, TEXT_LIMIT, read_text, write_text};
 use farm_world::{Site, row_site};
 use fault::PictureFault;
+use part::Part;
 use std::alloc::Global;
 use std::fs::File;
 use std::io::{ErrorKind, Read, Write};
@@ -40,12 +45,12 @@ use timeline::timeline_of;
 const _: () = prove!(SITE_LIMIT == TEXT_LIMIT && SCHEDULE_LIMIT == TEXT_LIMIT);
 
 /// The picture of a schedule's run over the site, from an empty history.
-fn picture_of(alloc: Global, site: &Site, text: &[u8]) -> Result<String, PictureFault>
+fn picture_of(alloc: Global, site: &Site, part: Part, text: &[u8]) -> Result<String, PictureFault>
     requires { IsChecked site.now }
     ensures { IfOk result (λ _. IsSchedule site.now text.now) }
 {
     let steps = steps_of(alloc, text, site).map_err(|fault| PictureFault::Script(fault))?;
-    let timeline = timeline_of::<PlainWire>(alloc, site, &steps)?;
+    let timeline = timeline_of::<PlainWire>(alloc, site, &steps, part)?;
     let picture = draw(alloc, site, &timeline)?;
     Ok(picture)
 }
@@ -64,6 +69,7 @@ fn write_picture<W: Write>(writer: &mut W, picture: &[u8]) -> Result<(), Picture
 fn paint<R: Read, W: Write>(
     alloc: Global,
     site: &Site,
+    part: Part,
     reader: &mut R,
     writer: &mut W,
 ) -> Result<(), PictureFault>
@@ -74,13 +80,14 @@ fn paint<R: Read, W: Write>(
     ensures nothing { IfErr result (λ fault. fault ≢ PictureFault.Write → Keeps (W.contents writer.old) (W.contents writer.new)) }
 {
     let text = read_text(alloc, reader)?;
-    let picture = picture_of(alloc, site, &text)?;
+    let picture = picture_of(alloc, site, part, &text)?;
     write_picture(writer, picture.as_bytes())
 }
 
 /// The picture of a run over the row site.
 fn paint_row_site<R: Read, W: Write>(
     alloc: Global,
+    part: Part,
     reader: &mut R,
     writer: &mut W,
 ) -> Result<(), PictureFault>
@@ -88,13 +95,14 @@ fn paint_row_site<R: Read, W: Write>(
     ensures nothing { IfErr result (λ fault. fault ≢ PictureFault.Write → Keeps (W.contents writer.old) (W.contents writer.new)) }
 {
     let site = row_site(alloc)?;
-    paint(alloc, &site, reader, writer)
+    paint(alloc, &site, part, reader, writer)
 }
 
 /// The picture of a run over the site that the octets of a site file spell.
 fn paint_site_file<R: Read, W: Write>(
     alloc: Global,
     file: &[u8],
+    part: Part,
     reader: &mut R,
     writer: &mut W,
 ) -> Result<(), PictureFault>
@@ -102,7 +110,7 @@ fn paint_site_file<R: Read, W: Write>(
     ensures nothing { IfErr result (λ fault. fault ≢ PictureFault.Write → Keeps (W.contents writer.old) (W.contents writer.new)) }
 {
     match site_of_octets(alloc, file) {
-        Ok(site) => paint(alloc, &site, reader, writer),
+        Ok(site) => paint(alloc, &site, part, reader, writer),
         Err(fault) => Err(PictureFault::Site(fault)),
     }
 }
@@ -132,13 +140,15 @@ fn site_file(rt: &HostRuntime, path: &str) -> Result<Vec<u8>, PictureFault> {
 fn picture(rt: &HostRuntime) -> Result<(), PictureFault> {
     let words = words_of(rt)?;
     let (reader, writer) = (&mut rt.reader(), &mut io::writer(rt));
-    match words.as_slice() {
-        [] => paint_row_site(rt.alloc(), reader, writer),
-        [option, path] if option.as_str() == "--site" => {
-            let file = site_file(rt, path.as_str())?;
-            paint_site_file(rt.alloc(), &file, reader, writer)
+    let Some(asked) = asked_in(&words) else {
+        return Err(PictureFault::Words);
+    };
+    match asked.site {
+        None => paint_row_site(rt.alloc(), asked.part, reader, writer),
+        Some(path) => {
+            let file = site_file(rt, path)?;
+            paint_site_file(rt.alloc(), &file, asked.part, reader, writer)
         }
-        _ => Err(PictureFault::Words),
     }
 }
 

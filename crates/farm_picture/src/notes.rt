@@ -34,8 +34,8 @@ pub fn notes_of(alloc: Global, site: &Site, rows: &[Row]) -> Result<Vec<Note>, A
 
 fn class_of(deed: &Deed) -> Class {
     match deed {
-        Deed::Restarted => Class::Restart,
-        Deed::Picked | Deed::Dropped => Class::Note,
+        Deed::Restarted | Deed::Crashed => Class::Restart,
+        Deed::Picked | Deed::SentToNobody | Deed::Dropped => Class::Note,
         Deed::Charged { .. } => Class::Money,
         Deed::Refused { .. } => Class::Refusal,
     }
@@ -45,8 +45,10 @@ fn words_of(alloc: Global, site: &Site, deed: &Deed) -> Result<String, AllocErro
     let words = match deed {
         Deed::Charged { charge, .. } => return charge_words(alloc, site, charge),
         Deed::Restarted => "restarts",
+        Deed::Crashed => "crashes",
         Deed::Picked => "takes a request",
         Deed::Refused { .. } => "refuses it, by order",
+        Deed::SentToNobody => "message lost: connection gone",
         Deed::Dropped => "answer lost: connection gone",
     };
     String::from_str(alloc, words)

@@ -5,13 +5,11 @@ ghost use Rattle.farm_base.specs.CheckedSite.{IsChecked};
 use crate::accounts::{Accounts, Charge, accounts_of, charge_between};
 use crate::flights::{Ended, Flight, FlightEnd, Flights};
 use crate::labels::MessageKind;
+use crate::part::Part;
 use dia_avp::Wire;
 use dia_base::NodeNo;
 use farm_world::{Site, Step, World};
 use std::alloc::{AllocError, Global};
-
-/// The most steps that are told one by one.
-const TOLD: usize = 64;
 
 /// What happened at a step, beside messages that were put in flight, arrived or were lost, and connections
 /// that ended.
@@ -22,6 +20,8 @@ pub enum Event {
     /// Nothing else.
     Plain,
     Connected { a: NodeNo, b: NodeNo },
+    /// A node learned of its connection with another one.
+    Learned { node: NodeNo, peer: NodeNo },
     /// A node did something by itself.
     At { node: NodeNo, deed: Deed },
 }
@@ -30,6 +30,7 @@ pub enum Event {
 #[derive(Clone, Copy)]
 pub enum Deed {
     Restarted,
+    Crashed,
     /// A worker took a request.
     Picked,
     Charged { worker: u64, charge: Charge },
@@ -37,11 +38,15 @@ pub enum Deed {
     Refused { worker: u64 },
     /// A worker had an answer for a connection that has ended.
     Dropped,
+    /// A client sent on a connection that the other node has dropped.
+    SentToNobody,
 }
 
-/// A step.
+/// A step, or all those before the steps that are drawn.
 #[derive(Drop)]
 pub struct Row {
+    /// Which step of the run it is, counted from 1. None for those before.
+    pub number: Option<usize>,
     /// The word of its line in the schedule.
     pub word: &'static str,
     pub event: Event,
@@ -49,13 +54,22 @@ pub struct Row {
     pub ended: Ended,
 }
 
-/// A run: its first steps one by one, and what it came to.
+/// Steps that have no rows.
+#[derive(Clone, Copy)]
+pub struct LeftOut {
+    /// How many came before those of the rows.
+    pub before: usize,
+    /// How many came after them, and the number of the first.
+    pub behind: usize,
+    pub next: usize,
+}
+
+/// A run: some of its steps one by one, and what it came to.
 #[derive(Drop)]
 pub struct Timeline {
     pub rows: Vec<Row>,
     flights: Flights,
-    /// How many steps came after those of the rows.
-    pub left_out: usize,
+    pub left_out: LeftOut,
     /// The book at the end of the run.
     pub end: Accounts,
     pub open_sessions: u64,
@@ -73,31 +87,39 @@ pub fn timeline_of<W: Wire>(
     alloc: Global,
     site: &Site,
     steps: &[Step],
+    part: Part,
 ) -> Result<Timeline, AllocError>
     requires { IsChecked site.now }
 {
     let mut world = World::open(alloc, site)?;
-    let (told, others) = steps.split_at(steps.len().min(TOLD));
-    let mut rows = Vec::new(alloc);
+    let (before, drawn, behind) = part.split(steps);
+    run_on::<W>(alloc, site, &mut world, before)?;
     let mut flights = Flights::new(alloc);
-    for step in told {
-        let before = accounts_of(alloc, world.book())?;
+    let mut rows = rows_before(alloc, &mut flights, before.len(), &world)?;
+    let first = before.len().saturating_add(1);
+    for (place, step) in drawn.iter().enumerate() {
+        let accounts = accounts_of(alloc, world.book())?;
         let applied = world.step::<W>(alloc, site, step)?;
         record(
             alloc,
             &mut rows,
             &mut flights,
+            first.saturating_add(place),
             step,
             applied,
-            &before,
+            &accounts,
             &world,
         )?;
     }
-    run_on::<W>(alloc, site, &mut world, others)?;
+    run_on::<W>(alloc, site, &mut world, behind)?;
     Ok(Timeline {
         rows,
         flights,
-        left_out: others.len(),
+        left_out: LeftOut {
+            before: before.len(),
+            behind: behind.len(),
+            next: first.saturating_add(drawn.len()),
+        },
         end: accounts_of(alloc, world.book())?,
         open_sessions: world.book().open_sessions(),
     })
@@ -116,11 +138,33 @@ fn run_on<W: Wire>(
     Ok(())
 }
 
-/// Adds a row for the step that led to this world.
+/// A row for so many steps before those that are drawn, at which all begins that is on its way then; no row for no steps.
+fn rows_before(
+    alloc: Global,
+    flights: &mut Flights,
+    steps: usize,
+    world: &World,
+) -> Result<Vec<Row>, AllocError> {
+    let mut rows = Vec::new(alloc);
+    if steps > 0 {
+        let ended = flights.end_with_connections(alloc, world.directions(), 0)?;
+        flights.begin(alloc, world.directions(), 0)?;
+        rows.push(Row {
+            number: None,
+            word: "before",
+            event: Event::Plain,
+            ended,
+        })?;
+    }
+    Ok(rows)
+}
+
+/// Adds a row for the step of this number, which led to this world.
 fn record(
     alloc: Global,
     rows: &mut Vec<Row>,
     flights: &mut Flights,
+    number: usize,
     step: &Step,
     applied: bool,
     before: &Accounts,
@@ -144,6 +188,7 @@ fn record(
         explain_charge(rows, *front, *worker, answer);
     }
     rows.push(Row {
+        number: Some(number),
         word: word_of(step),
         event,
         ended,
@@ -168,7 +213,10 @@ fn end_flight(flights: &mut Flights, step: &Step, row: usize) {
 fn event_of(step: &Step, before: &Accounts, after: &Accounts, sent: Option<MessageKind>) -> Event {
     let (node, deed) = match step {
         Step::Up { a, b } => return Event::Connected { a: *a, b: *b },
+        Step::Accept { at, from } => return learned(*at, *from),
+        Step::Opened { a, b } => return learned(*a, *b),
         Step::Restart { node } => (*node, Deed::Restarted),
+        Step::Crash { node } => (*node, Deed::Crashed),
         Step::Pick { front, .. } => (*front, Deed::Picked),
         Step::Charge { front, worker, .. } => {
             let worker = *worker;
@@ -177,9 +225,14 @@ fn event_of(step: &Step, before: &Accounts, after: &Accounts, sent: Option<Messa
         }
         Step::Refuse { front, worker } => (*front, Deed::Refused { worker: *worker }),
         Step::Emit { front, .. } if sent.is_none() => (*front, Deed::Dropped),
+        Step::Send { client, .. } if sent.is_none() => (*client, Deed::SentToNobody),
         _ => return Event::Plain,
     };
     Event::At { node, deed }
+}
+
+fn learned(node: NodeNo, peer: NodeNo) -> Event {
+    Event::Learned { node, peer }
 }
 
 /// What a worker answers tells why its charge left the book as it was.
@@ -227,11 +280,15 @@ fn explain(event: &mut Event, told: Charge) {
 fn word_of(step: &Step) -> &'static str {
     match step {
         Step::Up { .. } => "up",
+        Step::Accept { .. } => "accept",
+        Step::Opened { .. } => "opened",
         Step::Send { .. } => "send",
         Step::Deliver { .. } => "deliver",
         Step::Lose { .. } => "lose",
         Step::Cut { .. } => "cut",
+        Step::Drop { .. } => "drop",
         Step::Restart { .. } => "restart",
+        Step::Crash { .. } => "crash",
         Step::Pick { .. } => "pick",
         Step::Charge { .. } => "charge",
         Step::Refuse { .. } => "refuse",

@@ -9,7 +9,7 @@ use Rattle.farm_script.specs.declared.fault.LineFault.TheVariants.{UnknownWord, 
 use Rattle.farm_script.specs.declared.fault.ScriptFault.{ScriptFault}
 use Rattle.farm_script.specs.declared.fault.ScriptFault.TheVariants.{Line}
 use Rattle.farm_base.specs.declared.step.Step.{Step}
-use Rattle.farm_base.specs.declared.step.Step.TheVariants.{Up, Deliver, Lose, Cut, Restart, Pick, Charge, Refuse, Emit, Sweep}
+use Rattle.farm_base.specs.declared.step.Step.TheVariants.{Up, Accept, Opened, Deliver, Lose, Cut, Drop, Restart, Crash, Pick, Charge, Refuse, Emit, Sweep}
 
 -- a carriage return before a line feed is no part of the line, one at the end of the text is
 returns : lines (codes "a" ++ 13 ∷ 10 ∷ codes "b" ++ 13 ∷ []) ≡ codes "a" ∷ (codes "b" ++ 13 ∷ []) ∷ []
@@ -104,6 +104,57 @@ cut-unknown_first = refl
 
 cut-unknown_second : spelled_by (codes "cut r1.example f1.example.") ≡ one_fault UnknownName
 cut-unknown_second = refl
+
+-- ---- accept, opened, drop: who learns of a connection, and then the other node
+
+accept : spelled_by (codes "accept f1.example R1.example") ≡ one_step (Accept f1 r1)
+accept = refl
+
+accept-too_few : spelled_by (codes "accept f1.example") ≡ one_fault WrongCount
+accept-too_few = refl
+
+accept-too_many : spelled_by (codes "accept f1.example r1.example 0") ≡ one_fault WrongCount
+accept-too_many = refl
+
+accept-unknown_second : spelled_by (codes "accept f1.example r3.example") ≡ one_fault UnknownName
+accept-unknown_second = refl
+
+opened : spelled_by (codes "opened r1.example f1.example") ≡ one_step (Opened r1 f1)
+opened = refl
+
+opened-too_few : spelled_by (codes "opened r1.example") ≡ one_fault WrongCount
+opened-too_few = refl
+
+opened-unknown_first : spelled_by (codes "opened r3.example f1.example") ≡ one_fault UnknownName
+opened-unknown_first = refl
+
+drop : spelled_by (codes "drop r1.example f1.example") ≡ one_step (Drop r1 f1)
+drop = refl
+
+-- the nodes stand in the order of the line
+drop-turned : spelled_by (codes "drop f1.example r1.example") ≡ one_step (Drop f1 r1)
+drop-turned = refl
+
+drop-too_many : spelled_by (codes "drop f1.example r1.example 1") ≡ one_fault WrongCount
+drop-too_many = refl
+
+drop-unknown_second : spelled_by (codes "drop f1.example r3.example") ≡ one_fault UnknownName
+drop-unknown_second = refl
+
+-- ---- crash
+
+crash : spelled_by (codes "crash f1.EXAMPLE") ≡ one_step (Crash f1)
+crash = refl
+
+-- a step that does not apply to its node is no fault
+crash-client : spelled_by (codes "crash c1.example") ≡ one_step (Crash c1)
+crash-client = refl
+
+crash-too_many : spelled_by (codes "crash f1.example 0") ≡ one_fault WrongCount
+crash-too_many = refl
+
+crash-unknown : spelled_by (codes "crash f3.example") ≡ one_fault UnknownName
+crash-unknown = refl
 
 -- ---- restart
 

@@ -10,7 +10,7 @@ use Rattle.farm_script.specs.declared.fault.ScriptFault.{ScriptFault}
 use Rattle.farm_script.specs.declared.fault.ScriptFault.TheVariants.{Line, TooLong}
 use Rattle.farm_base.specs.declared.site.Site.{Site}
 use Rattle.farm_base.specs.declared.step.Step.{Step}
-use Rattle.farm_base.specs.declared.step.Step.TheVariants.{Up, Send, Deliver, Lose, Cut, Restart, Pick, Charge, Refuse, Emit, Sweep}
+use Rattle.farm_base.specs.declared.step.Step.TheVariants.{Up, Accept, Opened, Send, Deliver, Lose, Cut, Drop, Restart, Crash, Pick, Charge, Refuse, Emit, Sweep}
 use Rattle.farm_script.specs.Words.{words_of, says_nothing, node_of, number_of, message_of}
 
 -- ---- the step that words spell
@@ -27,6 +27,20 @@ up_of site (a ∷ b ∷ []) = do
   other ← node_of site b
   Ok (Up one other)
 up_of site words = Err WrongCount
+
+abbrev pub accept_of : Site → List (List ℕ) → Result Step LineFault
+accept_of site (at ∷ from ∷ []) = do
+  one ← node_of site at
+  other ← node_of site from
+  Ok (Accept one other)
+accept_of site words = Err WrongCount
+
+abbrev pub opened_of : Site → List (List ℕ) → Result Step LineFault
+opened_of site (a ∷ b ∷ []) = do
+  one ← node_of site a
+  other ← node_of site b
+  Ok (Opened one other)
+opened_of site words = Err WrongCount
 
 abbrev pub send_of : Site → List (List ℕ) → Result Step LineFault
 send_of site (client ∷ to ∷ message ∷ []) = do
@@ -59,11 +73,24 @@ cut_of site (a ∷ b ∷ []) = do
   Ok (Cut one other)
 cut_of site words = Err WrongCount
 
+abbrev pub drop_of : Site → List (List ℕ) → Result Step LineFault
+drop_of site (a ∷ b ∷ []) = do
+  one ← node_of site a
+  other ← node_of site b
+  Ok (Drop one other)
+drop_of site words = Err WrongCount
+
 abbrev pub restart_of : Site → List (List ℕ) → Result Step LineFault
 restart_of site (name ∷ []) = do
   node ← node_of site name
   Ok (Restart node)
 restart_of site words = Err WrongCount
+
+abbrev pub crash_of : Site → List (List ℕ) → Result Step LineFault
+crash_of site (name ∷ []) = do
+  node ← node_of site name
+  Ok (Crash node)
+crash_of site words = Err WrongCount
 
 abbrev pub pick_of : Site → List (List ℕ) → Result Step LineFault
 pick_of site (front ∷ worker ∷ []) = do
@@ -105,11 +132,15 @@ abbrev pub step_of : Site → List (List ℕ) → Result Step LineFault
 step_of site [] = Err UnknownWord
 step_of site (verb ∷ words) =
     if bytes_eq verb (codes "up") then up_of site words
+    else if bytes_eq verb (codes "accept") then accept_of site words
+    else if bytes_eq verb (codes "opened") then opened_of site words
     else if bytes_eq verb (codes "send") then send_of site words
     else if bytes_eq verb (codes "deliver") then deliver_of site words
     else if bytes_eq verb (codes "lose") then lose_of site words
     else if bytes_eq verb (codes "cut") then cut_of site words
+    else if bytes_eq verb (codes "drop") then drop_of site words
     else if bytes_eq verb (codes "restart") then restart_of site words
+    else if bytes_eq verb (codes "crash") then crash_of site words
     else if bytes_eq verb (codes "pick") then pick_of site words
     else if bytes_eq verb (codes "charge") then charge_of site words
     else if bytes_eq verb (codes "refuse") then refuse_of site words

@@ -1,12 +1,16 @@
 //! Schedules: a text, one step on a line.
 //!
 //! ```text
-//! up A B                 a connection between two nodes comes up
+//! up A B                 a connection between two nodes comes up, and both know it
+//! accept B A             B accepts a connection that A opens, and knows it; A does not yet
+//! opened A B             A learns that the connection that it opens with B is made
 //! send C N HEX           a client sends a node the message that HEX writes
 //! deliver A B K          the message at place K of those in flight from A to B arrives
 //! lose A B K             the message at place K of those in flight from A to B is lost
-//! cut A B                the connection between two nodes ends
-//! restart N              a relay or a front begins anew
+//! cut A B                the connection between two nodes ends, and both learn it
+//! drop A B               A learns that its connection with B has ended, and B does not yet
+//! restart N              a relay or a front begins anew, and its peers learn it
+//! crash N                a relay or a front forgets everything, and its peers know nothing of it yet
 //! pick F W               worker W of front F takes the first job of the queue
 //! charge F W MOMENT      worker W of front F charges its job at this moment
 //! refuse F W             worker W of front F refuses its job without the book

@@ -2,7 +2,7 @@
 
 ghost use Rattle.std.specs.Prelude.{◌≡◌, map};
 ghost use Rattle.farm_script.specs.Words.{Answers};
-ghost use Rattle.farm_script.specs.Schedule.{step_of, up_of, send_of, deliver_of, lose_of, cut_of, restart_of, pick_of, charge_of, refuse_of, emit_of, sweep_of};
+ghost use Rattle.farm_script.specs.Schedule.{step_of, up_of, accept_of, opened_of, send_of, deliver_of, lose_of, cut_of, drop_of, restart_of, crash_of, pick_of, charge_of, refuse_of, emit_of, sweep_of};
 
 use crate::fault::LineFault;
 use crate::word::{message_of, node_of, number_of};
@@ -12,6 +12,10 @@ use std::alloc::Global;
 
 const UP: &[u8] = b"up";
 
+const ACCEPT: &[u8] = b"accept";
+
+const OPENED: &[u8] = b"opened";
+
 const SEND: &[u8] = b"send";
 
 const DELIVER: &[u8] = b"deliver";
@@ -20,7 +24,11 @@ const LOSE: &[u8] = b"lose";
 
 const CUT: &[u8] = b"cut";
 
+const DROP: &[u8] = b"drop";
+
 const RESTART: &[u8] = b"restart";
+
+const CRASH: &[u8] = b"crash";
 
 const PICK: &[u8] = b"pick";
 
@@ -42,6 +50,10 @@ pub fn step_of(alloc: Global, words: &[&[u8]], site: &Site) -> Result<Step, Line
     let verb = *first;
     if verb == UP {
         up_of(words, site)
+    } else if verb == ACCEPT {
+        accept_of(words, site)
+    } else if verb == OPENED {
+        opened_of(words, site)
     } else if verb == SEND {
         send_of(alloc, words, site)
     } else if verb == DELIVER {
@@ -50,8 +62,12 @@ pub fn step_of(alloc: Global, words: &[&[u8]], site: &Site) -> Result<Step, Line
         lose_of(words, site)
     } else if verb == CUT {
         cut_of(words, site)
+    } else if verb == DROP {
+        drop_of(words, site)
     } else if verb == RESTART {
         restart_of(words, site)
+    } else if verb == CRASH {
+        crash_of(words, site)
     } else if verb == PICK {
         pick_of(words, site)
     } else if verb == CHARGE {
@@ -75,6 +91,32 @@ fn up_of(words: &[&[u8]], site: &Site) -> Result<Step, LineFault>
         return Err(LineFault::WrongCount);
     };
     Ok(Step::Up {
+        a: node_of(site, a)?,
+        b: node_of(site, b)?,
+    })
+}
+
+#[tactic(auto, using(crate::proofs::WordLists::two_words))]
+fn accept_of(words: &[&[u8]], site: &Site) -> Result<Step, LineFault>
+    ensures { result ≡ accept_of site.now (map (λ word. word.now) words.now) }
+{
+    let [at, from] = words else {
+        return Err(LineFault::WrongCount);
+    };
+    Ok(Step::Accept {
+        at: node_of(site, at)?,
+        from: node_of(site, from)?,
+    })
+}
+
+#[tactic(auto, using(crate::proofs::WordLists::two_words))]
+fn opened_of(words: &[&[u8]], site: &Site) -> Result<Step, LineFault>
+    ensures { result ≡ opened_of site.now (map (λ word. word.now) words.now) }
+{
+    let [a, b] = words else {
+        return Err(LineFault::WrongCount);
+    };
+    Ok(Step::Opened {
         a: node_of(site, a)?,
         b: node_of(site, b)?,
     })
@@ -135,6 +177,19 @@ fn cut_of(words: &[&[u8]], site: &Site) -> Result<Step, LineFault>
     })
 }
 
+#[tactic(auto, using(crate::proofs::WordLists::two_words))]
+fn drop_of(words: &[&[u8]], site: &Site) -> Result<Step, LineFault>
+    ensures { result ≡ drop_of site.now (map (λ word. word.now) words.now) }
+{
+    let [a, b] = words else {
+        return Err(LineFault::WrongCount);
+    };
+    Ok(Step::Drop {
+        a: node_of(site, a)?,
+        b: node_of(site, b)?,
+    })
+}
+
 #[tactic(auto, using(crate::proofs::WordLists::one_word))]
 fn restart_of(words: &[&[u8]], site: &Site) -> Result<Step, LineFault>
     ensures { result ≡ restart_of site.now (map (λ word. word.now) words.now) }
@@ -143,6 +198,18 @@ fn restart_of(words: &[&[u8]], site: &Site) -> Result<Step, LineFault>
         return Err(LineFault::WrongCount);
     };
     Ok(Step::Restart {
+        node: node_of(site, name)?,
+    })
+}
+
+#[tactic(auto, using(crate::proofs::WordLists::one_word))]
+fn crash_of(words: &[&[u8]], site: &Site) -> Result<Step, LineFault>
+    ensures { result ≡ crash_of site.now (map (λ word. word.now) words.now) }
+{
+    let [name] = words else {
+        return Err(LineFault::WrongCount);
+    };
+    Ok(Step::Crash {
         node: node_of(site, name)?,
     })
 }

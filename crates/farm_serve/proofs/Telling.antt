@@ -1,5 +1,5 @@
 -- One way behind another.
-use Rattle.std.proofs.Common.{◌≡◌, ℕ, ◌+◌, ◌<◌, List, [], ◌∷◌, ◌++◌, Result, Ok, Err, get_or, length, sym, subst, ap, ◌∙◌}
+use Rattle.std.proofs.Common.{◌≡◌, ℕ, true, ◌+◌, ◌<◌, List, [], ◌∷◌, ◌++◌, Result, Ok, Err, get_or, length, sym, subst, ap, ◌∙◌}
 use Rattle.std.specs.List.{remove}
 use Rattle.std.specs.Prelude.{slice_set}
 use Rattle.std.proofs.lemmas.List.{map-append}
@@ -11,7 +11,8 @@ use Rattle.farm_node.specs.declared.error.NodeError.{NodeError}
 use Rattle.farm_serve.specs.declared.link.Link.{Link}
 use Rattle.farm_serve.specs.declared.link.Standing.{Standing}
 use Rattle.farm_serve.specs.declared.link.Standing.TheVariants.{Waiting, Up, Over}
-use Rattle.farm_serve.specs.Turns.{Goes, IsDown, IsOfNone, Kept, Mark, Told, standing_as, told_of, rests, comes_up, is_refused, hears, ends, wakes, makes, lets_go}
+use Rattle.farm_serve.specs.Turns.{Goes, IsDown, IsOfNone, Kept, Mark, Told, may_come_up, standing_as, told_of}
+use Rattle.farm_serve.specs.Turns.{rests, comes_up, is_refused, hears, ends, wakes, makes, lets_go}
 use Rattle.farm_serve.specs.Desks.{mark_of, marks_of, standing_after}
 use Rattle.farm_serve.proofs.Placing.{keeping, marks_split, marks_left}
 use Rattle.farm_serve.proofs.Turning.{goes_then}
@@ -33,11 +34,12 @@ way_still {N} {On} old mid new way same = (way.0, subst (λ (kept : Kept N). Goe
 
 up_goes : {N : Type 0} {On : N → NodeEvent → Traffic → Result (Unit {0}) NodeError → N → Type 0} {first : Kept N} (node next : N) (told : List Told)
     (front back : List Mark) (made : ℕ) (mark : Mark) (peer : NodeNo) (sent : Traffic) (outcome : Result (Unit {0}) NodeError)
-    → Goes On first told (keeping node (front ++ mark ∷ back) made) → mark.standing ≡ Waiting → On node (up mark.local peer mark.id) sent outcome next
+    → Goes On first told (keeping node (front ++ mark ∷ back) made) → mark.standing ≡ Waiting → may_come_up mark peer ≡ true
+    → On node (up mark.local peer mark.id) sent outcome next
     → Goes On first (told ++ told_of (up mark.local peer mark.id) outcome) (keeping next (front ++ standing_as mark (standing_after peer outcome) ∷ back) made)
-up_goes node next told front back made mark peer sent (Ok tt) goes waits does = comes_up told node next front back made mark peer sent goes waits does
-up_goes node next told front back made mark peer sent (Err error) goes waits does =
-    is_refused told node next front back made mark peer sent error goes waits does
+up_goes node next told front back made mark peer sent (Ok tt) goes waits may does = comes_up told node next front back made mark peer sent goes waits may does
+up_goes node next told front back made mark peer sent (Err error) goes waits may does =
+    is_refused told node next front back made mark peer sent error goes waits may does
 
 -- ---- one thing is told
 
@@ -45,18 +47,18 @@ up_goes node next told front back made mark peer sent (Err error) goes waits doe
 pub up_way : {N R W : Type 0} {On : N → NodeEvent → Traffic → Result (Unit {0}) NodeError → N → Type 0} (node next : N) (links : List (Link R W)) (place : ℕ)
     (link other : Link R W) (made : ℕ) (peer : NodeNo) (sent : Traffic)
     (outcome : Result (Unit {0}) NodeError) → place < length links → link ≡ get_or links place link → link.standing ≡ Waiting
-    → mark_of other ≡ standing_as (mark_of link) (standing_after peer outcome)
+    → may_come_up (mark_of link) peer ≡ true → mark_of other ≡ standing_as (mark_of link) (standing_after peer outcome)
     → On node (up link.local peer link.id) sent outcome next
     → Way On (record { node = node; marks = marks_of links; made = made })
     (record { node = next; marks = marks_of (slice_set links place other); made = made })
-up_way {N} {R} {W} {On} node next links place link other made peer sent outcome within read waits is does =
+up_way {N} {R} {W} {On} node next links place link other made peer sent outcome within read waits may is does =
     let s = marks_split links place link within read in
     let begun = subst (λ (marks : List Mark). Goes On (keeping node (marks_of links) made) [] (keeping node marks made)) s.is rests in (
       told_of (up link.local peer link.id) outcome,
       subst (λ (marks : List Mark). Goes On (record { node = node; marks = marks_of links; made = made }) (told_of (up link.local peer link.id) outcome)
           (record { node = next; marks = marks; made = made }))
           (sym (s.set other ∙ ap (λ (mark : Mark). s.front ++ mark ∷ s.back) is))
-          (up_goes node next [] s.front s.back made (mark_of link) peer sent outcome begun waits does),
+          (up_goes node next [] s.front s.back made (mark_of link) peer sent outcome begun waits may does),
     )
 
 -- a message
@@ -102,9 +104,10 @@ pub made_way : {N R W : Type 0} {On : N → NodeEvent → Traffic → Result (Un
     → Way On (keeping node (marks_of links) made) (keeping node (marks_of (links ++ link ∷ [])) link.id.0)
 made_way {N} {R} {W} {On} node links link made next waits =
     let with : ℕ → Standing → Kept N =
-    λ n standing. keeping node (marks_of links ++ record { id = record { 0 = n }; local = link.local; standing = standing } ∷ []) n in
+    λ n standing. keeping node (marks_of links ++ record { id = record { 0 = n }; local = link.local; standing = standing; barred = link.barred.items } ∷ [])
+    n in
     let first = keeping node (marks_of links) made in
-    let begun : Goes On first [] (with (made + 1) Waiting) = makes [] node (marks_of links) made link.local rests in
+    let begun : Goes On first [] (with (made + 1) Waiting) = makes [] node (marks_of links) made link.local link.barred.items rests in
     let there : Goes On first [] (with link.id.0 link.standing) =
     subst (λ (standing : Standing). Goes On first [] (with link.id.0 standing)) (sym waits)
     (subst (λ (n : ℕ). Goes On first [] (with n Waiting)) (sym next) begun) in

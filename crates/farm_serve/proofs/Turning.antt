@@ -144,10 +144,10 @@ nothing_moves node next told then marks made same s = record {
 pub stands : {N : Type 0} {On : N → NodeEvent → Traffic → Result (Unit {0}) NodeError → N → Type 0} (node : N) (told : List Told) (kept : Kept N)
     → Goes On (beginning node) told kept → Stands told kept
 stands node _ _ rests = record { agree = tt; fresh = λ conn lt. refl; sound = λ conn e. absurd cc }
-stands node _ _ (comes_up told now next front back made mark peer sent goes waits does) =
+stands node _ _ (comes_up told now next front back made mark peer sent goes waits may does) =
     one_step now next told _ front back made mark (Up peer) (λ turn. after_up turn (Ok tt)) (λ conn. turn_more conn told _ _)
     (ap (λ (s : Standing). after_up (turn_for s) (Ok tt)) waits) (stands node told _ goes)
-stands node _ _ (is_refused told now next front back made mark peer sent error goes waits does) =
+stands node _ _ (is_refused told now next front back made mark peer sent error goes waits may does) =
     one_step now next told _ front back made mark (Over peer) (λ turn. after_up turn (Err error)) (λ conn. turn_more conn told _ _)
     (ap (λ (s : Standing). after_up (turn_for s) (Err error)) waits) (stands node told _ goes)
 stands node _ _ (hears told now next front back made mark peer m sent outcome goes is_up does) =
@@ -159,7 +159,7 @@ stands node _ _ (ends told now next front back made mark peer sent outcome goes 
 stands node _ _ (wakes told now next marks made event sent outcome goes none does) =
     nothing_moves now next told _ marks made (λ conn. turn_more conn told event outcome ∙ of_none event outcome conn (turn_of conn told) none)
     (stands node told _ goes)
-stands node _ _ (makes told now marks made local goes) =
+stands node _ _ (makes told now marks made local barred goes) =
     let s = stands node told _ goes in
     record {
       agree = made_more made told 0 marks _ (omega arith) refl (s.fresh (made + 1) (omega arith)) s.agree;
@@ -183,16 +183,17 @@ retell {N} {On} {first} {last} same goes = subst (λ (told : List Told). Goes On
 pub goes_then : {N : Type 0} {On : N → NodeEvent → Traffic → Result (Unit {0}) NodeError → N → Type 0} {first mid : Kept N} {told : List Told}
     (more : List Told) (last : Kept N) → Goes On first told mid → Goes On mid more last → Goes On first (told ++ more) last
 goes_then {N} {On} {first} {mid} {told} _ _ way rests = retell (sym (append-nil told)) way
-goes_then {N} {On} {first} {mid} {told} _ _ way (comes_up more node next front back made mark peer sent goes waits does) =
-    retell (append_assoc told more _) (comes_up _ node next front back made mark peer sent (goes_then more _ way goes) waits does)
-goes_then {N} {On} {first} {mid} {told} _ _ way (is_refused more node next front back made mark peer sent error goes waits does) =
-    retell (append_assoc told more _) (is_refused _ node next front back made mark peer sent error (goes_then more _ way goes) waits does)
+goes_then {N} {On} {first} {mid} {told} _ _ way (comes_up more node next front back made mark peer sent goes waits may does) =
+    retell (append_assoc told more _) (comes_up _ node next front back made mark peer sent (goes_then more _ way goes) waits may does)
+goes_then {N} {On} {first} {mid} {told} _ _ way (is_refused more node next front back made mark peer sent error goes waits may does) =
+    retell (append_assoc told more _) (is_refused _ node next front back made mark peer sent error (goes_then more _ way goes) waits may does)
 goes_then {N} {On} {first} {mid} {told} _ _ way (hears more node next front back made mark peer m sent outcome goes is_up does) =
     retell (append_assoc told more _) (hears _ node next front back made mark peer m sent outcome (goes_then more _ way goes) is_up does)
 goes_then {N} {On} {first} {mid} {told} _ _ way (ends more node next front back made mark peer sent outcome goes is_up does) =
     retell (append_assoc told more _) (ends _ node next front back made mark peer sent outcome (goes_then more _ way goes) is_up does)
 goes_then {N} {On} {first} {mid} {told} _ _ way (wakes more node next marks made event sent outcome goes none does) =
     retell (append_assoc told more _) (wakes _ node next marks made event sent outcome (goes_then more _ way goes) none does)
-goes_then {N} {On} {first} {mid} {told} _ _ way (makes more node marks made local goes) = makes _ node marks made local (goes_then more _ way goes)
+goes_then {N} {On} {first} {mid} {told} _ _ way (makes more node marks made local barred goes) =
+    makes _ node marks made local barred (goes_then more _ way goes)
 goes_then {N} {On} {first} {mid} {told} _ _ way (lets_go more node front back made mark goes down) =
     lets_go _ node front back made mark (goes_then more _ way goes) down

@@ -9,10 +9,10 @@ use Rattle.farm_serve.specs.declared.desk.Desk.{Desk}
 use Rattle.farm_serve.specs.declared.link.Link.{Link}
 use Rattle.farm_serve.specs.declared.link.Standing.{Standing}
 use Rattle.farm_serve.specs.declared.link.Standing.TheVariants.{Waiting, Up, Over}
-use Rattle.farm_serve.specs.Turns.{Goes, IsDown, Kept, Mark, Told}
+use Rattle.farm_serve.specs.Turns.{Goes, IsDown, Kept, Mark, Told, may_come_up}
 
 abbrev pub mark_of : {R W : Type 0} → Link R W → Mark
-mark_of link = record { id = link.id; local = link.local; standing = link.standing }
+mark_of link = record { id = link.id; local = link.local; standing = link.standing; barred = link.barred.items }
 
 abbrev pub marks_of : {R W : Type 0} → List (Link R W) → List Mark
 marks_of links = map mark_of links
@@ -51,6 +51,10 @@ ups (mark ∷ marks) = (if is_up mark.standing then 1 else 0) + ups marks
 -- what is known of the one at this place
 abbrev pub StandsAt : {R W : Type 0} → List (Link R W) → ℕ → Standing → Type 0
 StandsAt {R} {W} links place standing = (link : Link R W) → link ≡ get_or links place link → link.standing ≡ standing
+
+-- this node may come up on the one at this place
+abbrev pub MayComeUpAt : {R W : Type 0} → List (Link R W) → ℕ → NodeNo → Type 0
+MayComeUpAt {R} {W} links place peer = (link : Link R W) → link ≡ get_or links place link → may_come_up (mark_of link) peer ≡ true
 
 -- nobody is up on the one at this place
 abbrev pub IsDownAt : {R W : Type 0} → List (Link R W) → ℕ → Type 0

@@ -1,7 +1,7 @@
 -- What a process tells its node, and in which order: of each connection once that it is up, then its messages, and
 -- once, last, that it has ended (RFC 6733, sections 5.5.4 and 5.6).
-use Rattle.std.specs.Prelude.{◌≡◌, ◌≢◌, ℕ, ◌+◌, ◌==◌, List, [], ◌∷◌, ◌++◌, Result, Ok, Err, if◌then◌else◌}
-use Rattle.std.specs.List.{fold}
+use Rattle.std.specs.Prelude.{◌≡◌, ◌≢◌, ℕ, ◌+◌, ◌==◌, Bool, true, not, List, [], ◌∷◌, ◌++◌, Result, Ok, Err, if◌then◌else◌}
+use Rattle.std.specs.List.{fold, list_any}
 use Rattle.dia_base.specs.declared.number.ConnId.{ConnId}
 use Rattle.dia_base.specs.declared.number.NodeNo.{NodeNo}
 use Rattle.dia_message.specs.declared.message.Message.{Message}
@@ -13,11 +13,16 @@ use Rattle.farm_serve.specs.declared.link.Standing.TheVariants.{Waiting, Up, Ove
 
 -- ---- what a process keeps
 
--- a connection: its number, the node of this process whose it is, and what that was told of it
+-- a connection: its number, the node of this process whose it is, what that was told of it, and the nodes that may not come up
+-- on it, from where its other end is
 pub record Mark : Type 0 where
   pub id : ConnId
   pub local : NodeNo
   pub standing : Standing
+  pub barred : List NodeNo
+
+abbrev pub may_come_up : Mark → NodeNo → Bool
+may_come_up mark peer = not (list_any (λ node. node.0 == peer.0) mark.barred)
 
 abbrev pub standing_as : Mark → Standing → Mark
 standing_as mark standing = record mark { standing = standing }
@@ -59,16 +64,16 @@ IsOfNone wake = Unit {0}
 -- A process has gone from the one to the other, and its node was told this on the way, and did each time what such a node does.
 pub data Goes {N : Type 0} (On : N → NodeEvent → Traffic → Result (Unit {0}) NodeError → N → Type 0) (first : Kept N) : List Told → Kept N → Type 0 where
   rests : Goes On first [] first
-  -- A connection of which nothing was told comes up.
+  -- A connection of which nothing was told comes up, with a node that may come up on it.
   comes_up : (told : List Told) (node next : N) (front back : List Mark) (made : ℕ) (mark : Mark) (peer : NodeNo) (sent : Traffic) →
       Goes On first told (record { node = node; marks = front ++ mark ∷ back; made = made }) → mark.standing ≡ Waiting
-      → On node (up mark.local peer mark.id) sent (Ok tt) next →
+      → may_come_up mark peer ≡ true → On node (up mark.local peer mark.id) sent (Ok tt) next →
       Goes On first (told ++ told_of (up mark.local peer mark.id) (Ok tt))
       (record { node = next; marks = front ++ standing_as mark (Up peer) ∷ back; made = made })
   -- The node refuses it: it is told no more of it.
   is_refused : (told : List Told) (node next : N) (front back : List Mark) (made : ℕ) (mark : Mark) (peer : NodeNo) (sent : Traffic) (error : NodeError) →
       Goes On first told (record { node = node; marks = front ++ mark ∷ back; made = made }) → mark.standing ≡ Waiting
-      → On node (up mark.local peer mark.id) sent (Err error) next →
+      → may_come_up mark peer ≡ true → On node (up mark.local peer mark.id) sent (Err error) next →
       Goes On first (told ++ told_of (up mark.local peer mark.id) (Err error))
       (record { node = next; marks = front ++ standing_as mark (Over peer) ∷ back; made = made })
   -- A message comes on one that is up.
@@ -88,10 +93,14 @@ pub data Goes {N : Type 0} (On : N → NodeEvent → Traffic → Result (Unit {0
       Goes On first told (record { node = node; marks = marks; made = made }) → IsOfNone event → On node event sent outcome next →
       Goes On first (told ++ told_of event outcome) (record { node = next; marks = marks; made = made })
   -- A connection is made, with a number that none had.
-  makes : (told : List Told) (node : N) (marks : List Mark) (made : ℕ) (local : NodeNo) →
+  makes : (told : List Told) (node : N) (marks : List Mark) (made : ℕ) (local : NodeNo) (barred : List NodeNo) →
       Goes On first told (record { node = node; marks = marks; made = made }) →
       Goes On first told
-      (record { node = node; marks = marks ++ record { id = record { 0 = made + 1 }; local = local; standing = Waiting } ∷ []; made = made + 1 })
+      (record {
+        node = node;
+        marks = marks ++ record { id = record { 0 = made + 1 }; local = local; standing = Waiting; barred = barred } ∷ [];
+        made = made + 1;
+      })
   -- One that is not up is let go.
   lets_go : (told : List Told) (node : N) (front back : List Mark) (made : ℕ) (mark : Mark) →
       Goes On first told (record { node = node; marks = front ++ mark ∷ back; made = made }) → IsDown mark.standing →

@@ -1,12 +1,12 @@
 //! A node with its connections: what it is told, and in which order, and what is sent.
 
 ghost use Rattle.std.specs.Prelude.{◌≡◌, ◌<◌, ◌+◌, length, vec_capacity, IfNone, IfSome};
-ghost use Rattle.farm_serve.specs.Desks.{AreSettled, IsDownAt, IsPlaceOf, StandsAt, Tells, is_to_be_told, kept_by, mark_of, marks_of, ups};
+ghost use Rattle.farm_serve.specs.Desks.{AreSettled, IsDownAt, IsPlaceOf, MayComeUpAt, StandsAt, Tells, is_to_be_told, kept_by, mark_of, marks_of, ups};
 
 use crate::end::End;
 use crate::link::{
     Link, Standing, be_over, close_at, come_up, end_at, end_unless_told, flush_at, greet_at,
-    hear_at, is_waiting, loss_of, open_peer, receive_at, send_at, tick_at,
+    hear_at, is_waiting, loss_of, may_come_up, open_peer, receive_at, send_at, tick_at,
 };
 use crate::local::{LocalNode, site_of};
 use crate::note::Notes;
@@ -72,6 +72,19 @@ fn peers_of<R, W>(
         }
     }
     Ok(peers)
+}
+
+/// The nodes that are not welcome on a connection of this node: those that are up on others, and those that may not come
+/// from where its other end is.
+fn unwelcome_on<R, W>(
+    alloc: Global,
+    links: &[Link<R, W>],
+    local: NodeNo,
+    barred: &[NodeNo],
+) -> Result<Vec<NodeNo>, AllocError> {
+    let mut nodes = peers_of(alloc, links, local)?;
+    nodes.extend_from_slice(barred)?;
+    Ok(nodes)
 }
 
 /// The node that is up on a connection, if it is one of this node.
@@ -210,6 +223,7 @@ impl<N: Node, R: Read + Device, W: Write + Device> Desk<N, R, W> {
     fn tell_up(&mut self, place: usize, peer: NodeNo, moment: Moment)
         requires within { place < length self.old.links.items }
         requires waits { StandsAt self.old.links.items place Standing.Waiting }
+        requires may { MayComeUpAt self.old.links.items place peer }
         ensures tells { Tells N.on_event self.old self.new }
         ensures places { length self.new.links.items ≡ length self.old.links.items }
     {
@@ -258,6 +272,20 @@ impl<N: Node, R: Read + Device, W: Write + Device> Desk<N, R, W> {
         self.send_all(&reaction.out, moment);
     }
 
+    /// The node is told that its neighbour is up, where that may come up on the connection. Where it may not, that ends.
+    fn greet_waiting(&mut self, place: usize, peer: NodeNo, moment: Moment)
+        requires within { place < length self.old.links.items }
+        requires waits { StandsAt self.old.links.items place Standing.Waiting }
+        ensures tells { Tells N.on_event self.old self.new }
+        ensures places { length self.new.links.items ≡ length self.old.links.items }
+    {
+        if may_come_up(&self.links[place], peer) {
+            self.tell_up(place, peer, moment);
+        } else {
+            self.end_here(place, End::Unwelcome, moment);
+        }
+    }
+
     /// The node is told that its neighbour is up, unless the connection has ended.
     fn greet_peer(&mut self, place: usize, peer: NodeNo, moment: Moment)
         requires { place < length self.old.links.items }
@@ -265,7 +293,7 @@ impl<N: Node, R: Read + Device, W: Write + Device> Desk<N, R, W> {
         ensures places { length self.new.links.items ≡ length self.old.links.items }
     {
         if is_waiting(&self.links[place]) {
-            self.tell_up(place, peer, moment);
+            self.greet_waiting(place, peer, moment);
         }
     }
 
@@ -318,15 +346,22 @@ impl<N: Node, R: Read + Device, W: Write + Device> Desk<N, R, W> {
         ensures kept { kept_by self.new ≡ kept_by self.old }
         ensures places { length self.new.links.items ≡ length self.old.links.items }
     {
-        let local = self.links[place].local;
-        let Some(site) = site_of(locals, local) else {
+        let link = &self.links[place];
+        let Some(site) = site_of(locals, link.local) else {
             return Err(End::Closed);
         };
-        let Ok(up) = peers_of(self.alloc, &self.links, local) else {
+        let Ok(unwelcome) = unwelcome_on(self.alloc, &self.links, link.local, &link.barred) else {
             return Err(End::OutOfMemory);
         };
         let alloc = self.alloc;
-        hear_at::<P, R, W>(alloc, &mut self.links[place], site, &up, message, moment)
+        hear_at::<P, R, W>(
+            alloc,
+            &mut self.links[place],
+            site,
+            &unwelcome,
+            message,
+            moment,
+        )
     }
 
     /// A message came on a connection.

@@ -1,8 +1,9 @@
 //! One connection of a process.
 
-ghost use Rattle.std.specs.Prelude.{◌≡◌, ◌<◌, IfNone, IfSome, length, true, false};
+ghost use Rattle.std.specs.Prelude.{◌≡◌, ◌==◌, ◌<◌, IfNone, IfSome, length, true, false};
+ghost use Rattle.std.specs.List.{list_any};
 ghost use Rattle.farm_serve.specs.Desks.{is_to_be_told, mark_of, standing_after};
-ghost use Rattle.farm_serve.specs.Turns.{standing_as};
+ghost use Rattle.farm_serve.specs.Turns.{may_come_up, standing_as};
 
 use crate::end::End;
 use dia_avp::Wire;
@@ -46,6 +47,8 @@ pub struct Link<R, W> {
     pub local: NodeNo,
     /// Whether the other end has connected.
     pub accepted: bool,
+    /// The nodes that may not come up on it, from where its other end is.
+    pub barred: Vec<NodeNo>,
     pub watch: Watch,
     pub conn: Conn<R, W>,
     pub standing: Standing,
@@ -142,6 +145,20 @@ pub(crate) fn is_waiting<R, W>(link: &Link<R, W>) -> bool
     }
 }
 
+/// Whether one of the nodes is this one.
+fn is_among(nodes: &[NodeNo], peer: NodeNo) -> bool
+    ensures { result ≡ list_any (λ node. node.0 == peer.0) nodes.now }
+{
+    nodes.iter().any(|node| node.0 == peer.0)
+}
+
+/// Whether this node may come up on the connection.
+pub(crate) fn may_come_up<R, W>(link: &Link<R, W>, peer: NodeNo) -> bool
+    ensures { result ≡ may_come_up (mark_of link.now) peer }
+{
+    !is_among(link.barred.as_slice(), peer)
+}
+
 /// The node that is up on a connection which has not ended.
 pub(crate) fn open_peer<R, W>(link: &Link<R, W>) -> Option<NodeNo>
     ensures { IfSome result (λ peer. link.now.standing ≡ Standing.Up peer) }
@@ -176,18 +193,21 @@ pub(crate) fn greet_at<R: Read + Device, W: Write + Device>(
     }
 }
 
-/// What the life of a connection says to a message.
+/// What the life of a connection says to a message, where these nodes are not welcome on it: as if they were up elsewhere.
 pub(crate) fn hear_at<P: Wire, R, W>(
     alloc: Global,
     link: &mut Link<R, W>,
     site: &WatchSite,
-    up: &[NodeNo],
+    unwelcome: &[NodeNo],
     message: Message,
     moment: Moment,
 ) -> Result<Acts, End>
     ensures mark { mark_of link.new ≡ mark_of link.old }
 {
-    match link.watch.on_message::<P>(alloc, site, up, moment, message) {
+    match link
+        .watch
+        .on_message::<P>(alloc, site, unwelcome, moment, message)
+    {
         Ok(acts) => Ok(acts),
         Err(AllocError) => Err(End::OutOfMemory),
     }

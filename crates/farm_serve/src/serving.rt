@@ -77,10 +77,12 @@ impl<N: Node, R: Read + Device, W: Write + Device> Serving<N, R, W> {
         }
     }
 
-    /// Some node has connected to the node `local`. It has an interval to say who it is.
+    /// Some node has connected to the node `local`, and it is none of `barred`, which may not come from where it is. It has
+    /// an interval to say who it is.
     pub fn accept(
         &mut self,
         local: NodeNo,
+        barred: Vec<NodeNo>,
         reader: R,
         writer: W,
         moment: Moment,
@@ -103,7 +105,7 @@ impl<N: Node, R: Read + Device, W: Write + Device> Serving<N, R, W> {
                 why,
             });
         }
-        self.add(local, Side::Accepts, reader, writer, moment)
+        self.add(local, Side::Accepts, barred, reader, writer, moment)
     }
 
     /// The node `local` has connected to the node `peer`: its Capabilities-Exchange-Request waits to be written.
@@ -118,7 +120,8 @@ impl<N: Node, R: Read + Device, W: Write + Device> Serving<N, R, W> {
         ensures tells { Tells N.on_event self.old.desk self.new.desk }
         ensures settled { AreSettled self.old.desk.links.items → AreSettled self.new.desk.links.items }
     {
-        self.add(local, Side::Connects(peer), reader, writer, moment)
+        let barred = Vec::new(self.desk.alloc);
+        self.add(local, Side::Connects(peer), barred, reader, writer, moment)
     }
 
     /// A new connection, or why there is none.
@@ -126,6 +129,7 @@ impl<N: Node, R: Read + Device, W: Write + Device> Serving<N, R, W> {
         &mut self,
         local: NodeNo,
         side: Side,
+        barred: Vec<NodeNo>,
         reader: R,
         writer: W,
         moment: Moment,
@@ -153,6 +157,7 @@ impl<N: Node, R: Read + Device, W: Write + Device> Serving<N, R, W> {
             id,
             local,
             accepted: side == Side::Accepts,
+            barred,
             watch,
             conn: Conn::new(self.desk.alloc, reader, writer),
             standing: Standing::Waiting,

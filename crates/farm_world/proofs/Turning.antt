@@ -1,7 +1,7 @@
 -- What a step leaves, where a front of the farm was changed in its place.
-use Rattle.std.proofs.Common.{◌≡◌, ℕ, Bool, true, false, cond, List, [], ◌∷◌, ◌++◌, get_or, Option, Some, None, refl, sym, subst, ap, ◌∙◌}
-use Rattle.std.specs.Prelude.{slice_set, MatchBool}
-use Rattle.std.specs.List.{find}
+use Rattle.std.proofs.Common.{◌≡◌, ℕ, Bool, true, false, cond, List, [], ◌∷◌, ◌++◌, get_or, Option, Some, None, refl, sym, subst, ap, ◌∙◌, true≢false}
+use Rattle.std.specs.Prelude.{slice_set, MatchBool, not}
+use Rattle.std.proofs.lemmas.Bool.{and_parts, not-true}
 use Rattle.std.proofs.lemmas.List.{set-get_or}
 use Rattle.dia_base.specs.declared.number.ConnId.{ConnId}
 use Rattle.dia_base.specs.declared.number.Moment.{Moment}
@@ -14,13 +14,15 @@ use Rattle.front_core.specs.FrontStep.{after_arrival, sent_at_arrival, after_pic
 use Rattle.farm_base.specs.declared.site.Site.{Site}
 use Rattle.farm_model.specs.declared.state.Direction.{Direction}
 use Rattle.farm_model.specs.declared.state.FrontAt.{FrontAt}
-use Rattle.farm_base.specs.Lists.{IsFirst}
+use Rattle.farm_model.specs.declared.state.RelayAt.{RelayAt}
+use Rattle.farm_base.specs.Lists.{IsFirst, replace_first}
 use Rattle.dia_message.specs.Traffic.{Traffic}
-use Rattle.farm_model.specs.World.{WorldState, is_between, with_message, with_traffic_from, is_front_at, with_front, front_at}
-use Rattle.farm_base.specs.Nodes.{is_client}
+use Rattle.farm_model.specs.World.{WorldState, is_unheard, is_connected, conn_known, with_message_from, with_traffic_from, is_front_at, with_front, front_at}
+use Rattle.farm_base.specs.Nodes.{is_client, is_linked}
 use Rattle.farm_model.specs.Arrival.{Arrives, ArrivesAtServer, after_arrival_at_client, after_arrival_at_front}
-use Rattle.farm_model.specs.FarmStep.{Outcome, after_send, after_send_in, after_pick_at, with_pick, after_refusal_at, after_emit_at, with_emit, after_charge_at, with_charge}
+use Rattle.farm_model.specs.FarmStep.{Outcome, can_connect, with_new_connection, with_connection_at, with_link_at, after_accept, after_opened_on, after_opened, opened_if, after_up, after_send, after_send_on, after_pick_at, with_pick, after_refusal_at, after_emit_at, with_emit, after_charge_at, with_charge}
 use Rattle.farm_model.proofs.Lists.ListLemmas.{first_item}
+use Rattle.farm_model.proofs.Relays.EndsInTurn.{opens_next}
 use Rattle.farm_model.proofs.Wiring.WorldLemmas.{front_found, front_changed}
 use Rattle.farm_node.specs.Events.{NodeEvent as event}
 use Rattle.farm_node.specs.Nodes.{OnFrontEvent}
@@ -40,20 +42,51 @@ same_fronts : (w : WorldState) (place : ℕ) (part : FrontAt) (front : FrontStat
 same_fronts w place part front read same =
     ap (fronts_with w place part) same ∙ ap (slice_set w.fronts place) read ∙ set-get_or w.fronts place part
 
--- a client's message joins the list of its direction
-pub send_turn : (site : Site) (w : WorldState) (client to : NodeNo) (message : Message) (place : ℕ) (part direction : Direction) (sent : Traffic) → is_client site client ≡ true
-    → IsFirst (is_between client to) w.directions place → part ≡ get_or w.directions place part → direction ≡ with_message message part → sent ≡ w.sent ++ (part.conn, message) ∷ []
-    → Outcome (after_send site w client to message) true w (record w { directions = slice_set w.directions place direction; sent = sent })
-send_turn site w client to message place part direction sent is first read put pushed =
-    subst (λ (o : Option WorldState). Outcome o true w (record w { directions = slice_set w.directions place direction; sent = sent }))
+-- the node that has opened a connection learns that it is made
+pub opened_turn : (w : WorldState) (a b : NodeNo) (place : ℕ) (part : Direction) (fronts : List FrontAt) (relays : List RelayAt) → IsFirst (is_unheard b a) w.directions place → part ≡ get_or w.directions place part
+    → fronts ≡ with_connection_at a part.conn w.fronts → relays ≡ with_link_at a b part.conn w.relays
+    → Outcome (after_opened w a b) true w (record w { directions = slice_set w.directions place (record part { known = true }); fronts = fronts; relays = relays })
+opened_turn w a b place part fronts relays first read fronts_are relays_are =
+    subst (λ (o : Option Direction). Outcome (after_opened_on w a b o) true w (record w { directions = slice_set w.directions place (record part { known = true }); fronts = fronts; relays = relays }))
+    (sym (first_item (is_unheard b a) w.directions place part first read)) (
+      refl,
+      ap (λ (ds : List Direction). record w { directions = ds; fronts = fronts; relays = relays }) (sym (first.change (record part { known = true })))
+          ∙ ap (λ (fs : List FrontAt). record w { directions = replace_first (is_unheard b a) (record part { known = true }) w.directions; fronts = fs; relays = relays }) fronts_are
+          ∙ ap (λ (rs : List RelayAt). record w { directions = replace_first (is_unheard b a) (record part { known = true }) w.directions; fronts = with_connection_at a part.conn w.fronts; relays = rs }) relays_are,
+    )
+
+-- a connection is made, and the node that has opened it learns that
+pub up_turn : (site : Site) (w mid next : WorldState) (a b : NodeNo) (applied : Bool) → Outcome (after_accept site w b a) true w mid → Outcome (after_opened mid a b) applied mid next → Outcome (after_up site w a b) applied w next
+up_turn site w mid next a b applied accepted learned = go (can_connect site w a b) refl accepted
+  where
+    go : (c : Bool) → can_connect site w a b ≡ c → Outcome (cond c (Some (with_new_connection w a b)) None) true w mid → Outcome (opened_if a b (cond c (Some (with_new_connection w a b)) None)) applied w next
+    go false e made = absurd (true≢false made.0)
+    go true e made =
+        let found = opens_next w a b (not-true (is_connected w.directions a b) (and_parts (is_linked site a b) (not (is_connected w.directions a b)) e).1) in
+        let there = subst (λ (v : WorldState). Outcome (after_opened v a b) applied v next) made.1 learned in
+        subst (λ (o : Option Direction). Outcome (after_opened_on (with_new_connection w a b) a b o) applied w next) (sym found)
+        (subst (λ (o : Option Direction). Outcome (after_opened_on (with_new_connection w a b) a b o) applied (with_new_connection w a b) next) found there)
+
+pub no_up_turn : (site : Site) (w mid : WorldState) (a b : NodeNo) → Outcome (after_accept site w b a) false w mid → Outcome (after_up site w a b) false w mid
+no_up_turn site w mid a b accepted = go (can_connect site w a b) accepted
+  where
+    go : (c : Bool) → Outcome (cond c (Some (with_new_connection w a b)) None) false w mid → Outcome (opened_if a b (cond c (Some (with_new_connection w a b)) None)) false w mid
+    go false made = made
+    go true made = absurd (true≢false (sym made.0))
+
+-- a client's message joins the list of its connection
+pub send_turn : (site : Site) (w : WorldState) (client to : NodeNo) (conn : ConnId) (message : Message) (directions : List Direction) (sent : Traffic) → is_client site client ≡ true
+    → conn_known w.directions client to ≡ Some conn → directions ≡ with_message_from client w.directions conn message → sent ≡ w.sent ++ (conn, message) ∷ []
+    → Outcome (after_send site w client to message) true w (record w { directions = directions; sent = sent })
+send_turn site w client to conn message directions sent is known posted pushed =
+    subst (λ (o : Option WorldState). Outcome o true w (record w { directions = directions; sent = sent }))
     (sym (
-    ap (λ (b : Bool). cond b (after_send_in w client to message (find (is_between client to) w.directions)) None) is
-    ∙ ap (after_send_in w client to message) (first_item (is_between client to) w.directions place part first read)
+    ap (λ (b : Bool). cond b (after_send_on w client message (conn_known w.directions client to)) None) is
+    ∙ ap (after_send_on w client message) known
     )) (
       refl,
-      ap (λ (d : Direction). record w { directions = slice_set w.directions place d; sent = sent }) put
-          ∙ ap (λ (s : Traffic). record w { directions = slice_set w.directions place (with_message message part); sent = s }) pushed
-          ∙ ap (λ (ds : List Direction). record w { directions = ds; sent = w.sent ++ (part.conn, message) ∷ [] }) (sym (first.change (with_message message part))),
+      ap (λ (ds : List Direction). record w { directions = ds; sent = sent }) posted
+          ∙ ap (λ (s : Traffic). record w { directions = with_message_from client w.directions conn message; sent = s }) pushed,
     )
 
 -- a message comes to a node that is no client

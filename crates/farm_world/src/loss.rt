@@ -1,12 +1,12 @@
-//! Connections that end: one node after the other learns it.
+//! Connections that end: one end goes after another, and nodes learn it.
 
 ghost use Rattle.std.specs.Prelude.{◌≡◌, List, IfOk, OnOk, OnErr};
-ghost use Rattle.farm_model.specs.FarmStep.{Cuts, Restarts};
-ghost use Rattle.farm_model.specs.Loss.{LossAt, LearnsLoss, LearnLosses, losses_of_restart};
+ghost use Rattle.farm_model.specs.FarmStep.{Outcome, Cuts, DropsIt, Restarts, after_crash_at};
+ghost use Rattle.farm_model.specs.Loss.{LossAt, LearnsLoss, EndGoes, DropAll, end_with, peers_of};
 ghost use Rattle.farm_model.specs.Run.{TellsSame};
-ghost use Rattle.farm_model.specs.World.{conn_between, front_at};
+ghost use Rattle.farm_model.specs.World.{front_at};
 
-use crate::directions::{conn_between, post, remove_conn, remove_node};
+use crate::directions::{knows, lose_all, place_between, post, remove_end, remove_ends};
 use crate::fronts::{self, place_of_front};
 use crate::nodes::{is_front, is_relay};
 use crate::world::World;
@@ -32,25 +32,21 @@ impl Model for Loss {
     ghost view = { λ l. record { node = l.node; conn = l.conn } };
 }
 
-/// What the peers of a node have to learn where it begins anew: that their connections with it have
-/// ended.
-fn losses_of_restart(
+/// Whom a node has connections with that they have not dropped, the connection that was made first first.
+fn peers_of(
     alloc: Global,
     directions: &[Direction],
     node: NodeNo,
-) -> Result<Vec<Loss>, AllocError>
-    ensures { IfOk result (λ losses. losses.items ≡ losses_of_restart node directions.now) }
+) -> Result<Vec<NodeNo>, AllocError>
+    ensures { IfOk result (λ peers. peers.items ≡ peers_of node directions.now) }
 {
-    let mut losses = Vec::new(alloc);
+    let mut peers = Vec::new(alloc);
     for direction in directions {
         if direction.from == node {
-            losses.push(Loss {
-                node: direction.to,
-                conn: direction.conn,
-            })?;
+            peers.push(direction.to)?;
         }
     }
-    Ok(losses)
+    Ok(peers)
 }
 
 impl World {
@@ -70,36 +66,80 @@ impl World {
         post(&mut self.directions, loss.node, out)
     }
 
-    /// One node after the other learns it.
-    fn learn_losses<W: Wire>(&mut self, alloc: Global, losses: &[Loss]) -> Result<(), AllocError>
-        ensures ok { OnOk result ((known : List LossAt) × LearnLosses losses.now self.old known self.new) }
+    /// A node gives up its end of what it has with another one, if there is one. What is in flight to it is
+    /// gone, and what it sent before is not. Where it knew the connection, it learns that it has ended.
+    pub(crate) fn drop_end<W: Wire>(
+        &mut self,
+        alloc: Global,
+        a: NodeNo,
+        b: NodeNo,
+    ) -> Result<bool, AllocError>
+        ensures ok { IfOk result (λ applied. (known : List LossAt) × DropsIt self.old a (end_with self.old.directions a b) applied known self.new) }
         ensures same { TellsSame self.old self.new }
     {
-        for loss in losses {
-            self.learn_loss::<W>(alloc, loss)?;
+        let Some(place) = place_between(&self.directions, b, a) else {
+            return Ok(false);
+        };
+        let direction = &self.directions[place];
+        let (conn, known) = (direction.conn, direction.known);
+        remove_end(&mut self.directions, a, conn);
+        if known {
+            self.learn_loss::<W>(alloc, &Loss { node: a, conn })?;
         }
-        Ok(())
+        Ok(true)
     }
 
-    /// The connection between two nodes ends. First the one learns it, then the other.
+    /// The connection between two nodes ends, with all that is in flight on it. First the one drops it,
+    /// then the other.
     pub(crate) fn cut<W: Wire>(
         &mut self,
         alloc: Global,
         a: NodeNo,
         b: NodeNo,
     ) -> Result<bool, AllocError>
-        ensures ok { IfOk result (λ applied. (known : List LossAt) × Cuts self.old a b (conn_between self.old.directions a b) applied known self.new) }
+        ensures ok { IfOk result (λ applied. (known : List LossAt) × Cuts self.old a b applied known self.new) }
         ensures err { OnErr result (TellsSame self.old self.new) }
     {
-        let Some(conn) = conn_between(&self.directions, a, b) else {
+        if !knows(&self.directions, a, b) && !knows(&self.directions, b, a) {
             return Ok(false);
-        };
-        remove_conn(&mut self.directions, conn);
-        self.learn_losses::<W>(alloc, &[Loss { node: a, conn }, Loss { node: b, conn }])?;
+        }
+        lose_all(alloc, &mut self.directions, a, b);
+        self.drop_end::<W>(alloc, a, b)?;
+        self.drop_end::<W>(alloc, b, a)?;
         Ok(true)
     }
 
-    /// A relay or a front begins anew: the other ends of its connections learn that these have ended.
+    /// A relay or a front forgets everything. Its peers know nothing of it yet.
+    pub(crate) fn crash(&mut self, site: &Site, node: NodeNo) -> bool
+        ensures applied { Outcome (after_crash_at site.now self.old node) result self.old self.new }
+        ensures same { TellsSame self.old self.new }
+    {
+        if !is_relay(site, node) && !is_front(site, node) {
+            return false;
+        }
+        remove_ends(&mut self.directions, node);
+        fronts::restart(&mut self.fronts, node);
+        relays::restart(&mut self.relays, node);
+        true
+    }
+
+    /// One peer after the other drops its connection with the node.
+    fn drop_all<W: Wire>(
+        &mut self,
+        alloc: Global,
+        node: NodeNo,
+        peers: &[NodeNo],
+    ) -> Result<(), AllocError>
+        ensures ok { OnOk result ((known : List LossAt) × DropAll node peers.now self.old known self.new) }
+        ensures same { TellsSame self.old self.new }
+    {
+        for peer in peers {
+            self.drop_end::<W>(alloc, *peer, node)?;
+        }
+        Ok(())
+    }
+
+    /// A relay or a front begins anew, and its peers drop their connections with it.
     pub(crate) fn restart<W: Wire>(
         &mut self,
         alloc: Global,
@@ -109,14 +149,11 @@ impl World {
         ensures ok { IfOk result (λ applied. (known : List LossAt) × Restarts site.now self.old node applied known self.new) }
         ensures err { OnErr result (TellsSame self.old self.new) }
     {
-        if !is_relay(site, node) && !is_front(site, node) {
+        let peers = peers_of(alloc, &self.directions, node)?;
+        if !self.crash(site, node) {
             return Ok(false);
         }
-        let losses = losses_of_restart(alloc, &self.directions, node)?;
-        remove_node(&mut self.directions, node);
-        fronts::restart(&mut self.fronts, node);
-        relays::restart(&mut self.relays, node);
-        self.learn_losses::<W>(alloc, &losses)?;
+        self.drop_all::<W>(alloc, node, &peers)?;
         Ok(true)
     }
 }

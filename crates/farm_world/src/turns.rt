@@ -2,11 +2,14 @@
 
 ghost use Rattle.std.specs.Prelude.{◌≡◌, List, Some, IfOk, OnOk, OnErr};
 ghost use Rattle.farm_model.specs.Arrival.{Arrives};
-ghost use Rattle.farm_model.specs.FarmStep.{Outcome, can_connect, after_up, after_send, flight_at, Delivers, after_lost_message, FarmStep, after_sweep_at};
+ghost use Rattle.farm_model.specs.FarmStep.{Outcome, can_connect, after_accept, after_opened, after_up, after_send, flight_at, loss_at, Delivers, after_lost_message, FarmStep, after_sweep_at};
 ghost use Rattle.farm_model.specs.Loss.{LossAt};
 ghost use Rattle.farm_model.specs.Run.{TellsSame};
 
-use crate::directions::{empty_direction, is_connected, place_between, post, put, remove_message};
+use crate::directions::{
+    conn_known, empty_direction, is_connected, place_unheard, post, post_one, remove_lost,
+    remove_message,
+};
 use crate::fronts::{self, place_of_front};
 use crate::nodes::{is_client, is_linked};
 use crate::world::World;
@@ -25,6 +28,47 @@ impl World {
         is_linked(site, a, b) && !is_connected(&self.directions, a, b)
     }
 
+    /// A new connection. The node that is connected to knows it, and the one that opens it not yet.
+    pub(crate) fn accept(
+        &mut self,
+        alloc: Global,
+        site: &Site,
+        at: NodeNo,
+        from: NodeNo,
+    ) -> Result<bool, AllocError>
+        ensures ok { IfOk result (λ applied. Outcome (after_accept site.now self.old at from) applied self.old self.new) }
+        ensures err { OnErr result (TellsSame self.old self.new) }
+    {
+        if !self.can_connect(site, from, at) {
+            return Ok(false);
+        }
+        let conn = ConnId(self.ends.len() as u64 + 1);
+        self.directions
+            .push(empty_direction(alloc, conn, from, at, true))?;
+        self.directions
+            .push(empty_direction(alloc, conn, at, from, false))?;
+        fronts::connect(alloc, &mut self.fronts, at, from, conn)?;
+        relays::connect(alloc, &mut self.relays, at, from, conn)?;
+        self.ends.push((from, at))?;
+        Ok(true)
+    }
+
+    /// The node that has opened a connection learns that it is made.
+    pub(crate) fn opened(&mut self, alloc: Global, a: NodeNo, b: NodeNo) -> Result<bool, AllocError>
+        ensures ok { IfOk result (λ applied. Outcome (after_opened self.old a b) applied self.old self.new) }
+        ensures same { TellsSame self.old self.new }
+    {
+        let Some(place) = place_unheard(&self.directions, b, a) else {
+            return Ok(false);
+        };
+        let direction = &mut self.directions[place];
+        direction.known = true;
+        let conn = direction.conn;
+        fronts::connect(alloc, &mut self.fronts, a, b, conn)?;
+        relays::connect(alloc, &mut self.relays, a, b, conn)?;
+        Ok(true)
+    }
+
     /// A new connection, which both nodes learn.
     pub(crate) fn up(
         &mut self,
@@ -36,21 +80,18 @@ impl World {
         ensures ok { IfOk result (λ applied. Outcome (after_up site.now self.old a b) applied self.old self.new) }
         ensures err { OnErr result (TellsSame self.old self.new) }
     {
-        if !self.can_connect(site, a, b) {
+        if !self.accept(alloc, site, b, a)? {
             return Ok(false);
         }
-        let conn = ConnId(self.ends.len() as u64 + 1);
-        self.directions.push(empty_direction(alloc, conn, a, b))?;
-        self.directions.push(empty_direction(alloc, conn, b, a))?;
-        fronts::connect(alloc, &mut self.fronts, a, b, conn)?;
-        fronts::connect(alloc, &mut self.fronts, b, a, conn)?;
-        relays::connect(alloc, &mut self.relays, a, b, conn)?;
-        relays::connect(alloc, &mut self.relays, b, a, conn)?;
-        self.ends.push((a, b))?;
-        Ok(true)
+        let opened = self.opened(alloc, a, b);
+        if opened.is_err() {
+            self.ends.pop();
+        }
+        opened
     }
 
-    /// A client sends a message.
+    /// A client sends a message on the connection that it knows. Where the other node has dropped it, the
+    /// message is lost.
     pub(crate) fn send(
         &mut self,
         site: &Site,
@@ -64,12 +105,10 @@ impl World {
         if !is_client(site, client) {
             return Ok(false);
         }
-        let Some(place) = place_between(&self.directions, client, to) else {
+        let Some(conn) = conn_known(&self.directions, client, to) else {
             return Ok(false);
         };
-        let direction = &mut self.directions[place];
-        let conn = direction.conn;
-        put(direction, message.clone()?)?;
+        post_one(&mut self.directions, client, conn, message.clone()?)?;
         self.sent.push((conn, message.clone()?))?;
         Ok(true)
     }
@@ -100,7 +139,7 @@ impl World {
         post(&mut self.directions, node, out)
     }
 
-    /// A message in flight arrives.
+    /// A message in flight arrives at a node that knows the connection.
     pub(crate) fn deliver<W: Wire>(
         &mut self,
         alloc: Global,
@@ -121,9 +160,9 @@ impl World {
 
     /// A message in flight is lost.
     pub(crate) fn lose(&mut self, from: NodeNo, to: NodeNo, place: u64) -> bool
-        ensures { Outcome (after_lost_message self.old (flight_at self.old.directions from to place)) result self.old self.new }
+        ensures { Outcome (after_lost_message self.old (loss_at self.old.directions from to place)) result self.old self.new }
     {
-        remove_message(&mut self.directions, from, to, place).is_some()
+        remove_lost(&mut self.directions, from, to, place).is_some()
     }
 
     /// The book ends the sessions that are due. Where it has no room for an entry, nothing changes.
@@ -151,6 +190,8 @@ impl World {
     {
         match step {
             Step::Up { a, b } => self.up(alloc, site, *a, *b),
+            Step::Accept { at, from } => self.accept(alloc, site, *at, *from),
+            Step::Opened { a, b } => self.opened(alloc, *a, *b),
             Step::Send {
                 client,
                 to,
@@ -159,7 +200,9 @@ impl World {
             Step::Deliver { from, to, place } => self.deliver::<W>(alloc, site, *from, *to, *place),
             Step::Lose { from, to, place } => Ok(self.lose(*from, *to, *place)),
             Step::Cut { a, b } => self.cut::<W>(alloc, *a, *b),
+            Step::Drop { a, b } => self.drop_end::<W>(alloc, *a, *b),
             Step::Restart { node } => self.restart::<W>(alloc, site, *node),
+            Step::Crash { node } => Ok(self.crash(site, *node)),
             Step::Pick { front, worker } => Ok(self.pick(*front, *worker)),
             Step::Charge {
                 front,

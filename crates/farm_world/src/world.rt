@@ -11,7 +11,7 @@ use std::marker::Model;
 /// The farm. [`World::open`] makes it, [`World::step`] takes it from one step to the next.
 #[derive(Debug, Drop)]
 pub struct World {
-    /// Two for each connection.
+    /// For each connection those to a node that has not dropped it.
     pub(crate) directions: Vec<Direction>,
     pub(crate) fronts: Vec<FrontAt>,
     pub(crate) relays: Vec<RelayAt>,
@@ -41,8 +41,8 @@ impl Model for World {
 }
 
 impl World {
-    /// Both directions of each connection that stands, the connection that was made first first, with
-    /// the messages in flight in each.
+    /// Of each connection the directions to those of its nodes that have not dropped it, the connection that
+    /// was made first first, with the messages in flight in each.
     pub fn directions(&self) -> &[Direction]
         ensures { result.now ≡ self.now.directions }
     {

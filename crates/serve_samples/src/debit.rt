@@ -12,7 +12,7 @@ use std::alloc::Global;
 use std::io::ErrorKind;
 
 /// A book of one account of 1000, and 5 for each 1000 octets of group 10.
-fn book(alloc: Global) -> anyhow::Result<Book> {
+pub fn book(alloc: Global) -> anyhow::Result<Book> {
     let account = Account {
         id_kind: 0,
         id: Octets::copy_of(alloc, b"491700000001")?,
@@ -36,21 +36,32 @@ fn book(alloc: Global) -> anyhow::Result<Book> {
     Ok(Book::new(alloc, accounts, tariffs, 600, money, 10)?)
 }
 
-/// Prints what the front writes, how many answers it has sent, and the balance.
-pub fn print(rt: &impl Print, alloc: Global) -> anyhow::Result<()> {
-    let asked = octets(alloc, &[CER, DEBIT])?;
-    let front = Front::new(
+/// The front f1.example, with one worker.
+pub fn front(alloc: Global) -> anyhow::Result<Front> {
+    Ok(Front::new(
         alloc,
         Identity::read(alloc, b"f1.example")?,
         Identity::read(alloc, b"ocs.example")?,
         Listing::empty(alloc),
         1,
         1,
-    )?;
+    )?)
+}
+
+/// Prints what the front writes, how many answers it has sent, and the balance.
+pub fn print(rt: &impl Print, alloc: Global) -> anyhow::Result<()> {
+    let asked = octets(alloc, &[CER, DEBIT])?;
+    let front = front(alloc)?;
     let fronts = vec![in alloc; FrontAt { node: FRONT, front }]?;
     let mut serving = Serving::new(alloc, Fronts::new(fronts, book(alloc)?), locals(alloc)?);
     let reader = failing_from(asked.as_slice(), 1, ErrorKind::WouldBlock);
-    if let Ok(conn) = serving.accept(FRONT, reader, sound(Vec::new(alloc)), Moment(1_000)) {
+    if let Ok(conn) = serving.accept(
+        FRONT,
+        Vec::new(alloc),
+        reader,
+        sound(Vec::new(alloc)),
+        Moment(1_000),
+    ) {
         serving.tick::<PlainWire>(Moment(1_000));
         let mut piece = [0u8; 4_096];
         serving.readable::<PlainWire>(conn, &mut piece, Moment(1_000));

@@ -1,56 +1,13 @@
 //! A connection for each way to end.
 
-use crate::messages::{CER, DPR, DWR, FRONT, locals, octets};
-use crate::streams::{Failing, failing_from, sound};
-use dia_avp::{PlainWire, Wire};
-use dia_base::{ConnId, Moment, NodeNo};
-use dia_message::Message;
-use farm_net::Counted;
-use farm_node::{Node, Reaction};
-use farm_serve::Serving;
+use crate::counting::{Reader, Writer, serve};
+use crate::messages::{CER, DPR, DWR, octets};
+use crate::streams::{failing_from, sound};
+use dia_base::Moment;
 use std::alloc::Global;
 use std::io::ErrorKind;
 
-/// A node that counts what it is told.
-#[derive(Drop)]
-struct Counting {
-    ups: u32,
-    messages: u32,
-    lost: u32,
-}
-
-impl Node for Counting {
-    ghost on_event = { λ old event sent outcome new. Unit {0} };
-
-    fn on_up(&mut self, alloc: Global, _local: NodeNo, _peer: NodeNo, _conn: ConnId) -> Reaction {
-        self.ups = self.ups.saturating_add(1);
-        Reaction::nothing(alloc)
-    }
-
-    fn on_message<W: Wire>(&mut self, alloc: Global, _conn: ConnId, _message: Message) -> Reaction {
-        self.messages = self.messages.saturating_add(1);
-        Reaction::nothing(alloc)
-    }
-
-    fn on_lost<W: Wire>(&mut self, alloc: Global, _conn: ConnId) -> Reaction {
-        self.lost = self.lost.saturating_add(1);
-        Reaction::nothing(alloc)
-    }
-
-    fn on_tick<W: Wire>(&mut self, alloc: Global, _moment: Moment) -> Reaction {
-        Reaction::nothing(alloc)
-    }
-
-    fn on_wake<W: Wire>(&mut self, alloc: Global) -> Reaction {
-        Reaction::nothing(alloc)
-    }
-}
-
-type Reader<'a> = Counted<Failing<&'a [u8]>>;
-
-type Writer = Counted<Failing<Vec<u8>>>;
-
-/// Serves a connection for three turns and an interval, and prints what the node was told and why it has ended.
+/// Serves a connection, and prints what the node was told and why it has ended.
 fn print(
     rt: &impl Print,
     alloc: Global,
@@ -58,20 +15,7 @@ fn print(
     reader: Reader<'_>,
     writer: Writer,
 ) -> anyhow::Result<()> {
-    let node = Counting {
-        ups: 0,
-        messages: 0,
-        lost: 0,
-    };
-    let mut serving = Serving::new(alloc, node, locals(alloc)?);
-    if let Ok(conn) = serving.accept(FRONT, reader, writer, Moment(1_000)) {
-        let mut piece = [0u8; 4_096];
-        for _ in 0..3 {
-            serving.readable::<PlainWire>(conn, &mut piece, Moment(1_000));
-            serving.write_all::<PlainWire>(Moment(1_000));
-        }
-        serving.tick::<PlainWire>(Moment(31_000));
-    }
+    let mut serving = serve(alloc, reader, writer)?;
     let node = serving.node();
     let told = format!(in alloc;
         "up {} message {} lost {}",

@@ -1,20 +1,34 @@
 //! Connections over readers and writers in memory, each with one thing that happens to it: it prints what the node was
 //! told and why the connection has ended. And a front that is asked for a debit over such a connection: it prints what
-//! is written.
+//! is written. At last a front, a relay and a client over TCP.
 //!
 //! - `streams`: readers and writers that fail from a call on.
+//! - `counting`: a node that counts what it is told.
 //! - `losses`: a connection for each way to end.
+//! - `cuts`: a connection for each octet behind which it is cut, in what is read and in what is written.
 //! - `debit`: the first debit through all fronts of a site.
+//! - `elsewhere`: a node that may not come from where it is.
+//! - `places`: who may come from where, by what a site file says.
+//! - `live`: a front, a relay and a client in one process, over TCP.
 //!
 //! What it must print, `stdout`, was worked out by hand.
 #![tactic(auto)]
 
+mod counting;
+mod cuts;
 mod debit;
+mod elsewhere;
+mod live;
 mod losses;
 mod messages;
+mod places;
 mod streams;
 
 fn main(rt: HostRuntime) -> anyhow::Result<()> {
     losses::print_all(&rt, rt.alloc())?;
-    debit::print(&rt, rt.alloc())
+    cuts::print_all(&rt, rt.alloc())?;
+    debit::print(&rt, rt.alloc())?;
+    elsewhere::print_all(&rt, rt.alloc())?;
+    places::print_all(&rt, rt.alloc())?;
+    live::print(&rt)
 }

@@ -4,10 +4,11 @@ use farm_net::Counted;
 use std::io;
 use std::io::{ErrorKind, Read, Write};
 
-/// A stream whose calls fail from one on.
+/// A stream whose calls fail from one on, or once it has moved so many octets.
 #[derive(Drop)]
 pub struct Failing<S> {
     pub stream: S,
+    left: usize,
     calls: u32,
     from: u32,
     kind: ErrorKind,
@@ -15,7 +16,7 @@ pub struct Failing<S> {
 
 impl<S> Failing<S> {
     fn call(&mut self) -> io::Result<()> {
-        let fails = self.calls >= self.from;
+        let fails = self.calls >= self.from || self.left == 0;
         self.calls = self.calls.saturating_add(1);
         if fails { Err(self.kind.into()) } else { Ok(()) }
     }
@@ -24,14 +25,20 @@ impl<S> Failing<S> {
 impl<S: Read> Read for Failing<S> {
     fn read(&mut self, buf: &mut [u8]) -> io::Result<usize> {
         self.call()?;
-        self.stream.read(buf)
+        let some = buf.len().min(self.left);
+        let count = self.stream.read(&mut buf[..some])?;
+        self.left = self.left.saturating_sub(count);
+        Ok(count)
     }
 }
 
 impl<S: Write> Write for Failing<S> {
     fn write(&mut self, buf: &[u8]) -> io::Result<usize> {
         self.call()?;
-        self.stream.write(buf)
+        let some = buf.len().min(self.left);
+        let count = self.stream.write(&buf[..some])?;
+        self.left = self.left.saturating_sub(count);
+        Ok(count)
     }
 
     fn flush(&mut self) -> io::Result<()> {
@@ -43,6 +50,7 @@ impl<S: Write> Write for Failing<S> {
 pub fn failing_from<S>(stream: S, from: u32, kind: ErrorKind) -> Counted<Failing<S>> {
     Counted::new(Failing {
         stream,
+        left: usize::MAX,
         calls: 0,
         from,
         kind,
@@ -52,4 +60,15 @@ pub fn failing_from<S>(stream: S, from: u32, kind: ErrorKind) -> Counted<Failing
 /// Counted, without a failure.
 pub fn sound<S>(stream: S) -> Counted<Failing<S>> {
     failing_from(stream, u32::MAX, ErrorKind::BrokenPipe)
+}
+
+/// Counted, and reset behind so many octets.
+pub fn cut_behind<S>(stream: S, octets: usize) -> Counted<Failing<S>> {
+    Counted::new(Failing {
+        stream,
+        left: octets,
+        calls: 0,
+        from: u32::MAX,
+        kind: ErrorKind::ConnectionReset,
+    })
 }

@@ -3,7 +3,7 @@ use Rattle.std.proofs.Common.{◌≡◌, ℕ, ◌≤◌, ◌<◌, Bool, true, fa
 use Rattle.std.proofs.Common.{ap, ◌∙◌, arith}
 use Rattle.std.specs.Prelude.{◌&&◌, ◌||◌, MatchBool, count_by, is_some, option_map, slice_get}
 use Rattle.std.specs.List.{find, list_any}
-use Rattle.std.proofs.lemmas.Bool.{lt-ltb, ltb-true}
+use Rattle.std.proofs.lemmas.Bool.{and_from, lt-ltb, ltb-true}
 use Rattle.std.proofs.lemmas.Option.{slice_get_cases}
 use Rattle.dia_base.specs.declared.number.ConnId.{ConnId}
 use Rattle.dia_base.specs.declared.number.Moment.{Moment}
@@ -19,19 +19,22 @@ use Rattle.farm_law.specs.Lists.{Has, here, there}
 use Rattle.farm_base.specs.declared.site.Site.{Site}
 use Rattle.farm_model.specs.declared.state.Direction.{Direction}
 use Rattle.farm_base.specs.declared.step.Step.{Step}
-use Rattle.farm_base.specs.declared.step.Step.TheVariants.{Up, Send, Deliver, Lose, Cut, Restart, Pick, Charge, Refuse, Emit, Sweep}
-use Rattle.farm_model.specs.Applying.{are_connected, has_place, is_in_flight, is_idle, has_picked, is_done, is_waiting, front_can, can_apply}
+use Rattle.farm_base.specs.declared.step.Step.TheVariants.{Up, Accept, Opened, Send, Deliver, Lose, Cut, Drop, Restart, Crash, Pick, Charge, Refuse, Emit, Sweep}
+use Rattle.farm_model.specs.Applying.{has_place, is_idle, has_picked, is_done, is_waiting, front_can, can_apply}
 use Rattle.farm_model.specs.Applying.{AppliesWhereItCan, could_not_apply}
-use Rattle.farm_model.specs.FarmStep.{FarmStep, Outcome, Flight, Delivers, Cuts, flight_of, flight_in, flight_at, can_connect, with_new_connection}
-use Rattle.farm_model.specs.FarmStep.{after_up, after_send_in, after_send, after_lost_message, with_pick, after_pick_at, with_charge}
-use Rattle.farm_model.specs.FarmStep.{after_charge_at, after_refusal_at, with_emit, after_emit_at, can_restart}
-use Rattle.farm_model.specs.InFlight.{goes}
-use Rattle.farm_model.specs.Loss.{LossAt, LearnLosses, after_restart, losses_of_restart}
-use Rattle.farm_base.specs.Nodes.{is_client}
+use Rattle.farm_model.specs.FarmStep.{FarmStep, Outcome, Flight, Delivers, can_cut, flight_of, flight_in, flight_where, flight_at, loss_at, can_connect}
+use Rattle.farm_model.specs.FarmStep.{with_new_connection, next_conn, empty_direction, after_accept, after_opened_on, after_opened, opened_if}
+use Rattle.farm_model.specs.FarmStep.{after_up, after_send_on, after_send, after_lost_message, with_pick, after_pick_at, with_charge}
+use Rattle.farm_model.specs.FarmStep.{after_charge_at, after_refusal_at, with_emit, after_emit_at, can_restart, after_crash_at}
+use Rattle.farm_model.specs.InFlight.{goes, knows_other}
+use Rattle.farm_model.specs.Loss.{LossAt, CutsBoth, after_crash, peers_of, DropAll}
+use Rattle.farm_base.specs.Nodes.{is_node, is_client}
 use Rattle.farm_model.specs.Run.{Past, Transition, skipped_in}
-use Rattle.farm_model.specs.World.{WorldState, conn_between, front_at}
-use Rattle.farm_model.proofs.Wiring.Apart.{AreApart, goes_once}
-use Rattle.farm_model.proofs.Lists.Finding.{any_none, does_not_pass}
+use Rattle.farm_model.specs.World.{WorldState, is_between, is_heard, is_unheard, conn_known, front_at}
+use Rattle.farm_model.proofs.Wiring.Apart.{AreApart, goes_once, heard_once}
+use Rattle.farm_model.proofs.Lists.Finding.{any_none, any_has, does_not_pass}
+use Rattle.farm_model.proofs.Lists.Among.{Has-right}
+use Rattle.farm_model.proofs.Lists.Numbering.{node_itself}
 use Rattle.farm_model.proofs.Wiring.Sides.{sides}
 
 -- ---- what is there
@@ -71,46 +74,60 @@ has_message : ℕ → Option Direction → Bool
 has_message place None = false
 has_message place (Some direction) = ltb place (length direction.messages)
 
-flies_of : (directions : List Direction) (from to : NodeNo) (place : ℕ) (direction : Direction) (message : Option Message) → is_some
-    (flight_of directions from to place direction message) ≡ is_some message
-flies_of directions from to place direction None = refl
-flies_of directions from to place direction (Some message) = refl
+flies_of : (test : Direction → Bool) (directions : List Direction) (place : ℕ) (direction : Direction) (message : Option Message) → is_some
+    (flight_of test directions place direction message) ≡ is_some message
+flies_of test directions place direction None = refl
+flies_of test directions place direction (Some message) = refl
 
-flies_in : (directions : List Direction) (from to : NodeNo) (place : ℕ) (found : Option Direction) → is_some (flight_in directions from to place found) ≡
+flies_in : (test : Direction → Bool) (directions : List Direction) (place : ℕ) (found : Option Direction) → is_some (flight_in test directions place found) ≡
     has_message place found
 unfolding has_message
-flies_in directions from to place None = refl
-flies_in directions from to place (Some direction) = flies_of directions from to place direction (slice_get direction.messages place) ∙ some_got
+flies_in test directions place None = refl
+flies_in test directions place (Some direction) = flies_of test directions place direction (slice_get direction.messages place) ∙ some_got
     direction.messages place
 
-the_first : (from to : NodeNo) (place : ℕ) (directions : List Direction) → count_by (goes from to) directions ≤ 1 → has_message place
-    (find (goes from to) directions) ≡ is_in_flight directions from to place
+-- a message is at this place in a direction that passes
+abbrev has_in : (Direction → Bool) → ℕ → Direction → Bool
+has_in test place direction = test direction && ltb place (length direction.messages)
+
+the_first : (test : Direction → Bool) (place : ℕ) (directions : List Direction) → count_by test directions ≤ 1 → has_message place (find test directions) ≡
+    list_any (has_in test place) directions
 unfolding has_message
-the_first from to place [] most = refl
-the_first from to place (direction ∷ directions) most = go (goes from to direction) refl (the_first from to place directions)
+the_first test place [] most = refl
+the_first test place (direction ∷ directions) most = go (test direction) refl (the_first test place directions)
   where
-    go : (b : Bool) → goes from to direction ≡ b → (count_by (goes from to) directions ≤ 1 → has_message place (find (goes from to) directions) ≡ is_in_flight
-        directions from to place)
-        → has_message place (cond b (Some direction) (find (goes from to) directions)) ≡
-        ((b && ltb place (length direction.messages)) || is_in_flight directions from to place)
+    go : (b : Bool) → test direction ≡ b → (count_by test directions ≤ 1 → has_message place (find test directions) ≡ list_any (has_in test place) directions)
+        → has_message place (cond b (Some direction) (find test directions)) ≡
+        ((b && ltb place (length direction.messages)) || list_any (has_in test place) directions)
     go true is more =
-        let this : one (goes from to direction) ≡ 1 = ap one is in
-        let none : count_by (goes from to) directions ≡ 0 = omega (arith, most, this, count-cons (goes from to) direction directions) in
-        let nobody : is_in_flight directions from to place ≡ false =
-        any_none (has_place from to place) directions (λ other h. ap (λ (b : Bool). b && ltb place (length other.messages))
-        (does_not_pass (goes from to) directions none h)) in
-        or_false (ltb place (length direction.messages)) (is_in_flight directions from to place) nobody
+        let this : one (test direction) ≡ 1 = ap one is in
+        let none : count_by test directions ≡ 0 = omega (arith, most, this, count-cons test direction directions) in
+        let nobody : list_any (has_in test place) directions ≡ false =
+        any_none (has_in test place) directions (λ other h. ap (λ (b : Bool). b && ltb place (length other.messages))
+        (does_not_pass test directions none h)) in
+        or_false (ltb place (length direction.messages)) (list_any (has_in test place) directions) nobody
       where
         or_false : (a b : Bool) → b ≡ false → a ≡ (a || b)
         or_false true b e = refl
         or_false false b e = sym e
     go false is more =
-        let this : one (goes from to direction) ≡ 0 = ap one is in
-        more (omega (arith, most, this, count-cons (goes from to) direction directions))
+        let this : one (test direction) ≡ 0 = ap one is in
+        more (omega (arith, most, this, count-cons test direction directions))
 
-flies : (directions : List Direction) (from to : NodeNo) (place : ℕ) → count_by (goes from to) directions ≤ 1 → is_some (flight_at directions from to place) ≡
-    is_in_flight directions from to place
-flies directions from to place most = flies_in directions from to place (find (goes from to) directions) ∙ the_first from to place directions most
+flies : (test : Direction → Bool) (directions : List Direction) (place : ℕ) → count_by test directions ≤ 1 → is_some (flight_where test directions place) ≡
+    list_any (has_in test place) directions
+flies test directions place most = flies_in test directions place (find test directions) ∙ the_first test place directions most
+
+any_same : (p q : Direction → Bool) → ((d : Direction) → p d ≡ q d) → (directions : List Direction) → list_any p directions ≡ list_any q directions
+any_same p q same [] = refl
+any_same p q same (d ∷ directions) = ap (λ (b : Bool). b || list_any p directions) (same d) ∙ ap (λ (b : Bool). q d || b) (any_same p q same directions)
+
+swapped : (a b c : Bool) → ((a && b) && c) ≡ ((a && c) && b)
+swapped true true true = refl
+swapped true true false = refl
+swapped true false true = refl
+swapped true false false = refl
+swapped false b c = refl
 
 -- ---- a worker
 
@@ -178,34 +195,57 @@ module _ (site : Site) (old new : WorldState) (applied : Bool) (losses : List Lo
   loss_told None = refl
   loss_told (Some flight) = refl
 
-  cut_told : (a b : NodeNo) (conn : Option ConnId) → Cuts old a b conn applied losses new → applied ≡ is_some conn
-  cut_told a b None made = made.0
-  cut_told a b (Some conn) made = made.0
+  cut_told : (a b : NodeNo) (b' : Bool) → MatchBool b' ((applied ≡ true) × CutsBoth old a b losses new) ((applied ≡ false) × (losses ≡ []) × (new ≡ old)) →
+      applied ≡ b'
+  cut_told a b true made = made.0
+  cut_told a b false made = made.0
 
-  restart_told : (node : NodeNo) (b : Bool) → MatchBool b ((applied ≡ true) × LearnLosses (losses_of_restart node old.directions) (after_restart old node)
-      losses new) ((applied ≡ false) × (losses ≡ []) × (new ≡ old)) → applied ≡ b
+  restart_told : (node : NodeNo) (b : Bool) → MatchBool b ((applied ≡ true) × DropAll node (peers_of node old.directions) (after_crash old node) losses new)
+      ((applied ≡ false) × (losses ≡ []) × (new ≡ old)) → applied ≡ b
   restart_told node true made = made.0
   restart_told node false made = made.0
 
-  sends_in : (client to : NodeNo) (message : Message) (found : Option Direction) → is_some (after_send_in old client to message found) ≡ is_some found
-  sends_in client to message None = refl
-  sends_in client to message (Some direction) = refl
+  sends_on : (client : NodeNo) (message : Message) (found : Option ConnId) → is_some (after_send_on old client message found) ≡ is_some found
+  sends_on client message None = refl
+  sends_on client message (Some conn) = refl
 
   sends_if : (client to : NodeNo) (message : Message) (b : Bool) → is_some
-      (cond b (after_send_in old client to message (find (goes client to) old.directions)) None) ≡ (b && are_connected old.directions client to)
-  sends_if client to message true = sends_in client to message (find (goes client to) old.directions) ∙ some_found (goes client to) old.directions
+      (cond b (after_send_on old client message (conn_known old.directions client to)) None) ≡ (b && knows_other old.directions client to)
+  sends_if client to message true = sends_on client message (conn_known old.directions client to) ∙ some_mapped (λ (direction : Direction). direction.conn)
+      (find (is_heard to client) old.directions) ∙ some_found (is_heard to client) old.directions
   sends_if client to message false = refl
 
+  opens_on : (w : WorldState) (a b : NodeNo) (found : Option Direction) → is_some (after_opened_on w a b found) ≡ is_some found
+  opens_on w a b None = refl
+  opens_on w a b (Some direction) = refl
+
+  opens : (w : WorldState) (a b : NodeNo) → is_some (after_opened w a b) ≡ list_any (is_unheard b a) w.directions
+  opens w a b = opens_on w a b (find (is_unheard b a) w.directions) ∙ some_found (is_unheard b a) w.directions
+
+  -- the next connection is there to be learned of
+  is_there : (a b : NodeNo) → list_any (is_unheard b a) (with_new_connection old a b).directions ≡ true
+  is_there a b = any_has (is_unheard b a) (Has-right old.directions (there here))
+      (and_from (is_between b a (empty_direction (next_conn old) b a false)) true (and_from (is_node b b) (is_node a a) (node_itself b) (node_itself a)) refl)
+
+  ups : (a b : NodeNo) (c : Bool) → is_some (opened_if a b (cond c (Some (with_new_connection old a b)) None)) ≡ c
+  ups a b true = opens (with_new_connection old a b) a b ∙ is_there a b
+  ups a b false = refl
+
   pub step_told : (step : Step) → FarmStep site old step applied losses new → applied ≡ can_apply site old step
-  step_told (Up a b) made = outcome_told (after_up site old a b) made.0 ∙ some_if (can_connect site old a b) (with_new_connection old a b)
+  step_told (Up a b) made = outcome_told (after_up site old a b) made.0 ∙ ups a b (can_connect site old a b)
+  step_told (Accept at from) made = outcome_told (after_accept site old at from) made.0 ∙ some_if (can_connect site old from at) (with_new_connection old from at)
+  step_told (Opened a b) made = outcome_told (after_opened old a b) made.0 ∙ opens old a b
   step_told (Send client to message) made = outcome_told (after_send site old client to message) made.0 ∙ sends_if client to message (is_client site client)
-  step_told (Deliver from to place) made = delivery_told to (flight_at old.directions from to place) made.0 ∙ flies old.directions from to place
-      (goes_once old.directions apart from to)
+  step_told (Deliver from to place) made = delivery_told to (flight_at old.directions from to place) made.0
+      ∙ flies (is_heard from to) old.directions place (heard_once old.directions apart from to)
+      ∙ any_same (has_in (is_heard from to) place) (λ d. has_place from to place d && d.known)
+      (λ d. swapped (goes from to d) d.known (ltb place (length d.messages))) old.directions
   step_told (Lose from to place) made =
-      outcome_told (after_lost_message old (flight_at old.directions from to place)) made.0 ∙ loss_told (flight_at old.directions from to place) ∙ flies
-      old.directions from to place (goes_once old.directions apart from to)
-  step_told (Cut a b) made = cut_told a b (conn_between old.directions a b) made ∙ some_mapped (λ (direction : Direction). direction.conn)
-      (find (goes a b) old.directions) ∙ some_found (goes a b) old.directions
+      outcome_told (after_lost_message old (loss_at old.directions from to place)) made.0 ∙ loss_told (loss_at old.directions from to place) ∙ flies
+      (goes from to) old.directions place (goes_once old.directions apart from to)
+  step_told (Cut a b) made = cut_told a b (can_cut old a b) made
+  step_told (Drop a b) made = made.0 ∙ some_found (is_between b a) old.directions
+  step_told (Crash node) made = outcome_told (after_crash_at site old node) made.0 ∙ some_if (can_restart site node) (after_crash old node)
   step_told (Restart node) made = restart_told node (can_restart site node) made
   step_told (Pick node worker) made = outcome_told (after_pick_at old node worker (front_at node old.fronts)) made.0 ∙ picks old node worker
       (front_at node old.fronts)

@@ -1,7 +1,8 @@
 -- What clients have sent and received stands on connections of one client, and the book is the site's, with sweeps of steps of the run.
 use Rattle.std.proofs.Common.{◌≡◌, ℕ, zero, suc, Bool, true, false, cond, List, [], ◌∷◌, ◌++◌, Option, Some, None, Result, Ok, Err, ◌⊎◌, inl, inr}
 use Rattle.std.proofs.Common.{refl, sym, subst, ap, ◌∙◌}
-use Rattle.std.specs.Prelude.{slice_get, unwrap_or}
+use Rattle.std.specs.Prelude.{MatchBool, slice_get, unwrap_or}
+use Rattle.std.proofs.lemmas.Option.{same_Some}
 use Rattle.std.specs.List.{find}
 use Rattle.dia_base.specs.declared.number.ConnId.{ConnId}
 use Rattle.dia_base.specs.declared.number.Moment.{Moment}
@@ -32,20 +33,22 @@ use Rattle.farm_base.specs.declared.step.Step.{Step}
 use Rattle.farm_base.specs.declared.step.Step.TheVariants.{Charge as ChargeStep, Sweep as SweepStep}
 use Rattle.farm_model.specs.Arrival.{AtRelay}
 use Rattle.farm_base.specs.CheckedSite.{IsChecked}
-use Rattle.farm_model.specs.FarmStep.{Outcome, Flight, after_lost_message, after_up, with_new_connection, can_connect, after_send, after_send_in}
+use Rattle.farm_model.specs.FarmStep.{Outcome, Flight, after_lost_message, after_up, with_new_connection, can_connect, after_send, after_send_on}
+use Rattle.farm_model.specs.FarmStep.{after_accept, after_opened_on, after_opened, opened_if, can_restart, after_crash_at}
 use Rattle.farm_model.specs.FarmStep.{with_pick, after_pick_at, after_refusal_at, with_emit, after_emit_at, with_charge, after_charge_at}
 use Rattle.farm_model.specs.FarmStep.{after_sweep_at}
-use Rattle.farm_model.specs.Loss.{Loss, LearnsLoss, LossAt, LearnLosses, all_know, learns}
+use Rattle.farm_model.specs.Loss.{Loss, LearnsLoss, LossAt, LearnLosses, all_know, learns, after_end as without_its_end, EndGoes, end_with, after_losing_all}
+use Rattle.farm_model.specs.Loss.{CutsBoth, after_crash, DropAll, all_dropped, drops_too}
 use Rattle.farm_base.specs.Nodes.{is_client}
 use Rattle.farm_model.specs.Promise.{HasOneClient}
 use Rattle.farm_model.specs.Run.{empty_book, TellsSame}
-use Rattle.farm_model.specs.World.{Ends, WorldState, is_between, front_at, relay_at}
+use Rattle.farm_model.specs.World.{Ends, WorldState, is_heard, is_unheard, conn_known, front_at, relay_at}
 use Rattle.farm_model.proofs.Lists.Among.{Has-cons, Has-parts}
 use Rattle.farm_model.proofs.Lists.Finding.{Has-found}
-use Rattle.farm_model.proofs.Wiring.Joined.{one_client}
-use Rattle.farm_model.proofs.Wiring.Linked.{beside_client}
+use Rattle.farm_model.proofs.Wiring.Joined.{Joins-turned, one_client}
+use Rattle.farm_model.proofs.Wiring.Linked.{client_beside}
 use Rattle.farm_model.proofs.Wiring.Wired.{IsWired}
-use Rattle.farm_model.proofs.Wiring.WorldLemmas.{direction_nodes}
+use Rattle.farm_model.proofs.Wiring.WorldLemmas.{direction_nodes, heard_between, direction_known}
 
 -- a step charges at the moment
 abbrev pub IsChargedIn : List Step → Moment → Type 0
@@ -125,6 +128,28 @@ losses_tell (learns {loss = loss} {w = w} {next = mid} one more) =
     let b = losses_tell more in
     (b.0 ∙ a.0, b.1 ∙ a.1, b.2 ∙ a.2, b.3 ∙ a.3)
 
+pub end_tells : (w after : WorldState) (node : NodeNo) (found : Option Direction) (losses : List LossAt) → EndGoes w node found losses after → TellsSame w after
+end_tells w after node None losses goes = subst (TellsSame w) (sym goes.1) (refl, refl, refl, refl)
+end_tells w after node (Some direction) losses goes = go direction.known goes
+  where
+    go : (b : Bool) → MatchBool b (LearnLosses (record { node = node; conn = direction.conn } ∷ []) (without_its_end w node direction.conn) losses after)
+        ((losses ≡ []) × (after ≡ without_its_end w node direction.conn)) → TellsSame w after
+    go true learn = let a = losses_tell learn in (a.0, a.1, a.2, a.3)
+    go false idle = subst (TellsSame w) (sym idle.1) (refl, refl, refl, refl)
+
+pub cut_tells : (w after : WorldState) (a b : NodeNo) (losses : List LossAt) → CutsBoth w a b losses after → TellsSame w after
+cut_tells w after a b losses cut =
+    let one = end_tells (after_losing_all w a b) cut.middle a (end_with (after_losing_all w a b).directions a b) cut.first cut.one in
+    let other = end_tells cut.middle after b (end_with cut.middle.directions b a) cut.second cut.other in
+    (other.0 ∙ one.0, other.1 ∙ one.1, other.2 ∙ one.2, other.3 ∙ one.3)
+
+pub all_drop_tell : {node : NodeNo} {peers : List NodeNo} {w after : WorldState} {losses : List LossAt} → DropAll node peers w losses after → TellsSame w after
+all_drop_tell all_dropped = (refl, refl, refl, refl)
+all_drop_tell {node = node} (drops_too {peer = peer} {w = w} {next = mid} now later is one more) =
+    let a = end_tells w mid peer (end_with w.directions peer node) now one in
+    let b = all_drop_tell more in
+    (b.0 ∙ a.0, b.1 ∙ a.1, b.2 ∙ a.2, b.3 ∙ a.3)
+
 -- ---- each step
 
 module _ (site : Site) (all : Ends) (steps : List Step) (checked : IsChecked site) (old new : WorldState) (applied : Bool) (wired : IsWired site all old)
@@ -137,39 +162,70 @@ module _ (site : Site) (all : Ends) (steps : List Step) (checked : IsChecked sit
   outcome_heard None f out = same_state new out.1
   outcome_heard (Some next) f out = subst (HeardIn site all steps) (sym out.1) (f next refl)
 
+  -- what is told is the same
+  same_told : (next : WorldState) → next.sent ≡ old.sent → next.received ≡ old.received → next.book ≡ old.book → HeardIn site all steps next
+  same_told next sent received book = tells_heard (record old { ends = next.ends }) next (sent, received, book, refl) (record {
+    senders = heard.senders;
+    receivers = heard.receivers;
+    terms = heard.terms;
+    limit = heard.limit;
+    sweeps = heard.sweeps;
+    takes = heard.takes;
+  })
+
+  accepted_heard : (at from : NodeNo) (next : WorldState) (b : Bool) → cond b (Some (with_new_connection old from at)) None ≡ Some next → HeardIn site all steps
+      next
+  accepted_heard at from next true e = subst (HeardIn site all steps) (same_Some _ _ e) (same_told (with_new_connection old from at) refl refl refl)
+  accepted_heard at from next false e = absurd cc
+
+  pub accept_heard : (at from : NodeNo) → Outcome (after_accept site old at from) applied old new → HeardIn site all steps new
+  accept_heard at from out = outcome_heard (after_accept site old at from) (λ next e. accepted_heard at from next (can_connect site old from at) e) out
+
+  -- of a farm in which the same is told
+  on_heard : (w next : WorldState) (a b : NodeNo) (found : Option Direction) → w.sent ≡ old.sent → w.received ≡ old.received → w.book ≡ old.book →
+      after_opened_on w a b found ≡ Some next → HeardIn site all steps next
+  on_heard w next a b None sent received book e = absurd cc
+  on_heard w next a b (Some direction) sent received book e = same_told next
+      (sym (ap (λ (o : Option WorldState). (unwrap_or o w).sent) e) ∙ sent) (sym (ap (λ (o : Option WorldState). (unwrap_or o w).received) e) ∙ received)
+      (sym (ap (λ (o : Option WorldState). (unwrap_or o w).book) e) ∙ book)
+
+  pub opened_heard : (a b : NodeNo) → Outcome (after_opened old a b) applied old new → HeardIn site all steps new
+  opened_heard a b out = outcome_heard (after_opened old a b) (λ next e. on_heard old next a b (find (is_unheard b a) old.directions) refl refl refl e) out
+
   pub up_heard : (a b : NodeNo) → Outcome (after_up site old a b) applied old new → HeardIn site all steps new
   up_heard a b out = outcome_heard (after_up site old a b) (λ next e. go next (can_connect site old a b) e) out
     where
-      go : (next : WorldState) (b' : Bool) → cond b' (Some (with_new_connection old a b)) None ≡ Some next → HeardIn site all steps next
-      go next true e = let same : with_new_connection old a b ≡ next = cc in subst (HeardIn site all steps) same
-          (record {
-            senders = heard.senders;
-            receivers = heard.receivers;
-            terms = heard.terms;
-            limit = heard.limit;
-            sweeps = heard.sweeps;
-            takes = heard.takes;
-          })
+      go : (next : WorldState) (c : Bool) → opened_if a b (cond c (Some (with_new_connection old a b)) None) ≡ Some next → HeardIn site all steps next
+      go next true e = on_heard (with_new_connection old a b) next a b (find (is_unheard b a) (with_new_connection old a b).directions) refl refl refl e
+      go next false e = absurd cc
+
+  pub crash_heard : (node : NodeNo) → Outcome (after_crash_at site old node) applied old new → HeardIn site all steps new
+  crash_heard node out = outcome_heard (after_crash_at site old node) (λ next e. go next (can_restart site node) e) out
+    where
+      go : (next : WorldState) (c : Bool) → cond c (Some (after_crash old node)) None ≡ Some next → HeardIn site all steps next
+      go next true e = subst (HeardIn site all steps) (same_Some _ _ e) (same_told (after_crash old node) refl refl refl)
       go next false e = absurd cc
 
   pub send_heard : (client to : NodeNo) (message : Message) → Outcome (after_send site old client to message) applied old new → HeardIn site all steps new
   send_heard client to message out = outcome_heard (after_send site old client to message) (λ next e. go next (is_client site client) refl e) out
     where
-      sent_on : (direction : Direction) → is_client site client ≡ true → find (is_between client to) old.directions ≡ Some direction → HasOneClient site all
+      sent_on : (direction : Direction) → is_client site client ≡ true → find (is_heard to client) old.directions ≡ Some direction → HasOneClient site all
           direction.conn
       sent_on direction is e =
-          let k = wired.directions direction (Has-found (is_between client to) old.directions e) in
-          let nodes = direction_nodes client to direction (found_passes (is_between client to) old.directions direction e) in
-          let from_client : is_client site direction.from ≡ true = subst (λ (n : NodeNo). is_client site n ≡ true) (sym nodes.0) is in
-          one_client k.joins from_client (beside_client site checked direction.from direction.to k.linked from_client)
+          let k = wired.directions direction (Has-found (is_heard to client) old.directions e) in
+          let nodes = direction_nodes to client direction (heard_between to client direction (found_passes (is_heard to client) old.directions direction e)) in
+          let to_client : is_client site direction.to ≡ true = subst (λ (n : NodeNo). is_client site n ≡ true) (sym nodes.1) is in
+          one_client (Joins-turned k.joins) to_client (client_beside site checked direction.from direction.to k.linked to_client)
 
-      found : (next : WorldState) → is_client site client ≡ true → (direction : Option Direction) → find (is_between client to) old.directions ≡ direction →
-          after_send_in old client to message direction ≡ Some next → HeardIn site all steps next
+      found : (next : WorldState) → is_client site client ≡ true → (conn : Option ConnId) → conn_known old.directions client to ≡ conn → after_send_on old
+          client message conn ≡ Some next → HeardIn site all steps next
       found next is None q e = absurd cc
-      found next is (Some direction) q e =
+      found next is (Some conn) q e =
+          let direction = direction_known old.directions client to conn q in
           let same = ap (λ (o : Option WorldState). unwrap_or o next) e in
           subst (HeardIn site all steps) same (record {
-            senders = all-end (λ (i : ConnId × Message). HasOneClient site all i.0) old.sent (direction.conn, message) heard.senders (sent_on direction is q);
+            senders = all-end (λ (i : ConnId × Message). HasOneClient site all i.0) old.sent (conn, message) heard.senders
+                (subst (λ (c : ConnId). HasOneClient site all c) direction.2 (sent_on direction.0 is direction.1));
             receivers = heard.receivers;
             terms = heard.terms;
             limit = heard.limit;
@@ -178,8 +234,8 @@ module _ (site : Site) (all : Ends) (steps : List Step) (checked : IsChecked sit
           })
 
       go : (next : WorldState) (b : Bool) → is_client site client ≡ b → cond b
-          (after_send_in old client to message (find (is_between client to) old.directions)) None ≡ Some next → HeardIn site all steps next
-      go next true is e = found next is (find (is_between client to) old.directions) refl e
+          (after_send_on old client message (conn_known old.directions client to)) None ≡ Some next → HeardIn site all steps next
+      go next true is e = found next is (conn_known old.directions client to) refl e
       go next false is e = absurd cc
 
   pub lose_heard : (flight : Option Flight) → Outcome (after_lost_message old flight) applied old new → HeardIn site all steps new

@@ -14,18 +14,19 @@ use Rattle.farm_law.proofs.Lists.{all-end}
 use Rattle.farm_base.specs.declared.site.Site.{Site}
 use Rattle.farm_model.specs.declared.state.Direction.{Direction}
 use Rattle.farm_base.specs.declared.step.Step.{Step}
-use Rattle.farm_base.specs.declared.step.Step.TheVariants.{Up, Send, Deliver, Lose, Cut, Restart, Pick, Charge, Refuse, Emit, Sweep}
+use Rattle.farm_base.specs.declared.step.Step.TheVariants.{Up, Accept, Opened, Send, Deliver, Lose, Cut, Drop, Restart, Crash, Pick, Charge, Refuse, Emit, Sweep}
 use Rattle.farm_model.specs.Arrival.{ArrivesAtServer, after_arrival_at_front}
 use Rattle.farm_base.specs.CheckedSite.{IsChecked}
 use Rattle.farm_model.specs.FarmStep.{FarmStep, Outcome, Flight, flight_at, Delivers, after_lost_message, after_up, with_new_connection, can_connect}
-use Rattle.farm_model.specs.FarmStep.{after_send, after_send_in, with_pick, after_pick_at, after_refusal_at, with_emit, after_emit_at, with_charge}
-use Rattle.farm_model.specs.FarmStep.{after_charge_at, Cuts, can_restart}
-use Rattle.farm_model.specs.Loss.{LossAt, LearnLosses, after_cut, after_restart, losses_of_restart}
+use Rattle.farm_model.specs.FarmStep.{after_send, after_send_on, with_pick, after_pick_at, after_refusal_at, with_emit, after_emit_at, with_charge}
+use Rattle.farm_model.specs.FarmStep.{after_charge_at, DropsIt, can_cut, can_restart, after_accept, after_opened_on, after_opened, opened_if, loss_at}
+use Rattle.farm_model.specs.FarmStep.{after_crash_at}
+use Rattle.farm_model.specs.Loss.{LossAt, end_with, CutsBoth, after_crash, peers_of, DropAll}
 use Rattle.farm_base.specs.Nodes.{is_client}
 use Rattle.farm_model.specs.Promise.{HasOneClient}
 use Rattle.farm_model.specs.Run.{TellsSame}
-use Rattle.farm_model.specs.World.{Ends, WorldState, is_between, conn_between, front_at, relay_at}
-use Rattle.farm_model.proofs.Clients.Hearing.{HeardIn, tells_heard, at_relay_tells, losses_tell, up_heard, send_heard, lose_heard, pick_at_heard}
+use Rattle.farm_model.specs.World.{Ends, WorldState, is_unheard, conn_known, front_at, relay_at}
+use Rattle.farm_model.proofs.Clients.Hearing.{HeardIn, tells_heard, at_relay_tells, end_tells, cut_tells, all_drop_tell, up_heard, accept_heard, opened_heard, crash_heard, send_heard, lose_heard, pick_at_heard}
 use Rattle.farm_model.proofs.Clients.Hearing.{refusal_at_heard, emit_at_heard, charge_at_heard, sweep_heard}
 use Rattle.farm_model.proofs.Wiring.Joined.{Joins-turned, one_client}
 use Rattle.farm_model.proofs.Wiring.Linked.{client_beside}
@@ -73,16 +74,19 @@ module _ (site : Site) (all : Ends) (steps : List Step) (checked : IsChecked sit
 
   -- ---- connections end
 
-  cut_heard : (old new : WorldState) (a b : NodeNo) (conn : Option ConnId) (applied : Bool) (losses : List LossAt) → HeardIn site all steps old → Cuts old a b
-      conn applied losses new → HeardIn site all steps new
-  cut_heard old new a b None applied losses heard c = subst (HeardIn site all steps) (sym c.2) heard
-  cut_heard old new a b (Some conn) applied losses heard c = tells_heard (after_cut old conn) new (losses_tell c.1)
-      (record { senders = heard.senders; receivers = heard.receivers; terms = heard.terms; limit = heard.limit; sweeps = heard.sweeps; takes = heard.takes })
+  cut_heard : (old new : WorldState) (a b : NodeNo) (applied : Bool) (losses : List LossAt) (c : Bool) → HeardIn site all steps old → MatchBool c
+      ((applied ≡ true) × CutsBoth old a b losses new) ((applied ≡ false) × (losses ≡ []) × (new ≡ old)) → HeardIn site all steps new
+  cut_heard old new a b applied losses true heard c = tells_heard old new (cut_tells old new a b losses c.1) heard
+  cut_heard old new a b applied losses false heard c = subst (HeardIn site all steps) (sym c.2) heard
+
+  drop_heard : (old new : WorldState) (a : NodeNo) (found : Option Direction) (applied : Bool) (losses : List LossAt) → HeardIn site all steps old → DropsIt
+      old a found applied losses new → HeardIn site all steps new
+  drop_heard old new a found applied losses heard d = tells_heard old new (end_tells old new a found losses d.1) heard
 
   restart_heard : (old new : WorldState) (node : NodeNo) (applied : Bool) (losses : List LossAt) (b : Bool) → HeardIn site all steps old
-      → MatchBool b ((applied ≡ true) × LearnLosses (losses_of_restart node old.directions) (after_restart old node) losses new)
+      → MatchBool b ((applied ≡ true) × DropAll node (peers_of node old.directions) (after_crash old node) losses new)
       ((applied ≡ false) × (losses ≡ []) × (new ≡ old)) → HeardIn site all steps new
-  restart_heard old new node applied losses true heard c = tells_heard (after_restart old node) new (losses_tell c.1)
+  restart_heard old new node applied losses true heard c = tells_heard (after_crash old node) new (all_drop_tell c.1)
       (record { senders = heard.senders; receivers = heard.receivers; terms = heard.terms; limit = heard.limit; sweeps = heard.sweeps; takes = heard.takes })
   restart_heard old new node applied losses false heard c = subst (HeardIn site all steps) (sym c.2) heard
 
@@ -91,13 +95,17 @@ module _ (site : Site) (all : Ends) (steps : List Step) (checked : IsChecked sit
   pub step_heard : (old new : WorldState) (step : Step) (applied : Bool) (losses : List LossAt) → FarmStep site old step applied losses new → Has step steps →
       IsWired site all old → HeardIn site all steps old → HeardIn site all steps new
   step_heard old new (Up a b) applied losses s is_step wired heard = up_heard site all steps checked old new applied wired heard a b s.0
+  step_heard old new (Accept at from) applied losses s is_step wired heard = accept_heard site all steps checked old new applied wired heard at from s.0
+  step_heard old new (Opened a b) applied losses s is_step wired heard = opened_heard site all steps checked old new applied wired heard a b s.0
   step_heard old new (Send client to message) applied losses s is_step wired heard = send_heard site all steps checked old new applied wired heard client to
       message s.0
   step_heard old new (Deliver from to place) applied losses s is_step wired heard = deliver_heard old new applied from to place wired heard
       (flight_at old.directions from to place) refl s.0
   step_heard old new (Lose from to place) applied losses s is_step wired heard = lose_heard site all steps checked old new applied wired heard
-      (flight_at old.directions from to place) s.0
-  step_heard old new (Cut a b) applied losses s is_step wired heard = cut_heard old new a b (conn_between old.directions a b) applied losses heard s
+      (loss_at old.directions from to place) s.0
+  step_heard old new (Cut a b) applied losses s is_step wired heard = cut_heard old new a b applied losses (can_cut old a b) heard s
+  step_heard old new (Drop a b) applied losses s is_step wired heard = drop_heard old new a (end_with old.directions a b) applied losses heard s
+  step_heard old new (Crash node) applied losses s is_step wired heard = crash_heard site all steps checked old new applied wired heard node s.0
   step_heard old new (Restart node) applied losses s is_step wired heard = restart_heard old new node applied losses (can_restart site node) heard s
   step_heard old new (Pick front worker) applied losses s is_step wired heard = pick_at_heard site all steps checked old new applied wired heard front worker
       (front_at front old.fronts) s.0
@@ -135,22 +143,43 @@ module _ (site : Site) (old new : WorldState) (applied : Bool) where
   of_some : {next next' : WorldState} → Some next ≡ Some next' → next'.ends ≡ next.ends
   of_some e = sym (ap (λ (o : Option WorldState). (unwrap_or o old).ends) e)
 
+  on_ends : (w next : WorldState) (a b : NodeNo) (found : Option Direction) → after_opened_on w a b found ≡ Some next → next.ends ≡ w.ends
+  on_ends w next a b None e = absurd cc
+  on_ends w next a b (Some direction) e = of_some e
+
   up_ends : (a b : NodeNo) → Outcome (after_up site old a b) applied old new → MoreEnds old.ends new.ends
   up_ends a b out = outcome_ends (after_up site old a b) (λ next e. go next (can_connect site old a b) e) out
     where
-      go : (next : WorldState) (c : Bool) → cond c (Some (with_new_connection old a b)) None ≡ Some next → MoreEnds old.ends next.ends
-      go next true e = subst (λ (ends : Ends). MoreEnds old.ends ends) (sym (of_some e)) (more_ends old.ends (a, b))
+      go : (next : WorldState) (c : Bool) → opened_if a b (cond c (Some (with_new_connection old a b)) None) ≡ Some next → MoreEnds old.ends next.ends
+      go next true e = subst (λ (ends : Ends). MoreEnds old.ends ends)
+          (sym (on_ends (with_new_connection old a b) next a b (find (is_unheard b a) (with_new_connection old a b).directions) e)) (more_ends old.ends (a, b))
+      go next false e = absurd cc
+
+  accept_ends : (at from : NodeNo) → Outcome (after_accept site old at from) applied old new → MoreEnds old.ends new.ends
+  accept_ends at from out = outcome_ends (after_accept site old at from) (λ next e. go next (can_connect site old from at) e) out
+    where
+      go : (next : WorldState) (c : Bool) → cond c (Some (with_new_connection old from at)) None ≡ Some next → MoreEnds old.ends next.ends
+      go next true e = subst (λ (ends : Ends). MoreEnds old.ends ends) (sym (of_some e)) (more_ends old.ends (from, at))
+      go next false e = absurd cc
+
+  opened_ends : (a b : NodeNo) → Outcome (after_opened old a b) applied old new → MoreEnds old.ends new.ends
+  opened_ends a b out = same_outcome (after_opened old a b) (λ next e. on_ends old next a b (find (is_unheard b a) old.directions) e) out
+
+  crash_ends : (node : NodeNo) → Outcome (after_crash_at site old node) applied old new → MoreEnds old.ends new.ends
+  crash_ends node out = same_outcome (after_crash_at site old node) (λ next e. go next (can_restart site node) e) out
+    where
+      go : (next : WorldState) (c : Bool) → cond c (Some (after_crash old node)) None ≡ Some next → next.ends ≡ old.ends
+      go next true e = of_some e
       go next false e = absurd cc
 
   send_ends : (client to : NodeNo) (message : Message) → Outcome (after_send site old client to message) applied old new → MoreEnds old.ends new.ends
   send_ends client to message out = same_outcome (after_send site old client to message)
-      (λ next e. go next (is_client site client) (find (is_between client to) old.directions) e) out
+      (λ next e. go next (is_client site client) (conn_known old.directions client to) e) out
     where
-      go : (next : WorldState) (c : Bool) (direction : Option Direction) → cond c (after_send_in old client to message direction) None ≡ Some next → next.ends
-          ≡ old.ends
+      go : (next : WorldState) (c : Bool) (conn : Option ConnId) → cond c (after_send_on old client message conn) None ≡ Some next → next.ends ≡ old.ends
       go next true None e = absurd cc
-      go next true (Some direction) e = of_some e
-      go next false direction e = absurd cc
+      go next true (Some conn) e = of_some e
+      go next false conn e = absurd cc
 
   pick_ends : (node : NodeNo) (front : Option FrontState) → Outcome (with_pick old node front) applied old new → MoreEnds old.ends new.ends
   pick_ends node front out = same_outcome (with_pick old node front) (λ next e. go next front e) out
@@ -209,24 +238,32 @@ module _ (site : Site) (old new : WorldState) (applied : Bool) where
       go true same = same_ends old.ends new.ends (ap (λ (v : WorldState). v.ends) same)
       go false turn = same_ends old.ends new.ends (at_server_tells site new.ends [] checked w to flight.conn flight.message (front_at to w.fronts) new turn).3
 
-  cut_ends : (a b : NodeNo) (conn : Option ConnId) (losses : List LossAt) → Cuts old a b conn applied losses new → MoreEnds old.ends new.ends
-  cut_ends a b None losses c = same_ends old.ends new.ends (ap (λ (w : WorldState). w.ends) c.2)
-  cut_ends a b (Some conn) losses c = same_ends old.ends new.ends (losses_tell c.1).3
+  cut_ends : (a b : NodeNo) (losses : List LossAt) (c : Bool) → MatchBool c ((applied ≡ true) × CutsBoth old a b losses new)
+      ((applied ≡ false) × (losses ≡ []) × (new ≡ old)) → MoreEnds old.ends new.ends
+  cut_ends a b losses true c = same_ends old.ends new.ends (cut_tells old new a b losses c.1).3
+  cut_ends a b losses false c = same_ends old.ends new.ends (ap (λ (w : WorldState). w.ends) c.2)
+
+  drop_ends : (a : NodeNo) (found : Option Direction) (losses : List LossAt) → DropsIt old a found applied losses new → MoreEnds old.ends new.ends
+  drop_ends a found losses d = same_ends old.ends new.ends (end_tells old new a found losses d.1).3
 
   restart_ends : (node : NodeNo) (losses : List LossAt) (b : Bool) → MatchBool b
-      ((applied ≡ true) × LearnLosses (losses_of_restart node old.directions) (after_restart old node) losses new)
+      ((applied ≡ true) × DropAll node (peers_of node old.directions) (after_crash old node) losses new)
       ((applied ≡ false) × (losses ≡ []) × (new ≡ old)) → MoreEnds old.ends new.ends
-  restart_ends node losses true c = same_ends old.ends new.ends (losses_tell c.1).3
+  restart_ends node losses true c = same_ends old.ends new.ends (all_drop_tell c.1).3
   restart_ends node losses false c = same_ends old.ends new.ends (ap (λ (w : WorldState). w.ends) c.2)
 
 pub step_ends : (site : Site) (checked : IsChecked site) (old new : WorldState) (step : Step) (applied : Bool) (losses : List LossAt) → FarmStep site old step
     applied losses new → MoreEnds old.ends new.ends
 step_ends site checked old new (Up a b) applied losses s = up_ends site old new applied a b s.0
+step_ends site checked old new (Accept at from) applied losses s = accept_ends site old new applied at from s.0
+step_ends site checked old new (Opened a b) applied losses s = opened_ends site old new applied a b s.0
 step_ends site checked old new (Send client to message) applied losses s = send_ends site old new applied client to message s.0
 step_ends site checked old new (Deliver from to place) applied losses s = deliver_ends site old new applied to (flight_at old.directions from to place) checked
     s.0
-step_ends site checked old new (Lose from to place) applied losses s = lose_ends site old new applied (flight_at old.directions from to place) s.0
-step_ends site checked old new (Cut a b) applied losses s = cut_ends site old new applied a b (conn_between old.directions a b) losses s
+step_ends site checked old new (Lose from to place) applied losses s = lose_ends site old new applied (loss_at old.directions from to place) s.0
+step_ends site checked old new (Cut a b) applied losses s = cut_ends site old new applied a b losses (can_cut old a b) s
+step_ends site checked old new (Drop a b) applied losses s = drop_ends site old new applied a (end_with old.directions a b) losses s
+step_ends site checked old new (Crash node) applied losses s = crash_ends site old new applied node s.0
 step_ends site checked old new (Restart node) applied losses s = restart_ends site old new applied node losses (can_restart site node) s
 step_ends site checked old new (Pick front worker) applied losses s = pick_at_ends site old new applied front worker (front_at front old.fronts) s.0
 step_ends site checked old new (Charge front worker moment) applied losses s = charge_at_ends site old new applied front worker moment

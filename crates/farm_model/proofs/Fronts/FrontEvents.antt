@@ -20,7 +20,7 @@ use Rattle.farm_base.specs.declared.site.Site.{Site}
 use Rattle.farm_model.specs.declared.state.FrontAt.{FrontAt}
 use Rattle.farm_model.specs.Arrival.{AtRelay, after_arrival_at_client, after_arrival_at_front, ArrivesAtServer}
 use Rattle.farm_model.specs.FarmStep.{with_connection_of, with_connection_at}
-use Rattle.farm_model.specs.Loss.{Loss, LossAt, LearnsLoss, LearnLosses, all_know, learns, with_restart_of_front, after_restart}
+use Rattle.farm_model.specs.Loss.{Loss, LossAt, LearnsLoss, LearnLosses, all_know, learns, with_restart_of_front, after_crash}
 use Rattle.farm_model.specs.FrontTurns.{as_front_event, front_after, front_outs}
 use Rattle.farm_base.specs.Nodes.{is_node, is_client, is_front, is_relay, kind_at}
 use Rattle.farm_model.specs.RelayRuns.{event_if}
@@ -28,7 +28,8 @@ use Rattle.farm_model.specs.World.{WorldState, with_traffic_from, is_front_at, w
 use Rattle.farm_model.proofs.Lists.Numbering.{same_node, node_itself}
 use Rattle.farm_model.proofs.Wiring.OneKind.{server_no_client}
 use Rattle.farm_model.proofs.Relays.RelayTurns.{learned_by, all_untouched, loss_one_out, directions_left}
-use Rattle.farm_model.proofs.Relays.SentBehind.{OneOut, Untouched, others_traffic, Behind, behind_nothing, behind_one, behind_more}
+use Rattle.farm_model.proofs.Relays.SentBehind.{OneOut, Untouched, others_traffic, Behind, behind_nothing, behind_one, behind_more, BehindOn, behind_on_more}
+use Rattle.farm_model.proofs.Wiring.Sides.{Side}
 
 -- ---- the front at a node
 
@@ -65,6 +66,33 @@ front_turned_more node book xs ys one two three first second front at =
       behind = subst (λ (outs : List Out). Behind node outs one.directions three.directions) (sym (outs_more front book xs ys))
           (behind_more node (front_outs front book xs) (front_outs (front_after front book xs) book ys) one.directions two.directions three.directions f.behind
           s.behind);
+    }
+
+-- so it is where its directions of these sides stand on
+pub record FrontReachesOn (Stands : Side → Type 0) (node : NodeNo) (front : FrontState) (book : Ledger) (events : List FrontEvent) (old new : WorldState) : Type 0
+  where
+    pub at : front_at node new.fronts ≡ Some (front_after front book events)
+    pub behind : BehindOn Stands node (front_outs front book events) old.directions new.directions
+
+abbrev pub FrontTurnedOn : (Side → Type 0) → NodeNo → Ledger → List FrontEvent → WorldState → WorldState → Type 0
+FrontTurnedOn Stands node book events old new = (front : FrontState) → front_at node old.fronts ≡ Some front → FrontReachesOn Stands node front book events old new
+
+pub front_turned_on : (Stands : Side → Type 0) (node : NodeNo) (book : Ledger) (events : List FrontEvent) (old new : WorldState) → FrontTurned node book events old
+    new → FrontTurnedOn Stands node book events old new
+front_turned_on Stands node book events old new turned front at =
+    let r = turned front at in
+    record { at = r.at; behind = λ direction h from stands. r.behind direction h from }
+
+front_on_more : (Stands : Side → Type 0) (node : NodeNo) (book : Ledger) (xs ys : List FrontEvent) (one two three : WorldState) → FrontTurnedOn Stands node book xs
+    one two → FrontTurnedOn Stands node book ys two three → FrontTurnedOn Stands node book (xs ++ ys) one three
+front_on_more Stands node book xs ys one two three first second front at =
+    let f = first front at in
+    let s = second (front_after front book xs) f.at in
+    record {
+      at = s.at ∙ ap (λ (g : FrontState). Some g) (sym (after_more front book xs ys));
+      behind = subst (λ (outs : List Out). BehindOn Stands node outs one.directions three.directions) (sym (outs_more front book xs ys))
+          (behind_on_more Stands node (front_outs front book xs) (front_outs (front_after front book xs) book ys) one.directions two.directions three.directions
+          f.behind s.behind);
     }
 
 -- ---- one front changed
@@ -251,6 +279,13 @@ both_at_front k book xs ys one two three first second =
     subst (λ (es : List FrontEvent). FrontTurned k book es one three) (map_both xs ys)
     (front_turned_more k book (map as_front_event xs) (map as_front_event ys) one two three first second)
 
+pub both_on_front : (Stands : Side → Type 0) (k : NodeNo) (book : Ledger) (xs ys : List RelayEvent) (one two three : WorldState) → FrontTurnedOn Stands k book
+    (map as_front_event xs) one two → FrontTurnedOn Stands k book (map as_front_event ys) two three → FrontTurnedOn Stands k book (map as_front_event (xs ++ ys))
+    one three
+both_on_front Stands k book xs ys one two three first second =
+    subst (λ (es : List FrontEvent). FrontTurnedOn Stands k book es one three) (map_both xs ys)
+    (front_on_more Stands k book (map as_front_event xs) (map as_front_event ys) one two three first second)
+
 pub losses_at_front : (k : NodeNo) (book : Ledger) {losses : List Loss} {old new : WorldState} {later : List LossAt} → LearnLosses losses old later new →
     OneOut old.directions → FrontTurned k book (map as_front_event (learned_by k losses)) old new
 losses_at_front k book (all_know {w = w}) single = same_front k book w w refl (all_untouched k w.directions w.directions refl)
@@ -262,19 +297,19 @@ losses_at_front k book {new = new} (learns {loss} {losses} {w} {next} learned re
 abbrev pub anew : RelayEvent
 anew = Rattle.relay_core.specs.declared.run.RelayEvent.TheVariants.Restart
 
-pub restart_at_front : (k node : NodeNo) (book : Ledger) (old : WorldState) → OneOut (directions_left old node).directions → FrontTurned k book
-    (map as_front_event (event_if (is_node node k) anew)) (directions_left old node) (after_restart old node)
-restart_at_front k node book old single = any_event_at_front k node book anew (directions_left old node) (after_restart old node) single
+pub crash_at_front : (k node : NodeNo) (book : Ledger) (old : WorldState) → OneOut (directions_left old node).directions → FrontTurned k book
+    (map as_front_event (event_if (is_node node k) anew)) (directions_left old node) (after_crash old node)
+crash_at_front k node book old single = any_event_at_front k node book anew (directions_left old node) (after_crash old node) single
     (front_at node old.fronts) refl (go (front_at node old.fronts) refl)
   where
     go : (o : Option FrontState) → front_at node old.fronts ≡ o → Changes k node book (as_front_event anew) (directions_left old node) o
-        (after_restart old node)
+        (after_crash old node)
     go None e = (
       ap (with_restart_of_front node old.fronts) e,
       λ apart. all_untouched k (directions_left old node).directions
-          (after_restart old node).directions refl,
+          (after_crash old node).directions refl,
     )
-    go (Some front) e = changed_to k node book (as_front_event anew) (directions_left old node) (after_restart old node) front e
+    go (Some front) e = changed_to k node book (as_front_event anew) (directions_left old node) (after_crash old node) front e
         (ap (with_restart_of_front node old.fronts) e) refl
 
 -- ---- a connection comes up

@@ -32,7 +32,7 @@ use Rattle.farm_model.specs.FarmStep.{flight_at, Flight, Delivers, FarmStep}
 use Rattle.farm_base.specs.Nodes.{is_node, is_relay, means_front, kind_at, is_linked, name_in, name_at}
 use Rattle.farm_model.specs.Promise.{IsNamed}
 use Rattle.farm_model.specs.Run.{Transition}
-use Rattle.farm_model.specs.World.{Ends, WorldState, with_message_from, is_front_at, front_at, relay_at}
+use Rattle.farm_model.specs.World.{is_heard, Ends, WorldState, with_message_from, is_front_at, front_at, relay_at}
 use Rattle.farm_model.proofs.Lists.Among.{Has-map}
 use Rattle.farm_model.proofs.Lists.Finding.{find_none}
 use Rattle.farm_model.proofs.Wiring.KnowsPeers.{KnowsPeers}
@@ -41,7 +41,7 @@ use Rattle.farm_model.proofs.Wiring.LinkedPeers.{peer_is_listed}
 use Rattle.farm_model.proofs.Lists.Numbering.{same_node}
 use Rattle.farm_model.proofs.Wiring.OneKind.{relay_no_client, relay_no_front}
 use Rattle.farm_model.proofs.Wiring.RelayPlaces.{relay_there, with_relay_same}
-use Rattle.farm_model.proofs.Wiring.SamePeers.{FlightStands, flight_stands}
+use Rattle.farm_model.proofs.Wiring.SamePeers.{FlightStands, flight_stands, flight_side}
 use Rattle.farm_model.proofs.Wiring.Sides.{Side, side_of, sides}
 use Rattle.farm_model.proofs.Wiring.Wired.{IsWired, FrontIsWired}
 use Rattle.farm_model.proofs.Wiring.WiredLemmas.{relay_wired}
@@ -97,14 +97,11 @@ name_is named = ap name_in named.at_place ∙ named.called
 
 -- a message of a direction that stands has a sender that the relay knows
 pub sender_known : {site : Site} {ends : Ends} {w : WorldState} {from node : NodeNo} {relay : RelayState} {flight : Flight} → IsChecked site → IsWired site
-    ends w → KnowsPeers site w → FlightStands w.directions from node flight → relay_at node w.relays ≡ Some relay
+    ends w → KnowsPeers site w → FlightStands (is_heard from node) w.directions from node flight → relay_at node w.relays ≡ Some relay
     → (p : LinkedPeer) × (peer_on relay.node flight.conn ≡ Some p)
 sender_known {site} {ends} {w} {from} {node} {relay} {flight} checked wired known stands at =
     let direction = stands.direction in
-    let side : side_of direction ≡ (flight.conn, from, node) =
-    ap (λ (c : ConnId). (c, direction.from, direction.to)) stands.conn_is ∙ ap (λ (n : NodeNo). (flight.conn, n, direction.to)) stands.from_is ∙ ap
-    (λ (n : NodeNo). (flight.conn, from, n)) stands.to_is in
-    let on = known.knows node relay flight.conn from at (subst (λ (s : Side). Has s (sides w.directions)) side (Has-map side_of stands.among)) in
+    let on = known.knows node relay flight.conn from at (flight_side stands) in
     let linked = ap (λ (n : NodeNo). is_linked site n node) (sym stands.from_is) ∙ ap (λ (n : NodeNo). is_linked site direction.from n) (sym stands.to_is) ∙
     (wired.directions direction stands.among).linked in
     let listed = peer_is_listed checked (relay_wired wired.relays at) from (linked_turned site from node linked) in

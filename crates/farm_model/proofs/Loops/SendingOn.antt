@@ -35,9 +35,9 @@ use Rattle.farm_base.specs.Nodes.{is_node, is_relay, name_at}
 use Rattle.farm_model.specs.Promise.{HasComeBack}
 use Rattle.farm_model.specs.RelayRuns.{events_at, messages_on, sent_on}
 use Rattle.farm_model.specs.Run.{Past, Transition}
-use Rattle.farm_model.specs.World.{Ends}
+use Rattle.farm_model.specs.World.{Ends, is_heard}
 use Rattle.farm_model.proofs.Lists.Among.{Has-contained, Has-cons, Has-filter, Has-unmap}
-use Rattle.farm_model.proofs.Wiring.Apart.{AreApart, goes_once, the_one}
+use Rattle.farm_model.proofs.Wiring.Apart.{AreApart, goes_once, heard_once, the_one}
 use Rattle.farm_model.proofs.Lists.Finding.{any_found, any_has}
 use Rattle.farm_model.proofs.Traffic.FlightLemmas.{flight_item}
 use Rattle.farm_model.proofs.Wiring.Joined.{Joins-turned}
@@ -141,11 +141,11 @@ module _ {site : Site} {ends : Ends} (checked : IsChecked site) (t : Transition)
       let there = relay_there by w.relays (known.present by relay_is) in
       let relay = there.0 in
       let delivered : FarmStep site w step t.applied t.losses t.after = subst (λ (s : Step). FarmStep site w s t.applied t.losses t.after) delivers.step made in
-      let reached = step_turns site ends w t.after t.applied t.losses wired apart by relay_is step delivered relay there.1 in
+      let reached = step_turns site ends checked w t.after t.applied t.losses wired apart by relay_is step delivered relay there.1 in
       let event : RelayEvent = Received delivers.conn request in
       let events_are : events_at site by step w ≡ event ∷ [] =
-      ap (λ (b : Bool). cond b (map received (filter_map (message_at place) (filter (goes from by) w.directions))) []) (node_itself by)
-      ∙ ap (map received) (flight_item w.directions from by place apart (Some flight) delivers.flight) in
+      ap (λ (b : Bool). cond b (map received (filter_map (message_at place) (filter (is_heard from by) w.directions))) []) (node_itself by)
+      ∙ ap (map received) (flight_item (is_heard from by) w.directions place (heard_once w.directions apart from by) (Some flight) delivers.flight) in
       let one = one_turn (subst (λ (es : List RelayEvent). Turns relay es reached.outs reached.last) events_are reached.turns) in
       let direction = sends.direction in
       let nodes = direction_nodes by to direction sends.between in

@@ -20,7 +20,7 @@ use Rattle.farm_model.specs.declared.state.FrontAt.{FrontAt}
 use Rattle.farm_model.specs.declared.state.RelayAt.{RelayAt}
 use Rattle.farm_base.specs.Nodes.{is_node, is_client, is_front, is_relay, is_linked, name_at}
 use Rattle.farm_model.specs.Run.{front_site}
-use Rattle.farm_model.specs.World.{Ends, WorldState, is_on}
+use Rattle.farm_model.specs.World.{Ends, WorldState, is_inward}
 use Rattle.farm_model.proofs.OwnCauses.Refusing.{HasRefused}
 
 -- ---- who is at the ends of a connection
@@ -102,10 +102,6 @@ abbrev pub rows_of : Ends → List RelayAt → List PendingRow
 rows_of ends relays = flat_map (rows_at ends) relays
 
 -- ---- the farm
-
--- whether a node's messages on a connection come in this direction
-abbrev pub is_inward : NodeNo → ConnId → Direction → Bool
-is_inward node conn direction = is_node direction.to node && is_on conn direction
 
 -- the connection was made, and nothing on it comes to the node any more
 abbrev pub has_ended_in : Ends → List Direction → NodeNo → ConnId → Bool

@@ -1,8 +1,8 @@
--- A new connection: nothing moves, and the farm hangs together.
+-- A new connection, and that the node which has opened it learns of it: nothing moves, and the farm hangs together.
 use Rattle.std.proofs.Common.{◌≡◌, ℕ, ◌+◌, ◌-◌, ◌≤◌, ◌<◌, Bool, true, false, cond, not, List, [], ◌∷◌, ◌++◌, length, Option, Some, None, inl, inr}
 use Rattle.std.proofs.Common.{refl, sym, subst, ap, ◌∙◌, arith, append-nil, le-leb, leb-true, ne_eqb, length-append}
-use Rattle.std.specs.Prelude.{◌&&◌, ◌||◌, ◌==◌, nat_le, flat_map, count_by, slice_get}
-use Rattle.std.specs.List.{list_any}
+use Rattle.std.specs.Prelude.{◌&&◌, ◌||◌, ◌==◌, nat_le, flat_map, count_by, map, slice_get}
+use Rattle.std.specs.List.{find, list_any}
 use Rattle.std.proofs.lemmas.Bool.{and_parts}
 use Rattle.std.proofs.Math.Bool.{and-false}
 use Rattle.std.proofs.lemmas.Grind.{flat_map-append}
@@ -18,21 +18,30 @@ use Rattle.farm_law.specs.Farm.{Item, PendingRow, Refused}
 use Rattle.farm_law.specs.Lists.{Has}
 use Rattle.farm_law.specs.Moves.{Moves, next, done, ends}
 use Rattle.farm_law.proofs.Lists.{all-end}
+use Rattle.dia_base.proofs.Finding.{found_passes}
 use Rattle.farm_base.specs.declared.site.Site.{Site}
+use Rattle.farm_model.specs.declared.state.Direction.{Direction}
 use Rattle.farm_model.specs.declared.state.FrontAt.{FrontAt}
 use Rattle.farm_model.specs.declared.state.RelayAt.{RelayAt}
 use Rattle.farm_base.specs.CheckedSite.{IsChecked}
 use Rattle.farm_model.specs.FarmStep.{next_conn, with_connection_of, with_connection_at, after_up_by, with_link_of, with_link_at, empty_direction}
 use Rattle.farm_model.specs.FarmStep.{with_new_connection}
+use Rattle.farm_base.specs.Lists.{replace_first}
 use Rattle.farm_base.specs.Nodes.{is_node, is_linked, joins}
-use Rattle.farm_model.specs.World.{Ends, WorldState, is_on, front_at, is_relay_at, relay_at}
+use Rattle.farm_model.specs.World.{Ends, WorldState, is_on, is_inward, is_unheard, front_at, is_relay_at, relay_at}
 use Rattle.farm_model.proofs.Lists.Among.{Has-parts, Has-cons}
-use Rattle.farm_model.proofs.Moves.AsFarm.{parties, flights, flights_in, items_at, items_of, rows_of, is_inward, has_ended_in, farm_of, LeadsTo}
+use Rattle.farm_model.proofs.Moves.AsFarm.{parties, flights, flights_in, items_at, items_of, rows_of, has_ended_in, farm_of, LeadsTo}
 use Rattle.farm_model.proofs.Wiring.Joined.{Joins-turned}
 use Rattle.farm_model.proofs.Wiring.Linked.{linked_are_two, linked_turned}
 use Rattle.farm_model.proofs.OwnCauses.Refusing.{at_most_once, as_before}
 use Rattle.farm_model.proofs.Lists.ListLemmas.{slice_get-behind}
+use Rattle.farm_model.proofs.Lists.Finding.{Has-found}
 use Rattle.farm_model.proofs.Lists.Numbering.{nodes_turned}
+use Rattle.farm_model.proofs.Lists.Placing.{parts_same}
+use Rattle.farm_model.proofs.Lists.Replacing.{Has-replaced, map_replaced}
+use Rattle.farm_model.proofs.Wiring.Ending.{same_ended}
+use Rattle.farm_model.proofs.Wiring.Sides.{way_of, same_ways_inward}
+use Rattle.farm_model.proofs.Wiring.WorldLemmas.{direction_nodes, unheard_between}
 use Rattle.farm_model.proofs.Wiring.Wired.{Joins, DirectionIsWired, FrontIsWired, LinkIsWired, RelayIsWired, IsWired}
 use Rattle.farm_model.proofs.Wiring.WiredLemmas.{same_items, same_rows, relay_wired, relays_wired, relays_alone, direction_later, relay_later, with_front_wired}
 
@@ -108,8 +117,8 @@ still_ended w a b node conn e =
     let two = and_parts (nat_le 1 conn.0) (nat_le conn.0 (length w.ends)) one.0 in
     let most : conn.0 ≤ length w.ends = leb-true conn.0 (length w.ends) two.1 in
     let more : length w.ends ≤ length (w.ends ++ (a, b) ∷ []) = (let l = length-append w.ends ((a, b) ∷ []) in omega (arith, l)) in
-    let new : is_on conn (empty_direction (next_conn w) a b) ≡ false = other_conn conn.0 (length w.ends + 1) (omega (arith, most)) in
-    let none : list_any (is_inward node conn) (w.directions ++ empty_direction (next_conn w) a b ∷ empty_direction (next_conn w) b a ∷ []) ≡ list_any
+    let new : is_on conn (empty_direction (next_conn w) a b true) ≡ false = other_conn conn.0 (length w.ends + 1) (omega (arith, most)) in
+    let none : list_any (is_inward node conn) (w.directions ++ empty_direction (next_conn w) a b true ∷ empty_direction (next_conn w) b a false ∷ []) ≡ list_any
     (is_inward node conn) w.directions =
     list_any-append (is_inward node conn) w.directions _
     ∙ ap (λ (c : Bool). list_any (is_inward node conn) w.directions || ((is_node b node && c) || ((is_node a node && c) || false))) new
@@ -159,8 +168,8 @@ module _ (site : Site) (all : Ends) (checked : IsChecked site) (w : WorldState) 
         apart_turned = nodes_turned a b apart;
       }
 
-  pub up_wired : IsWired site all new
-  up_wired = record {
+  pub accept_wired : IsWired site all new
+  accept_wired = record {
     begins = begins;
     directions = λ d h. elim (Has-parts w.directions h) [
       | inl g ↦ direction_later more (wired.directions d g)
@@ -173,36 +182,92 @@ module _ (site : Site) (all : Ends) (checked : IsChecked site) (w : WorldState) 
         ]
       ]
     ];
-    fronts = connected_fronts site all b conn (with_connection_at a conn w.fronts) (front_at b (with_connection_at a conn w.fronts)) refl
-        (connected_fronts site all a conn w.fronts (front_at a w.fronts) refl wired.fronts);
-    relays =
-        linked_relays site all new.ends b a conn (with_link_at a b conn w.relays) (relay_at b (with_link_at a b conn w.relays)) refl (Joins-turned joined) below
-        (linked_relays site all new.ends a b conn w.relays (relay_at a w.relays) refl joined below (λ at h. relay_later more (wired.relays at h)));
-    alone = linked_alone site all b a conn (with_link_at a b conn w.relays) (relay_at b (with_link_at a b conn w.relays)) refl
-        (linked_alone site all a b conn w.relays (relay_at a w.relays) refl wired.alone);
+    fronts = connected_fronts site all b conn w.fronts (front_at b w.fronts) refl wired.fronts;
+    relays = linked_relays site all new.ends b a conn w.relays (relay_at b w.relays) refl (Joins-turned joined) below
+        (λ at h. relay_later more (wired.relays at h));
+    alone = linked_alone site all b a conn w.relays (relay_at b w.relays) refl wired.alone;
   }
 
-  up_flights : flights_in new.directions ≡ flights_in w.directions
-  up_flights = flat_map-append flights w.directions _ ∙ append-nil (flights_in w.directions)
+  accept_flights : flights_in new.directions ≡ flights_in w.directions
+  accept_flights = flat_map-append flights w.directions _ ∙ append-nil (flights_in w.directions)
 
-  up_items : items_of all new.directions new.fronts ≡ items_of all w.directions w.fronts
-  up_items =
-      ap (λ (is : List Item). is ++ flat_map (items_at all) new.fronts) up_flights
-      ∙ ap (λ (is : List Item). flights_in w.directions ++ is) (
-      connected_items site all b conn (with_connection_at a conn w.fronts) (front_at b (with_connection_at a conn w.fronts)) refl
-      ∙ connected_items site all a conn w.fronts (front_at a w.fronts) refl
-      )
+  accept_items : items_of all new.directions new.fronts ≡ items_of all w.directions w.fronts
+  accept_items =
+      ap (λ (is : List Item). is ++ flat_map (items_at all) new.fronts) accept_flights
+      ∙ ap (λ (is : List Item). flights_in w.directions ++ is) (connected_items site all b conn w.fronts (front_at b w.fronts) refl)
 
-  up_rows : rows_of all new.relays ≡ rows_of all w.relays
-  up_rows = linked_rows site all b a conn (with_link_at a b conn w.relays) (relay_at b (with_link_at a b conn w.relays)) refl ∙ linked_rows site all a b conn
-      w.relays (relay_at a w.relays) refl
+  accept_rows : rows_of all new.relays ≡ rows_of all w.relays
+  accept_rows = linked_rows site all b a conn w.relays (relay_at b w.relays) refl
 
-  pub up_leads : (HasReason : Refused → Type 0) (refused : List Refused) → LeadsTo (parties site all) all HasReason at_most_once (farm_of all refused w) new
-  up_leads HasReason refused = record {
-    refused = refused;
-    moves = subst (λ (is : List Item). Moves (parties site all) (farm_of all refused w) (record (farm_of all refused new) { items = is })) (sym up_items)
-        (subst (λ (rs : List PendingRow). Moves (parties site all) (farm_of all refused w)
-        (record (farm_of all refused new) { items = items_of all w.directions w.fronts; rows = rs })) (sym up_rows)
-        (next (ends (has_ended_in new.ends new.directions) (still_ended w a b)) done));
-    caused = as_before HasReason refused;
+  pub accept_moves : (refused : List Refused) → Moves (parties site all) (farm_of all refused w) (farm_of all refused new)
+  accept_moves refused =
+      subst (λ (is : List Item). Moves (parties site all) (farm_of all refused w) (record (farm_of all refused new) { items = is })) (sym accept_items)
+      (subst (λ (rs : List PendingRow). Moves (parties site all) (farm_of all refused w)
+      (record (farm_of all refused new) { items = items_of all w.directions w.fronts; rows = rs })) (sym accept_rows)
+      (next (ends (has_ended_in new.ends new.directions) (still_ended w a b)) done))
+
+  pub accept_leads : (HasReason : Refused → Type 0) (refused : List Refused) → LeadsTo (parties site all) all HasReason at_most_once (farm_of all refused w) new
+  accept_leads HasReason refused = record { refused = refused; moves = accept_moves refused; caused = as_before HasReason refused }
+
+-- ---- the node that has opened it learns
+
+module _ (site : Site) (all : Ends) (w : WorldState) (a b : NodeNo) (direction : Direction) (found : find (is_unheard b a) w.directions ≡ Some direction)
+    (wired : IsWired site all w) where
+  abbrev known : Direction
+  known = record direction { known = true }
+
+  abbrev opened : WorldState
+  opened = record w {
+    directions = replace_first (is_unheard b a) known w.directions;
+    fronts = with_connection_at a direction.conn w.fronts;
+    relays = with_link_at a b direction.conn w.relays;
   }
+
+  among : Has direction w.directions
+  among = Has-found (is_unheard b a) w.directions found
+
+  ends_of_it : (direction.from ≡ b) × (direction.to ≡ a)
+  ends_of_it = direction_nodes b a direction (unheard_between b a direction (found_passes (is_unheard b a) w.directions direction found))
+
+  its : DirectionIsWired site all w.ends direction
+  its = wired.directions direction among
+
+  opened_joins : Joins all direction.conn a b
+  opened_joins = Joins-turned (subst (λ (n : NodeNo). Joins all direction.conn b n) ends_of_it.1
+      (subst (λ (n : NodeNo). Joins all direction.conn n direction.to) ends_of_it.0 its.joins))
+
+  pub opened_wired : IsWired site all opened
+  opened_wired = record {
+    begins = wired.begins;
+    directions = λ d h. elim (Has-replaced (is_unheard b a) known w.directions h) [
+      | inl is ↦ subst (DirectionIsWired site all w.ends) (sym is) (record { joins = its.joins; below = its.below; linked = its.linked })
+      | inr g ↦ wired.directions d g
+    ];
+    fronts = connected_fronts site all a direction.conn w.fronts (front_at a w.fronts) refl wired.fronts;
+    relays = linked_relays site all w.ends a b direction.conn w.relays (relay_at a w.relays) refl opened_joins its.below wired.relays;
+    alone = linked_alone site all a b direction.conn w.relays (relay_at a w.relays) refl wired.alone;
+  }
+
+  same_flights : flights_in opened.directions ≡ flights_in w.directions
+  same_flights = parts_same flights (is_unheard b a) {x = direction} {y = known} refl w.directions found
+
+  opened_items : items_of all opened.directions opened.fronts ≡ items_of all w.directions w.fronts
+  opened_items =
+      ap (λ (is : List Item). is ++ flat_map (items_at all) opened.fronts) same_flights
+      ∙ ap (λ (is : List Item). flights_in w.directions ++ is) (connected_items site all a direction.conn w.fronts (front_at a w.fronts) refl)
+
+  same_ways : map way_of opened.directions ≡ map way_of w.directions
+  same_ways = map_replaced way_of (is_unheard b a) direction known w.directions found refl
+
+  pub opened_moves : (refused : List Refused) → Moves (parties site all) (farm_of all refused w) (farm_of all refused opened)
+  opened_moves refused =
+      subst (λ (is : List Item). Moves (parties site all) (farm_of all refused w) (record (farm_of all refused opened) { items = is })) (sym opened_items)
+      (subst (λ (rs : List PendingRow). Moves (parties site all) (farm_of all refused w)
+      (record (farm_of all refused opened) { items = items_of all w.directions w.fronts; rows = rs }))
+      (sym (linked_rows site all a b direction.conn w.relays (relay_at a w.relays) refl))
+      (next (ends (has_ended_in w.ends opened.directions)
+      (λ n c e. same_ended w.ends w.directions opened.directions n c (same_ways_inward w.directions opened.directions n c same_ways) ∙ e)) done))
+
+  pub opened_leads : (HasReason : Refused → Type 0) (refused : List Refused) → LeadsTo (parties site all) all HasReason at_most_once (farm_of all refused w)
+      opened
+  opened_leads HasReason refused = record { refused = refused; moves = opened_moves refused; caused = as_before HasReason refused }

@@ -1,6 +1,6 @@
 -- A cut and a restart as moves: connections end, what was in flight is gone, and one node after the other learns it.
-use Rattle.std.proofs.Common.{◌≡◌, ℕ, Bool, true, not, List, [], ◌∷◌, ◌++◌, arith, Option, Some, None, inl, inr, refl, sym, subst}
-use Rattle.std.specs.Prelude.{count_by, flat_map, Err}
+use Rattle.std.proofs.Common.{◌≡◌, ℕ, ◌+◌, ◌≤◌, Bool, true, false, cond, not, List, [], ◌∷◌, ◌++◌, map, arith, Option, Some, None, inl, inr, refl, sym, subst, ap, ◌∙◌}
+use Rattle.std.specs.Prelude.{◌||◌, MatchBool, count_by, flat_map, Err, if◌then◌else◌}
 use Rattle.dia_base.specs.declared.number.ConnId.{ConnId}
 use Rattle.dia_base.specs.declared.number.NodeNo.{NodeNo}
 use Rattle.dia_base.proofs.Counting.{count-cons}
@@ -14,24 +14,27 @@ use Rattle.relay_core.specs.Failover.{next_hop_again, after_end}
 use Rattle.relay_core.specs.RelayState.{RelayState}
 use Rattle.farm_law.specs.Farm.{Item, Refused, Farm}
 use Rattle.farm_law.specs.Invariant.{IsKept}
-use Rattle.farm_law.specs.Lists.{Has, here, there}
+use Rattle.farm_law.specs.Lists.{Has, Left, here, there}
+use Rattle.farm_law.proofs.Lists.{Has-append}
 use Rattle.farm_law.specs.Moves.{Moves, next, done, ends, loses}
 use Rattle.farm_base.specs.declared.site.Site.{Site}
 use Rattle.farm_model.specs.declared.state.Direction.{Direction}
 use Rattle.farm_model.specs.Arrival.{RelayTurn, AtRelay}
 use Rattle.farm_model.specs.Cause.{IsStranded}
-use Rattle.farm_model.specs.Loss.{Loss, LearnsLoss, LossAt, LearnLosses, all_know, learns, losses_of_cut, after_cut}
+use Rattle.farm_model.specs.Loss.{Loss, LearnsLoss, LossAt, LearnLosses, all_know, learns, after_end as without_its_end, EndGoes, DropAll, all_dropped, drops_too, end_with, after_losing_all, CutsBoth}
 use Rattle.farm_base.specs.Nodes.{is_node, is_relay}
-use Rattle.farm_model.specs.World.{Ends, WorldState, is_on, without_conn, with_front, front_at, relay_at}
-use Rattle.farm_model.proofs.Lists.Among.{Has-filter}
+use Rattle.farm_model.specs.World.{Ends, WorldState, is_between, is_inward, without_end, emptied, with_front, front_at, relay_at}
+use Rattle.farm_model.proofs.Lists.Among.{Has-filter, Has-unmap, Has-right}
 use Rattle.farm_model.proofs.Moves.AsFarm.{parties, flights, flights_in, items_at, has_ended_in, farm_of, LeadsTo}
-use Rattle.farm_model.proofs.Wiring.Ending.{still_ended, ended_by_cut}
+use Rattle.farm_model.proofs.Wiring.Ending.{still_ended, same_ended, ended_by_drop}
 use Rattle.farm_model.proofs.Moves.Moving.{join}
-use Rattle.farm_model.proofs.Lists.Placing.{Left-all, Left-parts, Left-filter}
+use Rattle.farm_model.proofs.Lists.Placing.{Left-all, Left-none, Left-parts, Left-filter}
+use Rattle.farm_model.proofs.Lists.Finding.{Has-found}
+use Rattle.farm_model.proofs.Wiring.Sides.{Way, way_of, same_ways_inward}
 use Rattle.farm_model.proofs.OwnCauses.Refusing.{none_refused, refused_twice}
 use Rattle.farm_model.proofs.Moves.Sending.{traffic_ended}
 use Rattle.farm_model.proofs.OwnCauses.Spending.{IsSingle, once_at}
-use Rattle.farm_model.proofs.Wiring.Wired.{IsWired}
+use Rattle.farm_model.proofs.Wiring.Wired.{DirectionIsWired, IsWired}
 use Rattle.farm_model.proofs.Wiring.WiredLemmas.{same_items, relay_wired, with_front_wired}
 
 -- what a relay does when it learns of a loss is moves
@@ -140,38 +143,156 @@ module _ (site : Site) (all : Ends) (relay_loses : RelayLoses site all) (moves_k
         others.1,
       )
 
-  -- ---- a cut
+  -- ---- an end goes
 
-  cut_wired : (w : WorldState) (conn : ConnId) → IsWired site all w → IsWired site all (after_cut w conn)
-  cut_wired w conn wired = record {
+  -- who learns of it
+  abbrev pub end_losses : NodeNo → Option Direction → List Loss
+  end_losses node None = []
+  end_losses node (Some direction) = if direction.known then record { node = node; conn = direction.conn } ∷ [] else []
+
+  end_wired : (w : WorldState) (node : NodeNo) (conn : ConnId) → IsWired site all w → IsWired site all (without_its_end w node conn)
+  end_wired w node conn wired = record {
     begins = wired.begins;
-    directions = λ d h. wired.directions d (Has-filter (λ direction. not (is_on conn direction)) w.directions h).0;
+    directions = λ d h. wired.directions d (Has-filter (λ direction. not (is_inward node conn direction)) w.directions h).0;
     fronts = wired.fronts;
     relays = wired.relays;
     alone = wired.alone;
   }
 
-  cut_moves : (refused : List Refused) (w : WorldState) (conn : ConnId) → Moves (parties site all) (farm_of all refused w)
-      (farm_of all refused (after_cut w conn))
-  cut_moves refused w conn =
-      next (loses (Left-parts (Left-filter flights (λ direction. not (is_on conn direction)) w.directions (λ d h e b g. tt))
+  end_moves : (refused : List Refused) (w : WorldState) (node : NodeNo) (conn : ConnId) → Moves (parties site all) (farm_of all refused w)
+      (farm_of all refused (without_its_end w node conn))
+  end_moves refused w node conn =
+      next (loses (Left-parts (Left-filter flights (λ direction. not (is_inward node conn direction)) w.directions (λ d h e b g. tt))
       (Left-all (flat_map (items_at all) w.fronts))))
-      (next (ends (has_ended_in w.ends (without_conn conn w.directions))
-      (λ n c e. still_ended w.ends w.directions (without_conn conn w.directions) n c
-      (λ d h. (Has-filter (λ direction. not (is_on conn direction)) w.directions h).0) e)) done)
+      (next (ends (has_ended_in w.ends (without_end node conn w.directions))
+      (λ n c e. still_ended w.ends w.directions (without_end node conn w.directions) n c
+      (λ d h. (Has-filter (λ direction. not (is_inward node conn direction)) w.directions h).0) e)) done)
 
-  pub cut_goes : (refused : List Refused) (w : WorldState) (a b : NodeNo) (direction : Direction) (after : WorldState) (later : List LossAt) → Has direction
-      w.directions → IsKept (parties site all) (farm_of all refused w) → IsWired site all w → LearnLosses (losses_of_cut a b direction.conn)
-      (after_cut w direction.conn) later after
-      → GivesReasons site HasReason later → Leads (learned (losses_of_cut a b direction.conn)) refused w after
-  cut_goes refused w a b direction after later among kept wired learn reasons =
-      let ended = λ (end : NodeNo). ended_by_cut w.directions direction end (wired.directions direction among) in
-      let rest = all_learn refused learn (moves_keep _ _ (cut_moves refused w direction.conn) kept) (cut_wired w direction.conn wired)
-      (λ loss h. both loss h ended) reasons in
-      (record { refused = (rest.0).refused; moves = join (cut_moves refused w direction.conn) (rest.0).moves; caused = (rest.0).caused }, rest.1)
+  pub end_goes : (refused : List Refused) (w : WorldState) (node : NodeNo) (found : Option Direction) (after : WorldState) (later : List LossAt) →
+      ((direction : Direction) → found ≡ Some direction → Has direction w.directions) → IsKept (parties site all) (farm_of all refused w) → IsWired site all w →
+      EndGoes w node found later after → GivesReasons site HasReason later → Leads (learned (end_losses node found)) refused w after
+  end_goes refused w node None after later among kept wired goes reasons = subst (Leads (learned []) refused w) (sym goes.1)
+      (nothing_moves (learned []) refused w wired)
+  end_goes refused w node (Some direction) after later among kept wired goes reasons = by_end direction.known goes
     where
-      both : (loss : Loss) → Has loss (losses_of_cut a b direction.conn) → ((end : NodeNo) → has_ended_in w.ends (without_conn direction.conn w.directions) end
-          direction.conn ≡ true) → has_ended_in w.ends (without_conn direction.conn w.directions) loss.node loss.conn ≡ true
-      both loss here e = e loss.node
-      both loss (there here) e = e loss.node
-      both loss (there (there h)) e = elim h [ ]
+      moves : Moves (parties site all) (farm_of all refused w) (farm_of all refused (without_its_end w node direction.conn))
+      moves = end_moves refused w node direction.conn
+
+      still_wired : IsWired site all (without_its_end w node direction.conn)
+      still_wired = end_wired w node direction.conn wired
+
+      is_ended : (loss : Loss) → Has loss (record { node = node; conn = direction.conn } ∷ []) → has_ended_in w.ends
+          (without_end node direction.conn w.directions) loss.node loss.conn ≡ true
+      is_ended loss here = ended_by_drop w.directions direction node (wired.directions direction (among direction refl))
+      is_ended loss (there h) = elim h [ ]
+
+      by_end : (b : Bool) → MatchBool b (LearnLosses (record { node = node; conn = direction.conn } ∷ []) (without_its_end w node direction.conn) later after)
+          ((later ≡ []) × (after ≡ without_its_end w node direction.conn)) → Leads (learned (cond b (record { node = node; conn = direction.conn } ∷ []) [])) refused
+          w after
+      by_end true learn =
+          let rest = all_learn refused learn (moves_keep _ _ moves kept) still_wired is_ended reasons in
+          (record { refused = (rest.0).refused; moves = join moves (rest.0).moves; caused = (rest.0).caused }, rest.1)
+      by_end false idle = subst (Leads (learned []) refused w) (sym idle.1)
+          (record { refused = refused; moves = moves; caused = none_refused HasReason (learned []) refused }, still_wired)
+
+  -- one after the other
+  pub leads_on : {first second : NodeNo → ℕ} (most : NodeNo → ℕ) (refused : List Refused) (w between after : WorldState) →
+      ((node : NodeNo) → first node + second node ≤ most node) → (one : Leads first refused w between) → Leads second (one.0).refused between after →
+      Leads most refused w after
+  leads_on most refused w between after within one two = (
+    record {
+      refused = (two.0).refused;
+      moves = join (one.0).moves (two.0).moves;
+      caused = refused_twice most within (one.0).caused (two.0).caused;
+    },
+    two.1,
+  )
+
+  -- a node learns of its own end alone, and once
+  pub end_once : (node : NodeNo) (found : Option Direction) (n : NodeNo) → learned (end_losses node found) n ≤ once_at node n
+  end_once node None n = omega arith
+  end_once node (Some direction) n = go direction.known
+    where
+      go : (b : Bool) → learned (cond b (record { node = node; conn = direction.conn } ∷ []) []) n ≤ once_at node n
+      go true = let c = count-cons (is_learned_by n) (record { node = node; conn = direction.conn }) [] in omega (arith, c)
+      go false = omega arith
+
+  -- ---- a cut
+
+  emptied_wired : (w : WorldState) (a b : NodeNo) → IsWired site all w → IsWired site all (after_losing_all w a b)
+  emptied_wired w a b wired = record {
+    begins = wired.begins;
+    directions = λ d h.
+        let was = Has-unmap (emptied a b) w.directions h in
+        subst (DirectionIsWired site all w.ends) was.2 (same_wired was.0 (is_between a b was.0 || is_between b a was.0) (wired.directions was.0 was.1));
+    fronts = wired.fronts;
+    relays = wired.relays;
+    alone = wired.alone;
+  }
+    where
+      same_wired : (d : Direction) (c : Bool) → DirectionIsWired site all w.ends d → DirectionIsWired site all w.ends (cond c (record d { messages = [] }) d)
+      same_wired d true k = record { joins = k.joins; below = k.below; linked = k.linked }
+      same_wired d false k = k
+
+  emptied_moves : (refused : List Refused) (w : WorldState) (a b : NodeNo) → Moves (parties site all) (farm_of all refused w)
+      (farm_of all refused (after_losing_all w a b))
+  emptied_moves refused w a b =
+      next (loses (Left-parts (fewer w.directions) (Left-all (flat_map (items_at all) w.fronts))))
+      (next (ends (has_ended_in w.ends (map (emptied a b) w.directions))
+      (λ n c e. same_ended w.ends w.directions (map (emptied a b) w.directions) n c
+      (same_ways_inward w.directions (map (emptied a b) w.directions) n c (same_ways w.directions)) ∙ e)) done)
+    where
+      one_less : (d : Direction) (c : Bool) → Left (λ (item : Item). Unit {0}) (flights d) (flights (cond c (record d { messages = [] }) d))
+      one_less d true = Left-none (flights d) (λ item h. tt)
+      one_less d false = Left-all (flights d)
+
+      fewer : (directions : List Direction) → Left (λ (item : Item). Unit {0}) (flights_in directions) (flights_in (map (emptied a b) directions))
+      fewer [] = Left-all []
+      fewer (d ∷ directions) = Left-parts (one_less d (is_between a b d || is_between b a d)) (fewer directions)
+
+      same_way : (d : Direction) (c : Bool) → way_of (cond c (record d { messages = [] }) d) ≡ way_of d
+      same_way d true = refl
+      same_way d false = refl
+
+      same_ways : (directions : List Direction) → map way_of (map (emptied a b) directions) ≡ map way_of directions
+      same_ways [] = refl
+      same_ways (d ∷ directions) = ap (λ (y : Way). y ∷ map way_of (map (emptied a b) directions)) (same_way d (is_between a b d || is_between b a d)) ∙ ap
+          (λ (ys : List Way). way_of d ∷ ys) (same_ways directions)
+
+  -- the end that is found stands
+  pub end_found : (w : WorldState) (a b : NodeNo) (direction : Direction) → end_with w.directions a b ≡ Some direction → Has direction w.directions
+  end_found w a b direction e = Has-found (is_between b a) w.directions e
+
+  pub cut_goes : (refused : List Refused) (w : WorldState) (a b : NodeNo) (after : WorldState) (later : List LossAt) → is_node a b ≡ false → IsKept
+      (parties site all) (farm_of all refused w) → IsWired site all w → CutsBoth w a b later after → GivesReasons site HasReason later → Leads
+      (λ node. once_at a node + once_at b node) refused w after
+  cut_goes refused w a b after later two kept wired cut reasons =
+      let moves = emptied_moves refused w a b in
+      let kept_then = moves_keep _ _ moves kept in
+      let first_goes = end_goes refused (after_losing_all w a b) a (end_with (after_losing_all w a b).directions a b) cut.middle cut.first
+      (end_found (after_losing_all w a b) a b) kept_then (emptied_wired w a b wired) cut.one
+      (λ v loss relay message code h. reasons v loss relay message code (subst (λ (ls : List LossAt). Has (record { loss = loss; before = v }) ls) (sym cut.both) (Has-append cut.second h))) in
+      let kept_later = moves_keep _ _ (first_goes.0).moves kept_then in
+      let second_goes = end_goes (first_goes.0).refused cut.middle b (end_with cut.middle.directions b a) after cut.second (end_found cut.middle b a) kept_later
+      first_goes.1 cut.other
+      (λ v loss relay message code h. reasons v loss relay message code (subst (λ (ls : List LossAt). Has (record { loss = loss; before = v }) ls) (sym cut.both) (Has-right cut.first h))) in
+      let both = leads_on (λ node. once_at a node + once_at b node) refused (after_losing_all w a b) cut.middle after
+      (λ node. let c = end_once a (end_with (after_losing_all w a b).directions a b) node in let d = end_once b (end_with cut.middle.directions b a) node in omega
+      (arith, c, d)) first_goes second_goes in
+      (record { refused = (both.0).refused; moves = join moves (both.0).moves; caused = (both.0).caused }, both.1)
+
+  -- ---- one peer after the other drops its connection with a node
+
+  abbrev pub among_peers : List NodeNo → NodeNo → ℕ
+  among_peers peers n = count_by (λ peer. is_node peer n) peers
+
+  pub all_drop : {node : NodeNo} {peers : List NodeNo} {w after : WorldState} {later : List LossAt} (refused : List Refused) → DropAll node peers w later after →
+      IsKept (parties site all) (farm_of all refused w) → IsWired site all w → GivesReasons site HasReason later → Leads (among_peers peers) refused w after
+  all_drop refused all_dropped kept wired reasons = nothing_moves (among_peers []) refused _ wired
+  all_drop {node = node} refused (drops_too {peer = peer} {peers = peers} {w = w} {next = mid} {last = last} now later is one more) kept wired reasons =
+      let first_goes = end_goes refused w peer (end_with w.directions peer node) mid now (end_found w peer node) kept wired one
+      (λ v loss relay message code h. reasons v loss relay message code (subst (λ (ls : List LossAt). Has (record { loss = loss; before = v }) ls) (sym is) (Has-append later h))) in
+      let others = all_drop (first_goes.0).refused more (moves_keep _ _ (first_goes.0).moves kept) first_goes.1
+      (λ v loss relay message code h. reasons v loss relay message code (subst (λ (ls : List LossAt). Has (record { loss = loss; before = v }) ls) (sym is) (Has-right now h))) in
+      leads_on (among_peers (peer ∷ peers)) refused w mid last
+      (λ n. let c = end_once peer (end_with w.directions peer node) n in let d = count-cons (λ p. is_node p n) peer peers in omega (arith, c, d)) first_goes others

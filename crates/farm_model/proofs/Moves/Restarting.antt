@@ -1,6 +1,7 @@
 -- A restart as moves: the connections of the node end, all that it held is gone, and the others learn it.
 use Rattle.std.proofs.Common.{◌≡◌, ℕ, zero, suc, ◌≤◌, true, not, List, [], length, Option, Some, None, refl, sym, subst}
 use Rattle.std.specs.Prelude.{flat_map, filter, replicate, count_by}
+use Rattle.dia_base.specs.declared.number.ConnId.{ConnId}
 use Rattle.dia_base.specs.declared.number.NodeNo.{NodeNo}
 use Rattle.front_core.specs.declared.worker.Worker.TheVariants.{Idle}
 use Rattle.front_core.specs.FrontState.{FrontState}
@@ -15,15 +16,16 @@ use Rattle.farm_base.specs.declared.site.Site.{Site}
 use Rattle.farm_model.specs.declared.state.Direction.{Direction}
 use Rattle.farm_model.specs.declared.state.FrontAt.{FrontAt}
 use Rattle.farm_model.specs.declared.state.RelayAt.{RelayAt}
-use Rattle.farm_model.specs.Loss.{Loss, LossAt, LearnLosses, touches, losses_of_restart, after_restart, with_restart_of_front, with_restart_of_relay}
+use Rattle.farm_model.specs.Loss.{LossAt, peers_of, after_crash, DropAll, with_restart_of_front, with_restart_of_relay}
 use Rattle.farm_base.specs.Nodes.{is_node}
-use Rattle.farm_model.specs.World.{Ends, WorldState, is_front_at, front_at, is_relay_at, relay_at}
+use Rattle.farm_model.specs.World.{Ends, WorldState, is_inward, is_front_at, front_at, is_relay_at, relay_at}
 use Rattle.farm_model.proofs.Lists.Among.{Has-filter, Has-unmap}
-use Rattle.farm_model.proofs.Moves.AsFarm.{parties, flights, held_by, items_at, other_end, pending_of, rows_at, rows_of, has_ended_in, farm_of}
-use Rattle.farm_model.proofs.Wiring.Ending.{still_ended, ended_without}
-use Rattle.farm_model.proofs.Moves.Losing.{RelayLoses, GivesReasons, MovesKeep, learned, Leads, all_learn}
+use Rattle.farm_model.proofs.Moves.AsFarm.{parties, flights, held_by, items_at, pending_of, rows_at, rows_of, has_ended_in, farm_of, LeadsTo}
+use Rattle.farm_model.proofs.Wiring.Ending.{fails, inward_to, ended_if, still_ended}
+use Rattle.farm_model.proofs.Lists.Finding.{any_none}
+use Rattle.farm_model.proofs.OwnCauses.Refusing.{at_most_once, as_before}
+use Rattle.farm_model.proofs.Moves.Losing.{RelayLoses, GivesReasons, MovesKeep, Leads, among_peers, all_drop}
 use Rattle.farm_model.proofs.Moves.Moving.{join}
-use Rattle.farm_model.proofs.Lists.Numbering.{same_node}
 use Rattle.farm_model.proofs.Lists.Placing.{Left-all, Left-none, Left-parts, Left-filter, parts_left}
 use Rattle.farm_model.proofs.Wiring.Wired.{Joins, FrontIsWired, RelayIsWired, IsWired}
 use Rattle.farm_model.proofs.Wiring.WiredLemmas.{relay_wired, relays_wired, relays_alone, with_front_wired}
@@ -36,10 +38,16 @@ idle_hold all node (suc count) = idle_hold all node count
 
 module _ (site : Site) (all : Ends) (w : WorldState) (node : NodeNo) (wired : IsWired site all w) where
   abbrev left : List Direction
-  left = filter (λ direction. not (touches node direction)) w.directions
+  left = filter (λ direction. not (is_node direction.to node)) w.directions
 
   abbrev begun_anew : WorldState
-  begun_anew = after_restart w node
+  begun_anew = after_crash w node
+
+  -- no direction comes to it any more
+  ended_here : (conn : ConnId) → 1 ≤ conn.0 → conn.0 ≤ length w.ends → has_ended_in w.ends left node conn ≡ true
+  ended_here conn numbered below = ended_if w.ends left node conn numbered below
+      (any_none (is_inward node conn) left (λ d h. fails (is_inward node conn d) (λ e. inward_to node conn d e)
+      (Has-filter (λ direction. not (is_node direction.to node)) w.directions h).1))
 
   -- ---- what the node held is gone
 
@@ -62,17 +70,17 @@ module _ (site : Site) (all : Ends) (w : WorldState) (node : NodeNo) (wired : Is
       let t = Has-unmap (pending_of all node) relay.pending.rows h in
       let r = k.rows t.0 t.1 in
       subst (λ (p : PendingRow). has_ended_in w.ends left p.relay p.conn ≡ true) t.2
-      (ended_without node (other_end all (t.0).conn node) node w.directions (t.0).conn wired.directions r.joins r.below))) w.relays
+      (ended_here (t.0).conn (r.joins).numbered r.below))) w.relays
       (relay_stands node w.relays relay e)
 
   -- ---- moves
 
-  restart_moves : (refused : List Refused) → Moves (parties site all) (farm_of all refused w) (farm_of all refused begun_anew)
-  restart_moves refused =
-      next (loses (Left-parts (Left-filter flights (λ direction. not (touches node direction)) w.directions (λ d h e b g. tt))
+  crash_moves : (refused : List Refused) → Moves (parties site all) (farm_of all refused w) (farm_of all refused begun_anew)
+  crash_moves refused =
+      next (loses (Left-parts (Left-filter flights (λ direction. not (is_node direction.to node)) w.directions (λ d h e b g. tt))
       (front_items (front_at node w.fronts) refl)))
       (next (ends (has_ended_in w.ends left) (λ n c e. still_ended w.ends w.directions left n c
-      (λ d h. (Has-filter (λ direction. not (touches node direction)) w.directions h).0) e))
+      (λ d h. (Has-filter (λ direction. not (is_node direction.to node)) w.directions h).0) e))
       (next (drops (relay_rows (relay_at node w.relays) refl)) done))
 
   -- ---- the farm hangs together
@@ -95,30 +103,24 @@ module _ (site : Site) (all : Ends) (w : WorldState) (node : NodeNo) (wired : Is
   relay_alone None e = wired.alone
   relay_alone (Some relay) e = relays_alone w.relays node relay (relay_after_restart relay) e wired.alone
 
-  restart_wired : IsWired site all begun_anew
-  restart_wired = record {
+  crash_wired : IsWired site all begun_anew
+  crash_wired = record {
     begins = wired.begins;
-    directions = λ d h. wired.directions d (Has-filter (λ direction. not (touches node direction)) w.directions h).0;
+    directions = λ d h. wired.directions d (Has-filter (λ direction. not (is_node direction.to node)) w.directions h).0;
     fronts = fronts_after (front_at node w.fronts) refl;
     relays = relays_after (relay_at node w.relays) refl;
     alone = relay_alone (relay_at node w.relays) refl;
   }
 
-  losses_ended : (loss : Loss) → Has loss (losses_of_restart node w.directions) → has_ended_in w.ends left loss.node loss.conn ≡ true
-  losses_ended loss h =
-      let t = Has-unmap (λ (direction : Direction). record { node = direction.to; conn = direction.conn })
-      (filter (λ direction. is_node direction.from node) w.directions) h in
-      let f = Has-filter (λ direction. is_node direction.from node) w.directions t.1 in
-      let k = wired.directions t.0 f.0 in
-      subst (λ (l : Loss). has_ended_in w.ends left l.node l.conn ≡ true) t.2
-      (ended_without node (t.0).to (t.0).to w.directions (t.0).conn wired.directions
-      (subst (λ (n : NodeNo). Joins all (t.0).conn n (t.0).to) (same_node (t.0).from node f.1) k.joins) k.below)
+  pub crash_goes : (HasReason : Refused → Type 0) (refused : List Refused) → LeadsTo (parties site all) all HasReason at_most_once (farm_of all refused w)
+      begun_anew × IsWired site all begun_anew
+  crash_goes HasReason refused = (record { refused = refused; moves = crash_moves refused; caused = as_before HasReason refused }, crash_wired)
 
   pub restart_goes : (relay_loses : RelayLoses site all) (moves_keep : MovesKeep site all) (HasReason : Refused → Type 0) (refused : List Refused)
-      (after : WorldState) (later : List LossAt) → IsKept (parties site all) (farm_of all refused w) → LearnLosses (losses_of_restart node w.directions)
+      (after : WorldState) (later : List LossAt) → IsKept (parties site all) (farm_of all refused w) → DropAll node (peers_of node w.directions)
       begun_anew later after → GivesReasons site HasReason later
-      → Leads site all relay_loses moves_keep HasReason (learned (losses_of_restart node w.directions)) refused w after
-  restart_goes relay_loses moves_keep HasReason refused after later kept learn reasons =
-      let rest = all_learn site all relay_loses moves_keep HasReason refused learn (moves_keep _ _ (restart_moves refused) kept) restart_wired losses_ended
-      reasons in
-      (record { refused = (rest.0).refused; moves = join (restart_moves refused) (rest.0).moves; caused = (rest.0).caused }, rest.1)
+      → Leads site all relay_loses moves_keep HasReason
+      (among_peers site all relay_loses moves_keep HasReason (peers_of node w.directions)) refused w after
+  restart_goes relay_loses moves_keep HasReason refused after later kept drop reasons =
+      let rest = all_drop site all relay_loses moves_keep HasReason refused drop (moves_keep _ _ (crash_moves refused) kept) crash_wired reasons in
+      (record { refused = (rest.0).refused; moves = join (crash_moves refused) (rest.0).moves; caused = (rest.0).caused }, rest.1)

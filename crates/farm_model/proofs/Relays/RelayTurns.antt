@@ -25,7 +25,7 @@ use Rattle.farm_model.specs.declared.state.Direction.{Direction}
 use Rattle.farm_model.specs.declared.state.RelayAt.{RelayAt}
 use Rattle.farm_model.specs.Arrival.{AtRelay, after_arrival_at_client, after_arrival_at_front, ArrivesAtServer}
 use Rattle.farm_model.specs.FarmStep.{after_up_by, with_link_of, with_link_at}
-use Rattle.farm_model.specs.Loss.{Loss, LossAt, LearnsLoss, LearnLosses, all_know, learns, with_restart_of_relay, after_restart}
+use Rattle.farm_model.specs.Loss.{Loss, LossAt, LearnsLoss, LearnLosses, all_know, learns, with_restart_of_relay, after_crash}
 use Rattle.farm_base.specs.Nodes.{is_node, is_client, is_relay, kind_at}
 use Rattle.farm_model.specs.RelayRuns.{event_if}
 use Rattle.farm_model.specs.World.{WorldState, with_traffic_from, is_relay_at, with_relay, front_at, relay_at}
@@ -33,6 +33,8 @@ use Rattle.farm_model.proofs.Wiring.KindsAgree.{KindsAgree, learn_kinds, not_bot
 use Rattle.farm_model.proofs.Lists.Numbering.{same_node, node_itself}
 use Rattle.farm_model.proofs.Wiring.OneKind.{relay_no_client}
 use Rattle.farm_model.proofs.Relays.SentBehind.{OneOut, traffic_one_out, Untouched, others_traffic, Behind, behind_nothing, behind_one, behind_more}
+use Rattle.farm_model.proofs.Relays.SentBehind.{BehindOn, behind_on_more}
+use Rattle.farm_model.proofs.Wiring.Sides.{Side}
 
 -- ---- one thing after another
 
@@ -102,6 +104,36 @@ turned_more node one two three first second relay at =
       at = s.at;
       behind = behind_more node f.outs s.outs one.directions
           two.directions three.directions f.behind s.behind;
+    }
+
+-- so it is where its directions of these sides stand on
+pub record ReachesOn (Stands : Side → Type 0) (node : NodeNo) (relay : RelayState) (events : List RelayEvent) (old new : WorldState) : Type 0 where
+  pub outs : List Out
+  pub last : RelayState
+  pub turns : Turns relay events outs last
+  pub at : relay_at node new.relays ≡ Some last
+  pub behind : BehindOn Stands node outs old.directions new.directions
+
+abbrev pub TurnedOn : (Side → Type 0) → NodeNo → List RelayEvent → WorldState → WorldState → Type 0
+TurnedOn Stands node events old new = (relay : RelayState) → relay_at node old.relays ≡ Some relay → ReachesOn Stands node relay events old new
+
+pub turned_on : (Stands : Side → Type 0) (node : NodeNo) {events : List RelayEvent} (old new : WorldState) → Turned node events old new → TurnedOn Stands node events
+    old new
+turned_on Stands node old new turned relay at =
+    let r = turned relay at in
+    record { outs = r.outs; last = r.last; turns = r.turns; at = r.at; behind = λ direction h from stands. r.behind direction h from }
+
+pub turned_on_more : (Stands : Side → Type 0) (node : NodeNo) (xs ys : List RelayEvent) (one two three : WorldState) → TurnedOn Stands node xs one two → TurnedOn
+    Stands node ys two three → TurnedOn Stands node (xs ++ ys) one three
+turned_on_more Stands node xs ys one two three first second relay at =
+    let f = first relay at in
+    let s = second f.last f.at in
+    record {
+      outs = f.outs ++ s.outs;
+      last = s.last;
+      turns = Turns-more f.turns s.turns;
+      at = s.at;
+      behind = behind_on_more Stands node f.outs s.outs one.directions two.directions three.directions f.behind s.behind;
     }
 
 pub all_untouched : (node : NodeNo) (old new : List Direction) → new ≡ old → Untouched node old new
@@ -258,16 +290,16 @@ losses_turn k {new = new} (learns {loss} {losses} {w} {next} learned rest) kinds
     turned_more k w next new (loss_turns k w next loss kinds single (front_at loss.node w.fronts) refl learned)
     (losses_turn k rest (learn_kinds w next loss kinds learned) (loss_one_out w next loss (front_at loss.node w.fronts) learned single))
 
--- the farm with only the directions that a restart leaves
+-- the farm with only the directions that a node leaves which forgets everything
 abbrev pub directions_left : WorldState → NodeNo → WorldState
-directions_left old node = record old { directions = (after_restart old node).directions }
+directions_left old node = record old { directions = (after_crash old node).directions }
 
-pub restart_turns : (k node : NodeNo) (old : WorldState) → OneOut (directions_left old node).directions → Turned k (event_if (is_node node k) Restart)
-    (directions_left old node) (after_restart old node)
-restart_turns k node old single = event_turns k node Restart (directions_left old node) (after_restart old node) single (relay_at node old.relays) refl
+pub crash_turns : (k node : NodeNo) (old : WorldState) → OneOut (directions_left old node).directions → Turned k (event_if (is_node node k) Restart)
+    (directions_left old node) (after_crash old node)
+crash_turns k node old single = event_turns k node Restart (directions_left old node) (after_crash old node) single (relay_at node old.relays) refl
     (go (relay_at node old.relays) refl)
   where
-    go : (o : Option RelayState) → relay_at node old.relays ≡ o → Changes node Restart (directions_left old node) o (after_restart old node)
+    go : (o : Option RelayState) → relay_at node old.relays ≡ o → Changes node Restart (directions_left old node) o (after_crash old node)
     go None e = (ap (with_restart_of_relay node old.relays) e, refl)
     go (Some relay) e = ([], restarted_relay relay, (refl, refl), ap (with_restart_of_relay node old.relays) e, refl)
 

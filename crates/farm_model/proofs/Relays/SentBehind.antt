@@ -1,13 +1,13 @@
 -- What a node sends comes behind what is in flight from it, each message on its connection, and what others send does not.
 use Rattle.std.proofs.Common.{◌≡◌, ◌≤◌, Bool, true, false, cond, List, [], ◌∷◌, ◌++◌, map, Option, Some, None, inl, inr, refl, sym, subst, ap, ◌∙◌}
 use Rattle.std.proofs.Common.{append_assoc, append-nil, arith}
-use Rattle.std.specs.Prelude.{◌==◌, filter, count_by}
+use Rattle.std.specs.Prelude.{◌==◌, ◌&&◌, ⊤, filter, count_by}
 use Rattle.std.specs.List.{find}
 use Rattle.std.proofs.lemmas.Bool.{and_parts, and_from, both_ways}
 use Rattle.std.proofs.lemmas.Grind.{flat_map-append}
 use Rattle.dia_base.specs.declared.number.ConnId.{ConnId}
 use Rattle.dia_base.specs.declared.number.NodeNo.{NodeNo}
-use Rattle.dia_base.proofs.Counting.{one, count-cons}
+use Rattle.dia_base.proofs.Counting.{one, count-cons, count-map}
 use Rattle.dia_base.proofs.Finding.{found_passes}
 use Rattle.dia_message.specs.declared.message.Message.{Message}
 use Rattle.dia_message.specs.declared.message.Out.{Out}
@@ -19,12 +19,12 @@ use Rattle.farm_model.specs.InFlight.{goes}
 use Rattle.farm_base.specs.Nodes.{is_node}
 use Rattle.farm_model.specs.RelayRuns.{messages_on, sent_on}
 use Rattle.farm_model.specs.World.{Ends, is_outward, with_message, with_message_in, with_message_from, with_traffic_from}
-use Rattle.farm_model.proofs.Wiring.Apart.{the_one, AreApart, goes_once}
+use Rattle.farm_model.proofs.Wiring.Apart.{fewer, the_one, AreApart, goes_once}
 use Rattle.farm_model.proofs.Lists.Finding.{Has-found, not_found, none_pass}
 use Rattle.farm_model.proofs.Wiring.Joined.{Joins-same}
 use Rattle.farm_model.proofs.Lists.Numbering.{is_same_node}
 use Rattle.farm_model.proofs.Lists.Replacing.{count_replaced, Has-replacement, Has-beside}
-use Rattle.farm_model.proofs.Wiring.Sides.{sides}
+use Rattle.farm_model.proofs.Wiring.Sides.{Side, side_of, sides}
 use Rattle.farm_model.proofs.Wiring.Wired.{Joins, DirectionIsWired}
 use Rattle.farm_model.proofs.Wiring.WorldLemmas.{outward_is}
 
@@ -32,19 +32,6 @@ use Rattle.farm_model.proofs.Wiring.WorldLemmas.{outward_is}
 
 abbrev pub OneOut : List Direction → Type 0
 OneOut directions = (node : NodeNo) (conn : ConnId) → count_by (is_outward node conn) directions ≤ 1
-
--- fewer pass the stricter test
-fewer : {A : Type 0} (strict test : A → Bool) (xs : List A) → ((x : A) → Has x xs → strict x ≡ true → test x ≡ true) → count_by strict xs ≤ count_by test xs
-fewer strict test [] more = omega arith
-fewer {A} strict test (x ∷ xs) more =
-    let rest = fewer strict test xs (λ y h. more y (there h)) in
-    let first = go (strict x) (test x) (more x here) in
-    omega (arith, rest, first, count-cons strict x xs, count-cons test x xs)
-  where
-    go : (s t : Bool) → (s ≡ true → t ≡ true) → one s ≤ one t
-    go false t f = omega arith
-    go true true f = omega arith
-    go true false f = let no = f refl in absurd cc
 
 pub one_out : (site : Site) (ends made : Ends) (directions : List Direction) → AreApart (sides directions) →
     ((d : Direction) → Has d directions → DirectionIsWired site ends made d) → OneOut directions
@@ -72,6 +59,15 @@ one_out_with test first messages directions f single node conn =
     let most = single node conn in
     omega (arith, same, most)
 
+-- and where they have the same sides
+pub one_out_by_sides : (old new : List Direction) → sides new ≡ sides old → OneOut old → OneOut new
+one_out_by_sides old new same single node conn =
+    let was = count-map (λ (s : Side). is_node s.1 node && (s.0.0 == conn.0)) side_of old in
+    let then = count-map (λ (s : Side). is_node s.1 node && (s.0.0 == conn.0)) side_of new in
+    let is = ap (count_by (λ (s : Side). is_node s.1 node && (s.0.0 == conn.0))) same in
+    let most = single node conn in
+    omega (arith, was, then, is, most)
+
 posted_one_out : (test : Direction → Bool) (message : Message) (directions : List Direction) (found : Option Direction) → find test directions ≡ found → OneOut
     directions → OneOut (with_message_in test message directions found)
 posted_one_out test message directions None f single = single
@@ -97,7 +93,7 @@ left_one_out keep directions single node conn = let most = single node conn in l
 
 -- ---- what a node sends
 
-as_it_was : {directions : List Direction} (direction : Direction) → Has direction directions → Has (record direction { messages = direction.messages ++ [] })
+pub as_it_was : {directions : List Direction} (direction : Direction) → Has direction directions → Has (record direction { messages = direction.messages ++ [] })
     directions
 as_it_was {directions} direction h = subst (λ (ms : List Message). Has (record direction { messages = ms }) directions) (sym (append-nil direction.messages)) h
 
@@ -184,10 +180,20 @@ behind_one node old out single direction h from =
     subst (λ (ms : List Message). Has (record direction { messages = direction.messages ++ ms }) (with_traffic_from node old out.items))
     (sym (append-nil (messages_on direction.conn out.items))) (own_traffic node old out.items single direction h from)
 
-pub behind_more : (node : NodeNo) (first second : List Out) (one two three : List Direction) → Behind node first one two → Behind node second two three →
-    Behind node (first ++ second) one three
-behind_more node first second one two three before after direction h from =
+-- so it is in the directions of these sides
+abbrev pub BehindOn : (Side → Type 0) → NodeNo → List Out → List Direction → List Direction → Type 0
+BehindOn Stands node outs old new = (direction : Direction) → Has direction old → is_node direction.from node ≡ true → Stands (side_of direction) → Has
+    (record direction { messages = direction.messages ++ sent_on direction.conn outs }) new
+
+pub behind_on_more : (Stands : Side → Type 0) (node : NodeNo) (first second : List Out) (one two three : List Direction) → BehindOn Stands node first one two →
+    BehindOn Stands node second two three → BehindOn Stands node (first ++ second) one three
+behind_on_more Stands node first second one two three before after direction h from stands =
     subst (λ (ms : List Message). Has (record direction { messages = ms }) three)
     (append_assoc direction.messages (sent_on direction.conn first) (sent_on direction.conn second) ∙ ap (λ (ms : List Message). direction.messages ++ ms)
     (sym (flat_map-append (λ (out : Out). messages_on direction.conn out.items) first second)))
-    (after (record direction { messages = direction.messages ++ sent_on direction.conn first }) (before direction h from) from)
+    (after (record direction { messages = direction.messages ++ sent_on direction.conn first }) (before direction h from stands) from stands)
+
+pub behind_more : (node : NodeNo) (first second : List Out) (one two three : List Direction) → Behind node first one two → Behind node second two three →
+    Behind node (first ++ second) one three
+behind_more node first second one two three before after direction h from = behind_on_more (λ side. ⊤) node first second one two three
+    (λ d k f stands. before d k f) (λ d k f stands. after d k f) direction h from tt

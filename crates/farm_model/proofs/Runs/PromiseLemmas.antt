@@ -50,6 +50,7 @@ use Rattle.farm_model.specs.OwnCauses.{HaveOwnCauses}
 use Rattle.farm_model.specs.RelayRuns.{events_in, RunsAsRelay}
 use Rattle.farm_model.specs.Run.{Past, front_site, relay_site, skipped_in, trace_of, Transition}
 use Rattle.farm_model.specs.SetUp.{BeginsEmpty, KeepsSetUp}
+use Rattle.farm_model.specs.SmallSteps.{AppliesInSmallSteps}
 use Rattle.farm_model.specs.World.{Ends, WorldState, relay_at}
 use Rattle.farm_model.proofs.Lists.Among.{Contains-has, all_of}
 use Rattle.farm_model.proofs.Moves.AsFarm.{parties, ends_of, client_in, server_in}
@@ -294,6 +295,7 @@ module _ (site : Site) (past : Past) (w : WorldState) (h : RunHolds site w.ends 
     skipped = all_of AppliedOrChangedNothing past h.skipped;
     applied = all_of (AppliesWhereItCan site) past h.applied;
     skips = skipped_are site past h.applied;
+    small_steps = all_of (AppliesInSmallSteps site) past h.small_steps;
     book_and_ends = all_of (KeepsBookAndEnds site) past h.book_and_ends;
     fronts = all_of (KeepsFronts site) past h.fronts;
     relays = runs_as_relay site w.ends past w h relays_keep;

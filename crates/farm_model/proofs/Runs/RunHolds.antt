@@ -17,6 +17,7 @@ use Rattle.farm_model.specs.Promise.{RefusesLoop, RefusesWhatComesBack, AppliedO
 use Rattle.farm_model.specs.RelayRuns.{last_of}
 use Rattle.farm_model.specs.Run.{Past, Transition, start, steps_in}
 use Rattle.farm_model.specs.SetUp.{KeepsSetUp}
+use Rattle.farm_model.specs.SmallSteps.{AppliesInSmallSteps}
 use Rattle.farm_model.specs.World.{Ends, WorldState}
 use Rattle.farm_model.proofs.Wiring.Apart.{AreApart}
 use Rattle.farm_model.proofs.Moves.AsFarm.{parties, farm_of}
@@ -58,6 +59,7 @@ pub record RunHolds (site : Site) (all : Ends) (past : Past) (w : WorldState) : 
   pub traffic : (t : Transition) → Has t past → KeepsTraffic site t
   pub skipped : (t : Transition) → Has t past → AppliedOrChangedNothing t
   pub applied : (t : Transition) → Has t past → AppliesWhereItCan site t
+  pub small_steps : (t : Transition) → Has t past → AppliesInSmallSteps site t
   pub book_and_ends : (t : Transition) → Has t past → KeepsBookAndEnds site t
   pub fronts : (t : Transition) → Has t past → KeepsFronts site t
   pub last : last_of (start site) past ≡ w

@@ -16,7 +16,7 @@ use Rattle.farm_law.proofs.Lists.{Has-append, all-end}
 use Rattle.farm_base.specs.declared.site.Site.{Site}
 use Rattle.farm_model.specs.declared.state.Trace.{Trace}
 use Rattle.farm_base.specs.declared.step.Step.{Step}
-use Rattle.farm_base.specs.declared.step.Step.TheVariants.{Up, Send, Deliver, Lose, Cut, Restart, Pick, Charge, Refuse, Emit, Sweep}
+use Rattle.farm_base.specs.declared.step.Step.TheVariants.{Up, Accept, Opened, Send, Deliver, Lose, Cut, Drop, Restart, Crash, Pick, Charge, Refuse, Emit, Sweep}
 use Rattle.farm_model.specs.Arrival.{AtRelay}
 use Rattle.farm_model.specs.Applying.{AppliesWhereItCan}
 use Rattle.farm_model.specs.BookAndEnds.{KeepsBookAndEnds}
@@ -31,10 +31,10 @@ use Rattle.farm_model.specs.Promise.{AnsweredInTime, KeepsPromise}
 use Rattle.farm_model.specs.Run.{Past, Transition, Run, start, empty_book, steps_in, IsTrace, skipped_in}
 use Rattle.farm_base.specs.Nodes.{is_relay}
 use Rattle.farm_model.specs.SetUp.{KeepsSetUp}
-use Rattle.farm_model.specs.World.{Ends, WorldState, conn_between, relay_at}
+use Rattle.farm_model.specs.SmallSteps.{AppliesInSmallSteps}
+use Rattle.farm_model.specs.World.{Ends, WorldState, relay_at}
 use Rattle.farm_base.specs.Nodes.{name_in}
 use Rattle.farm_model.proofs.Lists.Among.{Has-map, Has-parts, Has-right, all_of}
-use Rattle.farm_model.proofs.Wiring.AnswerStands.{answer_goes}
 use Rattle.farm_model.proofs.Wiring.Apart.{AreApart}
 use Rattle.farm_model.proofs.Moves.AsFarm.{parties, farm_of, items_of}
 use Rattle.farm_model.proofs.Applied.CanApply.{step_told}
@@ -55,7 +55,7 @@ use Rattle.farm_model.proofs.SetUp.KeepingSetUp.{begins_empty, state_set_up}
 use Rattle.farm_model.proofs.Traffic.KeepingTraffic.{step_keeps_traffic}
 use Rattle.farm_model.proofs.Wiring.KnowsAfterStep.{step_knows}
 use Rattle.farm_model.proofs.Wiring.KnowsAtStart.{knows_at_start}
-use Rattle.farm_model.proofs.Moves.LinkSteps.{StepShows, shown, up_shows, cut_shows, restart_shows}
+use Rattle.farm_model.proofs.Moves.LinkSteps.{StepShows, shown, up_shows, accept_shows, opened_shows, drop_shows, crash_shows, cut_shows, restart_shows}
 use Rattle.farm_model.proofs.Wiring.Linked.{linked_turned}
 use Rattle.farm_model.proofs.Loops.LoopRefused.{loop_refused}
 use Rattle.farm_model.proofs.Moves.Losing.{RelayLoses, MovesKeep}
@@ -70,6 +70,7 @@ use Rattle.farm_model.proofs.Runs.RunHolds.{RunHolds}
 use Rattle.farm_model.proofs.Runs.RunLemmas.{steps_in-push}
 use Rattle.farm_model.proofs.Wiring.Sides.{sides}
 use Rattle.farm_model.proofs.Loops.SendingOn.{SendsOn, step_sends_on}
+use Rattle.farm_model.proofs.Runs.SmallSteps.{goes_in_small_steps}
 use Rattle.farm_model.proofs.Applied.Skipping.{step_skips}
 use Rattle.farm_model.proofs.Runs.Starting.{start_wired, start_heard, start_moves}
 use Rattle.farm_model.proofs.Moves.StepGoes.{Goes, Reason}
@@ -114,6 +115,10 @@ module _ (premises : Premises) (site : Site) (all : Ends) (checked : IsChecked s
       → MoreEnds t.after.ends all → StepShows site all t refused
   step_shows t refused (Up a b) is s kept wired apart requests more = up_shows site all checked a_relay_loses moves_keep t refused kept wired apart requests a
       b s.0 more
+  step_shows t refused (Accept at from) is s kept wired apart requests more = accept_shows site all checked a_relay_loses moves_keep t refused kept wired apart
+      requests at from s.0 more
+  step_shows t refused (Opened a b) is s kept wired apart requests more = opened_shows site all checked a_relay_loses moves_keep t refused kept wired apart
+      requests a b s.0
   step_shows t refused (Send client to message) is s kept wired apart requests more = shown site all t wired s.1 refused
       (send_goes site all t refused client to message checked is s.0 wired requests)
   step_shows t refused (Deliver from to place) is s kept wired apart requests more =
@@ -122,7 +127,11 @@ module _ (premises : Premises) (site : Site) (all : Ends) (checked : IsChecked s
   step_shows t refused (Lose from to place) is s kept wired apart requests more = shown site all t wired s.1 refused
       (lose_goes site all t refused from to place is s.0 wired requests)
   step_shows t refused (Cut a b) is s kept wired apart requests more = cut_shows site all checked a_relay_loses moves_keep t refused kept wired apart requests
-      a b (conn_between t.before.directions a b) refl s
+      a b s
+  step_shows t refused (Drop a b) is s kept wired apart requests more = drop_shows site all checked a_relay_loses moves_keep t refused kept wired apart requests
+      a b s
+  step_shows t refused (Crash node) is s kept wired apart requests more = crash_shows site all checked a_relay_loses moves_keep t refused kept wired apart
+      requests node s.0
   step_shows t refused (Restart node) is s kept wired apart requests more = restart_shows site all checked a_relay_loses moves_keep t refused kept wired apart
       requests node (can_restart site node) s
   step_shows t refused (Pick front worker) is s kept wired apart requests more = shown site all t wired s.1 refused
@@ -157,13 +166,11 @@ module _ (premises : Premises) (site : Site) (all : Ends) (checked : IsChecked s
       let g = step_shows t h.refused t.step refl s h.kept h.wired h.apart h.requests more in
       let traffic = step_keeps_traffic checked t h.wired s h.apart in
       let answered = loop_refused premises.loops checked t h.wired h.knows s in
-      let loop : RefusesLoop site t = λ from node place conn message directions name step flight flag relay named is. (
-        answer_goes t.before h.knows from node place (record { conn = conn; message = message; directions = directions }) relay flight,
-        answered from node place conn message directions name step flight flag relay named is,
-      ) in
-      let fronts = step_keeps_fronts t h.wired h.apart s in
+      let loop : RefusesLoop site t = λ from node place conn message directions name step flight flag relay named is.
+      answered from node place conn message directions name step flight flag relay named is in
+      let fronts = step_keeps_fronts t checked h.wired h.apart s in
       let stand = fronts_stand_after site t h.stand fronts in
-      let relays : (node : NodeNo) → is_relay site node ≡ true → HasRun site node (past ++ t ∷ []) t.after = λ node relay_is. relay_runs_on past t h.wired
+      let relays : (node : NodeNo) → is_relay site node ≡ true → HasRun site node (past ++ t ∷ []) t.after = λ node relay_is. relay_runs_on past t checked h.wired
       h.apart s node relay_is (h.relays node relay_is) in
       record {
         refused = g.leads.refused;
@@ -175,7 +182,7 @@ module _ (premises : Premises) (site : Site) (all : Ends) (checked : IsChecked s
         owed = premises.moves_owe (parties site all) (farm_of all h.refused t.before) (farm_of all g.leads.refused t.after) g.leads.moves h.kept h.owed;
         wired = g.wired;
         requests = g.requests;
-        knows = step_knows checked t.before t.after t.step t.applied t.losses h.wired s h.knows;
+        knows = step_knows checked t.before t.after t.step t.applied t.losses h.wired h.apart s h.knows;
         heard = step_heard site all (steps_in (past ++ t ∷ [])) checked t.before t.after t.step t.applied t.losses s
             (Has-map (λ (passed : Transition). passed.step) (Has-right past here)) h.wired (heard_on t.before (step_passed past t) h.heard);
         apart = traffic.1;
@@ -188,7 +195,8 @@ module _ (premises : Premises) (site : Site) (all : Ends) (checked : IsChecked s
         traffic = all-end (KeepsTraffic site) past t h.traffic traffic.0;
         skipped = all-end AppliedOrChangedNothing past t h.skipped (λ skipped. step_skips site t.before t.after t.applied t.losses skipped t.step s);
         applied = all-end (AppliesWhereItCan site) past t h.applied (step_told site t.before t.after t.applied t.losses h.apart t.step s);
-        book_and_ends = all-end (KeepsBookAndEnds site) past t h.book_and_ends (step_keeps_book_and_ends t h.apart s);
+        small_steps = all-end (AppliesInSmallSteps site) past t h.small_steps (goes_in_small_steps site all t h.wired h.apart s);
+        book_and_ends = all-end (KeepsBookAndEnds site) past t h.book_and_ends (step_keeps_book_and_ends t checked h.apart s);
         fronts = all-end (KeepsFronts site) past t h.fronts fronts;
         last = last_of-push (start site) past t;
         relays = relays;
@@ -221,7 +229,7 @@ module _ (premises : Premises) (site : Site) (all : Ends) (checked : IsChecked s
     requests = fronts_from_hold site 0 site.nodes;
     knows = knows_at_start site;
     heard = start_heard site all;
-    apart = record { once = λ from to. omega arith; back = λ conn a b h. elim h [ ] };
+    apart = record { once = λ from to. omega arith; same = λ c d a b k l h g. elim h [ ] };
     stand = fronts_stand_first site;
     set_up = λ t h. elim h [ ];
     sends_on = λ t h. elim h [ ];
@@ -230,6 +238,7 @@ module _ (premises : Premises) (site : Site) (all : Ends) (checked : IsChecked s
     traffic = λ t h. elim h [ ];
     skipped = λ t h. elim h [ ];
     applied = λ t h. elim h [ ];
+    small_steps = λ t h. elim h [ ];
     book_and_ends = λ t h. elim h [ ];
     fronts = λ t h. elim h [ ];
     last = refl;

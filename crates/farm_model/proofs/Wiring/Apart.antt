@@ -1,14 +1,16 @@
--- From one node to another there is one direction at most; where there is one, one goes back on the same connection.
+-- From one node to another there is one direction at most; what goes back is on the same connection.
 use Rattle.std.proofs.Common.{◌≡◌, ◌≤◌, Bool, true, false, cond, List, [], ◌∷◌, Some, None, inl, inr, refl, subst, ap, ◌∙◌, arith}
 use Rattle.std.specs.Prelude.{◌&&◌, filter, count_by}
 use Rattle.std.specs.List.{find}
+use Rattle.std.proofs.lemmas.Bool.{and_parts}
 use Rattle.dia_base.specs.declared.number.ConnId.{ConnId}
 use Rattle.dia_base.specs.declared.number.NodeNo.{NodeNo}
 use Rattle.dia_base.proofs.Counting.{one, count-cons, count-map}
-use Rattle.farm_law.specs.Lists.{Has}
+use Rattle.farm_law.specs.Lists.{Has, here, there}
 use Rattle.farm_model.specs.declared.state.Direction.{Direction}
 use Rattle.farm_model.specs.InFlight.{goes}
 use Rattle.farm_base.specs.Nodes.{is_node}
+use Rattle.farm_model.specs.World.{is_heard}
 use Rattle.farm_model.proofs.Lists.Among.{Has-cons, Has-kept}
 use Rattle.farm_model.proofs.Wiring.Sides.{Side, side_of, sides}
 
@@ -54,7 +56,27 @@ is_way from to side = is_node side.1 from && is_node side.2 to
 
 pub record AreApart (all : List Side) : Type 0 where
   pub once : (from to : NodeNo) → count_by (is_way from to) all ≤ 1
-  pub back : (conn : ConnId) (a b : NodeNo) → Has (conn, a, b) all → Has (conn, b, a) all
+  pub same : (c d : ConnId) (a b : NodeNo) (k l : Bool) → Has (c, a, b, k) all → Has (d, b, a, l) all → c ≡ d
 
 pub goes_once : (directions : List Direction) → AreApart (sides directions) → (from to : NodeNo) → count_by (goes from to) directions ≤ 1
 goes_once directions apart from to = omega (arith, apart.once from to, count-map (is_way from to) side_of directions)
+
+-- fewer pass the stricter test
+pub fewer : {A : Type 0} (strict test : A → Bool) (xs : List A) → ((x : A) → Has x xs → strict x ≡ true → test x ≡ true) → count_by strict xs ≤ count_by test xs
+fewer strict test [] more = omega arith
+fewer {A} strict test (x ∷ xs) more =
+    let rest = fewer strict test xs (λ y h. more y (there h)) in
+    let first = go (strict x) (test x) (more x here) in
+    omega (arith, rest, first, count-cons strict x xs, count-cons test x xs)
+  where
+    go : (s t : Bool) → (s ≡ true → t ≡ true) → one s ≤ one t
+    go false t f = omega arith
+    go true true f = omega arith
+    go true false f = let no = f refl in absurd cc
+
+-- no more are heard than go
+pub heard_once : (directions : List Direction) → AreApart (sides directions) → (from to : NodeNo) → count_by (is_heard from to) directions ≤ 1
+heard_once directions apart from to =
+    let less = fewer (is_heard from to) (goes from to) directions (λ d h e. (and_parts (goes from to d) d.known e).0) in
+    let most = goes_once directions apart from to in
+    omega (arith, less, most)

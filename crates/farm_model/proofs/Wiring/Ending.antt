@@ -11,16 +11,16 @@ use Rattle.farm_base.specs.declared.site.Site.{Site}
 use Rattle.farm_model.specs.declared.state.Direction.{Direction}
 use Rattle.farm_model.specs.Loss.{touches}
 use Rattle.farm_base.specs.Nodes.{is_node}
-use Rattle.farm_model.specs.World.{Ends, is_on}
+use Rattle.farm_model.specs.World.{Ends, is_on, is_inward}
 use Rattle.farm_model.proofs.Lists.Among.{Has-filter}
-use Rattle.farm_model.proofs.Moves.AsFarm.{is_inward, has_ended_in}
+use Rattle.farm_model.proofs.Moves.AsFarm.{has_ended_in}
 use Rattle.farm_model.proofs.Lists.Finding.{any_has, any_none}
 use Rattle.farm_model.proofs.Wiring.Joined.{is_one_end}
 use Rattle.farm_model.proofs.Lists.Numbering.{same_conn, is_same_node}
 use Rattle.farm_model.proofs.Wiring.Wired.{Joins, DirectionIsWired}
 
 -- a test that passes only where another one does fails where that one fails
-fails : {p : Bool} (b : Bool) → (b ≡ true → p ≡ true) → not p ≡ true → b ≡ false
+pub fails : {p : Bool} (b : Bool) → (b ≡ true → p ≡ true) → not p ≡ true → b ≡ false
 fails {p} b f k = false_from_ne_true b (λ e. true≢false (sym (f e) ∙ not-true p k))
 
 -- ---- what has ended
@@ -81,11 +81,10 @@ ended_without {made = made} node other end directions conn wired j below =
     let t = Has-filter (λ d. not (touches node d)) directions h in
     fails (is_inward end conn d) (λ e. touches_it d conn j (wired d t.0) (inward_on end conn d e)) t.1))
 
--- and the connection that is cut
-pub ended_by_cut : {site : Site} {ends made : Ends} (directions : List Direction) (direction : Direction) (end : NodeNo) → DirectionIsWired site ends made
-    direction → has_ended_in made (filter (λ d. not (is_on direction.conn d)) directions) end direction.conn ≡ true
-ended_by_cut {made = made} directions direction end k =
-    ended_if made (filter (λ d. not (is_on direction.conn d)) directions) end direction.conn (k.joins).numbered k.below
-    (any_none (is_inward end direction.conn) (filter (λ d. not (is_on direction.conn d)) directions)
-    (λ d h. fails (is_inward end direction.conn d) (λ e. inward_on end direction.conn d e)
-    (Has-filter (λ d. not (is_on direction.conn d)) directions h).1))
+-- and the end of a node that drops a connection
+pub ended_by_drop : {site : Site} {ends made : Ends} (directions : List Direction) (direction : Direction) (end : NodeNo) → DirectionIsWired site ends made
+    direction → has_ended_in made (filter (λ d. not (is_inward end direction.conn d)) directions) end direction.conn ≡ true
+ended_by_drop {made = made} directions direction end k =
+    ended_if made (filter (λ d. not (is_inward end direction.conn d)) directions) end direction.conn (k.joins).numbered k.below
+    (any_none (is_inward end direction.conn) (filter (λ d. not (is_inward end direction.conn d)) directions)
+    (λ d h. not-true (is_inward end direction.conn d) (Has-filter (λ d. not (is_inward end direction.conn d)) directions h).1))

@@ -12,7 +12,7 @@ use Rattle.farm_base.specs.declared.site.Site.{Site}
 use Rattle.farm_model.specs.declared.state.FrontAt.{FrontAt}
 use Rattle.farm_model.specs.declared.state.RelayAt.{RelayAt}
 use Rattle.farm_model.specs.Arrival.{AtRelay}
-use Rattle.farm_model.specs.Loss.{Loss, LearnsLoss, after_restart, with_restart_of_front, with_restart_of_relay}
+use Rattle.farm_model.specs.Loss.{Loss, LearnsLoss, after_crash, with_restart_of_front, with_restart_of_relay}
 use Rattle.farm_base.specs.Nodes.{is_front, is_relay, kind_at}
 use Rattle.farm_model.specs.World.{Ends, WorldState, is_front_at, with_front, front_at, is_relay_at, with_relay, relay_at}
 use Rattle.farm_model.proofs.Wiring.OneKind.{relay_no_front}
@@ -59,10 +59,10 @@ relays_changed site node relay relays kind all at h = elim (Has-replaced (is_rel
   | inr old ↦ all at old
 ]
 
--- ---- a restart, and a loss that is learned
+-- ---- a crash, and a loss that is learned
 
-pub restart_kinds : {site : Site} (w : WorldState) (node : NodeNo) → KindsAgree site w → KindsAgree site (after_restart w node)
-restart_kinds {site} w node kinds = record { fronts = of_fronts (front_at node w.fronts) refl; relays = of_relays (relay_at node w.relays) refl }
+pub crash_kinds : {site : Site} (w : WorldState) (node : NodeNo) → KindsAgree site w → KindsAgree site (after_crash w node)
+crash_kinds {site} w node kinds = record { fronts = of_fronts (front_at node w.fronts) refl; relays = of_relays (relay_at node w.relays) refl }
   where
     of_fronts : (o : Option FrontState) → front_at node w.fronts ≡ o → (at : FrontAt) → Has at (with_restart_of_front node w.fronts o) → is_front site at.node
         ≡ true

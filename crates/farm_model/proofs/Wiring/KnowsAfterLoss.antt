@@ -41,7 +41,7 @@ loss_learned {site} {losses} w loss none known = record {
     ]
   ];
   present = known.present;
-  ended = λ other from to h. known.ended other from to (there h);
+  ended = λ other from heard h. known.ended other from heard (there h);
 }
 
 -- ---- the connection is lost to a relay that had a link on it
@@ -81,7 +81,7 @@ module _ {site : Site} {losses : List Loss} (w : WorldState) (loss : Loss) (know
 
   -- what stood stands, and what is still to be learned is so
   still : (node : NodeNo) (link : Link) → LinkStandsBut (loss ∷ losses) w.directions node link → LinkStandsBut (loss ∷ losses) afterwards.directions node link
-  still node link stands = elim stands [ inl stood ↦ inl (record { forth = new_side stood.forth; back = new_side stood.back }) | inr lost ↦ inr lost ]
+  still node link stands = elim stands [ inl stood ↦ inl (new_side stood) | inr lost ↦ inr lost ]
 
   -- it forgets the peer on the connection
   forgets : after.node.peers.links ≡ without_conn relay.node.peers.links loss.conn → KnowsPeersBut site (loss ∷ losses) afterwards
@@ -93,7 +93,8 @@ module _ {site : Site} {losses : List Loss} (w : WorldState) (loss : Loss) (know
           let stood = old_side h in
           ap (λ (ls : List Link). peer_in ls conn) found_links
           ∙ peer_kept relay.node.peers.links loss.conn conn from
-          (λ same. known.ended loss from node here (subst (λ (c : ConnId). Has (c, from, node) (sides w.directions)) same stood))
+          (λ same. known.ended loss from true here (subst (λ (n : NodeNo). Has (loss.conn, from, n, true) (sides w.directions)) is.0
+          (subst (λ (c : ConnId). Has (c, from, node, true) (sides w.directions)) same stood)))
           (known.knows node relay conn from at_node stood)
       | inr is ↦ known.knows node found conn from is.1 (old_side h)
     ];
@@ -106,7 +107,7 @@ module _ {site : Site} {losses : List Loss} (w : WorldState) (loss : Loss) (know
       | inr is ↦ still node link (known.stands node found link is.1 h)
     ];
     present = λ node is. present_after_change loss.node after w.relays node ∙ known.present node is;
-    ended = λ other from to h stood. known.ended other from to h (old_side stood);
+    ended = λ other from heard h stood. known.ended other from heard h (old_side stood);
   }
 
   -- the relay at the node is the one that has learned

@@ -55,5 +55,5 @@ knows_at_start site = record {
   stands = λ node relay link e h. elim (subst (λ (links : List Link). Has link links)
       (no_links site 0 site.nodes (record { node = node; relay = relay }) (relay_among node (relays_from site 0 site.nodes) relay e)) h) [ ];
   present = λ node is. let same : node.0 ≡ 0 + node.0 = omega arith in present_from site node 0 site.nodes node.0 same is;
-  ended = λ loss from to h stood. elim h [ ];
+  ended = λ loss from known h stood. elim h [ ];
 }

@@ -1,5 +1,5 @@
--- A relay knows the peer at the other end of each connection that stands, and each connection of its links stands.
-use Rattle.std.proofs.Common.{◌≡◌, true, List, [], Some}
+-- A relay knows the peer at the other end of each connection that it has learned of and not dropped, and it has no other links.
+use Rattle.std.proofs.Common.{◌≡◌, Bool, true, List, [], Some}
 use Rattle.std.specs.Prelude.{◌⊎◌}
 use Rattle.std.specs.List.{list_any}
 use Rattle.dia_base.specs.declared.number.ConnId.{ConnId}
@@ -17,10 +17,9 @@ use Rattle.farm_model.proofs.Wiring.Sides.{sides}
 
 -- ---- what a relay knows of its peers
 
--- the connection of a link stands in both directions
-pub record LinkStands (directions : List Direction) (node : NodeNo) (link : Link) : Type 0 where
-  pub forth : Has (link.conn, node, link.peer) (sides directions)
-  pub back : Has (link.conn, link.peer, node) (sides directions)
+-- the connection of a link comes to the node, which knows it
+abbrev pub LinkStands : List Direction → NodeNo → Link → Type 0
+LinkStands directions node link = Has (link.conn, link.peer, node, true) (sides directions)
 
 -- the same, or the node is still to learn that it has ended
 abbrev pub LinkStandsBut : List Loss → List Direction → NodeNo → Link → Type 0
@@ -29,15 +28,15 @@ LinkStandsBut losses directions node link = LinkStands directions node link ⊎ 
 -- What relays know of their peers, while these losses are still to be learned.
 pub record KnowsPeersBut (site : Site) (losses : List Loss) (w : WorldState) : Type 0 where
   -- the relay knows who is at the other end
-  pub knows : (node : NodeNo) (relay : RelayState) (conn : ConnId) (from : NodeNo) → relay_at node w.relays ≡ Some relay → Has (conn, from, node)
+  pub knows : (node : NodeNo) (relay : RelayState) (conn : ConnId) (from : NodeNo) → relay_at node w.relays ≡ Some relay → Has (conn, from, node, true)
       (sides w.directions) → peer_in relay.node.peers.links conn ≡ Some from
   -- its links stand
   pub stands : (node : NodeNo) (relay : RelayState) (link : Link) → relay_at node w.relays ≡ Some relay → Has link relay.node.peers.links → LinkStandsBut
       losses w.directions node link
   -- each relay of the site is there
   pub present : (node : NodeNo) → is_relay site node ≡ true → list_any (is_relay_at node) w.relays ≡ true
-  -- a connection of which a loss is to be learned has ended
-  pub ended : (loss : Loss) (from to : NodeNo) → Has loss losses → Has (loss.conn, from, to) (sides w.directions) → ⊥
+  -- nothing comes any more to a node that is to learn of a loss
+  pub ended : (loss : Loss) (from : NodeNo) (known : Bool) → Has loss losses → Has (loss.conn, from, loss.node, known) (sides w.directions) → ⊥
 
 -- between two steps no loss is to be learned
 abbrev pub KnowsPeers : Site → WorldState → Type 0

@@ -58,13 +58,13 @@ module _ {site : Site} {ends : Ends} (checked : IsChecked site) (w : WorldState)
       ne_eqb link.conn.0 (length w.ends + 1) (λ same. absurd (omega arith)))
 
   -- the relay has no link with a peer, where none of its links that stand is with it
-  pub no_fault : (node peer : NodeNo) (relay : RelayState) → relay_at node w.relays ≡ Some relay → is_linked site node peer ≡ true →
-      ((link : Link) → Has link relay.node.peers.links → link.peer ≡ peer → ⊥) → up_fault relay peer (next_conn w) ≡ None
-  no_fault node peer relay at linked none =
+  pub no_fault : (node peer : NodeNo) (conn : ConnId) (relay : RelayState) → relay_at node w.relays ≡ Some relay → is_linked site node peer ≡ true →
+      ((link : Link) → Has link relay.node.peers.links → link.peer ≡ peer → ⊥) → find (is_on conn) relay.node.peers.links ≡ None → up_fault relay peer conn ≡ None
+  no_fault node peer conn relay at linked none new =
       let listed = peer_is_listed checked (relay_wired wired.relays at) peer linked in
       let not_up : conn_in relay.node.peers.links peer ≡ None = ap (option_map (λ (l : Link). l.conn))
       (find_none (is_of peer) relay.node.peers.links (λ link h. ne_eqb link.peer.0 peer.0 (λ same. none link h (ap (λ (n : ℕ). record { 0 = n }) same)))) in
-      let not_on : peer_in relay.node.peers.links (next_conn w) ≡ None = ap (option_map (λ (l : Link). l.peer)) (conn_is_new node relay at) in
+      let not_on : peer_in relay.node.peers.links conn ≡ None = ap (option_map (λ (l : Link). l.peer)) new in
       no_fault_where peer listed.0.kind _ _ _ (ap (option_map (λ (p : LinkedPeer). p.kind)) listed.1) not_up not_on
 
 -- ---- the relays, with one link more at one of them

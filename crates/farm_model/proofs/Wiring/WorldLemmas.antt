@@ -1,5 +1,5 @@
 -- Directions, fronts and relays of the farm, by place and by node.
-use Rattle.std.proofs.Common.{◌≡◌, ℕ, true, List, [], ◌∷◌, ◌++◌, get_or, Some, refl, sym, ap, ◌∙◌}
+use Rattle.std.proofs.Common.{◌≡◌, ℕ, true, not, List, [], ◌∷◌, ◌++◌, get_or, Some, refl, sym, ap, ◌∙◌}
 use Rattle.std.specs.Prelude.{slice_set, option_map}
 use Rattle.std.specs.List.{find}
 use Rattle.std.proofs.lemmas.Bool.{and_parts}
@@ -17,7 +17,7 @@ use Rattle.farm_model.specs.declared.state.RelayAt.{RelayAt}
 use Rattle.farm_base.specs.Lists.{IsFirst}
 use Rattle.farm_base.specs.Nodes.{is_node}
 use Rattle.farm_model.specs.World.{is_between, with_message_from, with_traffic_from, is_front_at, with_front, front_at, is_relay_at, with_relay}
-use Rattle.farm_model.specs.World.{relay_at, is_on, is_outward, conn_between}
+use Rattle.farm_model.specs.World.{relay_at, is_on, is_outward, is_heard, is_unheard, conn_known}
 use Rattle.farm_model.proofs.Lists.Finding.{Has-found, found_mapped}
 use Rattle.farm_model.proofs.Lists.ListLemmas.{first_item}
 use Rattle.farm_model.proofs.Lists.Numbering.{same_node, same_conn}
@@ -29,10 +29,17 @@ direction_nodes from to direction e =
     let parts = and_parts (is_node direction.from from) (is_node direction.to to) e in
     (same_node direction.from from parts.0, same_node direction.to to parts.1)
 
--- the first direction between two nodes, of the connection between them
-pub direction_between : (directions : List Direction) (a b : NodeNo) (conn : ConnId) → conn_between directions a b ≡ Some conn → (direction : Direction) ×
-    (find (is_between a b) directions ≡ Some direction) × (direction.conn ≡ conn)
-direction_between directions a b conn e = found_mapped (λ (direction : Direction). direction.conn) (is_between a b) directions e
+-- messages that are heard, or not yet, go between two nodes
+pub heard_between : (from to : NodeNo) (direction : Direction) → is_heard from to direction ≡ true → is_between from to direction ≡ true
+heard_between from to direction e = (and_parts (is_between from to direction) direction.known e).0
+
+pub unheard_between : (from to : NodeNo) (direction : Direction) → is_unheard from to direction ≡ true → is_between from to direction ≡ true
+unheard_between from to direction e = (and_parts (is_between from to direction) (not direction.known) e).0
+
+-- the first direction to a node that knows its connection with the other one
+pub direction_known : (directions : List Direction) (a b : NodeNo) (conn : ConnId) → conn_known directions a b ≡ Some conn → (direction : Direction) ×
+    (find (is_heard b a) directions ≡ Some direction) × (direction.conn ≡ conn)
+direction_known directions a b conn e = found_mapped (λ (direction : Direction). direction.conn) (is_heard b a) directions e
 
 pub outward_is : (node : NodeNo) (conn : ConnId) (direction : Direction) → is_outward node conn direction ≡ true → (direction.from ≡ node) ×
     (direction.conn ≡ conn)

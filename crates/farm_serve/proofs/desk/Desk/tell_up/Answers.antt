@@ -13,7 +13,7 @@ returns-clause-tells g c =
     let outcome = c.on_up-reaction.result.outcome in
     way_still _ _ _
     (up_way c.args.self.now.node c.on_up-reaction.new.self links c.args.place link c.come_up.new.link c.args.self.now.made c.args.peer c.on_up-reaction.result.out.items outcome c.requires.within c.index-link.ensures
-    (c.requires.waits link c.index-link.ensures)
+    (c.requires.waits link c.index-link.ensures) (c.requires.may link c.index-link.ensures)
     (c.come_up.ensures.mark ∙ ap (λ l. standing_as (mark_of l) (standing_after c.args.peer outcome)) same)
     c.on_up-reaction.ensures)
     c.send_all.ensures.kept

@@ -1,0 +1,120 @@
+//! What a site file says of where nodes may connect from: its fault, and what may look wrong.
+
+ghost use Rattle.std.specs.Prelude.{◌≡◌, IfErr, OnOk};
+ghost use Rattle.farm_check.specs.Checking.{IsOpenFile, IsRefused};
+
+use crate::fault::CheckFault;
+use crate::keys::push_unknown_keys;
+use crate::lines::{Lines, identity_text};
+use crate::nodes::kind_word;
+use crate::parts::{Entry, beginning_of};
+use crate::places::place_in_entry;
+use farm_access::{Access, AccessFault};
+use farm_base::Site;
+use std::alloc::{AllocError, Global};
+use toml::Value;
+
+/// The key that says where a node may connect from.
+const FROM: &str = "from";
+
+/// Whether the file says of each node where it may connect from, or why it does not.
+pub fn check_origins(alloc: Global, file: &[u8]) -> Result<(), CheckFault>
+    ensures ok { OnOk result (IsOpenFile file.now) }
+    ensures fault { IfErr result (IsRefused file.now) }
+{
+    match Access::read(alloc, file) {
+        Ok(_) => Ok(()),
+        Err(AccessFault::OutOfMemory) => Err(CheckFault::OutOfMemory),
+        Err(fault) => Err(CheckFault::Access(fault, origin_text(alloc, file, fault)?)),
+    }
+}
+
+/// The lines of a fault: its own, its place with what was expected there, and then the keys that nothing reads.
+fn origin_text(alloc: Global, file: &[u8], fault: AccessFault) -> Result<String, AllocError> {
+    let (place, expected) = (place_text(alloc, file)?, expected_at(fault));
+    let mut lines = Lines::new(alloc);
+    lines.push(format!(in alloc; "{fault}")?.as_str())?;
+    lines.push(format!(in alloc; "{place}: expected {expected}")?.as_str())?;
+    push_unknown_keys(alloc, &mut lines, file)?;
+    Ok(lines.into_text())
+}
+
+/// The place of the first node that has such a fault.
+fn place_text(alloc: Global, file: &[u8]) -> Result<String, AllocError> {
+    let Ok(text) = std::str::from_utf8(file) else {
+        return String::from_str(alloc, "the file");
+    };
+    let Some(entry) = node_at_fault(alloc, text) else {
+        return String::from_str(alloc, "the file");
+    };
+    let number = entry.number;
+    match place_in_entry(text, entry, FROM) {
+        Some(place) => format!(in alloc; "{place}, node {number}"),
+        None => format!(in alloc; "node {number}"),
+    }
+}
+
+/// The first node that has such a fault, of at most 64.
+fn node_at_fault(alloc: Global, text: &str) -> Option<Entry> {
+    let nodes = beginning_of(alloc, text, 0, 64)?;
+    for number in 1usize..65 {
+        let some = beginning_of(alloc, nodes.as_str(), 0, number)?;
+        if Access::read(alloc, some.as_bytes()).is_err() {
+            let table = "node";
+            return Some(Entry { table, number });
+        }
+    }
+    None
+}
+
+/// What was expected where the fault is.
+fn expected_at(fault: AccessFault) -> &'static str {
+    match fault {
+        AccessFault::NoPrefix =>
+            "IP addresses or prefixes, as 192.0.2.7, 192.0.2.0/24 or 2001:db8::/32",
+        AccessFault::NoTexts => "a list of texts, each an IP address or a prefix",
+        AccessFault::TooManyPrefixes => "at most 64 addresses and prefixes",
+        AccessFault::TooManyNodes => "at most 64 nodes",
+        AccessFault::NoTables => "a list of tables, with a header in two brackets for each entry",
+        AccessFault::NotToml => "TOML in UTF-8",
+        AccessFault::OutOfMemory => "memory",
+    }
+}
+
+/// A line for each node that may connect from anywhere, where another one may not.
+pub fn push_open_nodes(
+    alloc: Global,
+    lines: &mut Lines,
+    site: &Site,
+    file: &[u8],
+) -> Result<(), AllocError> {
+    let Ok(document) = toml::table_from_slice(alloc, file) else {
+        return Ok(());
+    };
+    let Some(value) = document.get("node") else {
+        return Ok(());
+    };
+    let Some(entries) = value.as_array() else {
+        return Ok(());
+    };
+    if !entries.iter().any(|entry| has_origins(entry)) {
+        return Ok(());
+    }
+    for (entry, node) in entries.iter().zip(site.nodes.as_slice()) {
+        if !has_origins(entry) {
+            let (kind, name) = (kind_word(node.kind), identity_text(alloc, &node.name)?);
+            lines.push(format!(in alloc;
+                "look: {kind} {name} may connect from anywhere, since it has no key from"
+            )?.as_str())?;
+        }
+    }
+    Ok(())
+}
+
+/// Whether an entry says where the node may connect from.
+fn has_origins(entry: &Value) -> bool {
+    match entry.as_table() {
+        Some(fields) => fields.get(FROM).is_some(),
+        None => false,
+    }
+}

@@ -1,0 +1,11 @@
+use Rattle.pool_node.specs.Fronts.{site_of}
+use Rattle.farm_live.proofs.program.serve_fronts.Given as goal
+
+abbrev pub ghosts-serve_on-L-Pooling : goal.ghosts-serve_on-L-Pooling
+ghosts-serve_on-L-Pooling g a = record { site = site_of a.site.now }
+
+abbrev pub ghosts-serve_on-L-Sharing : goal.ghosts-serve_on-L-Sharing
+ghosts-serve_on-L-Sharing g a = record { opened = a.book }
+
+abbrev pub ghosts-serve_on-L-Ledger : goal.ghosts-serve_on-L-Ledger
+ghosts-serve_on-L-Ledger g a = record { name = a.blank.name; parts = a.blank.parts }

@@ -1,0 +1,105 @@
+//! Who may connect from where, by what a site file says.
+
+use dia_base::NodeNo;
+use farm_access::{Access, canonical};
+use std::alloc::Global;
+use std::net::IpAddr;
+
+/// A client for each form of the key.
+const FILE: &str = r#"
+node = [
+  { name = "anywhere.example" },
+  { name = "nowhere.example", from = [] },
+  { name = "part.example", from = ["192.0.2.128/25"] },
+  { name = "one.example", from = ["192.0.2.7", "2001:db8::7"] },
+  { name = "four.example", from = ["0.0.0.0/0"] },
+  { name = "six.example", from = ["::/0"] },
+  { name = "exact.example", from = ["192.0.2.7/32", "2001:db8::7/128"] },
+  { name = "wide.example", from = ["2001:db8::/31"] },
+]
+"#;
+
+/// A file whose nodes come from one half of a network, or from nowhere.
+const CLOSED: &str = r#"node = [{ from = ["192.0.2.128/25"] }, { from = [] }]"#;
+
+/// Addresses: on both sides of each border.
+const ADDRESSES: [&str; 10] = [
+    "192.0.2.7",
+    "192.0.2.6",
+    "192.0.2.127",
+    "192.0.2.128",
+    "192.0.2.255",
+    "192.0.3.0",
+    "::ffff:192.0.2.7",
+    "2001:db8::7",
+    "2001:db9:ffff::1",
+    "2001:dba::",
+];
+
+/// Texts that no node may have there, and two files that are none.
+const REFUSED: [&str; 14] = [
+    "node = [{ from = [\"192.0.2.0/33\"] }]",
+    "node = [{ from = [\"2001:db8::/129\"] }]",
+    "node = [{ from = [\"192.0.2.0/\"] }]",
+    "node = [{ from = [\"192.0.2.0/+8\"] }]",
+    "node = [{ from = [\"192.0.2.0/8/8\"] }]",
+    "node = [{ from = [\"192.0.2/24\"] }]",
+    "node = [{ from = [\"/24\"] }]",
+    "node = [{ from = [\"\"] }]",
+    "node = [{ from = [\"c1.example\"] }]",
+    "node = [{ from = [\"[::1]\"] }]",
+    "node = [{ from = \"192.0.2.0/24\" }]",
+    "node = [{ from = [192] }]",
+    "node = [7]",
+    "node = [",
+];
+
+/// Prints the nodes that may not come from each address, and whether some node may.
+fn print_addresses(rt: &impl Print, alloc: Global, access: &Access) -> anyhow::Result<()> {
+    for text in ADDRESSES {
+        let Ok(address) = text.parse::<IpAddr>() else {
+            continue;
+        };
+        let address = canonical(address);
+        let admitted = access.admits(address);
+        print!(rt; "{text}: admitted {admitted}, not")?;
+        for node in &access.barred(alloc, address)? {
+            print!(rt; " {}", node.0)?;
+        }
+        println!(rt; "")?;
+    }
+    Ok(())
+}
+
+/// Prints why each text is refused.
+fn print_refused(rt: &impl Print, alloc: Global) -> anyhow::Result<()> {
+    for text in REFUSED {
+        match Access::read(alloc, text.as_bytes()) {
+            Ok(_) => println!(rt; "{text}: read")?,
+            Err(fault) => println!(rt; "{text}: {fault}")?,
+        }
+    }
+    Ok(())
+}
+
+/// Prints who may come from where by a file, and whether its ninth node may come from an address.
+fn print_file(rt: &impl Print, alloc: Global, text: &str) -> anyhow::Result<()> {
+    match Access::read(alloc, text.as_bytes()) {
+        Ok(access) => {
+            print_addresses(rt, alloc, &access)?;
+            if let Ok(address) = "192.0.2.128".parse::<IpAddr>() {
+                let ninth = access.may_come_from(NodeNo(8), address);
+                println!(rt; "the ninth node: {ninth}")?;
+            }
+        }
+        Err(fault) => println!(rt; "{fault}")?,
+    }
+    Ok(())
+}
+
+/// Who may come from where.
+pub fn print_all(rt: &impl Print, alloc: Global) -> anyhow::Result<()> {
+    print_file(rt, alloc, FILE)?;
+    print_file(rt, alloc, CLOSED)?;
+    print_refused(rt, alloc)
+}
