@@ -92,6 +92,9 @@ def is_charged(answer):
     code = code_in(avps)
     if code in LATER:
         return None
+    # a debit that grants nothing is refused as a whole
+    if code == LIMIT_REACHED:
+        return False
     if code != SUCCESS:
         raise Otherwise(f"answered {code}: {answer.octets().hex()}")
     code = code_in(split(first(avps, SERVICES).value))
@@ -164,6 +167,8 @@ class Way:
             while piece := await self.reader.read(1 if self.is_slow else 65_536):
                 while self.rests:
                     await asyncio.sleep(0.02)
+                if self.writer.is_closing():
+                    return
                 self.writer.write(piece)
                 await self.writer.drain()
         except OSError:
@@ -248,7 +253,8 @@ class Connection:
         self.client, self.relay, self.reader, self.writer, self.pending, self.past = client, relay, reader, writer, {}, set()
 
     def write(self, message):
-        self.writer.write(message.octets())
+        if not self.writer.is_closing():
+            self.writer.write(message.octets())
 
     async def serve(self):
         try:
@@ -360,17 +366,20 @@ class Run:
         fresh.take = lambda it, answer: answers.put_nowait(answer)
         connection = Connection(fresh, "r1", reader, writer)
         job = asyncio.create_task(connection.serve())
-        until = time.monotonic() + 20
-        while not fresh.up:
-            if job.done() or time.monotonic() > until:
-                raise Otherwise("r1 does not take c1 once more")
-            await asyncio.sleep(0.05)
-        while True:
-            fresh.serial += 1
-            if not await self.is_paid(connection, Debit(fresh.serial, debit(fresh.name, fresh.serial)), answers):
-                job.cancel()
-                return paid
-            paid += 1
+        try:
+            until = time.monotonic() + 20
+            while not fresh.up:
+                if job.done() or time.monotonic() > until:
+                    raise Otherwise("r1 does not take c1 once more")
+                await asyncio.sleep(0.05)
+            while True:
+                fresh.serial += 1
+                if not await self.is_paid(connection, Debit(fresh.serial, debit(fresh.name, fresh.serial)), answers):
+                    return paid
+                paid += 1
+        finally:
+            job.cancel()
+            await asyncio.gather(job, return_exceptions=True)
 
     async def is_paid(self, connection, it, answers):
         """Whether one debit more is charged: it is sent until it is answered so or so."""

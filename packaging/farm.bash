@@ -2,11 +2,11 @@
 _farm() {
   local word=${COMP_WORDS[COMP_CWORD]} before=${COMP_WORDS[COMP_CWORD - 1]} site i
   if [ "$COMP_CWORD" -eq 1 ]; then
-    mapfile -t COMPREPLY < <(compgen -W 'relay front send check replay report words picture --help --version' -- "$word")
+    mapfile -t COMPREPLY < <(compgen -W 'relay front send stop check audit schedule replay report words picture --help --version' -- "$word")
     return
   fi
   case $before in
-    --site)
+    --site | --token)
       mapfile -t COMPREPLY < <(compgen -f -- "$word")
       return
       ;;
@@ -14,7 +14,7 @@ _farm() {
       mapfile -t COMPREPLY < <(compgen -W 'off error warn info debug' -- "$word")
       return
       ;;
-    --answers) return ;;
+    --answers | --status | --at) return ;;
     --name | --client | --peer)
       # the names of nodes in the site file that stands in the line
       for ((i = 2; i < COMP_CWORD; i++)); do [ "${COMP_WORDS[i]}" = --site ] && site=${COMP_WORDS[i + 1]}; done
@@ -23,9 +23,13 @@ _farm() {
       ;;
   esac
   case ${COMP_WORDS[1]} in
-    relay) mapfile -t COMPREPLY < <(compgen -W '--site --name --answers --log' -- "$word") ;;
-    front) mapfile -t COMPREPLY < <(compgen -W '--site --answers --log' -- "$word") ;;
+    relay) mapfile -t COMPREPLY < <(compgen -W '--site --name --answers --status --token --log' -- "$word") ;;
+    front) mapfile -t COMPREPLY < <(compgen -W '--site --answers --status --token --log' -- "$word") ;;
     send) mapfile -t COMPREPLY < <(compgen -W '--site --client --peer --log' -- "$word") ;;
+    stop) mapfile -t COMPREPLY < <(compgen -W '--at --token' -- "$word") ;;
+    audit | schedule)
+      mapfile -t COMPREPLY < <(compgen -W '--site' -- "$word"; compgen -f -- "$word")
+      ;;
     picture) mapfile -t COMPREPLY < <(compgen -W '--site --from --to' -- "$word") ;;
     check | replay | report) mapfile -t COMPREPLY < <(compgen -W '--site' -- "$word") ;;
   esac

@@ -100,6 +100,10 @@ Ends-stream octets = Ends-from (length octets) octets (omega arith)
 pub stream_of-rest : (octets : List ℕ) → stream_of (stream_of octets).rest ≡ unread (stream_of octets).rest
 stream_of-rest octets = stream_of-unread (stream_of octets).rest (Ends-stream octets).is_unread
 
+-- and so do octets that are their own rest
+pub stream_of-own : (octets : List ℕ) → (stream_of octets).rest ≡ octets → stream_of octets ≡ unread octets
+stream_of-own octets own = ap stream_of (sym own) ∙ stream_of-rest octets ∙ ap unread own
+
 -- ---- one message more
 
 pub rest-step : (octets behind : List ℕ) → true ≡ is_whole octets → behind ≡ behind_in octets → (stream_of octets).rest ≡ (stream_of behind).rest

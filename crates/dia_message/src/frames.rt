@@ -44,20 +44,22 @@ const LENGTH_END: usize = 4;
 
 /// Reads the messages of a stream (RFC 6733, section 3), which comes in pieces.
 ///
-/// It keeps all octets that it took and reads them again with each piece. What a caller sees of it
-/// is the octets that are not read yet.
+/// It keeps the octets that are not read yet, and nothing of the messages that it has given: the beginning of one
+/// message, or what stands at a fault.
 #[derive(Debug, Drop)]
 pub struct Frames {
-    taken: Vec<u8>,
+    rest: Vec<u8>,
 }
 
 impl Model for Frames {
-    ghost use Rattle.std.specs.Prelude.{ℕ, List};
+    ghost use Rattle.std.specs.Prelude.{◌≡◌, ℕ, List};
     ghost use Rattle.dia_message.specs.Stream.{stream_of};
 
     ghost Value = { List ℕ };
 
-    ghost view = { λ f. (stream_of f.taken.items).rest };
+    ghost view = { λ f. f.rest.items };
+
+    ghost invariant = { λ f. (stream_of f.rest.items).rest ≡ f.rest.items };
 }
 
 impl Frames {
@@ -66,7 +68,7 @@ impl Frames {
         ensures { result ≡ [] }
     {
         Frames {
-            taken: Vec::new(alloc),
+            rest: Vec::new(alloc),
         }
     }
 
@@ -83,7 +85,7 @@ impl Frames {
         if let Some(fault) = self.fault() {
             return Err(fault);
         }
-        let messages = take_piece(alloc, &mut self.taken, piece)?;
+        let messages = take_piece(alloc, &mut self.rest, piece)?;
         match self.fault() {
             Some(fault) if messages.is_empty() => Err(fault),
             _ => Ok(messages),
@@ -97,7 +99,7 @@ impl Frames {
         // No whole message is left unread.
         ensures unread { stream_of self.now ≡ unread self.now }
     {
-        fault_of(rest_of(&self.taken))
+        fault_of(&self.rest)
     }
 }
 
@@ -117,20 +119,31 @@ pub fn whole_message(alloc: Global, octets: &[u8]) -> Result<Option<Message>, Al
     Ok(Some(message_of(alloc, first)?))
 }
 
-/// Adds the piece to the octets, and gives the messages that are new with it.
-fn take_piece(alloc: Global, taken: &mut Vec<u8>, piece: &[u8]) -> Result<Vec<Message>, AllocError>
-    ensures messages { IfOk result (λ messages. messages.items ≡ (stream_of ((stream_of taken.old.items).rest ++ piece.now)).messages) }
-    ensures ok { OnOk result (taken.new.items ≡ taken.old.items ++ piece.now) }
-    ensures err { OnErr result (taken.new.items ≡ taken.old.items) }
+/// Adds the piece to the unread octets, gives the messages that are whole with it, and keeps what
+/// stands behind them.
+fn take_piece(alloc: Global, rest: &mut Vec<u8>, piece: &[u8]) -> Result<Vec<Message>, AllocError>
+    ensures messages { IfOk result (λ messages. messages.items ≡ (stream_of (rest.old.items ++ piece.now)).messages) }
+    ensures ok { OnOk result (rest.new.items ≡ (stream_of (rest.old.items ++ piece.now)).rest) }
+    ensures err { OnErr result (rest.new.items ≡ rest.old.items) }
 {
-    let before = taken.len();
-    let read = before - rest_of(taken).len();
-    taken.extend_from_slice(piece)?;
-    let messages = messages_of(alloc, &taken[read..]);
+    let before = rest.len();
+    rest.extend_from_slice(piece)?;
+    let messages = messages_of(alloc, rest);
     if messages.is_err() {
-        taken.truncate(before);
+        rest.truncate(before);
+    } else {
+        let read = rest.len() - rest_of(rest).len();
+        drop_front(rest, read);
     }
     messages
+}
+
+/// Takes so many octets away from the front.
+fn drop_front(octets: &mut Vec<u8>, count: usize)
+    requires { count ≤ length octets.now.items }
+    ensures { octets.new.items ≡ drop count octets.old.items }
+{
+    octets.drain(..count);
 }
 
 /// The whole messages at the front.

@@ -39,6 +39,17 @@ pub enum Fault {
     /// The workers of the fronts are not started.
     #[error("{0}")]
     Start(StartFault),
+    /// Where the status port is to be is no address, or the port cannot be had.
+    #[error("the status port is to be PORT or ADDRESS:PORT")]
+    StatusAddress,
+    #[error("the status port cannot be opened: {0}")]
+    Status(io::Error),
+    #[error("the token's file can be neither read nor made")]
+    TokenFile,
+    #[error("the token's file is not its owner's alone: chmod 600 makes it so")]
+    TokenSeen,
+    #[error("the token's file has no token: 16 to 256 letters, digits or signs on one line")]
+    NoToken,
     /// The connection of a client has ended before each request was answered.
     #[error("the connection has ended")]
     Ended,
@@ -81,7 +92,8 @@ impl<T: Drop> From<AllocFailed<T>> for Fault {
 pub fn status_of(fault: &Fault) -> u8 {
     match fault {
         Fault::Words(LiveFault::Asked(_)) => 0,
-        Fault::Words(
+        Fault::StatusAddress
+        | Fault::Words(
             LiveFault::Refused(_)
             | LiveFault::Missing(_)
             | LiveFault::Malformed(_)
@@ -98,12 +110,16 @@ pub fn status_of(fault: &Fault) -> u8 {
         Fault::Site(_)
         | Fault::Access(_)
         | Fault::Place(PlaceFault::NoAddress | PlaceFault::UnknownName { .. })
-        | Fault::Lines(LinesFault::NoMessage { .. }) => 3,
+        | Fault::Lines(LinesFault::NoMessage { .. })
+        | Fault::NoToken => 3,
         Fault::SiteFile
         | Fault::Read
         | Fault::Write
         | Fault::Loop(LoopFault::Sockets(_))
         | Fault::Start(StartFault::NoWorker | StartFault::UnknownNode { .. })
+        | Fault::Status(_)
+        | Fault::TokenFile
+        | Fault::TokenSeen
         | Fault::Ended => 1,
     }
 }

@@ -2,12 +2,16 @@
 //!
 //! - `program`: words, site file, and what is asked for: to serve as a relay or as all fronts, or to send.
 //! - `waker`: how the workers of fronts end the wait of the loop.
+//! - `watching`, `view`, `token`: what it says of itself on its status port, and who may end it there.
 //! - `fault`: why the program does not do it, and its exit status.
 #![tactic(auto)]
 
 mod fault;
 mod program;
+mod token;
+mod view;
 mod waker;
+mod watching;
 
 use fault::{Fault, status_of};
 use live_command::LiveFault;

@@ -7,7 +7,9 @@ ghost use Rattle.pool_node.specs.Fronts.{site_of};
 
 use crate::Logger;
 use crate::fault::Fault;
+use crate::view::Booked;
 use crate::waker::LoopWaker;
+use crate::watching::Watching;
 use cc_book::Book;
 use cc_shared::SharedBook;
 use dia_avp::PlainWire;
@@ -32,6 +34,7 @@ use std::fs::File;
 use std::io::ErrorKind;
 use std::marker::Brand;
 use std::net::Net;
+use std::random::RandomSource;
 use std::rt::Clock;
 use std::sync::Wait;
 use std::sync::ledger::Blank;
@@ -73,17 +76,23 @@ fn access_of(rt: &HostRuntime, file: &[u8]) -> Result<Access, Fault> {
     Access::read(rt.alloc(), file).map_err(Fault::Access)
 }
 
-/// Serves those who may connect until so many answers were sent; 0 for ever.
-fn serve<O: Wait + Net + Clock, N: Node + Drop>(
+/// Serves those who may connect until so many answers were sent, 0 for ever, or until it is asked to end.
+fn serve<O: Wait + Net + Clock, N: Node + Drop + Booked>(
     os: &O,
+    rt: &HostRuntime,
     log: &Logger,
     site: &Site,
     access: &Access,
+    watching: Watching,
     live: &mut Live<N>,
     answers: u64,
 ) -> Result<(), Fault> {
+    let mut watching = watching;
     for _ in os.forever() {
         live.turn(os, log, site, access)?;
+        if watching.look(os, rt, log, site, live)? {
+            return close(os, log, site, access, live);
+        }
         if answers > 0 && live.serving.answers() >= answers {
             return close(os, log, site, access, live);
         }
@@ -122,10 +131,11 @@ fn relay_at(rt: &HostRuntime, site: &Site, place: &Place) -> Result<Relay, Fault
 }
 
 /// Serves as a relay.
-fn serve_relay<O: Wait + Net + Clock>(
+fn serve_relay<O: Wait + Net + Clock + RandomSource>(
     os: &O,
     rt: &HostRuntime,
     log: &Logger,
+    command: &LiveCommand,
     site: &Site,
     access: &Access,
     name: &str,
@@ -135,10 +145,13 @@ fn serve_relay<O: Wait + Net + Clock>(
 {
     let place = place_of_relay(rt.alloc(), site, name.as_bytes()).map_err(Fault::Place)?;
     let relay = relay_at(rt, site, &place)?;
+    let mut nodes = Vec::with_capacity(rt.alloc(), 1)?;
+    nodes.push(place.node)?;
     let mut places = Vec::with_capacity(rt.alloc(), 1)?;
     places.push(place)?;
+    let watching = Watching::begin(os, rt, command, nodes)?;
     let mut live = Live::new(os, rt.alloc(), site, relay, places)?;
-    serve(os, log, site, access, &mut live, answers)
+    serve(os, rt, log, site, access, watching, &mut live, answers)
 }
 
 /// The places of all fronts of the site.
@@ -158,6 +171,7 @@ fn serve_on<L, O>(
     os: &O,
     rt: &HostRuntime,
     log: &Logger,
+    command: &LiveCommand,
     site: &Site,
     access: &Access,
     answers: u64,
@@ -167,7 +181,7 @@ fn serve_on<L, O>(
 ) -> Result<(), Fault>
 where
     L: Pooling + Send + Sync + 'static,
-    O: Threads + Wait + Net + Clock + Copy + Send + 'static,
+    O: Threads + Wait + Net + Clock + RandomSource + Copy + Send + 'static,
     requires checked { IsChecked site.now }
     requires name { blank.name ≡ L.name }
     requires parts { (blank.parts ≡ L.parts) × (blank.parts ≡ workers) }
@@ -191,15 +205,17 @@ where
         &nodes,
         waker,
     )?;
+    let watching = Watching::begin(os, rt, command, nodes)?;
     let mut live = Live::over(os, rt.alloc(), site, sockets, fronts, places)?;
-    serve(os, log, site, access, &mut live, answers)
+    serve(os, rt, log, site, access, watching, &mut live, answers)
 }
 
 /// Serves as all fronts of the site, each with as many workers as the site says.
-fn serve_fronts<O: Threads + Wait + Net + Clock + Copy + Send + 'static>(
+fn serve_fronts<O: Threads + Wait + Net + Clock + RandomSource + Copy + Send + 'static>(
     os: &O,
     rt: &HostRuntime,
     log: &Logger,
+    command: &LiveCommand,
     site: &Site,
     access: &Access,
     answers: u64,
@@ -210,7 +226,9 @@ fn serve_fronts<O: Threads + Wait + Net + Clock + Copy + Send + 'static>(
     let workers = fronts.saturating_mul(u64::from(site.workers)).max(1);
     let book = empty_book(rt.alloc(), site)?;
     let blank = Blank::new(workers);
-    serve_on::<Brand, O>(os, rt, log, site, access, answers, blank, book, workers)
+    serve_on::<Brand, O>(
+        os, rt, log, command, site, access, answers, blank, book, workers,
+    )
 }
 
 /// The messages of standard input.
@@ -270,7 +288,7 @@ fn send<O: Wait + Net + Clock>(
 }
 
 /// Carries out a command.
-fn carry_out<O: Threads + Wait + Net + Clock + Copy + Send + 'static>(
+fn carry_out<O: Threads + Wait + Net + Clock + RandomSource + Copy + Send + 'static>(
     os: &O,
     rt: &HostRuntime,
     command: &LiveCommand,
@@ -280,8 +298,10 @@ fn carry_out<O: Threads + Wait + Net + Clock + Copy + Send + 'static>(
     let site = site_of(rt, &file)?;
     let access = access_of(rt, &file)?;
     match &command.task {
-        Task::Relay { name, answers } => serve_relay(os, rt, &log, &site, &access, name, *answers),
-        Task::Fronts { answers } => serve_fronts(os, rt, &log, &site, &access, *answers),
+        Task::Relay { name, answers } => serve_relay(
+            os, rt, &log, command, &site, &access, name, *answers,
+        ),
+        Task::Fronts { answers } => serve_fronts(os, rt, &log, command, &site, &access, *answers),
         Task::Send { client, peer } => send(os, rt, &log, &site, &access, client, peer),
     }
 }
@@ -289,7 +309,7 @@ fn carry_out<O: Threads + Wait + Net + Clock + Copy + Send + 'static>(
 /// Does what the words of the command line ask for. Of `os` come the sockets, the threads, and the leave to wait.
 pub fn farm<O>(os: &O, rt: &HostRuntime) -> Result<(), Fault>
 where
-    O: Threads + Wait + Net + Clock + Copy + Send + 'static,
+    O: Threads + Wait + Net + Clock + RandomSource + Copy + Send + 'static,
 {
     let words = words_of(rt).map_err(Fault::Words)?;
     let command = command_of(rt.alloc(), &words).map_err(Fault::Words)?;

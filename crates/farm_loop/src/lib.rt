@@ -5,6 +5,7 @@
 //!   one tick; who calls it says when to end, by [`Live::close`].
 //! - [`Sockets`]: its sockets. [`Sockets::waker`] ends a wait from another thread, and the node is woken then.
 //! - [`Dial`]: a connection that it makes itself, again and again.
+//! - [`StatusPort`]: where it says what it does, over HTTP. Who shows its token may ask for its end there.
 //! - [`LoopFault`]: why it cannot go on.
 //!
 //! What a socket gives or takes, and what the system reports, no contract can say: all of this is proved safe, `Dial` is
@@ -16,6 +17,7 @@ mod dial;
 mod fault;
 mod half;
 mod live;
+mod port;
 mod sockets;
 mod tell;
 
@@ -25,6 +27,7 @@ use farm_serve::Serving;
 pub use fault::LoopFault;
 pub use half::Half;
 pub use live::Live;
+pub use port::StatusPort;
 pub use sockets::Sockets;
 
 /// A node with its connections over sockets.

@@ -18,6 +18,7 @@ use log::Log;
 use mio::net::TcpStream;
 use std::alloc::Global;
 use std::io::ErrorKind;
+use std::mem::swap;
 use std::net::{IpAddr, Net, SocketAddr};
 use std::rt::Clock;
 
@@ -31,6 +32,14 @@ pub struct Address {
     pub socket: SocketAddr,
 }
 
+/// A connection that is read again at the next turn.
+#[derive(Clone, Copy)]
+struct Unread {
+    conn: ConnId,
+    /// Whether nothing comes behind what is there: it is read until it ends.
+    closes: bool,
+}
+
 /// A process that is nodes of a site: its sockets, and the node with its connections.
 #[derive(Drop)]
 pub struct Live<N> {
@@ -41,8 +50,9 @@ pub struct Live<N> {
     /// The nodes that are to listen.
     addresses: Vec<Address>,
     listens: bool,
-    /// Connections that were not read until they would wait.
-    again: Vec<ConnId>,
+    /// Connections that were not read until they would wait at the turn before, and at this one.
+    again: Vec<Unread>,
+    later: Vec<Unread>,
     timer: Timer,
     interval: u32,
 }
@@ -104,6 +114,7 @@ impl<N: Node + Drop> Live<N> {
             addresses,
             listens: false,
             again: Vec::new(alloc),
+            later: Vec::new(alloc),
             timer: Timer::start(os)?,
             interval: site.watchdog,
         })
@@ -123,11 +134,11 @@ impl<N: Node + Drop> Live<N> {
         site: &Site,
         access: &Access,
     ) -> Result<(), LoopFault> {
-        let at_once = self.collect_again()?;
+        let at_once = self.may_not_wait();
         self.sockets.wait(at_once)?;
         let moment = self.timer.now(os)?;
-        self.read_again(moment);
-        self.serve_ready(moment);
+        self.read_again(moment)?;
+        self.serve_ready(moment)?;
         self.accept_all(log, site, access, moment);
         self.dial_all(os, log, site, moment);
         self.serving.tick::<PlainWire>(moment);
@@ -149,6 +160,18 @@ impl<N: Node + Drop> Live<N> {
         })
     }
 
+    /// Whether a node of this process has connected to this one.
+    pub fn is_connecting(&self, local: NodeNo, peer: NodeNo) -> bool {
+        self.dials.iter().any(|dial| {
+            dial.local.0 == local.0
+                && dial.peer.0 == peer.0
+                && match dial.state {
+                    DialState::Made { .. } => true,
+                    DialState::Due { .. } | DialState::Nowhere => false,
+                }
+        })
+    }
+
     /// Each connection is to end in good order.
     pub fn close<O: Clock>(&mut self, os: &O) -> Result<(), LoopFault> {
         let moment = self.timer.now(os)?;
@@ -159,52 +182,58 @@ impl<N: Node + Drop> Live<N> {
         Ok(())
     }
 
-    /// The connections that were not read until they would wait, and whether there is one, or a listener like that.
-    fn collect_again(&mut self) -> Result<bool, LoopFault> {
-        self.again.clear();
-        for link in self.serving.links() {
-            if link.end.is_none() && !link.conn.reader().device().is_drained() {
-                self.again.push(link.id)?;
-            }
-        }
-        let waits = self
-            .sockets
-            .listeners
-            .iter()
-            .any(|listening| listening.is_ready);
-        Ok(waits || !self.again.is_empty())
+    /// Whether there is something to do at once: a connection that was not read until it would wait, or a listener like that.
+    fn may_not_wait(&self) -> bool {
+        !self.later.is_empty()
+            || self
+                .sockets
+                .listeners
+                .iter()
+                .any(|listening| listening.is_ready)
     }
 
-    /// Reads on a connection for one turn.
-    fn read_one(&mut self, conn: ConnId, moment: Moment) {
+    /// Reads on a connection for one turn. Where more may be there, it is read again at the next one.
+    fn read_one(&mut self, unread: Unread, moment: Moment) -> Result<(), LoopFault> {
         let piece = self.sockets.piece.as_mut_slice();
-        if !piece.is_empty() {
-            self.serving.readable::<PlainWire>(conn, piece, moment);
+        if piece.is_empty() {
+            return Ok(());
         }
+        self.serving
+            .readable::<PlainWire>(unread.conn, piece, moment);
+        if let Some(link) = self.serving.link(unread.conn) {
+            let half = link.conn.reader().device();
+            if link.end.is_none() && half.may_have_more(unread.closes) {
+                self.later.push(unread)?;
+            }
+        }
+        Ok(())
     }
 
     /// Reads where more may be there.
-    fn read_again(&mut self, moment: Moment) {
+    fn read_again(&mut self, moment: Moment) -> Result<(), LoopFault> {
+        swap(&mut self.again, &mut self.later);
+        self.later.clear();
         for at in 0..self.again.len() {
-            if let Some(conn) = self.again.get(at) {
-                let conn = *conn;
-                self.read_one(conn, moment);
+            if let Some(unread) = self.again.get(at) {
+                let unread = *unread;
+                self.read_one(unread, moment)?;
             }
         }
+        Ok(())
     }
 
     /// Serves what was reported.
-    fn serve_ready(&mut self, moment: Moment) {
+    fn serve_ready(&mut self, moment: Moment) -> Result<(), LoopFault> {
         for at in 0..self.sockets.ready.len() {
-            let Some(ready) = self.sockets.ready.get(at) else {
-                continue;
-            };
-            let ready = *ready;
-            self.serve_one(ready, moment);
+            if let Some(ready) = self.sockets.ready.get(at) {
+                let ready = *ready;
+                self.serve_one(ready, moment)?;
+            }
         }
+        Ok(())
     }
 
-    fn serve_one(&mut self, ready: Ready, moment: Moment) {
+    fn serve_one(&mut self, ready: Ready, moment: Moment) -> Result<(), LoopFault> {
         match ready.source {
             Source::Waker => self.serving.wake::<PlainWire>(moment),
             Source::Listener { place } => {
@@ -214,13 +243,30 @@ impl<N: Node + Drop> Live<N> {
             }
             Source::Conn { conn } => {
                 if ready.reads {
-                    self.read_one(conn, moment);
+                    self.read_reported(conn, ready.closes, moment)?;
                 }
                 if ready.writes {
                     self.serving.writable::<PlainWire>(conn, moment);
                 }
             }
         }
+        Ok(())
+    }
+
+    /// Reads on a connection that was reported, unless it was read for this turn and is read again at the next one.
+    fn read_reported(
+        &mut self,
+        conn: ConnId,
+        closes: bool,
+        moment: Moment,
+    ) -> Result<(), LoopFault> {
+        for unread in self.later.iter_mut() {
+            if unread.conn.0 == conn.0 {
+                unread.closes = unread.closes || closes;
+                return Ok(());
+            }
+        }
+        self.read_one(Unread { conn, closes }, moment)
     }
 
     /// Takes the connections that wait at listeners.

@@ -44,6 +44,8 @@ pub struct Ready {
     pub source: Source,
     pub reads: bool,
     pub writes: bool,
+    /// Whether nothing comes behind what is there to be read.
+    pub closes: bool,
 }
 
 /// The sockets of a process, and what the system reports of them.
@@ -136,10 +138,12 @@ impl Sockets {
         self.ready.clear();
         let listeners = self.listeners.len();
         for event in &self.events {
+            let closes = event.is_read_closed() || event.is_error();
             self.ready.push(Ready {
                 source: source_of(event.token(), listeners),
-                reads: event.is_readable() || event.is_read_closed() || event.is_error(),
+                reads: event.is_readable() || closes,
                 writes: event.is_writable() || event.is_write_closed() || event.is_error(),
+                closes,
             })?;
         }
         Ok(())

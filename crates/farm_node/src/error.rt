@@ -23,6 +23,10 @@ pub enum NodeError {
     /// None of the nodes that are served here is this one.
     #[error("node {} is not served here", node.0)]
     UnknownNode { node: NodeNo },
+    /// A request that came on the connection has no answer, for want of memory; it may have been charged. The connection
+    /// is to end, so that whoever sent it learns that none comes.
+    #[error("out of memory for an answer on connection {}", conn.0)]
+    Unanswered { conn: ConnId },
     /// Sessions are due, and the book has no room to end them.
     #[error("the book has {limit} entries, which is its limit")]
     BookFull { limit: u64 },

@@ -24,6 +24,8 @@
 //! farm skips the step.
 //!
 //! - [`steps_of`]: the steps that a text spells, or the fault of the first line that spells none.
+//! - [`words_of`], [`node_of`], [`number_of`], [`message_of`]: the words of a line, and what one stands for, for those who
+//!   read other lines in the same words.
 //! - [`LineFault`], [`ScriptFault`]: why a text is no schedule, with the words that are printed.
 //!
 //! What a text spells stands in `specs/Schedule` (a step for each line, the first fault of all) and
@@ -56,9 +58,11 @@ mod word;
 use dia_base::{SCHEDULE_LIMIT, STEP_LIMIT};
 use farm_base::{Site, Step};
 pub use fault::{LineFault, ScriptFault};
-use line::{first_line, is_skipped, words_of};
+pub use line::words_of;
+use line::{first_line, is_skipped};
 use reading::step_of;
 use std::alloc::Global;
+pub use word::{message_of, node_of, number_of};
 
 /// The steps that a schedule's text spells, or the fault of the first line that spells none.
 ///

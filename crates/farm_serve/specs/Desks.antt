@@ -1,10 +1,15 @@
 -- A node with its connections as turns see it.
 use Rattle.std.specs.Prelude.{◌≡◌, ◌<◌, ℕ, ◌&&◌, Bool, true, false, is_some, length, position, ◌+◌, [], ◌∷◌, if◌then◌else◌, get_or, List, map, None}
 use Rattle.dia_base.specs.declared.number.NodeNo.{NodeNo}
+use Rattle.dia_base.specs.declared.number.Moment.{Moment}
+use Rattle.dia_message.specs.declared.message.Message.{Message}
 use Rattle.dia_message.specs.Traffic.{Traffic}
 use Rattle.std.specs.Prelude.{Result, Ok, Err}
 use Rattle.farm_node.specs.Events.{NodeEvent}
 use Rattle.farm_node.specs.declared.error.NodeError.{NodeError}
+use Rattle.farm_watch.specs.Table.{after_message}
+use Rattle.farm_watch.specs.declared.site.WatchSite.{WatchSite}
+use Rattle.farm_watch.specs.declared.watch.Waits.{Waits}
 use Rattle.farm_serve.specs.declared.desk.Desk.{Desk}
 use Rattle.farm_serve.specs.declared.link.Link.{Link}
 use Rattle.farm_serve.specs.declared.link.Standing.{Standing}
@@ -64,3 +69,10 @@ IsDownAt {R} {W} links place = (link : Link R W) → link ≡ get_or links place
 abbrev pub standing_after : NodeNo → Result (Unit {0}) NodeError → Standing
 standing_after peer (Ok done) = Up peer
 standing_after peer (Err error) = Over peer
+
+-- Whatever message comes on a connection that waits for this, it is of no account which nodes are up.
+abbrev pub NeverAsks : Waits → Type 0
+NeverAsks waits =
+    (site : WatchSite) (nodes others : List NodeNo) (moment : Moment) (message : Message) (sent : ℕ)
+    → after_message site nodes moment message (record { waits = waits; sent = sent })
+    ≡ after_message site others moment message (record { waits = waits; sent = sent })

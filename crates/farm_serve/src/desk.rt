@@ -1,12 +1,13 @@
 //! A node with its connections: what it is told, and in which order, and what is sent.
 
-ghost use Rattle.std.specs.Prelude.{◌≡◌, ◌<◌, ◌+◌, length, vec_capacity, IfNone, IfSome};
-ghost use Rattle.farm_serve.specs.Desks.{AreSettled, IsDownAt, IsPlaceOf, MayComeUpAt, StandsAt, Tells, is_to_be_told, kept_by, mark_of, marks_of, ups};
+ghost use Rattle.std.specs.Prelude.{◌≡◌, ◌<◌, ◌+◌, length, vec_capacity, IfNone, IfSome, false};
+ghost use Rattle.farm_serve.specs.Desks.{AreSettled, IsDownAt, IsPlaceOf, MayComeUpAt, NeverAsks, StandsAt, Tells, is_to_be_told, kept_by, mark_of, marks_of, ups};
 
+use crate::counting::{count_failovers, count_passed, count_sent};
 use crate::end::End;
 use crate::link::{
     Link, Standing, be_over, close_at, come_up, end_at, end_unless_told, flush_at, greet_at,
-    hear_at, is_waiting, loss_of, may_come_up, open_peer, receive_at, send_at, tick_at,
+    hear_at, is_waiting, loss_of, may_come_up, open_peer, post_at, receive_at, send_at, tick_at,
 };
 use crate::local::{LocalNode, site_of};
 use crate::note::Notes;
@@ -15,6 +16,7 @@ use dia_base::{ConnId, Moment, NodeNo};
 use dia_message::{Message, Out};
 use farm_net::{Device, Received};
 use farm_node::{Node, NodeError, Reaction};
+use farm_tally::Tally;
 use farm_watch::{Act, Acts, Waits, WatchSite};
 use std::alloc::{AllocError, Global};
 use std::io::{Read, Write};
@@ -26,6 +28,7 @@ pub struct Desk<N, R, W> {
     pub node: N,
     pub links: Vec<Link<R, W>>,
     pub notes: Notes,
+    pub tally: Tally,
     /// How many answers the node has sent.
     pub answers: u64,
     /// How many connections were made.
@@ -34,11 +37,17 @@ pub struct Desk<N, R, W> {
     pub failed: bool,
 }
 
-/// The place of a connection.
+/// The place of a connection: they stand in the order of their numbers.
 pub fn place_of<R, W>(links: &[Link<R, W>], conn: ConnId) -> Option<usize>
     ensures place { IfSome result (λ place. place < length links.now) }
 {
-    links.iter().position(|link| link.id.0 == conn.0)
+    let place = links.partition_point(|link| link.id.0 < conn.0);
+    let link = links.get(place)?;
+    if link.id.0 == conn.0 {
+        Some(place)
+    } else {
+        None
+    }
 }
 
 /// The place of a connection that has ended and of which the node is still to be told so.
@@ -74,16 +83,31 @@ fn peers_of<R, W>(
     Ok(peers)
 }
 
-/// The nodes that are not welcome on a connection of this node: those that are up on others, and those that may not come
-/// from where its other end is.
+/// Whether the life of a connection asks which nodes are up, by what it waits for: only while capabilities are exchanged.
+fn asks_who_is_up(waits: Waits) -> bool
+    ensures { result ≡ false → NeverAsks waits }
+{
+    match waits {
+        Waits::ForCer { .. } | Waits::ForCea { .. } => true,
+        Waits::ForMessage { .. }
+        | Waits::ForDwa { .. }
+        | Waits::ForDpa { .. }
+        | Waits::ForNothing => false,
+    }
+}
+
+/// The nodes that are not welcome on a connection: those that are up on others of its node, and those that may not come from
+/// where its other end is. None where its life does not ask, which takes no memory.
 fn unwelcome_on<R, W>(
     alloc: Global,
     links: &[Link<R, W>],
-    local: NodeNo,
-    barred: &[NodeNo],
+    link: &Link<R, W>,
 ) -> Result<Vec<NodeNo>, AllocError> {
-    let mut nodes = peers_of(alloc, links, local)?;
-    nodes.extend_from_slice(barred)?;
+    if !asks_who_is_up(link.watch.waits()) {
+        return Ok(Vec::new(alloc));
+    }
+    let mut nodes = peers_of(alloc, links, link.local)?;
+    nodes.extend_from_slice(&link.barred)?;
     Ok(nodes)
 }
 
@@ -143,7 +167,23 @@ fn send_one<R: Read + Device, W: Write + Device>(
     ensures places { length links.new.items ≡ length links.old.items }
 {
     if let Some(place) = place_of(links, conn) {
-        send_at(&mut links[place], message, moment);
+        post_at(&mut links[place], message, moment);
+    }
+}
+
+/// Where a request that came on a connection has no answer, that connection ends.
+fn end_unanswered<R: Read + Device, W: Write + Device>(
+    links: &mut Vec<Link<R, W>>,
+    error: NodeError,
+    moment: Moment,
+)
+    ensures marks { marks_of links.new.items ≡ marks_of links.old.items }
+    ensures places { length links.new.items ≡ length links.old.items }
+{
+    if let NodeError::Unanswered { conn } = error
+        && let Some(place) = place_of(links, conn)
+    {
+        end_at(&mut links[place], End::Refused(error), moment);
     }
 }
 
@@ -197,6 +237,7 @@ impl<N: Node, R: Read + Device, W: Write + Device> Desk<N, R, W> {
     {
         for (conn, message) in out.items.as_slice() {
             self.answers = count_after(self.answers, message);
+            count_sent(&mut self.tally, *conn, message, moment);
             send_one(&mut self.links, *conn, message, moment);
         }
     }
@@ -249,8 +290,10 @@ impl<N: Node, R: Read + Device, W: Write + Device> Desk<N, R, W> {
         ensures places { length self.new.links.items ≡ length self.old.links.items }
     {
         let conn = self.links[place].id;
+        let asks = message.header.request;
+        count_passed(&mut self.tally, conn, &message, moment);
         let reaction = self.node.on_message::<P>(self.alloc, conn, message);
-        end_unless_told(&mut self.links[place], reaction.outcome, moment);
+        end_unless_told(&mut self.links[place], asks, reaction.outcome, moment);
         self.notes.answers::<P>(self.alloc, conn, &reaction.out);
         self.send_all(&reaction.out, moment);
     }
@@ -269,6 +312,7 @@ impl<N: Node, R: Read + Device, W: Write + Device> Desk<N, R, W> {
         self.failed = has_failed(self.failed, &reaction.outcome);
         self.notes.lost(conn, peer, why);
         self.notes.failovers::<P>(self.alloc, conn, &reaction.out);
+        count_failovers(&mut self.tally, &reaction.out);
         self.send_all(&reaction.out, moment);
     }
 
@@ -350,7 +394,7 @@ impl<N: Node, R: Read + Device, W: Write + Device> Desk<N, R, W> {
         let Some(site) = site_of(locals, link.local) else {
             return Err(End::Closed);
         };
-        let Ok(unwelcome) = unwelcome_on(self.alloc, &self.links, link.local, &link.barred) else {
+        let Ok(unwelcome) = unwelcome_on(self.alloc, &self.links, link) else {
             return Err(End::OutOfMemory);
         };
         let alloc = self.alloc;
@@ -574,10 +618,11 @@ impl<N: Node, R: Read + Device, W: Write + Device> Desk<N, R, W> {
         ensures places { length self.new.links.items ≡ length self.old.links.items }
         ensures kept { kept_by self.new ≡ kept_by self.old }
     {
+        self.send_all(&reaction.out, moment);
         if let Err(error) = reaction.outcome {
             self.notes.failed(error);
+            end_unanswered(&mut self.links, error, moment);
         }
-        self.send_all(&reaction.out, moment);
     }
 
     /// Time has passed for the node.

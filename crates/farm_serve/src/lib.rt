@@ -8,6 +8,7 @@
 //! - [`UNKNOWN_LIMIT`], [`LINGER`], [`NOTE_LIMIT`], [`ROUND_LIMIT`]: the limits.
 #![tactic(auto)]
 
+mod counting;
 mod desk;
 mod end;
 mod fronts;

@@ -52,6 +52,8 @@ pub struct Link<R, W> {
     pub watch: Watch,
     pub conn: Conn<R, W>,
     pub standing: Standing,
+    /// How many requests that came on it the node has not answered.
+    pub open: u64,
     /// Why it has ended, and when.
     pub end: Option<(End, Moment)>,
 }
@@ -68,6 +70,20 @@ pub(crate) fn end_at<R: Read + Device, W: Write + Device>(
         link.end = Some((why, moment));
         link.conn.finish();
     }
+}
+
+/// A message of the node goes out on the connection, as any other one.
+pub(crate) fn post_at<R: Read + Device, W: Write + Device>(
+    link: &mut Link<R, W>,
+    message: &Message,
+    moment: Moment,
+)
+    ensures mark { mark_of link.new ≡ mark_of link.old }
+{
+    if !message.header.request {
+        link.open = link.open.saturating_sub(1);
+    }
+    send_at(link, message, moment);
 }
 
 /// A message goes out on the connection, unless that has ended. Where it cannot, the connection ends.
@@ -115,14 +131,18 @@ pub(crate) fn come_up<R: Read + Device, W: Write + Device>(
     }
 }
 
-/// The node was told of a message. Where it refuses that, the connection ends.
+/// The node was told of a message, which asks for an answer or does not. Where it refuses that, the connection ends.
 pub(crate) fn end_unless_told<R: Read + Device, W: Write + Device>(
     link: &mut Link<R, W>,
+    asks: bool,
     outcome: Result<(), NodeError>,
     moment: Moment,
 )
     ensures mark { mark_of link.new ≡ mark_of link.old }
 {
+    if asks {
+        link.open = link.open.saturating_add(1);
+    }
     if let Err(error) = outcome {
         end_at(link, End::Refused(error), moment);
     }

@@ -13,6 +13,7 @@ use dia_avp::Wire;
 use dia_base::{ConnId, Moment, NodeNo};
 use farm_net::{Conn, Device};
 use farm_node::Node;
+use farm_tally::Tally;
 use farm_watch::{Acts, Side, Watch};
 use std::alloc::{AllocError, Global};
 use std::io::{Read, Write};
@@ -69,6 +70,7 @@ impl<N: Node, R: Read + Device, W: Write + Device> Serving<N, R, W> {
                 node,
                 links: Vec::new(alloc),
                 notes: Notes::new(alloc),
+                tally: Tally::nothing(alloc),
                 answers: 0,
                 made: 0,
                 failed: false,
@@ -161,6 +163,7 @@ impl<N: Node, R: Read + Device, W: Write + Device> Serving<N, R, W> {
             watch,
             conn: Conn::new(self.desk.alloc, reader, writer),
             standing: Standing::Waiting,
+            open: 0,
             end: None,
         };
         greet(&mut link, acts, moment);
@@ -281,6 +284,11 @@ impl<N: Node, R: Read + Device, W: Write + Device> Serving<N, R, W> {
     /// How many answers the node has sent: those of the node, and not those of the life of its connections.
     pub fn answers(&self) -> u64 {
         self.desk.answers
+    }
+
+    /// What the node has been told and has sent, counted.
+    pub fn tally(&self) -> &Tally {
+        &self.desk.tally
     }
 
     /// How many connections there are, with those that have ended and are not taken out.

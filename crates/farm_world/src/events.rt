@@ -25,6 +25,7 @@ fn sent(reaction: Reaction) -> Result<Out, AllocError>
             | NodeError::PeerUp { .. }
             | NodeError::UnknownPeer { .. }
             | NodeError::UnknownNode { .. }
+            | NodeError::Unanswered { .. }
             | NodeError::BookFull { .. },
         ) => Ok(reaction.out),
     }

@@ -1,5 +1,5 @@
 -- What the words of a command line ask of the program that serves and sends, as clap reads them.
-use Rattle.std.specs.Prelude.{◌≡◌, ◌≢◌, ◌⊎◌, ◌<◌, ◌^◌, ℕ, List, [], ◌∷◌, Option, Some, None, true, codes, string_bytes}
+use Rattle.std.specs.Prelude.{◌≡◌, ◌≢◌, ◌⊎◌, ◌<◌, ◌^◌, ℕ, List, [], ◌∷◌, Option, Some, None, true, codes, option_map, string_bytes}
 use Rattle.std.specs.Str.Parse.{IsNumeral, digits_value, without_leading_plus}
 use Rattle.clap.specs.Kinds.{Kinds, IsAmong}
 use Rattle.clap.specs.Walk.{Row, Rule, Text, first_of}
@@ -27,6 +27,8 @@ id_of word.Name = codes "name"
 id_of word.Client = codes "client"
 id_of word.Peer = codes "peer"
 id_of word.Answers = codes "answers"
+id_of word.Status = codes "status"
+id_of word.Token = codes "token"
 id_of word.Log = codes "log"
 
 -- `--NAME VALUE`
@@ -42,10 +44,10 @@ with_options line [] = line
 with_options line (w ∷ words) = with_options (with_rule line (option w)) words
 
 abbrev pub relay_line : App
-relay_line = with_options (new_app (codes "relay")) (word.Site ∷ word.Name ∷ word.Answers ∷ word.Log ∷ [])
+relay_line = with_options (new_app (codes "relay")) (word.Site ∷ word.Name ∷ word.Answers ∷ word.Status ∷ word.Token ∷ word.Log ∷ [])
 
 abbrev pub front_line : App
-front_line = with_options (new_app (codes "front")) (word.Site ∷ word.Answers ∷ word.Log ∷ [])
+front_line = with_options (new_app (codes "front")) (word.Site ∷ word.Answers ∷ word.Status ∷ word.Token ∷ word.Log ∷ [])
 
 abbrev pub send_line : App
 send_line = with_options (new_app (codes "send")) (word.Site ∷ word.Client ∷ word.Peer ∷ word.Log ∷ [])
@@ -88,6 +90,8 @@ abbrev pub IsReadFrom : Option (Text × List Row) → LiveCommand → Type 0
 IsReadFrom None command = ⊥
 IsReadFrom (Some entered) command =
     IsTask entered.0 entered.1 command.task × (value_in word.Site entered.1 ≡ Some (string_bytes command.site))
+    × (value_in word.Status entered.1 ≡ option_map string_bytes command.status)
+    × (value_in word.Token entered.1 ≡ option_map string_bytes command.token)
     × IsLevel (value_in word.Log entered.1) command.level
 
 -- ---- why the words are refused

@@ -31,6 +31,10 @@ pub struct LiveCommand {
     pub task: Task,
     /// The path of the site file.
     pub site: String,
+    /// Where it says what it does, if it is to.
+    pub status: Option<String>,
+    /// The path of the file with the token that ends it, if there is to be one.
+    pub token: Option<String>,
     /// What is told on standard error.
     pub level: LevelFilter,
 }
@@ -76,6 +80,17 @@ fn with_answers<'a>(line: Line<'a>, alloc: Global) -> Result<Line<'a>, AllocErro
     with_option(line, alloc, "answers", "N", help)
 }
 
+/// The line with `--status ADDRESS` and `--token FILE`.
+fn with_status<'a>(line: Line<'a>, alloc: Global) -> Result<Line<'a>, AllocError>
+    ensures shape { (fields_of line.entry).has_globals ≡ false → IfOk result (λ made. app_of made ≡ with_rule (with_rule (app_of line.entry) (option Word.Status)) (option Word.Token)) }
+    ensures local { (fields_of line.entry).has_globals ≡ false → IfOk result (λ made. (fields_of made).has_globals ≡ false) }
+{
+    let help = "Says there what it does, over HTTP: PORT, of this machine alone, or ADDRESS:PORT";
+    let stated = with_option(line, alloc, "status", "ADDRESS", help)?;
+    let help = "The token that farm stop shows; it is made where the file is not there";
+    with_option(stated, alloc, "token", "FILE", help)
+}
+
 /// The line with `--log LEVEL`.
 fn with_log<'a>(line: Line<'a>, alloc: Global) -> Result<Line<'a>, AllocError>
     ensures shape { (fields_of line.entry).has_globals ≡ false → IfOk result (λ made. app_of made ≡ with_rule (app_of line.entry) (option Word.Log)) }
@@ -94,7 +109,8 @@ fn relay_line<'a>(alloc: Global) -> Result<Line<'a>, AllocError>
     let sited = with_site(bare, alloc)?;
     let named = with_option(sited, alloc, "name", "NAME", "The relay that serves")?;
     let counted = with_answers(named, alloc)?;
-    with_log(counted, alloc)
+    let stated = with_status(counted, alloc)?;
+    with_log(stated, alloc)
 }
 
 /// The subcommand `front`.
@@ -105,7 +121,8 @@ fn front_line<'a>(alloc: Global) -> Result<Line<'a>, AllocError>
     let bare = Line::new(alloc, "front").about("Serves as all fronts of the site, over one book");
     let sited = with_site(bare, alloc)?;
     let counted = with_answers(sited, alloc)?;
-    with_log(counted, alloc)
+    let stated = with_status(counted, alloc)?;
+    with_log(stated, alloc)
 }
 
 /// The subcommand `send`.
@@ -158,6 +175,24 @@ fn text_in(alloc: Global, found: &ArgMatches<'_>, word: Word) -> Result<String, 
             Err(_) => Err(LiveFault::OutOfMemory),
         },
         None => Err(LiveFault::Missing(word)),
+    }
+}
+
+/// The value of an option that may be there.
+fn text_if_there(
+    alloc: Global,
+    found: &ArgMatches<'_>,
+    word: Word,
+) -> Result<Option<String>, LiveFault>
+    ensures value { IfOk result (λ text. value_in word (rows_of (found_of found.now)) ≡ option_map string_bytes text) }
+    ensures fault { IfErr result (λ fault. fault ≡ LiveFault.OutOfMemory) }
+{
+    match value_of(found, word) {
+        Some(text) => match String::from_str(alloc, text) {
+            Ok(text) => Ok(Some(text)),
+            Err(_) => Err(LiveFault::OutOfMemory),
+        },
+        None => Ok(None),
     }
 }
 
@@ -221,6 +256,8 @@ fn command_in(alloc: Global, found: &ArgMatches<'_>) -> Result<LiveCommand, Live
     Ok(LiveCommand {
         task: task_in(alloc, name, options)?,
         site: text_in(alloc, options, Word::Site)?,
+        status: text_if_there(alloc, options, Word::Status)?,
+        token: text_if_there(alloc, options, Word::Token)?,
         level: level_in(options)?,
     })
 }

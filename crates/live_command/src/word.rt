@@ -15,6 +15,8 @@ pub enum Word {
     Client,
     Peer,
     Answers,
+    Status,
+    Token,
     Log,
 }
 
@@ -30,6 +32,8 @@ impl Word {
             Word::Client => "client",
             Word::Peer => "peer",
             Word::Answers => "answers",
+            Word::Status => "status",
+            Word::Token => "token",
             Word::Log => "log",
         }
     }
@@ -38,7 +42,8 @@ impl Word {
     fn value_name(self) -> &'static str {
         match self {
             Word::Subcommand | Word::Name | Word::Client | Word::Peer => "NAME",
-            Word::Site => "FILE",
+            Word::Site | Word::Token => "FILE",
+            Word::Status => "ADDRESS",
             Word::Answers => "N",
             Word::Log => "LEVEL",
         }
@@ -49,9 +54,14 @@ impl fmt::Display for Word {
     fn fmt<W: fmt::Write>(&self, f: &mut fmt::Formatter<W>) -> fmt::Result {
         match self {
             Word::Subcommand => f.write_str("relay, front or send"),
-            Word::Site | Word::Name | Word::Client | Word::Peer | Word::Answers | Word::Log => {
-                write!(f, "--{} {}", self.id(), self.value_name())
-            }
+            Word::Site
+            | Word::Name
+            | Word::Client
+            | Word::Peer
+            | Word::Answers
+            | Word::Status
+            | Word::Token
+            | Word::Log => { write!(f, "--{} {}", self.id(), self.value_name()) }
         }
     }
 }

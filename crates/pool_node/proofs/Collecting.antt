@@ -35,3 +35,12 @@ collects sites terms old new none sent all told outcome empty more is same =
     let here : Collecting sites terms old all told new =
     subst (λ (t : Traffic). Collecting sites terms old t told new) (sym is) (more old (begins none old empty refl)) in
     subst (λ (o : Result (Unit {0}) NodeError). Collecting sites terms old all o new) (sym same) here
+
+-- what happens behind it leaves the fronts as they are
+pub collects_before :
+    (sites : NodeNo → PoolSite) (terms : Terms) (old new last : List FrontState) (none sent all : Traffic) (told outcome : Result (Unit {0}) NodeError)
+    → last ≡ new → none ≡ [] → CollectsMore sites terms old none sent told new → all ≡ sent → outcome ≡ told
+    → Collecting sites terms old all outcome last
+collects_before sites terms old new last none sent all told outcome kept empty more is same =
+    subst (λ (fronts : List FrontState). Collecting sites terms old all outcome fronts) (sym kept)
+    (collects sites terms old new none sent all told outcome empty more is same)

@@ -72,13 +72,13 @@ sent_on conn (Some answer) = (conn, answer) ∷ []
 abbrev pub sent_for : FrontState → Finished → Traffic
 sent_for front finished = if is_among front.connections finished.conn then sent_on finished.conn finished.answer else []
 
-abbrev pub outcome_of : Option Message → Result (Unit {0}) NodeError
-outcome_of None = Err fault.OutOfMemory
-outcome_of (Some answer) = Ok tt
+abbrev pub outcome_of : ConnId → Option Message → Result (Unit {0}) NodeError
+outcome_of conn None = Err (fault.Unanswered conn)
+outcome_of conn (Some answer) = Ok tt
 
--- What is told of a finished job: that memory was missing for its answer, where that would go out.
+-- What is told of a finished job: that its connection, where it is up, gets no answer, since memory was missing for one.
 abbrev pub outcome_for : FrontState → Finished → Result (Unit {0}) NodeError
-outcome_for front finished = if is_among front.connections finished.conn then outcome_of finished.answer else Ok tt
+outcome_for front finished = if is_among front.connections finished.conn then outcome_of finished.conn finished.answer else Ok tt
 
 -- one front of these does something, and no other
 pub record AtOne (old : List FrontState) (place : ℕ) (Step : FrontState → FrontState → Type 0) (new : List FrontState) : Type 0 where

@@ -160,7 +160,7 @@ impl<L: Pooling> PoolFront<L> {
                 sent.push_reserved((conn, answer));
                 Ok(())
             }
-            None => Err(NodeError::OutOfMemory),
+            None => Err(NodeError::Unanswered { conn }),
         }
     }
 }

@@ -3,6 +3,7 @@
 ghost use Rattle.std.specs.Prelude.{◌≡◌, ◌<◌, length, position};
 ghost use Rattle.pool_node.specs.Fronts.{CollectsMore, OnFrontsEvent, is_node, is_up, told_of_one, told_of_tick};
 
+use crate::figures::BookFigures;
 use crate::front::PoolFront;
 use cc_book::BookRefusal;
 use cc_shared::SharedBook;
@@ -24,6 +25,7 @@ pub struct PoolFronts<L: Pooling, R> {
     rt: R,
     shared: SharedBook<L>,
     fronts: Vec<PoolFront<L>>,
+    figures: BookFigures,
 }
 
 impl<L: Pooling, R> Model for PoolFronts<L, R> {
@@ -80,7 +82,24 @@ impl<L: Pooling, R: Wait> PoolFronts<L, R> {
     pub fn new(rt: R, shared: SharedBook<L>, fronts: Vec<PoolFront<L>>) -> Self
         ensures { result ≡ fronts.items }
     {
-        PoolFronts { rt, shared, fronts }
+        PoolFronts {
+            rt,
+            shared,
+            fronts,
+            figures: BookFigures::nothing(),
+        }
+    }
+
+    /// A sweep of the book came to this.
+    fn book_swept(&mut self, swept: &Result<u64, BookRefusal>)
+        ensures { self.new ≡ self.old }
+    {
+        self.figures.swept(swept);
+    }
+
+    /// What the book has come to, as far as answers were collected.
+    pub fn figures(&self) -> BookFigures {
+        self.figures
     }
 
     /// Collects a finished job of a front and puts its answer behind what is sent. Whether there was one. It is a fault where
@@ -101,6 +120,7 @@ impl<L: Pooling, R: Wait> PoolFronts<L, R> {
         let Some(finished) = front.collect(&self.rt) else {
             return Ok(false);
         };
+        self.figures.collected(&finished);
         front.post(finished, sent)?;
         Ok(true)
     }
@@ -169,6 +189,7 @@ impl<L: Pooling, R: Wait> Node for PoolFronts<L, R> {
         let mut sent = Vec::new(alloc);
         let collected = self.collect_all(&mut sent);
         let swept = self.shared.sweep(&self.rt, moment);
+        self.book_swept(&swept);
         reaction(sent, outcome_of_tick(collected, swept))
     }
 

@@ -5,13 +5,17 @@
 //! - [`PoolFront`]: one front: its connections, and its [`front_pool::Pool`].
 //! - [`start_fronts`]: starts the fronts of a site. [`COLLECT_LIMIT`]: how much is collected of a front at one event.
 //!
+//! - [`BookFigures`]: what the book has come to, as far as answers were collected.
+//!
 //! What the node does at each event stands in `specs/Fronts`.
 #![tactic(auto)]
 
+mod figures;
 mod front;
 mod fronts;
 mod start;
 
+pub use figures::BookFigures;
 pub use front::PoolFront;
 pub use fronts::{COLLECT_LIMIT, PoolFronts};
 pub use start::{Bell, StartFault, start_fronts};

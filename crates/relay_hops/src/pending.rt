@@ -182,11 +182,12 @@ impl Pending {
         lose_origins(&mut self.rows, conn);
     }
 
-    /// No request is pending. It takes no memory.
+    /// No request is pending, and identifiers are given as by a new table. It takes no memory.
     pub fn clear(&mut self)
         ensures { self.new ≡ record { limit = self.old.limit; rows = [] } }
     {
         self.rows.clear();
+        self.next = 0;
     }
 
     fn place_of(&self, conn: ConnId, hop: Hop) -> Option<usize>

@@ -5,4 +5,4 @@ use Rattle.farm_serve.proofs.desk.send_one.Goals as goal
 pub returns-in-Some-clause-marks : goal.returns-in-Some-clause-marks
 returns-in-Some-clause-marks g c =
     let within : c.in-Some.place < length c.args.links.now.items = search rules in
-    same_marks c.args.links.now.items c.in-Some.place c.index_mut.result.now c.send_at.new.link within c.index_mut.ensures.value c.send_at.ensures.mark
+    same_marks c.args.links.now.items c.in-Some.place c.index_mut.result.now c.post_at.new.link within c.index_mut.ensures.value c.post_at.ensures.mark

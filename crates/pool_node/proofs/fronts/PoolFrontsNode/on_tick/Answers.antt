@@ -1,11 +1,11 @@
 use Rattle.std.proofs.Common.{refl, ◌∙◌}
-use Rattle.pool_node.proofs.Collecting.{collects}
+use Rattle.pool_node.proofs.Collecting.{collects_before}
 use Rattle.pool_node.proofs.fronts.PoolFrontsNode.on_tick.Goals as goal
 
 pub returns : goal.returns
 returns g c = record {
   collected = c.collect_all-collected.result;
-  collecting = collects _ _ _ _ _ _ _ _ _ c.new-sent.ensures.items c.collect_all-collected.ensures.collects c.reaction.ensures.sent refl;
+  collecting = collects_before _ _ _ _ _ _ _ _ _ _ c.book_swept.ensures c.new-sent.ensures.items c.collect_all-collected.ensures.collects c.reaction.ensures.sent refl;
   swept = c.sweep-swept.result;
   sweeps = c.sweep-swept.ensures;
   told = c.reaction.ensures.outcome ∙ c.outcome_of_tick.ensures;

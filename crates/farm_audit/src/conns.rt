@@ -1,0 +1,53 @@
+//! Connections, as the records of their nodes have them, and as they stand in the farm that plays.
+
+use dia_base::NodeNo;
+use dia_message::Message;
+
+/// A connection as the record of one of its nodes has it.
+#[derive(Drop)]
+pub struct Conn {
+    pub node: NodeNo,
+    pub peer: NodeNo,
+    /// What both ends call it.
+    pub label: u64,
+    /// Whether this node opens it.
+    pub opens: bool,
+    /// Whether the node knows it, as far as its record was read.
+    pub is_up: bool,
+    /// Whether it was opened, as far as the record was played.
+    pub was_dialled: bool,
+    /// Whether it was lost or given up, as far as the record was played.
+    pub is_gone: bool,
+    /// A front has lost it and did not drop it yet, since requests wait that came on it.
+    pub is_closing: bool,
+    /// What a front has sent on it and nobody has received.
+    pub answers: Vec<Message>,
+    /// How many requests that came on it are told and not charged.
+    pub pending: u64,
+}
+
+/// A connection that stands in the farm that plays: who has opened and who has accepted it, by their places among all.
+#[derive(Clone, Copy)]
+pub struct Joint {
+    pub opener: NodeNo,
+    pub acceptor: NodeNo,
+    pub opened: Option<usize>,
+    pub accepted: Option<usize>,
+    pub label: u64,
+}
+
+impl Joint {
+    /// Whether it joins these nodes.
+    pub fn joins(&self, a: NodeNo, b: NodeNo) -> bool {
+        self.opener == a && self.acceptor == b || self.opener == b && self.acceptor == a
+    }
+
+    /// The connection as the record of this node has it.
+    pub fn side(&self, node: NodeNo) -> Option<usize> {
+        if self.opener == node {
+            self.opened
+        } else {
+            self.accepted
+        }
+    }
+}

@@ -1,0 +1,412 @@
+//! The events of nodes: whether they may happen, and then they have.
+
+use crate::audit::{Audit, is_front};
+use crate::conns::Joint;
+use crate::fault::{At, AuditFault, Why, found};
+use crate::told::{Deed, Told, Whereabouts};
+use dia_base::NodeNo;
+use dia_message::Message;
+use farm_world::{Site, Step};
+use std::io::Read;
+
+/// What may be found on the way of a message that arrives next.
+pub enum Next {
+    /// It is in flight at this place.
+    At(usize),
+    /// It was not sent yet.
+    NotYet,
+}
+
+impl<R: Read + Drop> Audit<R> {
+    /// Plays an event if it may happen. Whether it did; where not, it is kept as it was.
+    pub fn try_event(&mut self, site: &Site, told: &mut Told) -> Result<bool, AuditFault> {
+        let (at, conn) = (told.at, told.conn);
+        match &told.deed {
+            Deed::Begin { is_first } => Ok(*is_first),
+            Deed::Dial => self.dial(conn),
+            Deed::Accept => self.accept(site, at, conn),
+            Deed::Opened => self.opened(site, at, conn),
+            Deed::Send(message) => {
+                let (client, to) = self.nodes_of(at, conn)?;
+                let message = message.clone()?;
+                self.play(
+                    site,
+                    at,
+                    Step::Send {
+                        client,
+                        to,
+                        message,
+                    },
+                )?;
+                Ok(true)
+            }
+            Deed::Deliver(_) => self.deliver(site, told),
+            Deed::Drop { was_up } => {
+                let was_up = *was_up;
+                self.drop_conn(site, told, was_up)
+            }
+        }
+    }
+
+    /// A process begins again: a relay crashes, and a client drops all its connections.
+    pub fn begin_again(&mut self, site: &Site, at: At, node: NodeNo) -> Result<(), AuditFault> {
+        for conn in self.conns.iter_mut() {
+            if conn.node == node && conn.was_dialled {
+                conn.is_gone = true;
+            }
+        }
+        if self.is_relay(site, node) {
+            self.play(site, at, Step::Crash { node })?;
+            return self.drop_silent_at(site, at, node);
+        }
+        for _ in 0..site.links.as_slice().len() {
+            let Some(peer) = self.some_peer(node) else {
+                return Ok(());
+            };
+            self.play(site, at, Step::Drop { a: node, b: peer })?;
+        }
+        Ok(())
+    }
+
+    /// The clients without a record drop their connections with a node.
+    fn drop_silent_at(&mut self, site: &Site, at: At, node: NodeNo) -> Result<(), AuditFault> {
+        for link in site.links.as_slice() {
+            let client = if link.from == node {
+                link.to
+            } else if link.to == node {
+                link.from
+            } else {
+                continue;
+            };
+            if self.stands(node, client) && self.is_silent(site, at, client)? {
+                self.play(site, at, Step::Drop { a: client, b: node })?;
+            }
+        }
+        Ok(())
+    }
+
+    fn dial(&mut self, conn: usize) -> Result<bool, AuditFault> {
+        if let Some(conn) = self.conns.get_mut(conn) {
+            conn.was_dialled = true;
+        }
+        Ok(true)
+    }
+
+    /// Where a node has opened the connection that another one accepts.
+    fn dialled(&self, opener: NodeNo, acceptor: NodeNo, label: u64) -> Option<usize> {
+        self.conns.iter().rposition(|conn| {
+            conn.was_dialled && conn.node == opener && conn.peer == acceptor && conn.label == label
+        })
+    }
+
+    /// A connection is accepted once the other node has opened it, and both have no other one any more.
+    fn accept(&mut self, site: &Site, at: At, conn: usize) -> Result<bool, AuditFault> {
+        let (b, a) = self.nodes_of(at, conn)?;
+        let label = self.label_of(conn);
+        let dial = self.dialled(a, b, label);
+        if dial.is_none() && !self.is_silent(site, at, a)? {
+            return Ok(false);
+        }
+        if !self.make_free(site, at, a, b)? {
+            return Ok(false);
+        }
+        self.play(site, at, Step::Accept { at: b, from: a })?;
+        self.join(Joint {
+            opener: a,
+            acceptor: b,
+            opened: None,
+            accepted: Some(conn),
+            label,
+        })?;
+        match dial {
+            None => self.play(site, at, Step::Opened { a, b })?,
+            Some(dial) => {
+                if self.is_gone(dial) {
+                    self.play(site, at, Step::Drop { a, b })?;
+                }
+            }
+        }
+        Ok(true)
+    }
+
+    fn label_of(&self, conn: usize) -> u64 {
+        self.conns.get(conn).map_or(0, |conn| conn.label)
+    }
+
+    fn is_gone(&self, conn: usize) -> bool {
+        self.conns.get(conn).map_or(false, |conn| conn.is_gone)
+    }
+
+    /// A node learns that its connection is made, once the other one has accepted it. A client without a record does so
+    /// then.
+    fn opened(&mut self, site: &Site, at: At, conn: usize) -> Result<bool, AuditFault> {
+        let (a, b) = self.nodes_of(at, conn)?;
+        let label = self.label_of(conn);
+        if self.is_silent(site, at, b)? {
+            if !self.make_free(site, at, a, b)? {
+                return Ok(false);
+            }
+            self.play(site, at, Step::Accept { at: b, from: a })?;
+            self.join(Joint {
+                opener: a,
+                acceptor: b,
+                opened: None,
+                accepted: None,
+                label,
+            })?;
+        }
+        let joint = self.joints.iter_mut().find(|joint| {
+            joint.opener == a
+                && joint.acceptor == b
+                && joint.opened.is_none()
+                && joint.label == label
+        });
+        let Some(joint) = joint else {
+            return Ok(false);
+        };
+        joint.opened = Some(conn);
+        self.play(site, at, Step::Opened { a, b })?;
+        Ok(true)
+    }
+
+    /// A message arrives, once it was sent.
+    fn deliver(&mut self, site: &Site, told: &mut Told) -> Result<bool, AuditFault> {
+        let (at, conn) = (told.at, told.conn);
+        let (node, peer) = self.nodes_of(at, conn)?;
+        let Deed::Deliver(message) = &told.deed else {
+            return Ok(false);
+        };
+        if !told.was_sent && self.is_silent(site, at, peer)? {
+            let message = message.clone()?;
+            self.play(
+                site,
+                at,
+                Step::Send {
+                    client: peer,
+                    to: node,
+                    message,
+                },
+            )?;
+            told.was_sent = true;
+        }
+        let place = match self.next_place(site, at, conn, message)? {
+            Next::At(place) => place,
+            Next::NotYet => return Ok(false),
+        };
+        let is_request = message.header.request;
+        if is_front(site, node) {
+            return self.arrive_at_front(site, told, place, is_request);
+        }
+        let step = Step::Deliver {
+            from: peer,
+            to: node,
+            place: place as u64,
+        };
+        self.react(site, told, node, step)?;
+        Ok(true)
+    }
+
+    /// How many messages have arrived at a front on a connection that are in flight yet.
+    pub fn arrived_on(&self, conn: usize) -> usize {
+        self.jobs
+            .iter()
+            .filter(|job| job.conn == conn && job.where_it_is == Whereabouts::Arrived)
+            .count()
+    }
+
+    /// Where the message is in flight that arrives next on a connection.
+    fn next_place(
+        &mut self,
+        site: &Site,
+        at: At,
+        conn: usize,
+        message: &Message,
+    ) -> Result<Next, AuditFault> {
+        let (node, peer) = self.nodes_of(at, conn)?;
+        if is_front(site, peer) {
+            return self.next_of_front(at, node, peer, message);
+        }
+        let place = self.arrived_on(conn);
+        match self.flight(peer, node).get(place) {
+            None => Ok(Next::NotYet),
+            Some(sent) => {
+                if sent == message {
+                    Ok(Next::At(place))
+                } else {
+                    found(at, Why::NotNext)
+                }
+            }
+        }
+    }
+
+    /// The same of what a front has sent, which stands in flight in the book's order.
+    fn next_of_front(
+        &mut self,
+        at: At,
+        node: NodeNo,
+        front: NodeNo,
+        message: &Message,
+    ) -> Result<Next, AuditFault> {
+        let sender = self.joint(node, front).and_then(|joint| joint.side(front));
+        let Some(sender) = sender else {
+            return Ok(Next::NotYet);
+        };
+        let flight = self.flight(front, node);
+        let place = flight.iter().position(|sent| sent == message);
+        let Some(sender) = self.conns.get_mut(sender) else {
+            return Ok(Next::NotYet);
+        };
+        match sender.answers.first() {
+            None => return Ok(Next::NotYet),
+            Some(sent) => {
+                if sent != message {
+                    return found(at, Why::NotNext);
+                }
+            }
+        }
+        match place {
+            Some(place) if !sender.answers.is_empty() => {
+                let _received = sender.answers.remove(0);
+                Ok(Next::At(place))
+            }
+            _ => Ok(Next::NotYet),
+        }
+    }
+
+    /// How many messages are in flight from a node to each of the nodes that it is linked with.
+    fn flights_from(&self, site: &Site, node: NodeNo) -> Result<Vec<(NodeNo, usize)>, AuditFault> {
+        let mut flights = Vec::new(self.alloc);
+        for link in site.links.as_slice() {
+            if link.from == node {
+                flights.push((link.to, self.flight(node, link.to).len()))?;
+            } else if link.to == node {
+                flights.push((link.from, self.flight(node, link.from).len()))?;
+            }
+        }
+        Ok(flights)
+    }
+
+    /// A step of a relay or a client: what it sends then is what its record tells.
+    fn react(
+        &mut self,
+        site: &Site,
+        told: &Told,
+        node: NodeNo,
+        step: Step,
+    ) -> Result<(), AuditFault> {
+        let before = self.flights_from(site, node)?;
+        self.play(site, told.at, step)?;
+        for (peer, since) in &before {
+            self.compare(told, node, *peer, *since)?;
+            self.hand_to_silent(site, told.at, node, *peer, *since)?;
+        }
+        Ok(())
+    }
+
+    /// What a node has sent to another one beyond so many messages is what its record tells.
+    pub fn compare(
+        &self,
+        told: &Told,
+        node: NodeNo,
+        peer: NodeNo,
+        since: usize,
+    ) -> Result<(), AuditFault> {
+        if !self.stands(node, peer) {
+            return Ok(());
+        }
+        let played = self.flight(node, peer).get(since..).unwrap_or(&[]);
+        let mut count = 0usize;
+        for (to, message) in &told.outs {
+            if *to == peer {
+                match played.get(count) {
+                    Some(sent) if sent == message => {}
+                    _ => return found(told.at, Why::SentOtherwise),
+                }
+                count = count.saturating_add(1);
+            }
+        }
+        if count < played.len() && !told.is_last {
+            return found(told.at, Why::SentOtherwise);
+        }
+        Ok(())
+    }
+
+    /// A node learns that its connection has ended, or gives up one that it does not know.
+    fn drop_conn(
+        &mut self,
+        site: &Site,
+        told: &mut Told,
+        was_up: bool,
+    ) -> Result<bool, AuditFault> {
+        let (at, conn) = (told.at, told.conn);
+        let (node, peer) = self.nodes_of(at, conn)?;
+        if let Some(conn) = self.conns.get_mut(conn) {
+            conn.is_gone = true;
+        }
+        if !was_up {
+            return self.give_up(site, at, conn);
+        }
+        if is_front(site, node) {
+            if let Some(conn) = self.conns.get_mut(conn) {
+                conn.is_closing = true;
+            }
+            self.drop_if_done(site, at, conn)?;
+            return Ok(true);
+        }
+        self.react(site, told, node, Step::Drop { a: node, b: peer })?;
+        self.drop_silent(site, at, node, peer)?;
+        Ok(true)
+    }
+
+    /// A node gives up a connection that it has opened and does not know, whether or not the other one has accepted it.
+    fn give_up(&mut self, site: &Site, at: At, conn: usize) -> Result<bool, AuditFault> {
+        let (a, b) = self.nodes_of(at, conn)?;
+        let label = self.label_of(conn);
+        let is_accepted = self.joints.iter().any(|joint| {
+            joint.opener == a
+                && joint.acceptor == b
+                && joint.opened.is_none()
+                && joint.label == label
+        });
+        if is_accepted && self.stands(b, a) {
+            self.play(site, at, Step::Drop { a, b })?;
+        }
+        Ok(true)
+    }
+
+    /// A front drops a connection that it has lost once all requests are charged that came on it.
+    pub fn drop_if_done(&mut self, site: &Site, at: At, conn: usize) -> Result<(), AuditFault> {
+        let is_done = self
+            .conns
+            .get(conn)
+            .map_or(false, |conn| conn.is_closing && conn.pending == 0);
+        if is_done {
+            self.drop_here(site, at, conn)?;
+        }
+        Ok(())
+    }
+
+    /// A front drops a connection that it has lost.
+    pub fn drop_here(&mut self, site: &Site, at: At, conn: usize) -> Result<(), AuditFault> {
+        let (node, peer) = self.nodes_of(at, conn)?;
+        if let Some(conn) = self.conns.get_mut(conn) {
+            conn.is_closing = false;
+        }
+        self.play(site, at, Step::Drop { a: node, b: peer })?;
+        self.drop_silent(site, at, node, peer)
+    }
+
+    /// A client without a record drops its connection when the other node does.
+    fn drop_silent(
+        &mut self,
+        site: &Site,
+        at: At,
+        node: NodeNo,
+        peer: NodeNo,
+    ) -> Result<(), AuditFault> {
+        if self.is_silent(site, at, peer)? {
+            self.play(site, at, Step::Drop { a: peer, b: node })?;
+        }
+        Ok(())
+    }
+}

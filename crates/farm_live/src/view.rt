@@ -1,0 +1,233 @@
+//! What a serving process says of itself.
+
+use dia_base::{NodeNo, PENDING_LIMIT};
+use farm_base::Site;
+use farm_loop::{Live, Served};
+use farm_node::Node;
+use farm_serve::Standing;
+use farm_status::{BookStatus, Connections, FrontStatus, Peer, PeerState, Source, Status, Work};
+use farm_text::read_text;
+use front_pool::Pooling;
+use pool_node::{BookFigures, PoolFronts};
+use relay_core::Relay;
+use std::alloc::{AllocError, Global};
+use std::fs::File;
+use std::sync::Wait;
+
+/// A node that says what its book has come to, if it has one.
+pub trait Booked {
+    fn book(&self) -> Option<BookFigures>;
+}
+
+impl Booked for Relay {
+    fn book(&self) -> Option<BookFigures> {
+        None
+    }
+}
+
+impl<L: Pooling, R: Wait> Booked for PoolFronts<L, R> {
+    fn book(&self) -> Option<BookFigures> {
+        Some(self.figures())
+    }
+}
+
+/// A serving process, for those who want to know what it does.
+#[derive(Drop)]
+pub struct View<'a, N> {
+    pub rt: &'a HostRuntime,
+    pub site: &'a Site,
+    /// The nodes of the process.
+    pub nodes: &'a [NodeNo],
+    pub live: &'a Live<N>,
+    /// How long it has served, in milliseconds.
+    pub uptime: u64,
+}
+
+/// The name of a node of the site.
+fn name_of(alloc: Global, site: &Site, node: NodeNo) -> Result<String, AllocError> {
+    match site.nodes.as_slice().get(node.0 as usize) {
+        Some(found) => found
+            .name
+            .as_slice()
+            .iter()
+            .map(|octet| char::from(*octet))
+            .collect(alloc),
+        None => String::from_str(alloc, "nobody"),
+    }
+}
+
+/// The octets of this process that are in memory, as Linux says it.
+fn resident(rt: &HostRuntime) -> Option<u64> {
+    let Ok(mut file) = File::open(rt, "/proc/self/status") else {
+        return None;
+    };
+    let Ok(octets) = read_text(rt.alloc(), &mut file) else {
+        return None;
+    };
+    let text = std::str::from_utf8(&octets).ok()?;
+    for line in text.lines() {
+        if let Some(rest) = line.strip_prefix("VmRSS:") {
+            let (number, _) = rest.trim().split_once(' ')?;
+            let kilobytes = number.parse::<u64>().ok()?;
+            return Some(kilobytes.saturating_mul(1_024));
+        }
+    }
+    None
+}
+
+/// The connections by their state.
+fn connections_of<N: Node>(serving: &Served<N>) -> Connections {
+    let mut connections = Connections {
+        up: 0,
+        unknown: 0,
+        ending: 0,
+    };
+    for link in serving.links() {
+        match (link.end, link.standing) {
+            (Some(_), _) => connections.ending = connections.ending.saturating_add(1),
+            (None, Standing::Up { .. }) => connections.up = connections.up.saturating_add(1),
+            (None, Standing::Waiting | Standing::Over { .. }) => {
+                if link.accepted {
+                    connections.unknown = connections.unknown.saturating_add(1);
+                }
+            }
+        }
+    }
+    connections
+}
+
+/// How many requests wait for their answer at a node of the process.
+fn open_at<N: Node>(serving: &Served<N>, node: NodeNo) -> u64 {
+    let mut open: u64 = 0;
+    for link in serving.links() {
+        if link.local.0 == node.0 {
+            open = open.saturating_add(link.open);
+        }
+    }
+    open
+}
+
+/// How many requests wait for their answer at all nodes of the process.
+pub fn open_in<N: Node>(serving: &Served<N>) -> u64 {
+    let mut open: u64 = 0;
+    for link in serving.links() {
+        if link.end.is_none() {
+            open = open.saturating_add(link.open);
+        }
+    }
+    open
+}
+
+/// The number of the connection on which a neighbour is up.
+fn conn_of<N: Node>(serving: &Served<N>, local: NodeNo, peer: NodeNo) -> Option<u64> {
+    for link in serving.links() {
+        if link.local.0 == local.0
+            && link.standing == (Standing::Up { peer })
+            && link.end.is_none()
+        {
+            return Some(link.id.0);
+        }
+    }
+    None
+}
+
+impl<N: Node + Drop + Booked> View<'_, N> {
+    /// A neighbour, and where the connection with it stands.
+    fn peer(&self, local: NodeNo, peer: NodeNo) -> Result<Peer, AllocError> {
+        let alloc = self.rt.alloc();
+        let conn = conn_of(&self.live.serving, local, peer);
+        let state = if conn.is_some() {
+            PeerState::Up
+        } else if self.live.is_connecting(local, peer) {
+            PeerState::Connecting
+        } else {
+            PeerState::Down
+        };
+        Ok(Peer {
+            local: name_of(alloc, self.site, local)?,
+            name: name_of(alloc, self.site, peer)?,
+            state,
+            conn,
+        })
+    }
+
+    /// The neighbours of the nodes of the process, by the links of the site.
+    fn peers(&self) -> Result<Vec<Peer>, AllocError> {
+        let mut peers = Vec::new(self.rt.alloc());
+        for link in self.site.links.as_slice() {
+            if self.nodes.contains(&link.from) {
+                peers.push(self.peer(link.from, link.to)?)?;
+            }
+            if self.nodes.contains(&link.to) {
+                peers.push(self.peer(link.to, link.from)?)?;
+            }
+        }
+        Ok(peers)
+    }
+
+    /// The names of the nodes of the process.
+    fn names(&self) -> Result<Vec<String>, AllocError> {
+        let mut names = Vec::new(self.rt.alloc());
+        for node in self.nodes {
+            names.push(name_of(self.rt.alloc(), self.site, *node)?)?;
+        }
+        Ok(names)
+    }
+
+    /// What is under way at each front.
+    fn fronts(&self) -> Result<Vec<FrontStatus>, AllocError> {
+        let mut fronts = Vec::new(self.rt.alloc());
+        for node in self.nodes {
+            fronts.push(FrontStatus {
+                name: name_of(self.rt.alloc(), self.site, *node)?,
+                waiting: open_at(&self.live.serving, *node),
+                queue: u64::from(self.site.queue),
+                workers: u64::from(self.site.workers),
+            })?;
+        }
+        Ok(fronts)
+    }
+
+    /// What the process does.
+    fn work(&self) -> Result<Work, AllocError> {
+        match self.live.serving.node().book() {
+            Some(figures) => {
+                let book = BookStatus {
+                    entries: figures.entries,
+                    limit: self.site.limit,
+                    sessions: figures.sessions(),
+                    charges: figures.charges,
+                };
+                let fronts = self.fronts()?;
+                Ok(Work::Fronts {
+                    fronts,
+                    book: Some(book),
+                })
+            }
+            None => {
+                let mut pending: u64 = 0;
+                for node in self.nodes {
+                    pending = pending.saturating_add(open_at(&self.live.serving, *node));
+                }
+                Ok(Work::Relay {
+                    pending,
+                    limit: u64::from(PENDING_LIMIT),
+                })
+            }
+        }
+    }
+}
+
+impl<N: Node + Drop + Booked> Source for View<'_, N> {
+    fn status(&self) -> Result<Status<'_>, AllocError> {
+        Ok(Status {
+            names: self.names()?,
+            uptime: self.uptime,
+            memory: resident(self.rt),
+            peers: self.peers()?,
+            connections: connections_of(&self.live.serving),
+            work: self.work()?,
+            tally: self.live.serving.tally(),
+        })
+    }
+}

@@ -1,0 +1,126 @@
+//! What a serving process does beside serving: it says what it does, is asked to end, and tells when its book gets full.
+
+use crate::Logger;
+use crate::fault::Fault;
+use crate::token::token_at;
+use crate::view::{Booked, View, open_in};
+use dia_base::NodeNo;
+use farm_base::Site;
+use farm_loop::{Live, StatusPort};
+use farm_node::Node;
+use live_command::LiveCommand;
+use log::warn;
+use std::net::{IpAddr, Ipv4Addr, Net, SocketAddr};
+use std::random::RandomSource;
+use std::rt::Clock;
+
+/// What a serving process does beside serving.
+#[derive(Drop)]
+pub struct Watching {
+    port: Option<StatusPort>,
+    nodes: Vec<NodeNo>,
+    /// The hundredths of the book that were told of last.
+    told: u64,
+}
+
+/// The hundredths of the book at which its filling is told.
+const FILLINGS: [u64; 2] = [80, 95];
+
+/// How long requests that are under way may keep a process from its end, in milliseconds. Those that are not answered then
+/// are sent again by whoever has sent them.
+const GRACE: u64 = 1_000;
+
+/// The address of a status port: a number alone is a port of this machine.
+fn address_of(text: &str) -> Result<SocketAddr, Fault> {
+    if let Ok(port) = text.parse::<u16>() {
+        return Ok(SocketAddr::new(IpAddr::V4(Ipv4Addr::LOCALHOST), port));
+    }
+    match SocketAddr::parse_ascii(text.as_bytes()) {
+        Ok(address) => Ok(address),
+        Err(_) => Err(Fault::StatusAddress),
+    }
+}
+
+/// How full a book is, in hundredths.
+fn filling(entries: u64, limit: u64) -> u64 {
+    match entries.saturating_mul(100).checked_div(limit) {
+        Some(filling) => filling,
+        None => 0,
+    }
+}
+
+impl Watching {
+    /// What the command asks for beside serving as these nodes.
+    pub fn begin<O: Net + Clock + RandomSource>(
+        os: &O,
+        rt: &HostRuntime,
+        command: &LiveCommand,
+        nodes: Vec<NodeNo>,
+    ) -> Result<Watching, Fault> {
+        let token = match &command.token {
+            Some(path) => Some(token_at(rt, path)?),
+            None => None,
+        };
+        let port = match &command.status {
+            Some(text) => {
+                let address = address_of(text)?;
+                match StatusPort::open(os, rt.alloc(), address, token) {
+                    Ok(port) => Some(port),
+                    Err(error) => return Err(Fault::Status(error)),
+                }
+            }
+            None => None,
+        };
+        Ok(Watching {
+            port,
+            nodes,
+            told: 0,
+        })
+    }
+
+    /// Answers who asks what the process does; whether it is to end: it is asked to, and no request is under way, or it was
+    /// asked [`GRACE`] ago.
+    pub fn look<O: Clock, N: Node + Drop + Booked>(
+        &mut self,
+        os: &O,
+        rt: &HostRuntime,
+        log: &Logger,
+        site: &Site,
+        live: &Live<N>,
+    ) -> Result<bool, Fault> {
+        self.tell_filling(log, site, live);
+        let Some(port) = &mut self.port else {
+            return Ok(false);
+        };
+        let Some(uptime) = port.due(os)? else {
+            return Ok(false);
+        };
+        let view = View {
+            rt,
+            site,
+            nodes: &self.nodes,
+            live,
+            uptime,
+        };
+        port.look(&view);
+        match port.asked_to_end() {
+            Some(millis) => Ok(millis >= GRACE || open_in(&live.serving) == 0),
+            None => Ok(false),
+        }
+    }
+
+    /// Tells that the book gets full, once at each filling.
+    fn tell_filling<N: Node + Drop + Booked>(&mut self, log: &Logger, site: &Site, live: &Live<N>) {
+        let Some(figures) = live.serving.node().book() else {
+            return;
+        };
+        let (entries, limit) = (figures.entries, site.limit);
+        let now = filling(entries, limit);
+        for at in FILLINGS {
+            if now >= at && self.told < at {
+                self.told = at;
+                warn!(log; target: "farm", "the book is {now} hundredths full: {entries} of {limit} entries. Once it is full, no request is charged");
+            }
+        }
+    }
+}

@@ -1,0 +1,72 @@
+-- What a request is answered.
+use Rattle.std.specs.Prelude.{◌≡◌, ℕ, List, Bool, Option, Some, None, true, false, codes, drop, take, ◌||◌, if◌then◌else◌}
+use Rattle.std.specs.Cmp.Lexicographic.{pointwise}
+use Rattle.std.specs.Prelude.{nat_eq}
+use Rattle.http.specs.declared.request.Request.{Request}
+use Rattle.http.specs.Request.{head_of}
+use Rattle.http_uri.specs.Uri.{uri_path}
+use Rattle.http_header.specs.HeaderMap.{get}
+use Rattle.http_header.specs.FieldValue.{FieldValue}
+use Rattle.farm_status.specs.declared.token.Token.{Token}
+use Rattle.farm_status.specs.declared.reply.Reply.{Reply}
+use Rattle.farm_status.specs.declared.reply.Reply.TheVariants.{Page, Metrics, Stops, Forbidden, NotFound, OnlyRead, OnlyPost}
+
+-- two texts are the same
+abbrev pub is_text : List ℕ → List ℕ → Bool
+is_text = pointwise nat_eq
+
+abbrev pub is_read : List ℕ → Bool
+is_read method = is_text method (codes "GET") || is_text method (codes "HEAD")
+
+-- The page and the metrics are there to be read; to be stopped the node is posted to, by somebody who shows its token.
+abbrev pub reply_for : List ℕ → List ℕ → Bool → Reply
+reply_for method path shows_token =
+    if is_text path (codes "/") then (if is_read method then Page else OnlyRead)
+    else if is_text path (codes "/metrics") then (if is_read method then Metrics else OnlyRead)
+    else if is_text path (codes "/stop") then (if is_text method (codes "POST") then (if shows_token then Stops else Forbidden) else OnlyPost)
+    else NotFound
+
+abbrev pub status_for : Reply → ℕ
+status_for Page = 200
+status_for Metrics = 200
+status_for Stops = 202
+status_for Forbidden = 403
+status_for NotFound = 404
+status_for OnlyRead = 405
+status_for OnlyPost = 405
+
+abbrev pub is_stop : Reply → Bool
+is_stop Stops = true
+is_stop Page = false
+is_stop Metrics = false
+is_stop Forbidden = false
+is_stop NotFound = false
+is_stop OnlyRead = false
+is_stop OnlyPost = false
+
+-- the token that a value of Authorization shows: what stands behind `Bearer `
+abbrev pub token_in : List ℕ → Option (List ℕ)
+token_in value = if is_text (take 7 value) (codes "Bearer ") then Some (drop 7 value) else None
+
+abbrev pub token_of_value : Option FieldValue → Option (List ℕ)
+token_of_value None = None
+token_of_value (Some value) = token_in value.bytes
+
+-- the token that a request shows, in its first Authorization
+abbrev pub token_of : Request (List ℕ) → Option (List ℕ)
+token_of request = token_of_value (get (head_of request).headers (codes "authorization"))
+
+-- it is the node's, all of it; where the node has none, no token is
+abbrev pub is_of : Option Token → Option (List ℕ) → Bool
+is_of (Some token) (Some shown) = is_text shown token.octets.items
+is_of (Some token) None = false
+is_of None shown = false
+
+-- by its method and its path, and by whether it shows the token of the node
+abbrev pub reply_by : Option Token → Request (List ℕ) → Reply
+reply_by token request = reply_for (head_of request).method (uri_path (head_of request).uri) (is_of token (token_of request))
+
+-- The answer has the status of its reply, and the node is to end from then on where that reply says so.
+abbrev pub IsAnswered : Option Token → Bool → Request (List ℕ) → ℕ → Bool → Type 0
+IsAnswered token stopped request status stops =
+    (status ≡ status_for (reply_by token request)) × (stops ≡ (stopped || is_stop (reply_by token request)))

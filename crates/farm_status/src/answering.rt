@@ -1,0 +1,119 @@
+//! What a request over HTTP is answered.
+
+ghost use Rattle.std.specs.Prelude.{◌≡◌, option_copied};
+ghost use Rattle.farm_status.specs.Replies.{IsAnswered, is_of, reply_by, token_of};
+
+use crate::metrics::push_metrics;
+use crate::page::push_page;
+use crate::reply::{Reply, reply_to};
+use crate::status::Status;
+use crate::token::Token;
+use bytes::Bytes;
+use http::header::{ALLOW, AUTHORIZATION, CACHE_CONTROL, CONNECTION, CONTENT_TYPE};
+use http::{HeaderValue, Request};
+use http_server::{Response, Service};
+use std::alloc::{AllocError, Global};
+
+/// Who knows what a node says of itself. It is asked only where somebody wants to read it.
+pub trait Source {
+    fn status(&self) -> Result<Status<'_>, AllocError>;
+}
+
+/// Answers requests for a node.
+#[derive(Drop)]
+pub struct Answering<'a, S> {
+    pub alloc: Global,
+    pub source: &'a S,
+    /// What whoever may end the node has to show.
+    pub token: Option<&'a Token>,
+    /// Somebody has asked for the node's end and has shown the token.
+    pub stops: bool,
+}
+
+/// The token that a request shows: `Authorization: Bearer TOKEN` (RFC 6750, section 2.1).
+fn token_of(request: &Request<Bytes>) -> Option<&[u8]>
+    ensures { option_copied result ≡ token_of request.now }
+{
+    let value = request.headers().get(AUTHORIZATION)?;
+    value.as_bytes().strip_prefix(b"Bearer ")
+}
+
+/// Whether a request shows the token of the node.
+fn shows_token(token: Option<&Token>, request: &Request<Bytes>) -> bool
+    ensures { result ≡ is_of (option_copied token.entry) (token_of request.now) }
+{
+    match (token, token_of(request)) {
+        (Some(token), Some(shown)) => token.is(shown),
+        (Some(_), None) | (None, _) => false,
+    }
+}
+
+/// What a request is answered, and whether the node is to end.
+fn reply_of(token: Option<&Token>, request: &Request<Bytes>) -> Reply
+    ensures { result ≡ reply_by (option_copied token.entry) request.now }
+{
+    reply_to(
+        request.method().as_str(),
+        request.uri().path(),
+        shows_token(token, request),
+    )
+}
+
+/// The type of the text that a reply has.
+fn type_of(reply: Reply) -> HeaderValue {
+    match reply {
+        Reply::Page => HeaderValue::from_static("text/html; charset=utf-8"),
+        Reply::Metrics => HeaderValue::from_static("text/plain; version=0.0.4; charset=utf-8"),
+        Reply::Stops | Reply::Forbidden | Reply::NotFound | Reply::OnlyRead | Reply::OnlyPost =>
+            HeaderValue::from_static("text/plain; charset=utf-8"),
+    }
+}
+
+/// The methods that a path takes, where another one was used.
+fn allowed_by(reply: Reply) -> Option<HeaderValue> {
+    match reply {
+        Reply::OnlyRead => Some(HeaderValue::from_static("GET, HEAD")),
+        Reply::OnlyPost => Some(HeaderValue::from_static("POST")),
+        Reply::Page | Reply::Metrics | Reply::Stops | Reply::Forbidden | Reply::NotFound => None,
+    }
+}
+
+/// The text of a reply.
+fn text_of<S: Source>(alloc: Global, source: &S, reply: Reply) -> Result<String, AllocError> {
+    let mut text = String::new(alloc);
+    match reply {
+        Reply::Page => push_page(&mut text, &source.status()?)?,
+        Reply::Metrics => push_metrics(&mut text, &source.status()?)?,
+        Reply::Stops => text.push_str("the node ends\n")?,
+        Reply::Forbidden => text.push_str("the token of the node is missing\n")?,
+        Reply::NotFound => text.push_str(
+            "there is / and /metrics to read, and /stop to post to\n",
+        )?,
+        Reply::OnlyRead => text.push_str("this is there to be read\n")?,
+        Reply::OnlyPost => text.push_str("this is there to be posted to\n")?,
+    }
+    Ok(text)
+}
+
+impl<S: Source> Service for Answering<'_, S> {
+    ghost answers = { λ old request response new. IsAnswered (option_copied old.token) old.stops request response.status new.stops };
+
+    fn call(
+        &mut self,
+        request: &Request<Bytes>,
+        response: &mut Response,
+    ) -> Result<(), AllocError> {
+        let reply = reply_of(self.token, request);
+        let text = text_of(self.alloc, self.source, reply)?;
+        response.add_header(CONTENT_TYPE, type_of(reply))?;
+        response.add_header(CACHE_CONTROL, HeaderValue::from_static("no-store"))?;
+        response.add_header(CONNECTION, HeaderValue::from_static("close"))?;
+        if let Some(methods) = allowed_by(reply) {
+            response.add_header(ALLOW, methods)?;
+        }
+        response.body.push(Bytes::from_string(text)?)?;
+        response.status = reply.status();
+        self.stops = self.stops || reply.stops();
+        Ok(())
+    }
+}

@@ -1,0 +1,29 @@
+//! What a node says of itself to those who run it: a page for people, and the text format that Prometheus reads.
+//!
+//! - [`Status`]: what it says, as plain data. [`Source`]: who knows it, and is asked only when somebody wants to read it.
+//! - [`push_page`]: the page, in HTML, without a script, and with nothing that is loaded from elsewhere.
+//! - [`push_metrics`]: the text for Prometheus.
+//! - [`Answering`]: what a request over HTTP is answered: `GET /` the page, `GET /metrics` the text, `POST /stop` with the
+//!   node's [`Token`] the word that the node is to end, and all else 403, 404 or 405.
+//!
+//! There is no socket here: whoever has one hands octets to a connection of `http_server`.
+#![tactic(auto)]
+
+mod answering;
+mod escape;
+mod metrics;
+mod names;
+mod numbers;
+mod page;
+mod reply;
+mod status;
+mod token;
+
+pub use answering::{Answering, Source};
+pub use escape::{push_html, push_label};
+pub use metrics::push_metrics;
+pub use names::code_name;
+pub use page::push_page;
+pub use reply::{Reply, reply_to};
+pub use status::{BookStatus, Connections, FrontStatus, Peer, PeerState, Status, Work};
+pub use token::{TOKEN_LEAST, TOKEN_MOST, Token, TokenFault};

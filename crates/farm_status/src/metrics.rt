@@ -1,0 +1,229 @@
+//! The text format that Prometheus reads (version 0.0.4).
+
+use crate::escape::push_label;
+use crate::numbers::Seconds;
+use crate::status::{BookStatus, FrontStatus, Peer, PeerState, Status, Work};
+use farm_tally::{Answers, Times};
+use std::alloc::AllocError;
+
+/// What kind of number a metric is.
+#[derive(Clone, Copy)]
+enum Kind {
+    Counter,
+    Gauge,
+    Histogram,
+}
+
+impl Kind {
+    fn word(self) -> &'static str {
+        match self {
+            Kind::Counter => "counter",
+            Kind::Gauge => "gauge",
+            Kind::Histogram => "histogram",
+        }
+    }
+}
+
+/// The two lines above the samples of a metric.
+fn head(out: &mut String, name: &str, kind: Kind, help: &str) -> Result<(), AllocError> {
+    let kind = kind.word();
+    write!(out, "# HELP {name} {help}\n# TYPE {name} {kind}\n")
+}
+
+/// A metric with one sample.
+fn single(
+    out: &mut String,
+    name: &str,
+    kind: Kind,
+    help: &str,
+    value: u64,
+) -> Result<(), AllocError> {
+    head(out, name, kind, help)?;
+    write!(out, "{name} {value}\n")
+}
+
+/// A sample with one label.
+fn labelled(
+    out: &mut String,
+    name: &str,
+    label: &str,
+    of: &str,
+    value: u64,
+) -> Result<(), AllocError> {
+    write!(out, "{name}{{{label}=\"")?;
+    push_label(out, of)?;
+    write!(out, "\"}} {value}\n")
+}
+
+/// Who it is, since when, and how much memory it takes.
+fn push_process(out: &mut String, status: &Status<'_>) -> Result<(), AllocError> {
+    let name = "farm_uptime_seconds";
+    head(out, name, Kind::Gauge, "How long the process has served.")?;
+    let uptime = Seconds(status.uptime);
+    write!(out, "{name} {uptime}\n")?;
+    if let Some(memory) = status.memory {
+        let help = "Octets of the process that are in memory.";
+        single(out, "farm_resident_memory_bytes", Kind::Gauge, help, memory)?;
+    }
+    let name = "farm_node_info";
+    head(out, name, Kind::Gauge, "A node of the process.")?;
+    for node in &status.names {
+        labelled(out, name, "node", node, 1)?;
+    }
+    Ok(())
+}
+
+/// Whether the connection with a neighbour is up.
+fn push_peer(out: &mut String, name: &str, peer: &Peer) -> Result<(), AllocError> {
+    write!(out, "{name}{{node=\"")?;
+    push_label(out, &peer.local)?;
+    write!(out, "\",peer=\"")?;
+    push_label(out, &peer.name)?;
+    let value = match peer.state {
+        PeerState::Up => 1,
+        PeerState::Connecting | PeerState::Down => 0,
+    };
+    write!(out, "\"}} {value}\n")
+}
+
+/// The neighbours, and the connections by their state.
+fn push_connections(out: &mut String, status: &Status<'_>) -> Result<(), AllocError> {
+    let name = "farm_peer_up";
+    let help = "Whether a node of the process is connected with its neighbour.";
+    head(out, name, Kind::Gauge, help)?;
+    for peer in &status.peers {
+        push_peer(out, name, peer)?;
+    }
+    let name = "farm_connections";
+    head(out, name, Kind::Gauge, "Connections by their state.")?;
+    let connections = status.connections;
+    labelled(out, name, "state", "up", connections.up)?;
+    labelled(out, name, "state", "unknown", connections.unknown)?;
+    labelled(out, name, "state", "ending", connections.ending)
+}
+
+/// Answers by their Result-Code.
+fn push_answers(out: &mut String, answers: &Answers) -> Result<(), AllocError> {
+    let name = "farm_answers_total";
+    let help = "Answers that were sent, by their Result-Code.";
+    head(out, name, Kind::Counter, help)?;
+    for at in &answers.codes {
+        write!(out, "{name}{{code=\"{}\"}} {}\n", at.code, at.count)?;
+    }
+    labelled(out, name, "code", "others", answers.others)
+}
+
+/// Requests and answers, and what became of requests where connections were lost.
+fn push_traffic(out: &mut String, status: &Status<'_>) -> Result<(), AllocError> {
+    let tally = status.tally;
+    single(
+        out,
+        "farm_requests_total",
+        Kind::Counter,
+        "Requests that neighbours have sent.",
+        tally.requests,
+    )?;
+    single(
+        out,
+        "farm_requests_sent_total",
+        Kind::Counter,
+        "Requests that were sent, each as often as it was sent.",
+        tally.sent,
+    )?;
+    push_answers(out, &tally.answers)?;
+    single(
+        out,
+        "farm_failovers_total",
+        Kind::Counter,
+        "Requests that were sent again since a connection was lost.",
+        tally.failovers,
+    )?;
+    single(
+        out,
+        "farm_given_up_total",
+        Kind::Counter,
+        "Requests that were answered here since a connection was lost.",
+        tally.given_up,
+    )
+}
+
+/// How long requests took.
+fn push_times(out: &mut String, times: &Times) -> Result<(), AllocError> {
+    let name = "farm_request_seconds";
+    let help = "From when a request came until its answer was sent.";
+    head(out, name, Kind::Histogram, help)?;
+    for row in times.rows {
+        let bound = Seconds(row.bound);
+        write!(out, "{name}_bucket{{le=\"{bound}\"}} {}\n", row.count)?;
+    }
+    let (count, sum) = (times.count, Seconds(times.sum));
+    write!(out, "{name}_bucket{{le=\"+Inf\"}} {count}\n")?;
+    write!(out, "{name}_sum {sum}\n{name}_count {count}\n")
+}
+
+/// What is under way at fronts.
+fn push_fronts(out: &mut String, fronts: &[FrontStatus]) -> Result<(), AllocError> {
+    let name = "farm_front_requests";
+    let help = "Requests that wait for a worker or are with one.";
+    head(out, name, Kind::Gauge, help)?;
+    for front in fronts {
+        labelled(out, name, "node", &front.name, front.waiting)?;
+    }
+    let name = "farm_front_queue_limit";
+    head(
+        out,
+        name,
+        Kind::Gauge,
+        "How many requests may wait for a worker.",
+    )?;
+    for front in fronts {
+        labelled(out, name, "node", &front.name, front.queue)?;
+    }
+    let name = "farm_front_workers";
+    let help = "How many requests are worked on at a time.";
+    head(out, name, Kind::Gauge, help)?;
+    for front in fronts {
+        labelled(out, name, "node", &front.name, front.workers)?;
+    }
+    Ok(())
+}
+
+/// What the book has come to.
+fn push_book(out: &mut String, book: &BookStatus) -> Result<(), AllocError> {
+    let help = "Entries of the history of the book.";
+    single(out, "farm_book_entries", Kind::Gauge, help, book.entries)?;
+    let help = "How many entries the book takes.";
+    single(out, "farm_book_limit", Kind::Gauge, help, book.limit)?;
+    let help = "Sessions that are open.";
+    single(out, "farm_sessions_open", Kind::Gauge, help, book.sessions)?;
+    let help = "Requests that the book has taken, each once.";
+    single(out, "farm_charges_total", Kind::Counter, help, book.charges)
+}
+
+/// What the process does.
+fn push_work(out: &mut String, work: &Work) -> Result<(), AllocError> {
+    match work {
+        Work::Relay { pending, limit } => {
+            let help = "Requests that wait for their answer.";
+            single(out, "farm_pending_requests", Kind::Gauge, help, *pending)?;
+            let help = "How many requests may wait for their answer.";
+            single(out, "farm_pending_limit", Kind::Gauge, help, *limit)
+        }
+        Work::Fronts { fronts, book } => {
+            push_fronts(out, fronts)?;
+            match book {
+                Some(book) => push_book(out, book),
+                None => Ok(()),
+            }
+        }
+    }
+}
+
+/// Puts what a node says of itself behind a text, as Prometheus reads it.
+pub fn push_metrics(out: &mut String, status: &Status<'_>) -> Result<(), AllocError> {
+    push_process(out, status)?;
+    push_connections(out, status)?;
+    push_traffic(out, status)?;
+    push_times(out, &status.tally.times)?;
+    push_work(out, &status.work)
+}

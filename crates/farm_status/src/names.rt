@@ -1,0 +1,41 @@
+//! What Result-Codes are called.
+
+/// The Result-Codes that nodes of a farm answer (RFC 6733, section 7.1; RFC 8506, section 9).
+const CODE_NAMES: [(u32, &str); 26] = [
+    (2001, "DIAMETER_SUCCESS"),
+    (2002, "DIAMETER_LIMITED_SUCCESS"),
+    (3001, "DIAMETER_COMMAND_UNSUPPORTED"),
+    (3002, "DIAMETER_UNABLE_TO_DELIVER"),
+    (3003, "DIAMETER_REALM_NOT_SERVED"),
+    (3004, "DIAMETER_TOO_BUSY"),
+    (3005, "DIAMETER_LOOP_DETECTED"),
+    (3006, "DIAMETER_REDIRECT_INDICATION"),
+    (3007, "DIAMETER_APPLICATION_UNSUPPORTED"),
+    (3008, "DIAMETER_INVALID_HDR_BITS"),
+    (3009, "DIAMETER_INVALID_AVP_BITS"),
+    (4010, "DIAMETER_END_USER_SERVICE_DENIED"),
+    (4011, "DIAMETER_CREDIT_CONTROL_NOT_APPLICABLE"),
+    (4012, "DIAMETER_CREDIT_LIMIT_REACHED"),
+    (5001, "DIAMETER_AVP_UNSUPPORTED"),
+    (5002, "DIAMETER_UNKNOWN_SESSION_ID"),
+    (5004, "DIAMETER_INVALID_AVP_VALUE"),
+    (5005, "DIAMETER_MISSING_AVP"),
+    (5008, "DIAMETER_AVP_NOT_ALLOWED"),
+    (5009, "DIAMETER_AVP_OCCURS_TOO_MANY_TIMES"),
+    (5010, "DIAMETER_NO_COMMON_APPLICATION"),
+    (5012, "DIAMETER_UNABLE_TO_COMPLY"),
+    (5014, "DIAMETER_INVALID_AVP_LENGTH"),
+    (5017, "DIAMETER_NO_COMMON_SECURITY"),
+    (5030, "DIAMETER_USER_UNKNOWN"),
+    (5031, "DIAMETER_RATING_FAILED"),
+];
+
+/// What a Result-Code is called, where that is known here.
+pub fn code_name(code: u32) -> Option<&'static str> {
+    for (number, name) in CODE_NAMES {
+        if number == code {
+            return Some(name);
+        }
+    }
+    None
+}

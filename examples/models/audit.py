@@ -1,0 +1,36 @@
+#!/usr/bin/env python3
+"""The model of `farm audit` and `farm schedule`: audit.py audit|schedule --site FILE RECORD..
+
+Exit statuses are those of the program: 1 for a file that cannot be read, 2 for other words, 3 for what is refused or found.
+"""
+import sys
+from pathlib import Path
+
+from ordering import Audit
+from records import Finding
+from site_file import SiteFault, site_of
+
+
+def main(words):
+    if len(words) < 4 or words[0] not in ("audit", "schedule") or words[1] != "--site":
+        print("usage: schedule --site FILE RECORD.., or audit --site FILE RECORD..", file=sys.stderr)
+        return 2
+    try:
+        site = site_of(Path(words[2]).read_bytes())
+        audit = Audit(site, [(name, Path(name).read_bytes()) for name in words[3:]]).run()
+    except OSError as fault:
+        print(fault, file=sys.stderr)
+        return 1
+    except (SiteFault, Finding) as fault:
+        print(fault, file=sys.stderr)
+        return 3
+    if words[0] == "schedule":
+        sys.stdout.write(audit.text())
+    else:
+        print(f"records {len(audit.readers)} events {audit.events} steps {len(audit.steps)}")
+        sys.stdout.write("".join(audit.world.book.report()))
+    return 0
+
+
+if __name__ == "__main__":
+    sys.exit(main(sys.argv[1:]))
