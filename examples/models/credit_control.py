@@ -8,7 +8,7 @@ from dataclasses import dataclass
 from diameter import (APPLICATION_UNSUPPORTED, COMMAND_UNSUPPORTED, DESTINATION_REALM, FAILED_LIMIT, INVALID_AVP_LENGTH,
                       MANDATORY, ORIGIN_HOST, ORIGIN_REALM, RESULT_CODE, SESSION_ID, Avp, NoList, carried,
                       carries_too_much, first, group, number, octets_of_kind, origin, split)
-from site_data import CREDIT_CONTROL_APPLICATION
+from site_data import APPLICATION_IN_GROUP, CREDIT_CONTROL_APPLICATION, ORIGIN_TWICE, Profile
 
 CREDIT_CONTROL = 272
 AUTH_APPLICATION_ID, SERVICE_CONTEXT_ID, CC_REQUEST_NUMBER, CC_REQUEST_TYPE = 258, 461, 415, 416
@@ -29,6 +29,7 @@ OCCURS_TOO_MANY_TIMES, UNABLE_TO_COMPLY = 5009, 5012
 SERVICES_LIMIT, USED_LIMIT = 32, 2**78
 # Codes of no vendor up to this one are known.
 LAST_KNOWN_CODE = 461
+VENDOR_SPECIFIC_APPLICATION_ID = 260
 
 # What a command has at most once, and what it must have, in the order in which a missing one is told.
 COMMAND_ONCE = (SESSION_ID, ORIGIN_HOST, ORIGIN_REALM, DESTINATION_REALM, AUTH_APPLICATION_ID, SERVICE_CONTEXT_ID,
@@ -86,7 +87,12 @@ class Request:
 
 
 def request_of(message, vendors):
-    """What a front reads in a message. Raises Refused."""
+    """What a front that knows AVPs of these vendors reads in a message. Raises Refused."""
+    return request_under(message, Profile(tuple(vendors)))
+
+
+def request_under(message, profile):
+    """What a front reads in a message under a profile. Raises Refused."""
     if message.application != CREDIT_CONTROL_APPLICATION:
         raise Refused(APPLICATION_UNSUPPORTED)
     if message.command != CREDIT_CONTROL:
@@ -94,10 +100,10 @@ def request_of(message, vendors):
     avps = parts(message.body)
     if carries_too_much(avps):
         raise Refused(UNABLE_TO_COMPLY)
-    check_command(avps, vendors)
+    check_command(avps, profile)
     for avp in avps:
         if avp.has_code(*GROUP_ONCE):
-            check_group(avp, vendors)
+            check_group(avp, profile)
     services = services_of(avps)
     if len(services) > SERVICES_LIMIT or len({service.name for service in services}) < len(services):
         raise Refused(UNABLE_TO_COMPLY)
@@ -115,36 +121,65 @@ def parts(octets):
         raise Refused(INVALID_AVP_LENGTH, fault.failed) from None
 
 
-def check_command(avps, vendors):
+def check_command(avps, profile):
     if first(avps, SESSION_ID) is None:
         raise Refused(MISSING_AVP, Avp(SESSION_ID, b""))
     if not avps[0].has_code(SESSION_ID):
         raise Refused(UNABLE_TO_COMPLY)
-    check_known(avps, vendors)
-    check_once(avps, COMMAND_ONCE)
-    check_there(avps, COMMAND_NEEDED)
+    check_known(avps, profile)
+    check_once(counted(avps, profile), COMMAND_ONCE)
+    named = APPLICATION_IN_GROUP in profile.tolerated and any(names_application(avp) for avp in avps)
+    check_there(avps, [code for code in COMMAND_NEEDED if not (named and code == AUTH_APPLICATION_ID)])
     kind = first(avps, CC_REQUEST_TYPE).value
     if len(kind) == 4 and int.from_bytes(kind) == EVENT:
         check_there(avps, [REQUESTED_ACTION])
     check_values(avps, COMMAND_VALUES)
 
 
-def check_group(avp, vendors):
+def counted(avps, profile):
+    """The AVPs without those that say again who sends, where that is tolerated."""
+    if ORIGIN_TWICE not in profile.tolerated:
+        return avps
+    said = set()
+    kept = []
+    for avp in avps:
+        if avp.has_code(ORIGIN_HOST, ORIGIN_REALM):
+            if (avp.code, avp.value) in said:
+                continue
+            said.add((avp.code, avp.value))
+        kept.append(avp)
+    return kept
+
+
+def names_application(avp):
+    """Whether it is a Vendor-Specific-Application-Id with the Auth-Application-Id of Credit-Control inside."""
+    if not avp.has_code(VENDOR_SPECIFIC_APPLICATION_ID):
+        return False
+    try:
+        inner = split(avp.value)
+    except NoList:
+        return False
+    return any(one.has_code(AUTH_APPLICATION_ID) and one.value == CREDIT_CONTROL_APPLICATION.to_bytes(4)
+               for one in inner)
+
+
+def check_group(avp, profile):
     """A group of the command, or one inside Multiple-Services-Credit-Control."""
     inner = parts(avp.value)
-    check_known(inner, vendors)
+    check_known(inner, profile)
     check_once(inner, GROUP_ONCE[avp.code])
     check_there(inner, GROUP_NEEDED.get(avp.code, ()))
     check_values(inner, GROUP_VALUES)
     if avp.code == MULTIPLE_SERVICES:
         for units in inner:
             if units.has_code(REQUESTED_UNITS, USED_UNITS):
-                check_group(units, vendors)
+                check_group(units, profile)
 
 
-def check_known(avps, vendors):
+def check_known(avps, profile):
     for avp in avps:
-        known = avp.vendor == 0 and 1 <= avp.code <= LAST_KNOWN_CODE or avp.vendor in vendors
+        standard = 1 <= avp.code <= LAST_KNOWN_CODE or avp.code in profile.known
+        known = avp.vendor == 0 and standard or avp.vendor in profile.vendors
         if avp.flags & MANDATORY and not known:
             raise refused_for(AVP_UNSUPPORTED, avp)
 

@@ -6,7 +6,7 @@ back from a call as a list of pairs, each of a connection's number and a message
 from dataclasses import dataclass, replace
 
 from book import Full
-from credit_control import Refused, credit_control_answer, request_of
+from credit_control import Refused, credit_control_answer, request_under
 from diameter import (APPLICATION_UNSUPPORTED, COMMAND_UNSUPPORTED, DESTINATION_HOST, DESTINATION_REALM,
                       INVALID_AVP_LENGTH, LOOP_DETECTED, MESSAGE_LIMIT, PROXIABLE, REALM_NOT_SERVED, RETRANSMITTED,
                       ROUTE_RECORD, TOO_BUSY, UNABLE_TO_DELIVER, NoList, first, refusal, split, text)
@@ -89,7 +89,7 @@ class Front:
     def charge(self, worker, moment):
         message = self.workers[worker].request
         try:
-            request = request_of(message, self.site.vendors)
+            request = request_under(message, self.site.profile)
             answer = credit_control_answer(self.name, self.site, message, request, self.book.take(request, moment))
         except Refused as fault:
             answer = self.refusal(message, fault.code, fault.failed)

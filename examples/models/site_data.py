@@ -3,6 +3,8 @@ from dataclasses import dataclass, field
 
 RELAY, FRONT, CLIENT = "relay", "front", "client"
 CREDIT_CONTROL_APPLICATION = 4
+# Deviations that fronts may tolerate.
+ORIGIN_TWICE, APPLICATION_IN_GROUP = TOLERANCES = "origin-twice", "application-in-group"
 
 
 @dataclass(frozen=True)
@@ -28,11 +30,21 @@ class Tariff:
 
 
 @dataclass(frozen=True)
+class Profile:
+    """What fronts take beyond the rules: vendors whose AVPs are known, codes of no vendor that are, and deviations."""
+
+    vendors: tuple
+    known: tuple = ()
+    tolerated: tuple = ()
+
+
+@dataclass(frozen=True)
 class Site:
     """Tariffs are found by Rating-Group or Service-Identifier, accounts by the type and text of a Subscription-Id.
 
     Nodes have kinds by their names, routes peers by relay, realm and application. A schedule is not asked for the time
-    of `watchdog` in milliseconds, nor for addresses.
+    of `watchdog` in milliseconds, nor for addresses. No site file has `known` and `tolerate` yet: the model of a front that
+    takes what Kamailio sends (bench/kamailio_model.py) sets them.
     """
 
     realm: str
@@ -49,12 +61,19 @@ class Site:
     queue: int = 1024
     limit: int = 1_048_576
     vendors: tuple = (10_415,)
+    known: tuple = ()
+    tolerate: tuple = ()
     watchdog: int = 30_000
     addresses: dict = field(default_factory=dict, compare=False)
     linked: frozenset = field(init=False)
 
     def __post_init__(self):
         object.__setattr__(self, "linked", frozenset(frozenset(link) for link in self.links))
+
+    @property
+    def profile(self):
+        """What its fronts take of their clients beyond the rules."""
+        return Profile(self.vendors, self.known, self.tolerate)
 
     def tariff(self, rating_group, identifier):
         """The tariff of a service, by its Rating-Group where it has one, or None."""
