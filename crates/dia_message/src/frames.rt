@@ -128,14 +128,16 @@ fn take_piece(alloc: Global, rest: &mut Vec<u8>, piece: &[u8]) -> Result<Vec<Mes
 {
     let before = rest.len();
     rest.extend_from_slice(piece)?;
-    let messages = messages_of(alloc, rest);
-    if messages.is_err() {
-        rest.truncate(before);
-    } else {
-        let read = rest.len() - rest_of(rest).len();
-        drop_front(rest, read);
+    match messages_of(alloc, rest) {
+        Ok((messages, read)) => {
+            drop_front(rest, read);
+            Ok(messages)
+        }
+        Err(AllocError) => {
+            rest.truncate(before);
+            Err(AllocError)
+        }
     }
-    messages
 }
 
 /// Takes so many octets away from the front.
@@ -146,9 +148,11 @@ fn drop_front(octets: &mut Vec<u8>, count: usize)
     octets.drain(..count);
 }
 
-/// The whole messages at the front.
-fn messages_of(alloc: Global, octets: &[u8]) -> Result<Vec<Message>, AllocError>
-    ensures { IfOk result (λ messages. messages.items ≡ (stream_of octets.now).messages) }
+/// The whole messages at the front, and how many octets they take.
+fn messages_of(alloc: Global, octets: &[u8]) -> Result<(Vec<Message>, usize), AllocError>
+    ensures messages { IfOk result (λ read. read.0.items ≡ (stream_of octets.now).messages) }
+    ensures within { IfOk result (λ read. read.1 ≤ length octets.now) }
+    ensures behind { IfOk result (λ read. drop read.1 octets.now ≡ (stream_of octets.now).rest) }
 {
     let mut messages = Vec::new(alloc);
     let mut rest = octets;
@@ -156,18 +160,7 @@ fn messages_of(alloc: Global, octets: &[u8]) -> Result<Vec<Message>, AllocError>
         messages.push(message_of(alloc, first)?)?;
         rest = behind;
     }
-    Ok(messages)
-}
-
-/// What stands behind the whole messages at the front.
-fn rest_of(octets: &[u8]) -> &[u8]
-    ensures { result.now ≡ (stream_of octets.now).rest }
-{
-    let mut rest = octets;
-    while let Some((_, behind)) = first_of(rest) {
-        rest = behind;
-    }
-    rest
+    Ok((messages, octets.len() - rest.len()))
 }
 
 /// The octets of the whole message at the front, and those behind it.
