@@ -1,3 +1,5 @@
 pub mod AvpExample
+pub mod AvpHead
 pub mod AvpList
 pub mod AvpReading
+pub mod KeptOctets

@@ -1,10 +1,12 @@
 //! Attribute-value pairs: lists of AVPs as octets, and back (RFC 6733, section 4.1).
 //!
 //! - [`Wire`]: reads and writes lists of AVPs. Its contract says which list or which fault octets
-//!   read as and how an AVP is written, for any body; [`PlainWire`] is the plain one, with copies.
+//!   read as and how an AVP is written, for any body. [`ViewWire`] reads by cuts of the buffer that the
+//!   octets stand in, and copies no value; [`PlainWire`] is the plain one, with copies, for tests.
 //! - [`write_avp`]: the one writer of an AVP, for any value; [`with_avp`]: a body with one AVP more.
 //! - [`RawAvp`]: an AVP whose value is not looked at. [`u32_of`], [`u64_of`], [`i32_of`] and
-//!   [`i64_of`] read a value as a number. [`Octets`] are octets that contracts see as a list.
+//!   [`i64_of`] read a value as a number. [`Octets`] are octets that contracts see as a list: a copy, or
+//!   a cut of a buffer that lives as long as one of its cuts.
 //! - [`layout`]: the flags, the lengths of header and padding.
 //! - [`AvpFault`]: why octets are no list of AVPs, with the place of the first fault.
 //!
@@ -24,7 +26,7 @@
 //! [`flags_are_bits_and_lengths_leave_padding_out`], [`values_are_numbers_in_network_order`]).
 //!
 //! ```
-//! use dia_avp::{Octets, PlainWire, Wire, u32_of, with_avp};
+//! use dia_avp::{Octets, Wire, u32_of, with_avp};
 //!
 //! /// The body with its first AVP once more at its end, where that is an Unsigned32.
 //! fn again<W: Wire>(alloc: Global, body: Octets) -> Result<Octets, AvpFault> {
@@ -39,11 +41,13 @@
 
 mod avp;
 mod fault;
+mod head;
 mod laws;
 pub mod layout;
 mod number;
 mod octets;
 mod plain;
+mod view;
 mod wire;
 mod writer;
 
@@ -58,5 +62,6 @@ pub use laws::{
 pub use number::{i32_of, i64_of, u32_of, u64_of};
 pub use octets::Octets;
 pub use plain::PlainWire;
+pub use view::ViewWire;
 pub use wire::{DEPTH_LIMIT, Wire};
 pub use writer::{with_avp, write_avp};

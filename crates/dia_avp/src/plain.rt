@@ -5,11 +5,10 @@ ghost use Rattle.dia_avp.specs.AvpList.{Reads, Answers, BeginsWith, fault_at};
 
 use crate::avp::RawAvp;
 use crate::fault::AvpFault;
-use crate::layout::{has_vendor, header_len, padding_of};
+use crate::head::head_of;
 use crate::octets::Octets;
 use crate::wire::{DEPTH_LIMIT, Wire};
 use crate::writer::write_avp;
-use byteorder::{BigEndian, ByteOrder};
 use std::alloc::Global;
 
 /// The AVP that the octets begin with, and what stands behind its padding.
@@ -17,33 +16,14 @@ fn front_of<'a>(alloc: Global, at: usize, octets: &'a [u8]) -> Result<(RawAvp, &
     ensures found { IfOk result (λ x. BeginsWith octets.now x.0 x.1.now) }
     ensures fault { MatchOption (fault_at at octets.now) (IsOkUnless result AvpFault.OutOfMemory) (λ f. result ≡ Err f) }
 {
-    if octets.len() < 8 {
-        return Err(AvpFault::ShortHeader { at });
-    }
-    let code = BigEndian::read_u32(octets);
-    let flags = octets[4];
-    let len = BigEndian::read_u24(&octets[5..]) as usize;
-    let header = header_len(flags);
-    if len < header {
-        return Err(AvpFault::LengthTooSmall { at, code });
-    }
-    if octets.len() < len {
-        return Err(AvpFault::Overrun { at, code });
-    }
-    let vendor = if has_vendor(flags) {
-        BigEndian::read_u32(&octets[8..])
-    } else {
-        0
-    };
-    let value = Octets::copy_of(alloc, &octets[header..len])?;
-    let end = (len + padding_of(len)).min(octets.len());
+    let head = head_of(at, octets)?;
     let avp = RawAvp {
-        code,
-        flags,
-        vendor,
-        value,
+        code: head.code,
+        flags: head.flags,
+        vendor: head.vendor,
+        value: Octets::copy_of(alloc, &octets[head.value..head.padding])?,
     };
-    let (_, rest) = octets.split_at(end);
+    let (_, rest) = octets.split_at(head.end);
     Ok((avp, rest))
 }
 

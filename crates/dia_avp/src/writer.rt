@@ -56,7 +56,8 @@ pub fn write_avp(
 }
 
 /// The octets of a body with one AVP more behind it. Where the last AVP of the body lacks padding, it
-/// gets that first, as zeros: the body has then a multiple of 4 octets.
+/// gets that first, as zeros: the body has then a multiple of 4 octets. What is made is a buffer, whose clones
+/// are cuts.
 pub fn with_avp(alloc: Global, body: &Octets, avp: &RawAvp) -> Result<Octets, AvpFault>
     ensures ok { IfOk result (λ octets. octets ≡ with_avp body.now avp.now) }
     ensures fits { length_of avp.now < 2 ^ 24 → IsOkUnless result AvpFault.OutOfMemory }
@@ -71,5 +72,5 @@ pub fn with_avp(alloc: Global, body: &Octets, avp: &RawAvp) -> Result<Octets, Av
     out.extend_from_slice(octets)?;
     out.extend_from_slice(&[0; 3][..padding_of(octets.len())])?;
     write_avp(&mut out, avp.code, avp.flags, avp.vendor, value)?;
-    Ok(Octets::from_vec(out)?)
+    Ok(Octets::shared(out)?)
 }
