@@ -213,7 +213,8 @@ fn length_of(octets: &[u8]) -> usize
     BigEndian::read_u24(behind) as usize
 }
 
-/// The message of octets that are one whole message.
+/// The message of octets that are one whole message. Its body is a buffer of its own, which the values
+/// read of it share.
 fn message_of(alloc: Global, octets: &[u8]) -> Result<Message, AllocError>
     requires { 20 ≤ length octets.now }
     ensures { IfOk result (λ message. message ≡ message_in octets.now) }
@@ -223,6 +224,6 @@ fn message_of(alloc: Global, octets: &[u8]) -> Result<Message, AllocError>
     header.copy_from_slice(front);
     Ok(Message {
         header: read_header(&header).header,
-        body: Octets::copy_of(alloc, body)?,
+        body: Octets::shared(Vec::from_slice(alloc, body)?)?,
     })
 }
