@@ -7,7 +7,7 @@ use crate::fault::{At, AuditFault, Why, found};
 use crate::source::Source;
 use crate::steps::push_step;
 use crate::told::{Charge, FrontNow, Job, Stream, Sweep};
-use dia_avp::PlainWire;
+use dia_avp::ViewWire;
 use dia_base::NodeNo;
 use dia_message::Message;
 use farm_world::{NodeKind, Site, Step, World};
@@ -107,7 +107,7 @@ impl<R: Drop> Audit<R> {
 
     /// Takes a step, which has to apply.
     pub fn play(&mut self, site: &Site, at: At, step: Step) -> Result<(), AuditFault> {
-        if !self.world.step::<PlainWire>(self.alloc, site, &step)? {
+        if !self.world.step::<ViewWire>(self.alloc, site, &step)? {
             return found(at, Why::CannotHappen);
         }
         self.steps = self.steps.saturating_add(1);

@@ -3,7 +3,7 @@
 use crate::audit::{Audit, is_front};
 use crate::fault::{AuditFault, Why, found};
 use crate::told::{Charge, Job, Sweep, Whereabouts};
-use dia_avp::{PlainWire, Wire};
+use dia_avp::{ViewWire, Wire};
 use dia_message::Message;
 use farm_world::{Site, Step};
 use std::io::Read;
@@ -135,7 +135,7 @@ impl<R: Read + Drop> Audit<R> {
     }
 
     fn is_too_busy(&self, answer: &Message) -> Result<bool, AuditFault> {
-        let Ok(avps) = PlainWire::split(self.alloc, &answer.body) else {
+        let Ok(avps) = ViewWire::split(self.alloc, &answer.body) else {
             return Ok(false);
         };
         let code = avps

@@ -14,7 +14,7 @@ ghost use Rattle.farm_text.specs.Writing.{BeginsWriting};
 
 use crate::fault::Fault;
 use crate::replay::{ReplayFault, replay_io};
-use dia_avp::PlainWire;
+use dia_avp::ViewWire;
 use farm_command::Action;
 use farm_site::site_of_octets;
 use farm_world::row_site;
@@ -40,7 +40,7 @@ pub fn replay_row_site<R: Read, W: Write>(
     let Ok(site) = row_site(alloc) else {
         return Err(ReplayFault::OutOfMemory);
     };
-    replay_io::<PlainWire, _, _>(alloc, action, &site, reader, writer)
+    replay_io::<ViewWire, _, _>(alloc, action, &site, reader, writer)
 }
 
 /// The replay of a schedule over the site that the octets of a site file spell.
@@ -70,7 +70,7 @@ pub fn replay_site_file<R: Read, W: Write>(
         Ok(site) => site,
         Err(fault) => return Err(Fault::Site(fault)),
     };
-    match replay_io::<PlainWire, _, _>(alloc, action, &spelled, reader, writer) {
+    match replay_io::<ViewWire, _, _>(alloc, action, &spelled, reader, writer) {
         Ok(()) => Ok(()),
         Err(fault) => Err(Fault::Replay(fault)),
     }

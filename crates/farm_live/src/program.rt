@@ -12,7 +12,7 @@ use crate::waker::LoopWaker;
 use crate::watching::Watching;
 use cc_book::Book;
 use cc_shared::SharedBook;
-use dia_avp::PlainWire;
+use dia_avp::ViewWire;
 use dia_message::Message;
 use farm_access::Access;
 use farm_base::Site;
@@ -196,7 +196,7 @@ where
     let Ok((shared, seats)) = SharedBook::<L>::share(rt.alloc(), blank, book, workers) else {
         return Err(Fault::OutOfMemory);
     };
-    let fronts = start_fronts::<PlainWire, L, O, LoopWaker>(
+    let fronts = start_fronts::<ViewWire, L, O, LoopWaker>(
         *os,
         rt.alloc(),
         shared,

@@ -6,7 +6,7 @@ use crate::fault::LoopFault;
 use crate::half::halves;
 use crate::sockets::{Ready, Sockets, Source, token_of};
 use crate::{Served, tell};
-use dia_avp::PlainWire;
+use dia_avp::ViewWire;
 use dia_base::{ConnId, Moment, NodeNo};
 use farm_access::{Access, canonical};
 use farm_base::Site;
@@ -141,8 +141,8 @@ impl<N: Node + Drop> Live<N> {
         self.serve_ready(moment)?;
         self.accept_all(log, site, access, moment);
         self.dial_all(os, log, site, moment);
-        self.serving.tick::<PlainWire>(moment);
-        self.serving.write_all::<PlainWire>(moment);
+        self.serving.tick::<ViewWire>(moment);
+        self.serving.write_all::<ViewWire>(moment);
         self.let_go(moment);
         self.tell_notes(log, site);
         self.listen_where_due(os, log, site)?;
@@ -178,7 +178,7 @@ impl<N: Node + Drop> Live<N> {
         self.sockets.listeners.clear();
         self.addresses.clear();
         self.dials.clear();
-        self.serving.close_all::<PlainWire>(moment);
+        self.serving.close_all::<ViewWire>(moment);
         Ok(())
     }
 
@@ -199,7 +199,7 @@ impl<N: Node + Drop> Live<N> {
             return Ok(());
         }
         self.serving
-            .readable::<PlainWire>(unread.conn, piece, moment);
+            .readable::<ViewWire>(unread.conn, piece, moment);
         if let Some(link) = self.serving.link(unread.conn) {
             let half = link.conn.reader().device();
             if link.end.is_none() && half.may_have_more(unread.closes) {
@@ -235,7 +235,7 @@ impl<N: Node + Drop> Live<N> {
 
     fn serve_one(&mut self, ready: Ready, moment: Moment) -> Result<(), LoopFault> {
         match ready.source {
-            Source::Waker => self.serving.wake::<PlainWire>(moment),
+            Source::Waker => self.serving.wake::<ViewWire>(moment),
             Source::Listener { place } => {
                 if let Some(listening) = self.sockets.listeners.get_mut(place) {
                     listening.is_ready = true;
@@ -246,7 +246,7 @@ impl<N: Node + Drop> Live<N> {
                     self.read_reported(conn, ready.closes, moment)?;
                 }
                 if ready.writes {
-                    self.serving.writable::<PlainWire>(conn, moment);
+                    self.serving.writable::<ViewWire>(conn, moment);
                 }
             }
         }

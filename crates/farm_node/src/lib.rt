@@ -10,13 +10,13 @@
 //! besides.
 //!
 //! ```
-//! use dia_avp::PlainWire;
+//! use dia_avp::ViewWire;
 //! use farm_node::{Node, Reaction};
 //!
 //! /// A message comes on a new connection of a node.
 //! fn first<N: Node>(node: &mut N, alloc: Global, me: NodeNo, peer: NodeNo, message: Message) -> Reaction {
 //!     let _up = node.on_up(alloc, me, peer, ConnId(1));
-//!     node.on_message::<PlainWire>(alloc, ConnId(1), message)
+//!     node.on_message::<ViewWire>(alloc, ConnId(1), message)
 //! }
 //! ```
 #![tactic(auto)]

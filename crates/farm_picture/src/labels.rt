@@ -1,6 +1,6 @@
 //! Messages in a few words.
 
-use dia_avp::{AvpFault, PlainWire, RawAvp, Wire, u32_of};
+use dia_avp::{AvpFault, RawAvp, ViewWire, Wire, u32_of};
 use dia_base::codes::{CC_REQUEST_TYPE, CREDIT_CONTROL_COMMAND, RESULT_CODE};
 use dia_message::{Header, Message};
 use std::alloc::{AllocError, Global};
@@ -43,7 +43,7 @@ pub fn label_of(alloc: Global, message: &Message) -> Result<Label, AllocError> {
 
 /// The AVPs of a message; none where its body is no list of AVPs.
 fn avps_of(alloc: Global, message: &Message) -> Result<Vec<RawAvp>, AllocError> {
-    match PlainWire::split(alloc, &message.body) {
+    match ViewWire::split(alloc, &message.body) {
         Ok(avps) => Ok(avps),
         Err(AvpFault::OutOfMemory) => Err(AllocError),
         Err(_) => Ok(Vec::new(alloc)),

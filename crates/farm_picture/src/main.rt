@@ -25,7 +25,7 @@ mod timeline;
 mod ways;
 
 use asked::asked_in;
-use dia_avp::PlainWire;
+use dia_avp::ViewWire;
 use dia_base::SCHEDULE_LIMIT;
 use drawing::draw;
 use farm_script::{LineFault, ScriptFault, steps_of};
@@ -50,7 +50,7 @@ fn picture_of(alloc: Global, site: &Site, part: Part, text: &[u8]) -> Result<Str
     ensures { IfOk result (λ _. IsSchedule site.now text.now) }
 {
     let steps = steps_of(alloc, text, site).map_err(|fault| PictureFault::Script(fault))?;
-    let timeline = timeline_of::<PlainWire>(alloc, site, &steps, part)?;
+    let timeline = timeline_of::<ViewWire>(alloc, site, &steps, part)?;
     let picture = draw(alloc, site, &timeline)?;
     Ok(picture)
 }

@@ -3,7 +3,7 @@
 use crate::messages::{debit, print_sent};
 use cc_book::{Account, Book, Money};
 use cc_rating::{Tariff, Tariffs, UnitKind};
-use dia_avp::{Octets, PlainWire};
+use dia_avp::{Octets, ViewWire};
 use dia_base::{ConnId, Identity, Listing, Moment};
 use front_core::{Front, FrontEvent, FrontSite};
 use std::alloc::Global;
@@ -57,7 +57,7 @@ pub fn print_run(rt: &impl Print, alloc: Global) -> anyhow::Result<()> {
         workers: 1,
         queue: 1,
     };
-    let (outs, book) = Front::run::<PlainWire>(alloc, &site, book(alloc)?, &events(alloc)?)?;
+    let (outs, book) = Front::run::<ViewWire>(alloc, &site, book(alloc)?, &events(alloc)?)?;
     print_sent(rt, alloc, &outs)?;
     println!(rt; "balance {}", book.balance(0).unwrap_or(0))?;
     Ok(())

@@ -1,7 +1,7 @@
 //! A relay alone over a list of events: it forwards a debit, and loses the connection that it went out on.
 
 use crate::messages::{debit, print_sent};
-use dia_avp::PlainWire;
+use dia_avp::ViewWire;
 use dia_base::{ConnId, Identity, Listing, NodeKind, NodeNo};
 use relay_core::{Relay, RelayEvent, RelaySite};
 use relay_peers::LinkedPeer;
@@ -57,6 +57,6 @@ fn events(alloc: Global) -> anyhow::Result<Vec<RelayEvent>> {
 
 /// Prints what the relay sends.
 pub fn print_run(rt: &impl Print, alloc: Global) -> anyhow::Result<()> {
-    let outs = Relay::run::<PlainWire>(alloc, &site(alloc)?, &events(alloc)?)?;
+    let outs = Relay::run::<ViewWire>(alloc, &site(alloc)?, &events(alloc)?)?;
     print_sent(rt, alloc, &outs)
 }

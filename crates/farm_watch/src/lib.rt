@@ -19,13 +19,13 @@
 //! [`watchdogs_ask_and_then_drop`], [`connections_end_with_disconnect_peer`]).
 //!
 //! ```
-//! use dia_avp::PlainWire;
+//! use dia_avp::ViewWire;
 //! use farm_watch::{Act, Side, Watch, WatchSite};
 //!
 //! /// What a node reads of the first message on a connection that was made to it.
 //! fn first(alloc: Global, site: &WatchSite, moment: Moment, message: Message) -> Result<Option<NodeNo>, AllocError> {
 //!     let (mut watch, _nothing) = Watch::new(alloc, site, Side::Accepts, moment)?;
-//!     let mut acts = watch.on_message::<PlainWire>(alloc, site, &[], moment, message)?;
+//!     let mut acts = watch.on_message::<ViewWire>(alloc, site, &[], moment, message)?;
 //!     let _answer = acts.take_first();
 //!     match acts.take_first() {
 //!         Some(Act::PeerUp(node)) => Ok(Some(node)),

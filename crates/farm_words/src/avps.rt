@@ -2,7 +2,7 @@
 
 use crate::values::{push_hex, push_value};
 use dia_avp::layout::{MANDATORY, VENDOR, has_vendor, is_mandatory};
-use dia_avp::{AvpFault, DEPTH_LIMIT, Octets, PlainWire, RawAvp, Wire};
+use dia_avp::{AvpFault, DEPTH_LIMIT, Octets, RawAvp, ViewWire, Wire};
 use dia_base::Code;
 use dia_dict::{Kind, kind_of, name_of};
 use std::alloc::{AllocError, Global};
@@ -37,12 +37,12 @@ pub fn push_avps(
 /// The AVPs that the octets begin with, and what is left of the octets.
 fn front_of(alloc: Global, octets: &Octets) -> Result<(Vec<RawAvp>, &[u8]), AllocError> {
     let all = octets.as_slice();
-    let at = match PlainWire::split(alloc, octets) {
+    let at = match ViewWire::split(alloc, octets) {
         Ok(avps) => return Ok((avps, &[])),
         Err(fault) => place_of(fault)?.min(all.len()),
     };
     let (front, rest) = all.split_at(at);
-    match PlainWire::split(alloc, &Octets::copy_of(alloc, front)?) {
+    match ViewWire::split(alloc, &Octets::copy_of(alloc, front)?) {
         Ok(avps) => Ok((avps, rest)),
         Err(AvpFault::OutOfMemory) => Err(AllocError),
         Err(_) => Ok((Vec::new(alloc), all)),

@@ -15,12 +15,12 @@
 //! a worker of a front acts; `runs` goes over the steps.
 //!
 //! ```text
-//! use dia_avp::PlainWire;
+//! use dia_avp::ViewWire;
 //! use farm_world::{Step, Trace, row_site, run};
 //!
 //! fn entries(alloc: Global, steps: &[Step]) -> Result<usize, AllocError> {
 //!     let site = row_site(alloc)?;
-//!     match run::<PlainWire>(alloc, &site, steps) {
+//!     match run::<ViewWire>(alloc, &site, steps) {
 //!         Ok(trace) => Ok(trace.book.history().len()),
 //!         Err(_) => Err(AllocError),
 //!     }

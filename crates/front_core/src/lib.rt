@@ -13,10 +13,10 @@
 //! ```
 //! let mut front = Front::new(alloc, name, realm, vendors, 4, 1024)?;
 //! front.conn_up(conn)?;
-//! let refused = front.on_message::<PlainWire>(alloc, conn, message)?;
+//! let refused = front.on_message::<ViewWire>(alloc, conn, message)?;
 //! post(refused);
 //! if front.pick(0) {
-//!     front.charge::<PlainWire>(alloc, 0, &mut book, now)?;
+//!     front.charge::<ViewWire>(alloc, 0, &mut book, now)?;
 //! }
 //! if let Some(out) = front.emit(alloc, 0)? {
 //!     post(out);

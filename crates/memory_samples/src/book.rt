@@ -5,7 +5,7 @@ ghost use Rattle.farm_base.specs.CheckedSite.{IsChecked};
 use anyhow::bail;
 use cc_book::{Answered, Book, BookRefusal};
 use cc_view::{CcRequest, ViewError, request_of};
-use dia_avp::PlainWire;
+use dia_avp::ViewWire;
 use dia_base::Moment;
 use dia_message::Message;
 use farm_base::{Site, Step};
@@ -48,7 +48,7 @@ fn book_of(trace: Trace) -> Book {
 fn fresh_book(alloc: Global, site: &Site) -> anyhow::Result<Book>
     requires { IsChecked site.now }
 {
-    match run::<PlainWire>(alloc, site, &[]) {
+    match run::<ViewWire>(alloc, site, &[]) {
         Ok(trace) => Ok(book_of(trace)),
         Err(_error) => bail!("out of memory"),
     }
@@ -80,7 +80,7 @@ fn print_message(
     moment: Moment,
     message: &Message,
 ) -> anyhow::Result<()> {
-    match request_of::<PlainWire>(alloc, message, site.vendors.as_slice()) {
+    match request_of::<ViewWire>(alloc, message, site.vendors.as_slice()) {
         Ok(request) => print_taken(rt, alloc, book, moment, &request),
         Err(ViewError::Refused(_refusal)) => {
             println!(rt; "no request")?;

@@ -2,7 +2,7 @@
 
 ghost use Rattle.farm_base.specs.CheckedSite.{IsChecked};
 
-use dia_avp::PlainWire;
+use dia_avp::ViewWire;
 use dia_base::ConnId;
 use dia_message::{Message, spell_message};
 use farm_base::{Site, Step};
@@ -15,7 +15,7 @@ use std::alloc::Global;
 pub fn print(rt: &impl Print, alloc: Global, site: &Site, steps: &[Step]) -> anyhow::Result<()>
     requires { IsChecked site.now }
 {
-    match run::<PlainWire>(alloc, site, steps) {
+    match run::<ViewWire>(alloc, site, steps) {
         Ok(trace) => print_trace(rt, alloc, steps.len() as u64, &trace),
         Err(
             RunError {

@@ -5,7 +5,7 @@ use anyhow::Context;
 use cc_book::Book;
 use cc_shared::{CloseError, Receipt, ServeError};
 use cc_view::answer_bytes;
-use dia_avp::PlainWire;
+use dia_avp::ViewWire;
 use dia_base::Identity;
 use dia_message::Message;
 use std::alloc::Global;
@@ -16,7 +16,7 @@ fn answer(alloc: Global, receipt: &Receipt) -> anyhow::Result<Message> {
     let realm = Identity::read(alloc, b"ocs.example")?;
     let message = debit_message(alloc)?;
     let (request, reply) = (&receipt.request, &receipt.reply);
-    Ok(answer_bytes::<PlainWire>(alloc, &name, &realm, &message, request, reply)?)
+    Ok(answer_bytes::<ViewWire>(alloc, &name, &realm, &message, request, reply)?)
 }
 
 /// Whether all these receipts give one answer to the debit.

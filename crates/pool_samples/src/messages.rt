@@ -6,7 +6,7 @@ use anyhow::Context;
 use cc_book::{Account, Book, Money};
 use cc_rating::{Tariff, Tariffs, UnitKind};
 use cc_view::{CcRequest, request_of};
-use dia_avp::{Octets, PlainWire};
+use dia_avp::{Octets, ViewWire};
 use dia_message::{Message, whole_message};
 use std::alloc::Global;
 
@@ -32,7 +32,7 @@ fn message(alloc: Global, text: &str) -> anyhow::Result<Message> {
 }
 
 fn request(alloc: Global, message: &Message, number: u32) -> anyhow::Result<CcRequest> {
-    let mut request = request_of::<PlainWire>(alloc, message, &[])
+    let mut request = request_of::<ViewWire>(alloc, message, &[])
         .ok()
         .context("no request")?;
     request.number = number;

@@ -15,7 +15,7 @@
 //! `specs/Promise`, over the acts of `specs/Acts`.
 //!
 //! ```
-//! use dia_avp::PlainWire;
+//! use dia_avp::ViewWire;
 //! use dia_base::{ConnId, NodeNo};
 //! use dia_message::{Message, Out};
 //! use relay_core::{Relay, RelayError, RelaySite};
@@ -25,7 +25,7 @@
 //!     let mut relay = Relay::new(alloc, site)?;
 //!     relay.conn_up(NodeNo(4), ConnId(1))?;
 //!     relay.conn_up(NodeNo(2), ConnId(2))?;
-//!     relay.on_message::<PlainWire>(alloc, ConnId(1), request)
+//!     relay.on_message::<ViewWire>(alloc, ConnId(1), request)
 //! }
 //! ```
 #![tactic(auto)]

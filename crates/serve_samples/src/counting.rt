@@ -2,7 +2,7 @@
 
 use crate::messages::{FRONT, locals};
 use crate::streams::Failing;
-use dia_avp::{PlainWire, Wire};
+use dia_avp::{ViewWire, Wire};
 use dia_base::{ConnId, Moment, NodeNo};
 use dia_message::Message;
 use farm_net::Counted;
@@ -69,10 +69,10 @@ pub fn serve<'a>(alloc: Global, reader: Reader<'a>, writer: Writer) -> anyhow::R
     if let Ok(conn) = serving.accept(FRONT, Vec::new(alloc), reader, writer, Moment(1_000)) {
         let mut piece = [0u8; 4_096];
         for _ in 0..3 {
-            serving.readable::<PlainWire>(conn, &mut piece, Moment(1_000));
-            serving.write_all::<PlainWire>(Moment(1_000));
+            serving.readable::<ViewWire>(conn, &mut piece, Moment(1_000));
+            serving.write_all::<ViewWire>(Moment(1_000));
         }
-        serving.tick::<PlainWire>(Moment(31_000));
+        serving.tick::<ViewWire>(Moment(31_000));
     }
     Ok(serving)
 }

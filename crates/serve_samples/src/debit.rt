@@ -4,7 +4,7 @@ use crate::messages::{CER, DEBIT, FRONT, locals, octets};
 use crate::streams::{failing_from, sound};
 use cc_book::{Account, Book, Money};
 use cc_rating::{Tariff, Tariffs, UnitKind};
-use dia_avp::{Octets, PlainWire};
+use dia_avp::{Octets, ViewWire};
 use dia_base::{Identity, Listing, Moment};
 use farm_serve::{FrontAt, Fronts, Serving};
 use front_core::Front;
@@ -62,10 +62,10 @@ pub fn print(rt: &impl Print, alloc: Global) -> anyhow::Result<()> {
         sound(Vec::new(alloc)),
         Moment(1_000),
     ) {
-        serving.tick::<PlainWire>(Moment(1_000));
+        serving.tick::<ViewWire>(Moment(1_000));
         let mut piece = [0u8; 4_096];
-        serving.readable::<PlainWire>(conn, &mut piece, Moment(1_000));
-        serving.write_all::<PlainWire>(Moment(1_000));
+        serving.readable::<ViewWire>(conn, &mut piece, Moment(1_000));
+        serving.write_all::<ViewWire>(Moment(1_000));
         if let Some(link) = serving.link(conn) {
             let written = link.conn.writer().device().stream.as_slice();
             println!(rt; "{}", hex::encode(alloc, written)?)?;

@@ -3,7 +3,7 @@
 use crate::counting::Counting;
 use crate::messages::{CER, FRONT, RELAY, locals, octets};
 use crate::streams::{failing_from, sound};
-use dia_avp::PlainWire;
+use dia_avp::ViewWire;
 use dia_base::{Moment, NodeNo};
 use farm_serve::Serving;
 use std::alloc::Global;
@@ -23,8 +23,8 @@ fn print(rt: &impl Print, alloc: Global, name: &str, barred: Vec<NodeNo>) -> any
         return Ok(());
     };
     let mut piece = [0u8; 4_096];
-    serving.readable::<PlainWire>(conn, &mut piece, Moment(1_000));
-    serving.write_all::<PlainWire>(Moment(1_000));
+    serving.readable::<ViewWire>(conn, &mut piece, Moment(1_000));
+    serving.write_all::<ViewWire>(Moment(1_000));
     if let Some(link) = serving.link(conn) {
         let up = link.standing.peer().is_some();
         let written = link.conn.writer().device().stream.len();

@@ -7,7 +7,7 @@ use crate::messages::debit;
 use anyhow::{Context, bail};
 use cc_book::Book;
 use cc_shared::{Receipt, Seat, SharedBook};
-use dia_avp::PlainWire;
+use dia_avp::ViewWire;
 use dia_base::ConnId;
 use dia_message::Message;
 use front_pool::{Finished, Gate, Job, Pool, PoolQueue, Pooling, Stopped, SubmitError};
@@ -69,7 +69,7 @@ where
         return Err(AllocError.into());
     };
     let handle = shared.another()?;
-    match Pool::<L>::start::<PlainWire, R, G>(rt, alloc, handle, seats, gate, queue) {
+    match Pool::<L>::start::<ViewWire, R, G>(rt, alloc, handle, seats, gate, queue) {
         Ok(pool) => Ok(Running {
             pool,
             shared,
