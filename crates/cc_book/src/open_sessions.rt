@@ -118,8 +118,9 @@ impl OpenSessions {
         ensures room { self.old.room ≤ self.new.room }
         ensures accounts { self.new.accounts ≡ self.old.accounts }
     {
-        if let Some((_id, ended)) = self.sessions.shift_remove_index(place) {
+        if let Some((id, ended)) = self.sessions.shift_remove_index(place) {
             self.totals[ended.account] -= held_in(ended.holds.as_slice());
+            drop((id, ended));
         }
     }
 

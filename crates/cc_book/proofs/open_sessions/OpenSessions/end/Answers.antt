@@ -16,21 +16,21 @@ held_in-requires c =
     let items : values c.self.inside.sessions ≡ c.args.self.now.items = ap (λ (s : Sessions). s.items) c.self.view_is in
     let all : held_by_all (values c.self.inside.sessions) ≡ held_by_all c.args.self.now.items = ap held_by_all items in
     let part = reserved_in-part account (values c.self.inside.sessions) in
-    let there = values-at c.self.inside.sessions.entries c.args.place (c.in-Some._id, c.in-Some.ended) (sym c.in-Some.ensures.entry) in
+    let there = values-at c.self.inside.sessions.entries c.args.place (c.in-Some.id, c.in-Some.ended) (sym c.in-Some.ensures.entry) in
     let own = held-total (values c.self.inside.sessions) c.args.place c.in-Some.ended there in
     let same = ap held_in c.as_slice.ensures in
     omega (arith, c.requires.held)
 
 pub index_mut-requires : goal.index_mut-requires
 index_mut-requires c =
-    let there = values-at c.self.inside.sessions.entries c.args.place (c.in-Some._id, c.in-Some.ended) (sym c.in-Some.ensures.entry) in
+    let there = values-at c.self.inside.sessions.entries c.args.place (c.in-Some.id, c.in-Some.ended) (sym c.in-Some.ensures.entry) in
     let lt = known-at (length c.self.inside.totals.items) (values c.self.inside.sessions) c.args.place c.in-Some.ended there c.self.invariant.known in
     omega (arith, c.self.inside.totals.ok.0)
 
 pub overflow_sub-index_mut : goal.overflow_sub-index_mut
 overflow_sub-index_mut c =
     let account = c.in-Some.ended.account in
-    let there = values-at c.self.inside.sessions.entries c.args.place (c.in-Some._id, c.in-Some.ended) (sym c.in-Some.ensures.entry) in
+    let there = values-at c.self.inside.sessions.entries c.args.place (c.in-Some.id, c.in-Some.ended) (sym c.in-Some.ensures.entry) in
     let lt = known-at (length c.self.inside.totals.items) (values c.self.inside.sessions) c.args.place c.in-Some.ended there c.self.invariant.known in
     let own = held-total (values c.self.inside.sessions) c.args.place c.in-Some.ended there in
     let total = c.self.invariant.summed account in
@@ -43,7 +43,7 @@ pub invariant_of-self : goal.invariant_of-self
 invariant_of-self c =
     let account = c.in-Some.ended.account in
     let at = sym c.in-Some.ensures.entry in
-    let there = values-at c.self.inside.sessions.entries c.args.place (c.in-Some._id, c.in-Some.ended) at in
+    let there = values-at c.self.inside.sessions.entries c.args.place (c.in-Some.id, c.in-Some.ended) at in
     let lt = known-at (length c.self.inside.totals.items) (values c.self.inside.sessions) c.args.place c.in-Some.ended there c.self.invariant.known in
     let own = held-total (values c.self.inside.sessions) c.args.place c.in-Some.ended there in
     let total = c.self.invariant.summed account in
@@ -52,7 +52,7 @@ invariant_of-self c =
     let same = ap held_in c.as_slice.ensures in
     let left = c.index_mut.result.now - c.held_in.result in
     subst (λ (es : Rows). IsKept es (slice_set c.self.inside.totals.items account left)) (sym c.shift_remove_index.ensures.entries)
-    (IsKept-end c.self.inside.sessions.entries c.self.inside.totals.items c.args.place (c.in-Some._id, c.in-Some.ended) left c.self.invariant at
+    (IsKept-end c.self.inside.sessions.entries c.self.inside.totals.items c.args.place (c.in-Some.id, c.in-Some.ended) left c.self.invariant at
     (omega (arith, c.held_in.ensures)))
 
 pub returns-in-Some-clause-items : goal.returns-in-Some-clause-items
