@@ -15,7 +15,7 @@ that is no step, or a site file a key that is refused. The program gets them by 
 output, standard error and exit status have to be the model's.
 
 A relay sends the requests of a lost connection again in the order of Hop-by-Hop Identifiers, which it may choose as it
-likes. Here the model chooses them as the program is documented to: rising, and kept where a request is sent again. A
+likes. Here the model chooses them as the program is documented to: those that became free last first. A
 difference that another choice explains is told as such. Exit status: 0, or 1 where there was a difference.
 """
 import argparse
@@ -32,7 +32,7 @@ from credit_control import (CHECK_BALANCE_RESULT, COST_INFORMATION, FINAL_UNIT_I
 from diameter import ERROR, FAILED_AVP, PROXY_INFO, Message, first, split
 from farm import CHOICES
 from program import REFUSED, run
-from random_runs import Case, case_at, identifiers
+from random_runs import Case, case_at
 from row_site import ROW_SITE
 from site_file import SiteFault, site_of
 from visits import Visits
@@ -46,13 +46,13 @@ AVP_NAMES = {GRANTED_UNITS: "Granted-Service-Unit", FINAL_UNIT_INDICATION: "Fina
 
 # ---- The two sides of a run
 
-def of_model(case, choose=identifiers):
+def of_model(case, choose=None):
     """What `replay` and `report` give: standard output, standard error and exit status, as octets."""
     try:
         site = ROW_SITE if case.site is None else site_of(case.site)
     except SiteFault as fault:
         return [(b"", f"{fault}\n".encode(), REFUSED)] * 2
-    output, told, status = run(case.schedule, site, choose())
+    output, told, status = run(case.schedule, site, choose() if choose else None)
     report = output[output.find("\nentries ") + 1:]
     return [(it.encode(), told.encode(), status) for it in (output, report)]
 

@@ -11,7 +11,7 @@ from dataclasses import dataclass, field
 from book import Book, Full
 from credit_control import Refused, credit_control_answer, request_of
 from diameter import TOO_BUSY, refusal
-from nodes import Relay
+from nodes import SlabRelay
 from records import beginning, spelled
 from site_data import CLIENT, FRONT, RELAY
 
@@ -23,28 +23,6 @@ WEIGHTS = {"dial": 12, "send": 24, "read": 90, "notice": 14, "flush": 60, "pick"
            "sweep": 2, "cut": 2, "close": 2, "kill": 1}
 MOODS = [WEIGHTS, WEIGHTS | {"cut": 0, "close": 0, "kill": 0}, WEIGHTS | {"cut": 12, "close": 12, "dial": 40}, WEIGHTS | {"kill": 8},
          WEIGHTS | {"pick": 40, "charge": 4, "finish": 8}, WEIGHTS | {"collect": 3, "send": 60}, WEIGHTS | {"sweep": 15}]
-
-
-def numbered(relay):
-    """The identifiers of a relay, as the program chooses them: rising from 0 on, and kept where a request goes out again."""
-    def choose(used, old):
-        if old is not None and old not in used:
-            return old
-        hop = next(it % 2**32 for it in range(relay.following, relay.following + 2**32) if it % 2**32 not in used)
-        relay.following = (hop + 1) % 2**32
-        return hop
-    return choose
-
-
-class NumberedRelay(Relay):
-    """A relay that chooses identifiers for itself, and begins anew with them."""
-
-    def __init__(self, name, site):
-        super().__init__(name, site, None)
-
-    def restart(self):
-        super().restart()
-        self.following, self.choose = 0, numbered(self)
 
 
 @dataclass
@@ -98,7 +76,7 @@ class Process:
         self.is_alive, self.made, self.ends, self.lines, self.heard = True, 0, {}, [], []
         self.lines.append(beginning(self.names, self.farm.moment))
         if self.kind == RELAY:
-            self.relay = NumberedRelay(self.names[0], self.farm.site)
+            self.relay = SlabRelay(self.names[0], self.farm.site)
         if self.kind == FRONT:
             self.pools = {name: Pool(name, self.farm.site) for name in self.names}
 

@@ -150,8 +150,12 @@ class Relay:
         return self.on_request(conn, message) if message.is_request else self.on_answer(conn, message)
 
     def on_answer(self, conn, message):
-        pending = self.pending.pop((conn, message.hop), None)
+        pending = self.settled(conn, message.hop)
         return self.to_origin(pending, message) if pending else []
+
+    def settled(self, conn, hop):
+        """The request that was pending there, if any, is so no more."""
+        return self.pending.pop((conn, hop), None)
 
     @staticmethod
     def to_origin(pending, answer):
@@ -233,13 +237,44 @@ class Relay:
         for pending in self.pending.values():
             if pending.origin and pending.origin[0] == conn:
                 pending.origin = None
-        sent = {hop: self.pending.pop((conn, hop)) for known, hop in sorted(self.pending) if known == conn}
-        return [out for hop, pending in sent.items() if pending.origin for out in self.again(hop, pending)]
+        sent = sorted(hop for known, hop in self.pending if known == conn)
+        return [out for hop in sent for out in self.again(hop, self.settled(conn, hop))]
 
     def again(self, hop, pending):
+        if pending.origin is None:
+            return []
         try:
             peer = self.candidate(pending.request, split(pending.request.body))
         except Refusing as fault:
             return self.to_origin(pending, self.refusal(pending.request, fault))
         request = replace(pending.request, flags=pending.request.flags | RETRANSMITTED)
         return [self.forward(self.up[peer], pending.origin, request, hop)]
+
+
+class SlabRelay(Relay):
+    """A relay that chooses identifiers as the program does: places in one table for all connections.
+
+    The place that became free last comes first, then the least that was never in use. A request that goes out again
+    stays where it is, and after a restart no place was ever in use.
+    """
+
+    def __init__(self, name, site):
+        super().__init__(name, site, self.chosen)
+
+    def restart(self):
+        super().restart()
+        self.places, self.free = 0, []
+
+    def settled(self, conn, hop):
+        pending = super().settled(conn, hop)
+        self.free += [hop] if pending else []
+        return pending
+
+    def chosen(self, _used, old):
+        if old is not None:
+            self.free.remove(old)
+            return old
+        if self.free:
+            return self.free.pop()
+        self.places += 1
+        return self.places - 1

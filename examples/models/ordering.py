@@ -9,20 +9,9 @@ from collections import deque
 from dataclasses import dataclass, field
 
 from diameter import RESULT_CODE, TOO_BUSY, first, split
-from live_farm import NumberedRelay
 from records import Finding, events_of
 from site_data import CLIENT, FRONT, RELAY
 from world import World, spelled_step
-
-
-class AuditedWorld(World):
-    """A farm whose relays choose identifiers as the program does."""
-
-    def __init__(self, site):
-        super().__init__(site)
-        for name, kind in site.nodes.items():
-            if kind == RELAY:
-                self.nodes[name] = NumberedRelay(name, site)
 
 
 @dataclass
@@ -184,7 +173,7 @@ class Audit:
     """All records of a farm, and the farm that plays them."""
 
     def __init__(self, site, files):
-        self.site, self.world, self.steps = site, AuditedWorld(site), []
+        self.site, self.world, self.steps = site, World(site, None), []
         self.links, self.dials, self.charges, self.kept, self.sweeps, self.open = {}, {}, {}, [], deque(), {}
         self.jobs_told, self.place, self.short, self.events = 0, 0, set(), 0
         self.fronts = {name: FrontState(site.workers) for name, kind in site.nodes.items() if kind == FRONT}

@@ -5,7 +5,7 @@
                              reads that picture: which steps, nodes, messages, marks, connections and accounts it shows
 
 What a picture has to show is worked out here from the model's runs; the picture is read as a person reads it, by where
-lines begin and end. Identifiers that relays choose are not compared.
+lines begin and end. Its relays choose identifiers as the program is documented to (nodes.py).
 """
 import re
 import sys
@@ -28,18 +28,6 @@ RESULTS = {2001: "SUCCESS", 3001: "COMMAND_UNSUPPORTED", 3002: "UNABLE_TO_DELIVE
            5014: "INVALID_AVP_LENGTH", 5030: "USER_UNKNOWN", 5031: "RATING_FAILED"}
 # RFC 8506, section 8.3: any other value has no word.
 REQUEST_TYPES = {1: " INITIAL", 2: " UPDATE", 3: " TERMINATION", 4: " EVENT"}
-
-
-def masked(site, words, ends):
-    """A label without its identifier, where that may be a relay's choice: where no known end is a client."""
-    if any(site.nodes.get(end) == CLIENT for end in ends):
-        return words
-    return re.sub(" 0x[0-9a-f]+", " 0x?", words)
-
-
-def way(site, words, sender, receiver, *rest):
-    """The way of a message: its label, who sent it, at whom it arrived if at all, and its rows and end."""
-    return masked(site, words, (sender, receiver) if receiver else ()), sender, receiver, *rest
 
 
 def ends_of(world):
@@ -80,7 +68,7 @@ class Run:
     """What a picture has to show of a schedule."""
 
     def __init__(self, octets, site, first=1, last=None):
-        self.world, self.site = World(site), site
+        self.world, self.site = World(site, None), site
         self.steps, self.flights, self.notes, self.charges = [], {}, [], {}
         self.made, self.learned, self.ended, self.dropped = set(), set(), set(), set()
         steps = steps_of(octets, site)
@@ -168,7 +156,7 @@ class Run:
     def shown(self):
         drawn = [flight for flight in self.flights.values() if flight[4] != "air"]
         air = [flight for flight in self.flights.values() if flight[4] == "air"]
-        ways = [way(self.site, label(message), sender, receiver if end == "arrow" else None, row, end, last)
+        ways = [(label(message), sender, receiver if end == "arrow" else None, row, end, last)
                 for message, sender, receiver, row, end, last in drawn + air[:AIR]]
         part = {node for flight in self.flights.values() for node in flight[1:3]}
         part |= {node for _, pair in self.made for node in pair} | {note[1] for note in self.notes}
@@ -255,7 +243,7 @@ class Picture:
             at += 1 if air else 2
             head = "air" if air else "cross" if tip[0] == ["lost"] else "arrow"
             assert classes[0] == kind and bend[1] == end[1] and (air or tip[1].startswith(f"M{end[0]} {end[1]}m"))
-            yield way(self.site, words, self.columns[start[0]], self.columns[end[0]] if head == "arrow" else None,
+            yield (words, self.columns[start[0]], self.columns[end[0]] if head == "arrow" else None,
                       self.rows[start[1]], head, None if air else self.row(end[1]))
         assert at == len(paths)
 

@@ -5,7 +5,6 @@ from dataclasses import dataclass
 
 from at_random import LATEST, Dice, Player, Scene
 from diameter import DESTINATION_REALM, Message, text
-from farm import kept
 from messages import DEBIT
 from nodes import PENDING_LIMIT
 from random_requests import RandomRequests
@@ -28,17 +27,12 @@ UNDER_WAY = [4, 8, 8, 16, 60]
 PACES = [1, 2000, 180_000, 10**9]
 
 
-def identifiers():
-    """How the program chooses them: rising from 0, and kept where a request is sent again."""
-    return kept(-1)
-
-
 class Traveller(Player):
     """Chooses steps of all words, and cuts and restarts whatever is under way."""
 
     def __init__(self, dice, site):
         super().__init__(dice, Scene(site, [], [], weights=dice.one_of(MOODS), pace=dice.one_of(PACES)))
-        self.world = World(site, identifiers())
+        self.world = World(site, None)
         self.requests, self.under_way = RandomRequests(dice, self.world), dice.one_of(UNDER_WAY)
         self.stray, self.figures = dice.one_of([4, 25, 25, 25, 100]), Counter()
 

@@ -10,7 +10,7 @@ from dataclasses import dataclass
 
 from book import Book
 from diameter import Message
-from nodes import Client, Front, Relay
+from nodes import Client, Front, Relay, SlabRelay
 from site_data import CLIENT, FRONT, RELAY
 
 SCHEDULE_LIMIT, STEPS_LIMIT = 16_777_216, 1_000_000
@@ -51,13 +51,16 @@ class Connection:
 
 
 class World:
-    """A farm over a site. `choose` is how relays choose Hop-by-Hop Identifiers, which clients never see."""
+    """A farm over a site.
+
+    `choose` is how relays choose Hop-by-Hop Identifiers, which clients never see; where it is None, as the program does.
+    """
 
     def __init__(self, site, choose=lowest_free):
         self.site, self.book, self.received = site, Book(site), []
         self.connections, self.made, self.steps, self.skipped = {}, 0, 0, 0
-        makers = {RELAY: lambda name: Relay(name, site, choose), FRONT: lambda name: Front(name, site, self.book),
-                  CLIENT: lambda name: Client(name, self.received)}
+        makers = {RELAY: lambda name: Relay(name, site, choose) if choose else SlabRelay(name, site),
+                  FRONT: lambda name: Front(name, site, self.book), CLIENT: lambda name: Client(name, self.received)}
         self.nodes = {name: makers[kind](name) for name, kind in site.nodes.items()}
 
     def play(self, word, *arguments):

@@ -14,7 +14,7 @@ mod streams;
 
 fn main(rt: HostRuntime) -> anyhow::Result<()> {
     front::print_run(&rt, rt.alloc())?;
-    relay::print_run(&rt, rt.alloc())?;
+    relay::print_runs(&rt, rt.alloc())?;
     streams::print_reads(&rt, rt.alloc())?;
     streams::print_writes(&rt, rt.alloc())
 }

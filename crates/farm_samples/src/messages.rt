@@ -1,4 +1,4 @@
-//! A debit, and what nodes send.
+//! A debit, its answer, and what nodes send.
 
 use anyhow::Context;
 use dia_message::{Message, Out, whole_message};
@@ -8,9 +8,20 @@ use std::alloc::Global;
 const FIRST: &str =
     "010000f8c0000110000000040000000700000064000001074000000e63313b313b310000000001084000001263312e6578616d706c650000000001284000000f6578616d706c65000000011b400000136f63732e6578616d706c6500000001024000000c00000004000001cd40000016333232353140336770702e6f72670000000001a04000000c000000040000019f4000000c00000000000001b44000000c00000000000001bb40000028000001c24000000c00000000000001bc40000014343931373030303030303031000001c84000002c000001b540000018000001a5400000100000000000000c80000001b04000000c0000000a";
 
+/// An answer with Result-Code 2001 alone, under identifier 0: that of the first request that a relay forwards.
+const ANSWER: &str = "01000020400001100000000400000000000000640000010c4000000c000007d1";
+
 pub fn debit(alloc: Global) -> anyhow::Result<Message> {
-    let octets = hex::decode(alloc, FIRST)?;
-    whole_message(alloc, &octets)?.context("the debit is no message")
+    read(alloc, FIRST)
+}
+
+pub fn answer(alloc: Global) -> anyhow::Result<Message> {
+    read(alloc, ANSWER)
+}
+
+fn read(alloc: Global, spelled: &str) -> anyhow::Result<Message> {
+    let octets = hex::decode(alloc, spelled)?;
+    whole_message(alloc, &octets)?.context("this is no message")
 }
 
 /// Prints a line for each message that is sent: the place of its event, its connection, its kind and its AVPs.

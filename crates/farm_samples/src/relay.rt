@@ -1,8 +1,10 @@
-//! A relay alone over a list of events: it forwards a debit, and loses the connection that it went out on.
+//! A relay alone over two lists of events. It forwards a debit, and loses the connection that it went out on; or an answer
+//! with the debit's identifier comes on another connection, and then the same one on the right connection.
 
-use crate::messages::{debit, print_sent};
+use crate::messages::{answer, debit, print_sent};
 use dia_avp::ViewWire;
 use dia_base::{ConnId, Identity, Listing, NodeKind, NodeNo};
+use dia_message::Message;
 use relay_core::{Relay, RelayEvent, RelaySite};
 use relay_peers::LinkedPeer;
 use relay_routes::Route;
@@ -12,16 +14,19 @@ const CLIENT: NodeNo = NodeNo(1);
 
 const FRONT: NodeNo = NodeNo(2);
 
+const OTHER_FRONT: NodeNo = NodeNo(3);
+
 fn peer(alloc: Global, peer: NodeNo, name: &[u8], kind: NodeKind) -> anyhow::Result<LinkedPeer> {
     let name = Identity::read(alloc, name)?;
     Ok(LinkedPeer { peer, name, kind })
 }
 
-/// A relay between a client and a front, to which its one route leads.
+/// A relay between a client and two fronts, to one of which its one route leads.
 fn site(alloc: Global) -> anyhow::Result<RelaySite> {
     let peers = vec![in alloc;
         peer(alloc, CLIENT, b"c1.example", NodeKind::Client)?,
         peer(alloc, FRONT, b"f1.example", NodeKind::Front)?,
+        peer(alloc, OTHER_FRONT, b"f2.example", NodeKind::Front)?,
     ]?;
     let route = Route {
         realm: Identity::read(alloc, b"ocs.example")?,
@@ -36,27 +41,41 @@ fn site(alloc: Global) -> anyhow::Result<RelaySite> {
     })
 }
 
-fn events(alloc: Global) -> anyhow::Result<Vec<RelayEvent>> {
-    let message = debit(alloc)?;
+fn up(peer: NodeNo, conn: u64) -> RelayEvent {
+    let conn = ConnId(conn);
+    RelayEvent::Up { peer, conn }
+}
+
+fn received(conn: u64, message: Message) -> RelayEvent {
+    let conn = ConnId(conn);
+    RelayEvent::Received { conn, message }
+}
+
+fn lost_connection(alloc: Global) -> anyhow::Result<Vec<RelayEvent>> {
     Ok(vec![in alloc;
-        RelayEvent::Up {
-            peer: CLIENT,
-            conn: ConnId(1)
-        },
-        RelayEvent::Up {
-            peer: FRONT,
-            conn: ConnId(2)
-        },
-        RelayEvent::Received {
-            conn: ConnId(1),
-            message
-        },
+        up(CLIENT, 1),
+        up(FRONT, 2),
+        received(1, debit(alloc)?),
         RelayEvent::Lost { conn: ConnId(2) },
     ]?)
 }
 
+fn answer_elsewhere(alloc: Global) -> anyhow::Result<Vec<RelayEvent>> {
+    Ok(vec![in alloc;
+        up(CLIENT, 1),
+        up(FRONT, 2),
+        up(OTHER_FRONT, 3),
+        received(1, debit(alloc)?),
+        received(3, answer(alloc)?),
+        received(2, answer(alloc)?),
+    ]?)
+}
+
 /// Prints what the relay sends.
-pub fn print_run(rt: &impl Print, alloc: Global) -> anyhow::Result<()> {
-    let outs = Relay::run::<ViewWire>(alloc, &site(alloc)?, &events(alloc)?)?;
-    print_sent(rt, alloc, &outs)
+pub fn print_runs(rt: &impl Print, alloc: Global) -> anyhow::Result<()> {
+    for events in [lost_connection(alloc)?, answer_elsewhere(alloc)?] {
+        let outs = Relay::run::<ViewWire>(alloc, &site(alloc)?, &events)?;
+        print_sent(rt, alloc, &outs)?;
+    }
+    Ok(())
 }

@@ -1,6 +1,6 @@
 -- When a connection ends, what goes out goes out for requests that were sent on it, each message for another one.
 use Rattle.std.proofs.Common.{◌≡◌, ℕ, ◌+◌, ◌≤◌, ◌==◌, Bool, true, false, cond, is_some, MatchOption, List, [], ◌∷◌, ◌++◌, Option, Some, None, option_map, Ok, refl, ap, sym, subst, ◌∙◌, arith}
-use Rattle.std.specs.List.{AllByRecursion, find}
+use Rattle.std.specs.List.{AllByRecursion, find, count_by}
 use Rattle.std.proofs.lemmas.Bool.{eq-eqb}
 use Rattle.dia_base.specs.declared.number.ConnId.{ConnId}
 use Rattle.dia_base.specs.declared.number.NodeNo.{NodeNo}
@@ -9,10 +9,10 @@ use Rattle.cc_view.specs.Answer.{refusal_of}
 use Rattle.cc_view.specs.Refusal.{avps_of, refusal_with}
 use Rattle.relay_hops.specs.declared.row.Held.{Held}
 use Rattle.relay_hops.specs.declared.row.Row.{Row}
-use Rattle.relay_hops.specs.PendingTable.{IsMap, has_key, held_at, under, again, resent}
+use Rattle.relay_hops.specs.PendingTable.{IsMap, IsMoved, hop_of, has_key, held_at, under, again, resent}
 use Rattle.relay_hops.proofs.InUse.{its_hop}
 use Rattle.relay_hops.proofs.LookUps.{count-free}
-use Rattle.relay_hops.proofs.Rows.{IsMap-less, IsMap-moved, row_of_key}
+use Rattle.relay_hops.proofs.Rows.{IsMap-less, IsMap-more, row_of_key}
 use Rattle.relay_peers.specs.PeerTable.{peer_in}
 use Rattle.relay_core.specs.declared.node.RelayNode.{RelayNode}
 use Rattle.relay_core.specs.declared.run.RelayEvent.{RelayEvent}
@@ -23,7 +23,7 @@ use Rattle.relay_core.specs.Promise.EachForAnother.{none_more, one_more}
 use Rattle.relay_core.specs.RelayRun.{IsIdle, OnEvent}
 use Rattle.relay_core.specs.RelayState.{RelayState}
 use Rattle.relay_core.specs.RelayStep.{row_of}
-use Rattle.relay_core.proofs.Holding.{Holding, RowCause, holding-orphans}
+use Rattle.relay_core.proofs.Holding.{Holding, RowCause, count-with, holding-orphans}
 use Rattle.relay_core.proofs.Planning.{held-taken_out, held-moved_away}
 use Rattle.relay_core.proofs.Reaching.{next_hop-never, none_on}
 use Rattle.relay_core.proofs.Unanswered.{Unanswered, OfPending, IsWaiting, pending-orphans}
@@ -70,6 +70,11 @@ known-rest acts lost least hop rows left first gone known other held e =
     let ne : other ≡ hop → ⊥ = λ same. absurd (let yes : (other == hop) ≡ true = eq-eqb other hop same in let no : (other == hop) ≡ false = there.0 in cc) in
     let its = known other held there.1 in
     (omega (arith, ne), its.1, its.2)
+
+IsMap-moved : (row other : Row) (old new : List Row) → IsMoved row other old new → count_by (has_key other.conn (hop_of other)) old ≡ 0 → IsMap old → IsMap new
+IsMap-moved row other old new w none m =
+    let old_with = count-with (has_key other.conn (hop_of other)) row w.rest old w.was in
+    IsMap-more other w.rest new w.is (omega arith) (IsMap-less row w.rest old w.was m)
 
 pub gone : (node : RelayNode) (lost : ConnId) (hop : ℕ) (held : Held) {rows left : List Row} {items : Traffic} → peer_in node.peers.links lost ≡ None → held_at rows lost hop ≡ Some held → IsMap rows
     → RequestFailover node lost held rows items left → IsMap left × IsGone lost hop rows left

@@ -14,7 +14,7 @@ use Rattle.relay_core.specs.declared.node.RelayNode.{RelayNode}
 use Rattle.relay_core.specs.Failover.{Failover, none_left, least_first, RequestFailover, forgotten, sent_again, given_up, OnConnLost, after_end, next_hop_again, without_origins}
 use Rattle.relay_core.specs.RelayState.{RelayState, with_rows}
 use Rattle.relay_core.specs.RelayStep.{row_of}
-use Rattle.relay_core.proofs.OnlySteps.{both, one_part, with_none, Only}
+use Rattle.relay_core.proofs.OnlySteps.{both, empty_parts, one_part, with_none, Only}
 
 -- ---- nothing is left on the connection
 
@@ -70,6 +70,14 @@ goes {node = node} {lost = lost} held here (least_first hop other rows between l
 abbrev Again : ConnId → Held → ConnId → Traffic → List Row → Type 0
 Again lost held to sent between = (hop : ℕ) × (sent ≡ (to, again hop held.request) ∷ []) × (between ≡ resent to hop (row_of lost held) ∷ [])
 
+none_left_of : (row : Row) → IsWith row [] (row ∷ [])
+none_left_of row = record { before = []; after = []; without = refl; whole = refl }
+
+none_but : (row : Row) (others : List Row) → IsWith row others (row ∷ []) → others ≡ []
+none_but row others w =
+    let parts = one_part row row w.before w.after w.whole in
+    w.without ∙ (ap (λ (x : List Row). x ++ w.after) parts.0 ∙ parts.1)
+
 again-only : {node : RelayNode} {lost : ConnId} {held : Held} {sent : Traffic} {between : List Row} (origin : Origin) (to : ConnId)
     → held.origin ≡ Some origin → next_hop_again node held.request ≡ Ok to
     → RequestFailover node lost held (row_of lost held ∷ []) sent between → Again lost held to sent between
@@ -77,17 +85,13 @@ again-only origin to o n (forgotten left none w) = absurd cc
 again-only origin to o n (given_up other code left e f w) = absurd cc
 again-only {lost = lost} {held = held} origin to o n (sent_again other where_to hop left e f free moved) =
     let same : where_to ≡ to = cc in
-    let parts = one_part (row_of lost held) (row_of lost held) moved.before moved.after moved.was in (
+    let none = none_but (row_of lost held) moved.rest moved.was in
+    let parts = empty_parts moved.is.before moved.is.after (sym none ∙ moved.is.without) in (
       hop,
       ap (λ (x : ConnId). (x, again hop held.request) ∷ []) same,
-      with_none (resent where_to hop (row_of lost held)) moved.before moved.after left parts.0 parts.1 moved.is
+      with_none (resent where_to hop (row_of lost held)) moved.is.before moved.is.after left parts.0 parts.1 moved.is.whole
           ∙ ap (λ (x : ConnId). resent x hop (row_of lost held) ∷ []) same,
     )
-
-none_but : (row : Row) (others : List Row) → IsWith row others (row ∷ []) → others ≡ []
-none_but row others w =
-    let parts = one_part row row w.before w.after w.whole in
-    w.without ∙ (ap (λ (x : List Row). x ++ w.after) parts.0 ∙ parts.1)
 
 -- its asker is told why it goes nowhere
 abbrev answer_by : RelayNode → Held → Origin → ResultCode → Traffic
@@ -188,12 +192,9 @@ sends_again relay lost held origin to holds o n off free items after = (
       both (OnConnLost relay lost) items ((to, again p.0 held.request) ∷ []) after (ended relay lost (row ∷ [])) p.1 p.2
       (built relay lost ((to, again p.0 held.request) ∷ []) (row_of lost held ∷ []) (row ∷ []) holds.0
       (least_first held.request.header.hop held (row_of lost held ∷ []) (row ∷ []) (row ∷ []) ((to, again p.0 held.request) ∷ []) [] holds.1 (least lost held)
-      (sent_again origin to p.0 (row ∷ []) o n (none_on to (row_of lost held) free p.0) (record { before = []; after = []; was = refl; is = refl }))
+      (sent_again origin to p.0 (row ∷ []) o n (none_on to (row_of lost held) free p.0) (record { rest = []; was = none_left_of (row_of lost held); is = none_left_of row }))
       (none_left (row ∷ []) (none_on lost row (off p.0))))),
 )
-
-none_left_of : (row : Row) → IsWith row [] (row ∷ [])
-none_left_of row = record { before = []; after = []; without = refl; whole = refl }
 
 nothing_at : (lost : ConnId) (hop : ℕ) → held_at [] lost hop ≡ None
 nothing_at lost hop = refl

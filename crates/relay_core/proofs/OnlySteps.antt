@@ -15,7 +15,7 @@ use Rattle.relay_core.specs.Verdict.{decision}
 
 -- ---- short lists
 
-empty_parts : {T : Type 0} (before after : List T) → [] ≡ before ++ after → (before ≡ []) × (after ≡ [])
+pub empty_parts : {T : Type 0} (before after : List T) → [] ≡ before ++ after → (before ≡ []) × (after ≡ [])
 empty_parts [] after e = (refl, sym e)
 empty_parts (x ∷ before) after e = absurd cc
 
@@ -123,6 +123,11 @@ left_of left (inr p) other = p.1
 left_of' : {x y row : Row} (left : List Row) → ((x ≡ row) × (left ≡ y ∷ [])) ⊎ ((y ≡ row) × (left ≡ x ∷ [])) → (y ≡ row → ⊥) → left ≡ y ∷ []
 left_of' left (inl p) other = p.1
 left_of' left (inr p) other = absurd (other p.0)
+
+pub without_one : (row : Row) → OnlyLeft row (row ∷ []) []
+without_one row = λ others w.
+    let none = one_part row row w.before w.after w.whole in
+    w.without ∙ ap (λ (rows : List Row). rows ++ w.after) none.0 ∙ none.1
 
 pub without_second : (first row : Row) → (first ≡ row → ⊥) → OnlyLeft row (first ∷ row ∷ []) (first ∷ [])
 without_second first row other = λ others w. w.without ∙ left_of (w.before ++ w.after) (two_parts first row row w.before w.after w.whole) other

@@ -12,7 +12,7 @@ use cc_view::{Refusal, ViewError, avps_of, refusal_bytes};
 use dia_avp::Wire;
 use dia_base::{ConnId, Identity, Listing};
 use dia_message::{Message, Out};
-use relay_hops::{Origin, Pending, PendingRefusal};
+use relay_hops::{Origin, Pending};
 use std::alloc::Global;
 
 /// A request of this sender is refused, and nothing of it is kept; or it goes out under an identifier of
@@ -67,19 +67,14 @@ fn forward(
         header: request.header,
         body: recorded(alloc, sender, &request.body)?,
     };
-    match pending.add(to, origin, sent.clone()?) {
-        Ok(hop) => {
-            sent.header.hop = hop;
-            items.push_reserved((to, sent));
-            Ok(Out {
-                items: Listing::from_vec(items),
-            })
-        }
-        Err(refused) => match refused.why {
-            PendingRefusal::PendingFull { .. } => unreachable!(),
-            PendingRefusal::OutOfMemory => Err(RelayError::OutOfMemory),
-        },
-    }
+    let Ok(hop) = pending.add(to, origin, sent.clone()?) else {
+        unreachable!()
+    };
+    sent.header.hop = hop;
+    items.push_reserved((to, sent));
+    Ok(Out {
+        items: Listing::from_vec(items),
+    })
 }
 
 /// The relay's own answer to a request that it does not forward.

@@ -27,10 +27,12 @@ pub fn forwarded_requests_are_kept_with_their_origin()
 
 /// An answer goes back to where its request came from under the identifier of that, otherwise unchanged, and the request
 /// is pending no more. It goes nowhere where that connection has ended, and is ignored where no request is pending under
-/// its identifier on its connection.
+/// its identifier on its connection: then the request waits on, and its own answer goes back.
 pub fn answers_go_to_the_origin_under_its_identifier()
     ensures matched { DoesOnly (with_rows (debit_on 3 5 None ∷ debit_on 2 5 of_c1 ∷ []) all_up) (received 2 (under 5 answer_message))
         ((conn 1, answer_message) ∷ []) (with_rows (debit_on 3 5 None ∷ []) all_up) }
+    ensures alone { DoesOnly (with_rows (debit_on 2 5 of_c1 ∷ []) all_up) (received 2 (under 5 answer_message))
+        ((conn 1, answer_message) ∷ []) (with_rows [] all_up) }
     ensures orphaned { DoesOnly (with_rows (debit_on 3 5 None ∷ debit_on 2 5 of_c1 ∷ []) all_up) (received 3 (under 5 answer_message))
         [] (with_rows (debit_on 2 5 of_c1 ∷ []) all_up) }
     ensures other_identifier { DoesOnly (with_rows (debit_on 2 5 of_c1 ∷ []) all_up) (received 2 (under 7 answer_message))

@@ -15,12 +15,6 @@ use Rattle.relay_hops.specs.PendingTable.{IsMap, IsWith, AreInUse, has_key, held
 use Rattle.relay_hops.proofs.LookUps.{any-hops_on, held-with}
 use Rattle.relay_hops.proofs.Rows.{free_after}
 
-pub in_use-sorted : (rows : List Row) (conn : ConnId) (hops : List ℕ) → IsPermutation (hops_on rows conn) hops → IsStrictlyIncreasing hops → AreInUse rows conn hops
-in_use-sorted rows conn hops all rising = record {
-  used = λ hop. sym (any-hops_on rows conn hop) ∙ list_any-IsPermutation (λ h. h == hop) (hops_on rows conn) hops all;
-  rising = sorted_from_strictly_increasing hops rising;
-}
-
 pub first-held : (rows : List Row) (conn : ConnId) (hop : ℕ) (hops : List ℕ) → AreInUse rows conn (hop ∷ hops) → is_some (held_at rows conn hop) ≡ true
 first-held rows conn hop hops u = u.used hop ∙ ap (λ b. b || list_any (λ h. h == hop) hops) (eq-eqb hop hop refl)
 

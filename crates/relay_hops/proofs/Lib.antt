@@ -1,5 +1,4 @@
-pub mod Trying
 pub mod Rows
-pub mod Rising
+pub mod Slab
 pub mod LookUps
 pub mod InUse

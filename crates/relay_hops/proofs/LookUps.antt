@@ -32,11 +32,7 @@ held-with row others rows conn hop w m =
     ∙ ap (λ (xs : List Row). cond (has_key conn hop row) (Some row.held) (held (find (has_key conn hop) xs))) (sym w.without)
 
 pub moved-rest : (row other : Row) (old new : List Row) → IsMoved row other old new → (rest : List Row) × IsWith row rest old × IsWith other rest new
-moved-rest row other old new w = (
-  w.before ++ w.after,
-  record { before = w.before; after = w.after; without = refl; whole = w.was },
-  record { before = w.before; after = w.after; without = refl; whole = w.is },
-)
+moved-rest row other old new w = (w.rest, w.was, w.is)
 
 front : (ended : ConnId) (b : Bool) (row : Row) (found rest : Option Row) → held found ≡ option_map (without_origin ended) (held rest) → held (cond b (Some (orphaned ended row)) found) ≡ option_map (without_origin ended) (held (cond b (Some row) rest))
 front ended true row found rest e = refl
@@ -66,14 +62,3 @@ count-free rows conn hop e = count_none (has_key conn hop) rows (no_row (find (h
 
 pub free-counted : (rows : List Row) (conn : ConnId) (hop : ℕ) → count_by (has_key conn hop) rows ≡ 0 → held_at rows conn hop ≡ None
 free-counted rows conn hop e = ap held (none_counted (has_key conn hop) rows e)
-
-used_held : (rows : List Row) (conn : ConnId) (hop : ℕ) → list_any (has_key conn hop) rows ≡ true → held_at rows conn hop ≡ None → ⊥
-used_held rows conn hop used free = any_found (has_key conn hop) rows used (no_row (find (has_key conn hop) rows) free)
-
--- the first free identifier from one on that is free is that one
-pub first-free : (rows : List Row) (conn : ConnId) (start hop : ℕ) → start < 2 ^ 32 → hop < 2 ^ 32 → ((k : ℕ) → k < (hop + 2 ^ 32 - start) % 2 ^ 32 → list_any (has_key conn ((start + k) % 2 ^ 32)) rows ≡ true)
-    → held_at rows conn start ≡ None → hop ≡ start
-first-free rows conn start hop low small first free =
-    let same : (start + 0) % 2 ^ 32 ≡ start = omega arith in
-    let never : 0 < (hop + 2 ^ 32 - start) % 2 ^ 32 → ⊥ = λ lt. used_held rows conn start (subst (λ (n : ℕ). list_any (has_key conn n) rows ≡ true) same (first 0 lt)) free in
-    omega (arith, never)

@@ -1,1 +1,2 @@
 pub mod PendingTable
+pub mod PlaceTable

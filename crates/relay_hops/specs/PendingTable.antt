@@ -56,12 +56,11 @@ pub record IsWith (row : Row) (others rows : List Row) : Type 0 where
   pub without : others ≡ before ++ after
   pub whole : rows ≡ before ++ row ∷ after
 
--- The new rows are the old ones, with one row in place of another.
+-- The new rows are the old ones, with one row in place of another: the rest is the same.
 pub record IsMoved (row other : Row) (old new : List Row) : Type 0 where
-  pub before : List Row
-  pub after : List Row
-  pub was : old ≡ before ++ row ∷ after
-  pub is : new ≡ before ++ other ∷ after
+  pub rest : List Row
+  pub was : IsWith row rest old
+  pub is : IsWith other rest new
 
 -- ---- how a row changes
 

@@ -27,9 +27,9 @@
 //! ```
 #![tactic(auto)]
 
-mod free;
 mod laws;
 mod pending;
+mod places;
 mod row;
 
 pub use laws::{

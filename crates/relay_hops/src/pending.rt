@@ -1,11 +1,11 @@
 //! The table of pending requests.
 
-ghost use Rattle.std.specs.Prelude.{◌≡◌, ◌≤◌, ◌<◌, ◌^◌, [], ◌∷◌, map, length, is_some, Some, None, IfOk, IfErr, OnOk, OnErr, IfSome, IfNone, OnSome, IsSome, IsPermutation, position};
+ghost use Rattle.std.specs.Prelude.{◌≡◌, ◌≤◌, ◌<◌, [], map, length, is_some, Some, None, IfOk, IsOk, OnErr, IfSome, IfNone, IsPermutation};
 ghost use Rattle.std.specs.List.Sorted.{IsStrictlyIncreasing};
 ghost use Rattle.std.specs.Option.{option_copied};
-ghost use Rattle.relay_hops.specs.PendingTable.{IsMap, has_key, held_at, hops_on, is_full, AreInUse, IsWith, IsMoved, under, resent, orphaned};
+ghost use Rattle.relay_hops.specs.PendingTable.{IsMap, held_at, hops_on, is_full, AreInUse, IsWith, IsMoved, under, resent, orphaned};
 
-use crate::free::free_hop;
+use crate::places::Places;
 use crate::row::{Held, Hop, Origin, Row};
 use dia_base::ConnId;
 use dia_message::Message;
@@ -30,36 +30,40 @@ pub struct NotAdded {
 }
 
 /// The requests that were sent and are not answered yet. Contracts see the limit, and the rows in an
-/// order that says nothing. The rows stand in a list, which every call but `new`, `clear` and `is_full`
-/// walks: a call takes time in proportion to the requests that are pending.
+/// order that says nothing. An identifier is the key of a place in a slab, one for all connections together:
+/// the one that became free last, or else the least that was never in use. So it may come back at once after
+/// its answer. `sent_to`, `orphan` and `clear` take time in proportion to the places that were in use, and
+/// every other call takes the same time however many requests are pending.
 #[derive(Debug, Drop)]
 pub struct Pending {
     limit: u32,
-    rows: Vec<Row>,
-    /// Where the search for an identifier begins: behind the last one that was given.
-    next: Hop,
+    /// One place more than the limit: there is another one for a request that goes out again on its own
+    /// connection.
+    places: Places,
 }
 
 impl Model for Pending {
-    ghost use Rattle.std.specs.Prelude.{◌≤◌, length};
-    ghost use Rattle.relay_hops.specs.PendingTable.{PendingTable, IsMap};
+    ghost use Rattle.std.specs.Prelude.{◌≡◌, ◌≤◌, ◌<◌, length};
+    ghost use Rattle.slab.specs.Slab.{slab_len};
+    ghost use Rattle.relay_hops.specs.PendingTable.{PendingTable};
+    ghost use Rattle.relay_hops.specs.PlaceTable.{IsSlab, rows_of};
 
     ghost Value = { PendingTable };
 
-    ghost view = { λ p. record { limit = p.limit; rows = p.rows.items } };
+    ghost view = { λ p. record { limit = p.limit; rows = rows_of p.places } };
 
-    ghost invariant = { λ p. (length p.rows.items ≤ p.limit) × IsMap p.rows.items };
+    ghost invariant = { λ p. (slab_len p.places.slab ≤ p.limit) × (p.limit < p.places.slab.capacity) × (slab_len p.places.slab ≡ length (rows_of p.places)) × IsSlab p.places };
 }
 
 impl Pending {
-    /// No request is pending, and as many as the limit may be.
+    /// No request is pending, and as many as the limit may be: there is memory for them. Where more places
+    /// come of it than there are identifiers it is an error too.
     pub fn new(alloc: Global, limit: u32) -> Result<Self, AllocError>
         ensures { IfOk result (λ pending. pending ≡ record { limit = limit; rows = [] }) }
     {
         Ok(Pending {
             limit,
-            rows: Vec::new(alloc),
-            next: 0,
+            places: Places::new(alloc, limit as usize + 1)?,
         })
     }
 
@@ -68,15 +72,14 @@ impl Pending {
     pub fn is_full(&self) -> bool
         ensures { result ≡ is_full self.now }
     {
-        self.rows.len() >= self.limit as usize
+        self.places.count() >= self.limit as usize
     }
 
     /// A request goes out on a connection: it is pending there under an identifier that no other
-    /// one has. At the limit, and where memory is refused, the table is as it was and the request is
-    /// handed back.
+    /// one has. It takes no memory. At the limit the table is as it was and the request is handed back.
     pub fn add(&mut self, conn: ConnId, origin: Origin, request: Message) -> Result<Hop, NotAdded>
         ensures full { self.old.limit ≤ length self.old.rows → result ≡ Err (record { why = PendingRefusal.PendingFull self.old.limit; request = request }) }
-        ensures room { length self.old.rows < self.old.limit → IfErr result (λ refused. refused ≡ record { why = PendingRefusal.OutOfMemory; request = request }) }
+        ensures room { length self.old.rows < self.old.limit → IsOk result }
         ensures free { IfOk result (λ hop. held_at self.old.rows conn hop ≡ None) }
         ensures ok { IfOk result (λ hop. IsWith (record { conn = conn; held = record { origin = Some origin; request = under hop request } }) self.old.rows self.new.rows) }
         ensures limit { self.new.limit ≡ self.old.limit }
@@ -87,19 +90,7 @@ impl Pending {
             let why = PendingRefusal::PendingFull { limit: self.limit };
             return Err(NotAdded { why, request });
         }
-        let hop = free_hop(&self.rows, conn, self.next);
-        let given = request.header.hop;
-        let held = Held {
-            origin: Some(origin),
-            request: renumbered(request, hop),
-        };
-        if let Err(refused) = self.rows.push(Row { conn, held }) {
-            let request = renumbered(refused.value.held.request, given);
-            let why = PendingRefusal::OutOfMemory;
-            return Err(NotAdded { why, request });
-        }
-        self.next = hop.wrapping_add(1);
-        Ok(hop)
+        Ok(self.places.put(conn, Some(origin), request))
     }
 
     /// An answer came on the connection under the identifier: the request that was pending there, if
@@ -113,8 +104,8 @@ impl Pending {
         ensures map_before { IsMap self.old.rows }
         ensures map { IsMap self.new.rows }
     {
-        let at = self.place_of(conn, hop)?;
-        Some(self.rows.remove(at).held)
+        let row = self.places.take(conn, hop)?;
+        Some(row.held)
     }
 
     /// What is kept of the request that is pending on the connection under the identifier. It takes
@@ -123,10 +114,7 @@ impl Pending {
         ensures value { option_copied result ≡ held_at self.now.rows conn hop }
         ensures map { IsMap self.now.rows }
     {
-        self.rows
-            .iter()
-            .find(|row| row.has_key(conn, hop))
-            .map(|row| &row.held)
+        self.places.row(conn, hop).map(|row| &row.held)
     }
 
     /// The identifiers of the requests that are pending on the connection, each above the one
@@ -137,20 +125,7 @@ impl Pending {
         ensures in_use { IfOk result (λ hops. AreInUse self.now.rows conn hops.items) }
         ensures map { IsMap self.now.rows }
     {
-        let mut hops = self.hops_on(alloc, conn)?;
-        hops.sort_unstable();
-        Ok(hops)
-    }
-
-    fn hops_on(&self, alloc: Global, conn: ConnId) -> Result<Vec<Hop>, AllocError>
-        ensures all { IfOk result (λ hops. hops.items ≡ hops_on self.now.rows conn) }
-        ensures map { IsMap self.now.rows }
-    {
-        self.rows
-            .iter()
-            .filter(|row| row.is_sent_on(conn))
-            .map(|row| row.hop())
-            .collect(alloc)
+        self.places.hops_on(alloc, conn)
     }
 
     /// A pending request goes out again, on a connection that may be the same one, under an
@@ -167,10 +142,10 @@ impl Pending {
         ensures map_before { IsMap self.old.rows }
         ensures map { IsMap self.new.rows }
     {
-        let at = self.place_of(conn, hop)?;
-        let fresh = free_hop(&self.rows, to, hop);
-        self.rows[at].resend(to, fresh);
-        Some(fresh)
+        if to == conn {
+            return self.places.renumber(conn, hop);
+        }
+        self.places.resend(conn, hop, to)
     }
 
     /// A connection has ended: the answers to the requests that came on it go nowhere. It takes no
@@ -179,37 +154,13 @@ impl Pending {
         ensures rows { self.new ≡ record { limit = self.old.limit; rows = map (orphaned conn) self.old.rows } }
         ensures map { IsMap self.new.rows }
     {
-        lose_origins(&mut self.rows, conn);
+        self.places.lose_origins(conn);
     }
 
     /// No request is pending, and identifiers are given as by a new table. It takes no memory.
     pub fn clear(&mut self)
         ensures { self.new ≡ record { limit = self.old.limit; rows = [] } }
     {
-        self.rows.clear();
-        self.next = 0;
+        self.places.clear();
     }
-
-    fn place_of(&self, conn: ConnId, hop: Hop) -> Option<usize>
-        ensures { result ≡ position (has_key conn hop) self.now.rows }
-    {
-        self.rows.iter().position(|row| row.has_key(conn, hop))
-    }
-}
-
-fn lose_origins(rows: &mut [Row], conn: ConnId)
-    ensures { rows.new ≡ map (orphaned conn) rows.old }
-{
-    for row in rows.iter_mut() {
-        row.lose_origin(conn);
-    }
-}
-
-/// The request under another identifier.
-fn renumbered(request: Message, hop: Hop) -> Message
-    ensures { result ≡ under hop request }
-{
-    let mut request = request;
-    request.header.hop = hop;
-    request
 }

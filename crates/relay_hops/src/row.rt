@@ -1,7 +1,7 @@
 //! What is kept of one request.
 
 ghost use Rattle.std.specs.Prelude.{◌≡◌};
-ghost use Rattle.relay_hops.specs.PendingTable.{has_key, is_sent_on, orphaned, resent};
+ghost use Rattle.relay_hops.specs.PendingTable.{is_sent_on, orphaned, resent};
 
 use dia_base::ConnId;
 use dia_message::Message;
@@ -46,13 +46,6 @@ impl Row {
         ensures { result ≡ self.now.held.request.header.hop }
     {
         self.held.request.header.hop
-    }
-
-    /// Whether the request was sent on the connection under the identifier.
-    pub(crate) fn has_key(&self, conn: ConnId, hop: Hop) -> bool
-        ensures { result ≡ has_key conn hop self.now }
-    {
-        self.is_sent_on(conn) && self.hop() == hop
     }
 
     /// The connection on which the request came has ended, if it is this one.

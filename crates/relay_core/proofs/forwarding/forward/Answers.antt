@@ -2,7 +2,6 @@ use Rattle.std.proofs.Common.{rules, ◌≡◌, ◌<◌, ap, subst, ◌∷◌, [
 use Rattle.std.proofs.lemmas.Bool.{leb-false}
 use Rattle.cc_view.specs.Refusal.{avps_of}
 use Rattle.dia_message.specs.declared.message.Message.{Message}
-use Rattle.relay_hops.specs.declared.pending.NotAdded.{NotAdded}
 use Rattle.relay_hops.specs.PendingTable.{under, IsWith}
 use Rattle.relay_core.specs.Forwarding.{with_record}
 use Rattle.relay_core.specs.RelayStep.{held_for, row_of}
@@ -10,8 +9,8 @@ use Rattle.relay_core.proofs.Cases.{request_forwarded, state}
 use Rattle.relay_core.proofs.Rules.{forwarded-by}
 use Rattle.relay_core.proofs.forwarding.forward.Goals as goal
 
-pub returns-in-Ok-clause-ok : goal.returns-in-Ok-clause-ok
-returns-in-Ok-clause-ok c =
+pub returns-clause-ok : goal.returns-clause-ok
+returns-clause-ok c =
     let copy : c.in_ok-clone.field-0 ≡ with_record c.args.sender.now c.args.request = search rules in
     let sent : c.from_vec.result ≡ (c.args.to, under c.in-Ok.hop (with_record c.args.sender.now c.args.request)) ∷ [] = search rules in
     request_forwarded c.args.node.now c.args.pending.now c.add.new.self c.args.conn c.args.sender.now c.args.request c.args.to c.in-Ok.hop c.from_vec.result c.requires
@@ -23,4 +22,4 @@ pub unreachable-requires : goal.unreachable-requires
 unreachable-requires c =
     let fit = forwarded-by (state c.args.node.now c.args.pending.now) c.args.sender.now c.args.request (avps_of c.args.request.body) c.args.to c.requires in
     let room : length c.args.pending.now.rows < c.args.pending.now.limit = leb-false _ _ fit.0 in
-    let why = ap (λ (n : NotAdded). n.why) (c.in-Err.ensures.room room) in let is_full = c.in-PendingFull.is in absurd cc
+    let ok = c.add.ensures.room room in search rules

@@ -5,7 +5,7 @@ use Rattle.relay_hops.specs.PendingTable.{under}
 use Rattle.relay_core.specs.RelayState.{with_rows}
 use Rattle.relay_core.specs.RuleExample.{all_up, conn}
 use Rattle.relay_core.specs.StepExample.{debit_on, of_c1}
-use Rattle.relay_core.proofs.OnlySteps.{answers, drops, ignores, without_first, without_second}
+use Rattle.relay_core.proofs.OnlySteps.{answers, drops, ignores, without_first, without_one, without_second}
 use Rattle.relay_core.proofs.step_examples.answers_go_to_the_origin_under_its_identifier.Goals as goal
 
 other_first : debit_on 3 5 None ≡ debit_on 2 5 of_c1 → ⊥
@@ -21,6 +21,11 @@ returns-clause-matched c =
     answers (with_rows (debit_on 3 5 None ∷ debit_on 2 5 of_c1 ∷ []) all_up) (conn 2) (under 5 answer_message) (debit_on 2 5 of_c1).held
     (record { conn = conn 1; hop = 7 }) (debit_on 3 5 None ∷ []) refl refl (without_second (debit_on 3 5 None) (debit_on 2 5 of_c1) other_first)
     (record { before = debit_on 3 5 None ∷ []; after = []; without = refl; whole = refl })
+
+pub returns-clause-alone : goal.returns-clause-alone
+returns-clause-alone c =
+    answers (with_rows (debit_on 2 5 of_c1 ∷ []) all_up) (conn 2) (under 5 answer_message) (debit_on 2 5 of_c1).held
+    (record { conn = conn 1; hop = 7 }) [] refl refl (without_one (debit_on 2 5 of_c1)) (record { before = []; after = []; without = refl; whole = refl })
 
 pub returns-clause-orphaned : goal.returns-clause-orphaned
 returns-clause-orphaned c =

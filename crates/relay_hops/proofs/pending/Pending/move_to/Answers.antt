@@ -1,60 +1,81 @@
-use Rattle.std.proofs.Common.{◌≡◌, ◌∙◌, ◌≤◌, arith, rules, ap, sym, length, set, is_some, false}
-use Rattle.std.specs.List.{position, list_any}
-use Rattle.std.proofs.Math.ListN.{length-set}
-use Rattle.relay_hops.specs.declared.row.Row.{Row}
-use Rattle.relay_hops.specs.PendingTable.{PendingTable, has_key, IsMap, IsMoved, resent}
-use Rattle.dia_base.proofs.Counting.{none_any}
-use Rattle.relay_hops.proofs.Rows.{IsPlace, place, no_place, held-found, held-none, moved, IsMap-moved}
-use Rattle.relay_hops.proofs.LookUps.{first-free}
+use Rattle.std.proofs.Common.{◌≡◌, ◌∙◌, ◌==◌, true, false, ap, sym, subst, is_some, IfSome, None, rules, refl, arith}
+use Rattle.dia_base.specs.declared.number.ConnId.{ConnId}
+use Rattle.relay_hops.specs.PendingTable.{held_at, resent, IsMoved}
+use Rattle.relay_hops.specs.PlaceTable.{row_at, rows_at}
+use Rattle.relay_hops.proofs.Slab.{IsMap-places, told_by, conn_is, as_held, same_if_free, free_there, free_under, moved_held}
 use Rattle.relay_hops.proofs.pending.Pending.move_to.Goals as goal
 
-pub returns-in_err-at-clause-variant : goal.returns-in_err-at-clause-variant
-returns-in_err-at-clause-variant c = ap is_some c.from_residual.ensures ∙ sym (ap is_some (no_place c.args.self.now.rows c.args.conn c.args.hop (sym c.place_of.ensures ∙ c.in_err-at.was)))
-
--- the row that is sent again, where it stands, and how it was known
-abbrev row : goal.After-self-1 → Row
-row c = c.index_mut.result.now
-
-abbrev known : goal.After-self-1 → Row
-known c = record { conn = c.args.conn; held = (row c).held }
-
-at : (c : goal.After-self-1) → IsPlace c.self.inside.rows.items c.args.conn c.args.hop c.in_ok-at.at (row c)
-at c =
-    place c.self.inside.rows.items c.args.conn c.args.hop c.in_ok-at.at (row c)
-    (ap (λ (t : PendingTable). position (has_key c.args.conn c.args.hop) t.rows) c.self.view_is ∙ sym c.place_of.ensures ∙ c.in_ok-at.was) (search rules)
-
-goes : (c : goal.After-self-1)
-    → IsMoved (known c) (resent c.args.to c.free_hop-fresh.result (known c)) c.self.inside.rows.items (set c.self.inside.rows.items c.in_ok-at.at c.resend.new.self)
-goes c =
-    moved c.self.inside.rows.items (set c.self.inside.rows.items c.in_ok-at.at c.resend.new.self) c.args.conn c.args.hop c.in_ok-at.at (row c) c.args.to c.free_hop-fresh.result (at c)
-    (ap (set c.self.inside.rows.items c.in_ok-at.at) c.resend.ensures)
-
-unused : (c : goal.After-self-1) → list_any (has_key c.args.to c.free_hop-fresh.result) c.self.inside.rows.items ≡ false
-unused c = search rules
-
-still_map : (c : goal.After-self-1) → IsMap (set c.self.inside.rows.items c.in_ok-at.at c.resend.new.self)
-still_map c =
-    IsMap-moved (known c) (resent c.args.to c.free_hop-fresh.result (known c)) c.self.inside.rows.items (set c.self.inside.rows.items c.in_ok-at.at c.resend.new.self) (goes c)
-    (none_any (has_key c.args.to c.free_hop-fresh.result) c.self.inside.rows.items (unused c)).0 c.self.invariant.1
-
 pub invariant_of-self : goal.invariant_of-self
-invariant_of-self c =
-    let le : length c.self.inside.rows.items ≤ c.self.inside.limit = c.self.invariant.0 in
-    (omega (arith, length-set {A = Row}), still_map c)
+invariant_of-self c = (
+  omega (arith, c.self.invariant.0, c.renumber.ensures.count),
+  omega (arith, c.self.invariant.1, c.renumber.ensures.capacity),
+  c.renumber.ensures.count ∙ c.self.invariant.2 ∙ sym c.renumber.ensures.rows,
+  c.renumber.ensures.slab,
+)
+
+pub invariant_of-self-2 : goal.invariant_of-self-2
+invariant_of-self-2 c = (
+  omega (arith, c.self.invariant.0, c.resend.ensures.count),
+  omega (arith, c.self.invariant.1, c.resend.ensures.capacity),
+  c.resend.ensures.count ∙ c.self.invariant.2 ∙ sym c.resend.ensures.rows,
+  c.resend.ensures.slab,
+)
+
+-- ---- on its own connection
+
+own : (c : goal.After-renumber) → c.args.to ≡ c.args.conn
+own c = let same : (c.args.to.0 == c.args.conn.0) ≡ true = search rules in conn_is c.args.to c.args.conn same
+
+there : (c : goal.After-renumber) → is_some c.renumber.result ≡ is_some (held_at (rows_at c.self.inside.places.slab.slots) c.args.conn c.args.hop)
+there c =
+    c.renumber.ensures.variant ∙ as_held (row_at c.self.inside.places c.args.conn c.args.hop)
+    ∙ sym (ap is_some (told_by c.self.inside.places c.args.conn c.args.hop (row_at c.self.inside.places c.args.conn c.args.hop) c.self.invariant.3 refl))
+
+pub returns-then-eq-clause-variant : goal.returns-then-eq-clause-variant
+returns-then-eq-clause-variant c = rw (← c.self.view_is) (there c)
+
+pub returns-then-eq-clause-free : goal.returns-then-eq-clause-free
+returns-then-eq-clause-free c = rw (← c.self.view_is) (free_under c.self.inside.places c.args.to c.renumber.result c.self.invariant.3 c.renumber.ensures.free)
+
+pub returns-then-eq-clause-same : goal.returns-then-eq-clause-same
+returns-then-eq-clause-same c =
+    rw (← c.self.view_is)
+    (same_if_free c.renumber.result (held_at (rows_at c.self.inside.places.slab.slots) c.args.to c.args.hop) c.args.hop
+    (subst (λ (to : ConnId). is_some c.renumber.result ≡ is_some (held_at (rows_at c.self.inside.places.slab.slots) to c.args.hop)) (sym (own c)) (there c)))
+
+pub returns-then-eq-clause-moved : goal.returns-then-eq-clause-moved
+returns-then-eq-clause-moved c =
+    rw (← c.self.view_is, told_by c.self.inside.places c.args.conn c.args.hop (row_at c.self.inside.places c.args.conn c.args.hop) c.self.invariant.3 refl)
+    (moved_held c.self.inside.places c.args.conn c.args.to c.args.hop c.renumber.result (rows_at c.renumber.new.self.slab.slots)
+    (subst (λ (to : ConnId). IfSome c.renumber.result (λ fresh. IfSome (row_at c.self.inside.places c.args.conn c.args.hop) (λ r. IsMoved r (resent to fresh r) (rows_at c.self.inside.places.slab.slots) (rows_at c.renumber.new.self.slab.slots))))
+    (sym (own c)) c.renumber.ensures.moved))
+
+pub returns-then-eq-clause-map_before : goal.returns-then-eq-clause-map_before
+returns-then-eq-clause-map_before c = rw (← c.self.view_is) (IsMap-places c.self.inside.places.slab.slots c.self.invariant.3.in_place)
+
+pub returns-then-eq-clause-map : goal.returns-then-eq-clause-map
+returns-then-eq-clause-map c = IsMap-places c.renumber.new.self.slab.slots c.renumber.ensures.slab.in_place
+
+-- ---- on another one
 
 pub returns-clause-variant : goal.returns-clause-variant
-returns-clause-variant c = rw (← c.self.view_is) (sym (ap is_some (held-found c.self.inside.rows.items c.args.conn c.args.hop (row c) (at c).found)))
+returns-clause-variant c =
+    rw (← c.self.view_is)
+    (c.resend.ensures.variant ∙ as_held (row_at c.self.inside.places c.args.conn c.args.hop)
+    ∙ sym (ap is_some (told_by c.self.inside.places c.args.conn c.args.hop (row_at c.self.inside.places c.args.conn c.args.hop) c.self.invariant.3 refl)))
 
 pub returns-clause-free : goal.returns-clause-free
-returns-clause-free c = rw (← c.self.view_is) (held-none c.self.inside.rows.items c.args.to c.free_hop-fresh.result (unused c))
-
-pub returns-clause-same : goal.returns-clause-same
-returns-clause-same c =
-    rw (← c.self.view_is)
-    (λ free. first-free c.self.inside.rows.items c.args.to c.args.hop c.free_hop-fresh.result (search rules) (search rules) (rw c.deref.ensures.value at c.free_hop-fresh.ensures.first) free)
+returns-clause-free c =
+    let other : (c.args.to.0 == c.args.conn.0) ≡ false = search rules in
+    rw (← c.self.view_is) (free_there c.self.inside.places c.args.conn c.args.to c.args.hop c.resend.result c.self.invariant.3 c.resend.ensures.same c.resend.ensures.variant other)
 
 pub returns-clause-moved : goal.returns-clause-moved
-returns-clause-moved c = rw (← c.self.view_is, held-found c.self.inside.rows.items c.args.conn c.args.hop (row c) (at c).found) (goes c)
+returns-clause-moved c =
+    rw (← c.self.view_is, told_by c.self.inside.places c.args.conn c.args.hop (row_at c.self.inside.places c.args.conn c.args.hop) c.self.invariant.3 refl)
+    (moved_held c.self.inside.places c.args.conn c.args.to c.args.hop c.resend.result (rows_at c.resend.new.self.slab.slots) c.resend.ensures.moved)
+
+pub returns-clause-map_before : goal.returns-clause-map_before
+returns-clause-map_before c = rw (← c.self.view_is) (IsMap-places c.self.inside.places.slab.slots c.self.invariant.3.in_place)
 
 pub returns-clause-map : goal.returns-clause-map
-returns-clause-map c = still_map c
+returns-clause-map c = IsMap-places c.resend.new.self.slab.slots c.resend.ensures.slab.in_place

@@ -1,42 +1,29 @@
-use Rattle.std.proofs.Common.{◌∙◌, ◌≤◌, arith, ap, sym, length}
-use Rattle.std.specs.List.{position}
-use Rattle.relay_hops.specs.PendingTable.{PendingTable, has_key, IsMap, IsWith}
-use Rattle.relay_hops.proofs.Rows.{IsPlace, place, no_place, held-found, row_of_key, taken_out, length-with, IsMap-less, free_after}
+use Rattle.std.proofs.Common.{◌≡◌, ◌∙◌, ap, sym, option_map}
+use Rattle.relay_hops.specs.declared.row.Row.{Row}
+use Rattle.relay_hops.proofs.Slab.{IsMap-places, told_by, none_left}
 use Rattle.relay_hops.proofs.pending.Pending.settle.Goals as goal
 
-pub returns-in_err-at-clause-value : goal.returns-in_err-at-clause-value
-returns-in_err-at-clause-value c = c.from_residual.ensures ∙ sym (no_place c.args.self.now.rows c.args.conn c.args.hop (sym c.place_of.ensures ∙ c.in_err-at.was))
+pub returns-in_err-row-clause-value : goal.returns-in_err-row-clause-value
+returns-in_err-row-clause-value c =
+    rw (← c.self.view_is) (c.from_residual.ensures ∙ sym (told_by c.self.inside.places c.args.conn c.args.hop c.take.result c.self.invariant.3 c.take.ensures.value ∙ ap (option_map (λ (row : Row). row.held)) c.in_err-row.was))
 
-pub returns-in_err-at-clause-free : goal.returns-in_err-at-clause-free
-returns-in_err-at-clause-free c = no_place c.args.self.now.rows c.args.conn c.args.hop (sym c.place_of.ensures ∙ c.in_err-at.was)
+pub returns-in_err-row-clause-free : goal.returns-in_err-row-clause-free
+returns-in_err-row-clause-free c = none_left c.take.new.self c.args.conn c.args.hop c.take.ensures.slab c.take.ensures.gone
 
--- the row that was taken out, and where it stood
-at : (c : goal.After-remove) → IsPlace c.self.inside.rows.items c.args.conn c.args.hop c.in_ok-at.at c.remove.result
-at c =
-    place c.self.inside.rows.items c.args.conn c.args.hop c.in_ok-at.at c.remove.result
-    (ap (λ (t : PendingTable). position (has_key c.args.conn c.args.hop) t.rows) c.self.view_is ∙ sym c.place_of.ensures ∙ c.in_ok-at.was) c.remove.ensures.value
+pub returns-in_err-row-clause-map_before : goal.returns-in_err-row-clause-map_before
+returns-in_err-row-clause-map_before c = rw (← c.self.view_is) (IsMap-places c.self.inside.places.slab.slots c.self.invariant.3.in_place)
 
-taken : (c : goal.After-remove) → IsWith (record { conn = c.args.conn; held = c.remove.result.held }) c.remove.new.self.items c.self.inside.rows.items
-taken c = taken_out c.self.inside.rows.items c.remove.new.self.items c.args.conn c.args.hop c.in_ok-at.at c.remove.result (at c) c.remove.ensures.items
-
-left : (c : goal.After-remove) → IsMap c.remove.new.self.items
-left c = IsMap-less (record { conn = c.args.conn; held = c.remove.result.held }) c.remove.new.self.items c.self.inside.rows.items (taken c) c.self.invariant.1
-
-pub invariant_of-self : goal.invariant_of-self
-invariant_of-self c =
-    let le : length c.self.inside.rows.items ≤ c.self.inside.limit = c.self.invariant.0 in
-    (omega (arith, length-with (record { conn = c.args.conn; held = c.remove.result.held }) c.remove.new.self.items c.self.inside.rows.items (taken c)), left c)
+pub returns-in_err-row-clause-map : goal.returns-in_err-row-clause-map
+returns-in_err-row-clause-map c = IsMap-places c.take.new.self.slab.slots c.take.ensures.slab.in_place
 
 pub returns-clause-value : goal.returns-clause-value
-returns-clause-value c = rw (← c.self.view_is) (sym (held-found c.self.inside.rows.items c.args.conn c.args.hop c.remove.result (at c).found))
-
-pub returns-clause-gone : goal.returns-clause-gone
-returns-clause-gone c = rw (← c.self.view_is) (taken c)
+returns-clause-value c = rw (← c.self.view_is) (sym (told_by c.self.inside.places c.args.conn c.args.hop c.take.result c.self.invariant.3 c.take.ensures.value ∙ ap (option_map (λ (row : Row). row.held)) c.in_ok-row.was))
 
 pub returns-clause-free : goal.returns-clause-free
-returns-clause-free c =
-    free_after (record { conn = c.args.conn; held = c.remove.result.held }) c.remove.new.self.items c.self.inside.rows.items c.args.conn c.args.hop (taken c) c.self.invariant.1
-    (ap (has_key c.args.conn c.args.hop) (sym (row_of_key c.args.conn c.args.hop c.remove.result (at c).key)) ∙ (at c).key)
+returns-clause-free c = none_left c.take.new.self c.args.conn c.args.hop c.take.ensures.slab c.take.ensures.gone
+
+pub returns-clause-map_before : goal.returns-clause-map_before
+returns-clause-map_before c = rw (← c.self.view_is) (IsMap-places c.self.inside.places.slab.slots c.self.invariant.3.in_place)
 
 pub returns-clause-map : goal.returns-clause-map
-returns-clause-map c = left c
+returns-clause-map c = IsMap-places c.take.new.self.slab.slots c.take.ensures.slab.in_place
