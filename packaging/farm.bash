@@ -6,7 +6,7 @@ _farm() {
     return
   fi
   case $before in
-    --site | --token)
+    --site | --token | --record)
       mapfile -t COMPREPLY < <(compgen -f -- "$word")
       return
       ;;
@@ -23,9 +23,9 @@ _farm() {
       ;;
   esac
   case ${COMP_WORDS[1]} in
-    relay) mapfile -t COMPREPLY < <(compgen -W '--site --name --answers --status --token --log' -- "$word") ;;
-    front) mapfile -t COMPREPLY < <(compgen -W '--site --answers --status --token --log' -- "$word") ;;
-    send) mapfile -t COMPREPLY < <(compgen -W '--site --client --peer --log' -- "$word") ;;
+    relay) mapfile -t COMPREPLY < <(compgen -W '--site --name --answers --status --token --record --log' -- "$word") ;;
+    front) mapfile -t COMPREPLY < <(compgen -W '--site --answers --status --token --record --log' -- "$word") ;;
+    send) mapfile -t COMPREPLY < <(compgen -W '--site --client --peer --record --log' -- "$word") ;;
     stop) mapfile -t COMPREPLY < <(compgen -W '--at --token' -- "$word") ;;
     audit | schedule)
       mapfile -t COMPREPLY < <(compgen -W '--site' -- "$word"; compgen -f -- "$word")

@@ -50,6 +50,8 @@ pub enum Fault {
     TokenSeen,
     #[error("the token's file has no token: 16 to 256 letters, digits or signs on one line")]
     NoToken,
+    #[error("the record cannot be opened: {0}")]
+    Record(io::Error),
     /// The connection of a client has ended before each request was answered.
     #[error("the connection has ended")]
     Ended,
@@ -120,6 +122,7 @@ pub fn status_of(fault: &Fault) -> u8 {
         | Fault::Status(_)
         | Fault::TokenFile
         | Fault::TokenSeen
+        | Fault::Record(_)
         | Fault::Ended => 1,
     }
 }

@@ -3,11 +3,13 @@
 //! - `program`: words, site file, and what is asked for: to serve as a relay or as all fronts, or to send.
 //! - `waker`: how the workers of fronts end the wait of the loop.
 //! - `watching`, `view`, `token`: what it says of itself on its status port, and who may end it there.
+//! - `recording`: the record of what happens, which is written before anything goes to the sockets.
 //! - `fault`: why the program does not do it, and its exit status.
 #![tactic(auto)]
 
 mod fault;
 mod program;
+mod recording;
 mod token;
 mod view;
 mod waker;

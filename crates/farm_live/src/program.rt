@@ -7,6 +7,7 @@ ghost use Rattle.pool_node.specs.Fronts.{site_of};
 
 use crate::Logger;
 use crate::fault::Fault;
+use crate::recording::Record;
 use crate::view::Booked;
 use crate::waker::LoopWaker;
 use crate::watching::Watching;
@@ -27,7 +28,7 @@ use front_pool::Pooling;
 use live_command::{LiveCommand, LiveFault, Task, command_of};
 use log::Logged;
 use log::sink::Console;
-use pool_node::start_fronts;
+use pool_node::{PoolFronts, start_fronts};
 use relay_core::Relay;
 use std::env;
 use std::fs::File;
@@ -76,36 +77,54 @@ fn access_of(rt: &HostRuntime, file: &[u8]) -> Result<Access, Fault> {
     Access::read(rt.alloc(), file).map_err(Fault::Access)
 }
 
+/// One turn. What happened is written to the record before anything goes to the sockets.
+fn turn<O: Net + Clock, N: Booked>(
+    os: &O,
+    log: &Logger,
+    site: &Site,
+    access: &Access,
+    recording: &mut Record,
+    live: &mut Live<N>,
+) -> Result<(), Fault> {
+    let moment = live.hear(os, log, site, access)?;
+    N::tell(live);
+    recording.write(log, live);
+    live.answer(os, log, site, moment)?;
+    Ok(())
+}
+
 /// Serves those who may connect until so many answers were sent, 0 for ever, or until it is asked to end.
-fn serve<O: Wait + Net + Clock, N: Node + Drop + Booked>(
+fn serve<O: Wait + Net + Clock, N: Booked>(
     os: &O,
     rt: &HostRuntime,
     log: &Logger,
     site: &Site,
     access: &Access,
     watching: Watching,
+    recording: &mut Record,
     live: &mut Live<N>,
     answers: u64,
 ) -> Result<(), Fault> {
     let mut watching = watching;
     for _ in os.forever() {
-        live.turn(os, log, site, access)?;
+        turn(os, log, site, access, recording, live)?;
         if watching.look(os, rt, log, site, live)? {
-            return close(os, log, site, access, live);
+            return close(os, log, site, access, recording, live);
         }
         if answers > 0 && live.serving.answers() >= answers {
-            return close(os, log, site, access, live);
+            return close(os, log, site, access, recording, live);
         }
     }
     Ok(())
 }
 
 /// Ends each connection in good order.
-fn close<O: Wait + Net + Clock, N: Node + Drop>(
+fn close<O: Wait + Net + Clock, N: Booked>(
     os: &O,
     log: &Logger,
     site: &Site,
     access: &Access,
+    recording: &mut Record,
     live: &mut Live<N>,
 ) -> Result<(), Fault> {
     live.close(os)?;
@@ -113,7 +132,7 @@ fn close<O: Wait + Net + Clock, N: Node + Drop>(
         if live.serving.count() == 0 {
             return Ok(());
         }
-        live.turn(os, log, site, access)?;
+        turn(os, log, site, access, recording, live)?;
     }
     Ok(())
 }
@@ -145,13 +164,28 @@ fn serve_relay<O: Wait + Net + Clock + RandomSource>(
 {
     let place = place_of_relay(rt.alloc(), site, name.as_bytes()).map_err(Fault::Place)?;
     let relay = relay_at(rt, site, &place)?;
+    let node = place.node;
     let mut nodes = Vec::with_capacity(rt.alloc(), 1)?;
-    nodes.push(place.node)?;
+    nodes.push(node)?;
     let mut places = Vec::with_capacity(rt.alloc(), 1)?;
     places.push(place)?;
     let watching = Watching::begin(os, rt, command, nodes)?;
     let mut live = Live::new(os, rt.alloc(), site, relay, places)?;
-    serve(os, rt, log, site, access, watching, &mut live, answers)
+    let mut recording = Record::begin(os, rt, command, site, &[node], false, &mut live)?;
+    serve(
+        os,
+        rt,
+        log,
+        site,
+        access,
+        watching,
+        &mut recording,
+        &mut live,
+        answers,
+    )?;
+    let (_relay, recorder) = live.into_parts();
+    recording.end(rt, log, &None, recorder);
+    Ok(())
 }
 
 /// The places of all fronts of the site.
@@ -205,9 +239,43 @@ where
         &nodes,
         waker,
     )?;
-    let watching = Watching::begin(os, rt, command, nodes)?;
+    let mut fronts = fronts;
+    if command.record_path.is_some() {
+        fronts.begin_record();
+    }
     let mut live = Live::over(os, rt.alloc(), site, sockets, fronts, places)?;
-    serve(os, rt, log, site, access, watching, &mut live, answers)
+    let mut recording = Record::begin(os, rt, command, site, &nodes, false, &mut live)?;
+    let watching = Watching::begin(os, rt, command, nodes)?;
+    serve(
+        os,
+        rt,
+        log,
+        site,
+        access,
+        watching,
+        &mut recording,
+        &mut live,
+        answers,
+    )?;
+    end_fronts(os, rt, log, &mut recording, live);
+    Ok(())
+}
+
+/// The fronts have ended in good order. Where that is recorded their workers end too, so that the book tells what it has come
+/// to.
+fn end_fronts<L: Pooling, O: Threads + Wait + Clock + Copy>(
+    os: &O,
+    rt: &HostRuntime,
+    log: &Logger,
+    recording: &mut Record,
+    live: Live<PoolFronts<L, O>>,
+) {
+    if recording.is_on() {
+        let (fronts, recorder) = live.into_parts();
+        let mut recorder = recorder;
+        let book = fronts.end(os, rt.alloc(), &mut recorder);
+        recording.end(rt, log, &book, recorder);
+    }
 }
 
 /// Serves as all fronts of the site, each with as many workers as the site says.
@@ -257,6 +325,7 @@ fn send<O: Wait + Net + Clock>(
     os: &O,
     rt: &HostRuntime,
     log: &Logger,
+    command: &LiveCommand,
     site: &Site,
     access: &Access,
     client: &str,
@@ -267,21 +336,40 @@ fn send<O: Wait + Net + Clock>(
     let place = place_of_client(rt.alloc(), site, client.as_bytes(), peer.as_bytes()).map_err(
         Fault::Place,
     )?;
+    let node = place.node;
     let messages = read_messages(rt)?;
     let mut places = Vec::with_capacity(rt.alloc(), 1)?;
     places.push(place)?;
     let sender = Sender::new(rt.alloc(), messages);
     let mut live = Live::new(os, rt.alloc(), site, sender, places)?;
     live.listens_nowhere();
+    let mut recording = Record::begin(os, rt, command, site, &[node], true, &mut live)?;
+    send_all(os, rt, log, site, access, &mut recording, &mut live)?;
+    let (_sender, recorder) = live.into_parts();
+    recording.end(rt, log, &None, recorder);
+    Ok(())
+}
+
+/// Turns of a client until each of its requests is answered, and its connection has ended in good order.
+fn send_all<O: Wait + Net + Clock>(
+    os: &O,
+    rt: &HostRuntime,
+    log: &Logger,
+    site: &Site,
+    access: &Access,
+    recording: &mut Record,
+    live: &mut Live<Sender>,
+) -> Result<(), Fault> {
     let mut printed = 0;
     for _ in os.forever() {
         if live.serving.node().is_done() {
-            return close(os, log, site, access, &mut live);
+            return close(os, log, site, access, recording, live);
         }
         if live.has_lost() {
+            recording.write(log, live);
             return Err(Fault::Ended);
         }
-        live.turn(os, log, site, access)?;
+        turn(os, log, site, access, recording, live)?;
         printed = print_answers(rt, live.serving.node().answers(), printed)?;
     }
     Ok(())
@@ -302,7 +390,7 @@ fn carry_out<O: Threads + Wait + Net + Clock + RandomSource + Copy + Send + 'sta
             os, rt, &log, command, &site, &access, name, *answers,
         ),
         Task::Fronts { answers } => serve_fronts(os, rt, &log, command, &site, &access, *answers),
-        Task::Send { client, peer } => send(os, rt, &log, &site, &access, client, peer),
+        Task::Send { client, peer } => send(os, rt, &log, command, &site, &access, client, peer),
     }
 }
 

@@ -2,6 +2,7 @@
 
 use dia_base::{NodeNo, PENDING_LIMIT};
 use farm_base::Site;
+use farm_client::Sender;
 use farm_loop::{Live, Served};
 use farm_node::Node;
 use farm_serve::Standing;
@@ -15,19 +16,36 @@ use std::fs::File;
 use std::sync::Wait;
 
 /// A node that says what its book has come to, if it has one.
-pub trait Booked {
+pub trait Booked: Node + Drop {
     fn book(&self) -> Option<BookFigures>;
+
+    /// What only the node can tell of is recorded.
+    fn tell(live: &mut Live<Self>);
 }
 
 impl Booked for Relay {
     fn book(&self) -> Option<BookFigures> {
         None
     }
+
+    fn tell(_live: &mut Live<Relay>) {}
 }
 
-impl<L: Pooling, R: Wait> Booked for PoolFronts<L, R> {
+impl Booked for Sender {
+    fn book(&self) -> Option<BookFigures> {
+        None
+    }
+
+    fn tell(_live: &mut Live<Sender>) {}
+}
+
+impl<L: Pooling, R: Wait + Drop> Booked for PoolFronts<L, R> {
     fn book(&self) -> Option<BookFigures> {
         Some(self.figures())
+    }
+
+    fn tell(live: &mut Live<PoolFronts<L, R>>) {
+        live.serving.record_node();
     }
 }
 

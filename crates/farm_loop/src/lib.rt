@@ -1,8 +1,9 @@
 //! The loop of a process that is nodes of a site: sockets, the time, and its node with its connections. It decides nothing:
 //! what a node does is its own, and what becomes of connections is `farm_serve`'s.
 //!
-//! - [`Live`]: such a process. [`Live::turn`] waits 100 milliseconds at most, reads and writes what is ready, and ends with
-//!   one tick; who calls it says when to end, by [`Live::close`].
+//! - [`Live`]: such a process. A turn has two halves: [`Live::hear`] waits 100 milliseconds at most, reads what is ready, and
+//!   ends with one tick; [`Live::answer`] writes. Between the two, what happened may be recorded. [`Live::turn`] is both. Who
+//!   calls them says when to end, by [`Live::close`].
 //! - [`Sockets`]: its sockets. [`Sockets::waker`] ends a wait from another thread, and the node is woken then.
 //! - [`Dial`]: a connection that it makes itself, again and again.
 //! - [`StatusPort`]: where it says what it does, over HTTP. Who shows its token may ask for its end there.

@@ -3,23 +3,25 @@
 use crate::clock::Timer;
 use crate::dial::{Dial, DialState};
 use crate::fault::LoopFault;
-use crate::half::halves;
+use crate::half::{Half, halves};
 use crate::sockets::{Ready, Sockets, Source, token_of};
 use crate::{Served, tell};
 use dia_avp::ViewWire;
-use dia_base::{ConnId, Moment, NodeNo};
+use dia_base::{ConnId, Identity, Moment, NodeNo};
 use farm_access::{Access, canonical};
 use farm_base::Site;
 use farm_net::Counted;
 use farm_node::Node;
 use farm_place::{Place, socket_of};
+use farm_record::{Event, Recorder};
 use farm_serve::{LocalNode, NOTE_LIMIT, Note, Refusal, Serving};
 use log::Log;
 use mio::net::TcpStream;
 use std::alloc::Global;
+use std::io;
 use std::io::ErrorKind;
 use std::mem::swap;
-use std::net::{IpAddr, Net, SocketAddr};
+use std::net::{Net, SocketAddr};
 use std::rt::Clock;
 
 /// The most connections that are taken of one listener in a turn.
@@ -67,6 +69,27 @@ fn dials_of(alloc: Global, site: &Site, places: &[Place]) -> Result<Vec<Dial>, L
         }
     }
     Ok(dials)
+}
+
+/// The names of the nodes of a site, by their numbers.
+fn names_of(alloc: Global, site: &Site) -> Result<Vec<Identity>, LoopFault> {
+    let mut names = Vec::new(alloc);
+    for node in site.nodes.as_slice() {
+        names.push(node.name.clone()?)?;
+    }
+    Ok(names)
+}
+
+/// Begins to connect to this address: the reader and the writer, and the port here, which both ends see. 0 where that cannot
+/// be known.
+fn begin<O: Net>(os: &O, alloc: Global, address: SocketAddr) -> io::Result<(Half, Half, u16)> {
+    let stream = TcpStream::connect(os, address)?;
+    let port = match stream.local_addr() {
+        Ok(own) => own.port(),
+        Err(_) => 0,
+    };
+    let (reader, writer) = halves(alloc, stream)?;
+    Ok((reader, writer, port))
 }
 
 impl<N: Node + Drop> Live<N> {
@@ -125,8 +148,41 @@ impl<N: Node + Drop> Live<N> {
         self.addresses.clear();
     }
 
-    /// One turn: waits 100 milliseconds at most, reads and writes what is ready, takes connections from where nodes may come,
-    /// and ends with one tick.
+    /// From now on it is recorded what happens, beginning with that a process begins, which is these nodes: one client, or
+    /// others.
+    pub fn begin_record<O: Clock>(
+        &mut self,
+        os: &O,
+        site: &Site,
+        nodes: Vec<NodeNo>,
+        is_client: bool,
+    ) -> Result<(), LoopFault> {
+        let moment = self.timer.now(os)?;
+        let names = names_of(self.alloc, site)?;
+        self.serving
+            .begin_record(Recorder::on(self.alloc, names, is_client));
+        self.serving.record_event(&Event::Begin { nodes, moment });
+        Ok(())
+    }
+
+    /// The node, and what is recorded and not written yet. The sockets are closed.
+    pub fn into_parts(self) -> (N, Recorder) {
+        let Live {
+            alloc: _,
+            serving,
+            sockets: _,
+            dials: _,
+            addresses: _,
+            listens: _,
+            again: _,
+            later: _,
+            timer: _,
+            interval: _,
+        } = self;
+        serving.into_parts()
+    }
+
+    /// One turn, of which nothing is recorded.
     pub fn turn<O: Net + Clock, L: Log>(
         &mut self,
         os: &O,
@@ -134,14 +190,40 @@ impl<N: Node + Drop> Live<N> {
         site: &Site,
         access: &Access,
     ) -> Result<(), LoopFault> {
+        let moment = self.hear(os, log, site, access)?;
+        self.answer(os, log, site, moment)
+    }
+
+    /// The first half of a turn: waits 100 milliseconds at most, reads what is ready, takes connections from where nodes may
+    /// come, makes those that are due, and ends with one tick. Nothing is written to a connection, so that what is recorded
+    /// can be written before. The moment of the turn.
+    pub fn hear<O: Net + Clock, L: Log>(
+        &mut self,
+        os: &O,
+        log: &L,
+        site: &Site,
+        access: &Access,
+    ) -> Result<Moment, LoopFault> {
         let at_once = self.may_not_wait();
         self.sockets.wait(at_once)?;
         let moment = self.timer.now(os)?;
+        self.serving.begin_turn(moment);
         self.read_again(moment)?;
         self.serve_ready(moment)?;
         self.accept_all(log, site, access, moment);
         self.dial_all(os, log, site, moment);
         self.serving.tick::<ViewWire>(moment);
+        Ok(moment)
+    }
+
+    /// The second half: each connection writes, those that have ended are let go, and the nodes listen, once it is time.
+    pub fn answer<O: Net, L: Log>(
+        &mut self,
+        os: &O,
+        log: &L,
+        site: &Site,
+        moment: Moment,
+    ) -> Result<(), LoopFault> {
         self.serving.write_all::<ViewWire>(moment);
         self.let_go(moment);
         self.tell_notes(log, site);
@@ -175,6 +257,7 @@ impl<N: Node + Drop> Live<N> {
     /// Each connection is to end in good order.
     pub fn close<O: Clock>(&mut self, os: &O) -> Result<(), LoopFault> {
         let moment = self.timer.now(os)?;
+        self.serving.begin_turn(moment);
         self.sockets.listeners.clear();
         self.addresses.clear();
         self.dials.clear();
@@ -245,9 +328,6 @@ impl<N: Node + Drop> Live<N> {
                 if ready.reads {
                     self.read_reported(conn, ready.closes, moment)?;
                 }
-                if ready.writes {
-                    self.serving.writable::<ViewWire>(conn, moment);
-                }
             }
         }
         Ok(())
@@ -298,8 +378,7 @@ impl<N: Node + Drop> Live<N> {
         let local = listening.local;
         match listening.listener.accept() {
             Ok((stream, peer)) => {
-                let address = canonical(peer.ip());
-                self.take(log, site, access, local, stream, address, moment);
+                self.take(log, site, access, local, stream, peer, moment);
                 true
             }
             Err(error) => {
@@ -312,7 +391,7 @@ impl<N: Node + Drop> Live<N> {
         }
     }
 
-    /// Takes a connection that somebody has made to a node of this process, from this address. One from where no node may
+    /// Takes a connection that somebody has made to a node of this process, from this socket. One from where no node may
     /// come is closed, and nothing is read of it.
     fn take<L: Log>(
         &mut self,
@@ -321,9 +400,10 @@ impl<N: Node + Drop> Live<N> {
         access: &Access,
         local: NodeNo,
         stream: TcpStream,
-        address: IpAddr,
+        peer: SocketAddr,
         moment: Moment,
     ) {
+        let address = canonical(peer.ip());
         if !access.admits(address) {
             tell::not_admitted(log, site, local, address);
             return;
@@ -348,6 +428,7 @@ impl<N: Node + Drop> Live<N> {
         ) {
             Ok(conn) => {
                 tell::taken(log, site, local, conn, address);
+                self.serving.record_taken(conn, u64::from(peer.port()));
                 self.register(log, conn);
             }
             Err(refused) => tell::not_taken(log, site, local, refused.why),
@@ -393,12 +474,8 @@ impl<N: Node + Drop> Live<N> {
         moment: Moment,
     ) -> Option<ConnId> {
         let address = socket_of(site, dial.peer)?;
-        let begun = match TcpStream::connect(os, address) {
-            Ok(stream) => halves(self.alloc, stream),
-            Err(error) => Err(error),
-        };
-        let (reader, writer) = match begun {
-            Ok(both) => both,
+        let (reader, writer, port) = match begin(os, self.alloc, address) {
+            Ok(begun) => begun,
             Err(error) => {
                 tell::failed(log, "a connection cannot be made", &error);
                 return None;
@@ -412,6 +489,8 @@ impl<N: Node + Drop> Live<N> {
             moment,
         ) {
             Ok(conn) => {
+                self.serving
+                    .record_dial(conn, dial.local, dial.peer, u64::from(port));
                 self.register(log, conn);
                 Some(conn)
             }

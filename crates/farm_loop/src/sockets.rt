@@ -38,12 +38,11 @@ pub enum Source {
     Conn { conn: ConnId },
 }
 
-/// A report of the system.
+/// A report of the system. That a connection takes octets again ends a wait, and needs no more: each writes at each turn.
 #[derive(Clone, Copy)]
 pub struct Ready {
     pub source: Source,
     pub reads: bool,
-    pub writes: bool,
     /// Whether nothing comes behind what is there to be read.
     pub closes: bool,
 }
@@ -142,7 +141,6 @@ impl Sockets {
             self.ready.push(Ready {
                 source: source_of(event.token(), listeners),
                 reads: event.is_readable() || closes,
-                writes: event.is_writable() || event.is_write_closed() || event.is_error(),
                 closes,
             })?;
         }

@@ -1,5 +1,7 @@
 //! What a process has not written yet of its record.
 
+ghost use Rattle.std.specs.Prelude.{◌≡◌};
+
 use crate::event::Event;
 use crate::writing::{push_event, push_message};
 use dia_base::{ConnId, Identity, Moment, NodeNo};
@@ -15,6 +17,13 @@ struct Labelled {
     opens: bool,
     /// Whether the record has told that it is made.
     is_up: bool,
+}
+
+/// Somebody who does what nobody else can tell of, and keeps it until it is told.
+pub trait Recorded {
+    /// Tells what was done since it was asked last, in the order in which it was done. What contracts see of it stays.
+    fn tell_events(&mut self, alloc: Global, recorder: &mut Recorder)
+        ensures { self.new ≡ self.old };
 }
 
 /// The lines of a record that are not written yet. One that is off takes none.
@@ -105,9 +114,21 @@ impl Recorder {
     fn settle(&mut self, before: usize, told: Result<(), AllocError>) {
         if told.is_err() {
             self.lines.truncate(before);
+            self.fail();
+        }
+    }
+
+    /// Memory was missing for something that was to be told: the record ends here.
+    pub fn fail(&mut self) {
+        if self.is_on() {
             self.is_broken = true;
             let _ = self.lines.extend_from_slice(b"lost\n");
         }
+    }
+
+    /// Whether memory was missing for something that was to be told.
+    pub fn has_failed(&self) -> bool {
+        self.is_broken
     }
 
     /// An event.

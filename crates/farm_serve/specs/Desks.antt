@@ -29,6 +29,10 @@ kept_by desk = record { node = desk.node; marks = marks_of desk.links.items; mad
 abbrev pub Tells : {N R W : Type 0} → (N → NodeEvent → Traffic → Result (Unit {0}) NodeError → N → Type 0) → Desk N R W → Desk N R W → Type 0
 Tells On old new = (told : List Told) × Goes On (kept_by old) told (kept_by new)
 
+-- Something was recorded, and nothing else has happened.
+abbrev pub IsRecordedOnly : {N R W : Type 0} → Desk N R W → Desk N R W → Type 0
+IsRecordedOnly old new = new ≡ record old { recorder = new.recorder }
+
 -- ---- ends that the node is still to be told of
 
 abbrev pub is_up : Standing → Bool

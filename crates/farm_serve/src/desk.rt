@@ -11,11 +11,13 @@ use crate::link::{
 };
 use crate::local::{LocalNode, site_of};
 use crate::note::Notes;
+use crate::recording::{record_lost, record_message, record_refusal, record_sent, record_up};
 use dia_avp::Wire;
 use dia_base::{ConnId, Moment, NodeNo};
 use dia_message::{Message, Out};
 use farm_net::{Device, Received};
 use farm_node::{Node, NodeError, Reaction};
+use farm_record::Recorder;
 use farm_tally::Tally;
 use farm_watch::{Act, Acts, Waits, WatchSite};
 use std::alloc::{AllocError, Global};
@@ -29,6 +31,8 @@ pub struct Desk<N, R, W> {
     pub links: Vec<Link<R, W>>,
     pub notes: Notes,
     pub tally: Tally,
+    /// What is told of all this, where it is recorded.
+    pub recorder: Recorder,
     /// How many answers the node has sent.
     pub answers: u64,
     /// How many connections were made.
@@ -273,6 +277,14 @@ impl<N: Node, R: Read + Device, W: Write + Device> Desk<N, R, W> {
         let reaction = self.node.on_up(self.alloc, local, peer, conn);
         come_up(&mut self.links[place], peer, reaction.outcome, moment);
         self.notes.up(conn, local, peer, reaction.outcome);
+        record_up(
+            self.alloc,
+            &mut self.recorder,
+            conn,
+            (local, peer),
+            reaction.outcome,
+        );
+        record_sent(self.alloc, &mut self.recorder, &reaction.out);
         self.send_all(&reaction.out, moment);
     }
 
@@ -292,9 +304,12 @@ impl<N: Node, R: Read + Device, W: Write + Device> Desk<N, R, W> {
         let conn = self.links[place].id;
         let asks = message.header.request;
         count_passed(&mut self.tally, conn, &message, moment);
+        record_message(self.alloc, &mut self.recorder, conn, &message);
         let reaction = self.node.on_message::<P>(self.alloc, conn, message);
         end_unless_told(&mut self.links[place], asks, reaction.outcome, moment);
         self.notes.answers::<P>(self.alloc, conn, &reaction.out);
+        record_refusal(&mut self.recorder, reaction.outcome);
+        record_sent(self.alloc, &mut self.recorder, &reaction.out);
         self.send_all(&reaction.out, moment);
     }
 
@@ -313,6 +328,8 @@ impl<N: Node, R: Read + Device, W: Write + Device> Desk<N, R, W> {
         self.notes.lost(conn, peer, why);
         self.notes.failovers::<P>(self.alloc, conn, &reaction.out);
         count_failovers(&mut self.tally, &reaction.out);
+        record_lost(self.alloc, &mut self.recorder, conn, &reaction.outcome);
+        record_sent(self.alloc, &mut self.recorder, &reaction.out);
         self.send_all(&reaction.out, moment);
     }
 

@@ -1,6 +1,8 @@
 //! Laws. Each is the contract of a function without a body.
 
-ghost use Rattle.std.specs.Prelude.{List};
+ghost use Rattle.std.specs.Prelude.{◌≡◌, List};
+ghost use Rattle.farm_serve.specs.declared.desk.Desk.{Desk};
+ghost use Rattle.farm_serve.specs.Desks.{IsRecordedOnly, kept_by};
 ghost use Rattle.farm_serve.specs.Turns.{Goes, IsInTurn, Kept, Told, beginning};
 
 use farm_node::Node;
@@ -10,4 +12,10 @@ use farm_node::Node;
 /// has refused. A number is never that of two connections.
 pub fn nodes_are_told_in_turn<N: Node>()
     ensures { (node : N) (told : List Told) (kept : Kept N) → Goes N.on_event (beginning node) told kept → IsInTurn told }
+{}
+
+/// What is recorded changes nothing of what a node was told, and of what is still to be told.
+pub fn records_change_nothing<N, R, W>()
+    ensures kept { (old new : Desk N R W) → IsRecordedOnly old new → kept_by new ≡ kept_by old }
+    ensures links { (old new : Desk N R W) → IsRecordedOnly old new → new.links ≡ old.links }
 {}

@@ -3,6 +3,7 @@
 //! - [`Serving`]: a node with its connections over any readers and writers. Those who have sockets hand new ones in
 //!   ([`Serving::accept`], [`Serving::connect`]), say which are ready ([`Serving::readable`], [`Serving::writable`]) and
 //!   what time it is ([`Serving::tick`]), and take out those that have ended ([`Serving::take_ended`]).
+//!   What happens is recorded, where they hand in a recorder ([`Serving::begin_record`]).
 //! - [`Fronts`]: all fronts of a site as one node, with one book.
 //! - [`End`]: why a connection has ended; [`Note`]: what an operator may want to read of it.
 //! - [`UNKNOWN_LIMIT`], [`LINGER`], [`NOTE_LIMIT`], [`ROUND_LIMIT`]: the limits.
@@ -16,12 +17,13 @@ mod laws;
 mod link;
 mod local;
 mod note;
+mod recording;
 mod serving;
 
 pub use desk::Desk;
 pub use end::{End, Ended, NotTaken, Refusal};
 pub use fronts::{FrontAt, Fronts, ROUND_LIMIT};
-pub use laws::nodes_are_told_in_turn;
+pub use laws::{nodes_are_told_in_turn, records_change_nothing};
 pub use link::{LINGER, Link, Standing};
 pub use local::LocalNode;
 pub use note::{NOTE_LIMIT, Note, Notes};

@@ -1,7 +1,7 @@
 //! A node with its connections, for those who have sockets.
 
 ghost use Rattle.std.specs.Prelude.{◌≡◌, ◌<◌, ◌+◌, length, true, IfOk, IfSome, IsNone};
-ghost use Rattle.farm_serve.specs.Desks.{AreSettled, IsDownAt, Tells, kept_by};
+ghost use Rattle.farm_serve.specs.Desks.{AreSettled, IsDownAt, IsRecordedOnly, Tells, kept_by};
 ghost use Rattle.farm_serve.specs.Turns.{IsDown, beginning};
 
 use crate::desk::{Desk, flush_all, greet, place_of};
@@ -13,6 +13,7 @@ use dia_avp::Wire;
 use dia_base::{ConnId, Moment, NodeNo};
 use farm_net::{Conn, Device};
 use farm_node::Node;
+use farm_record::{Event, Recorded, Recorder};
 use farm_tally::Tally;
 use farm_watch::{Acts, Side, Watch};
 use std::alloc::{AllocError, Global};
@@ -71,6 +72,7 @@ impl<N: Node, R: Read + Device, W: Write + Device> Serving<N, R, W> {
                 links: Vec::new(alloc),
                 notes: Notes::new(alloc),
                 tally: Tally::nothing(alloc),
+                recorder: Recorder::off(alloc),
                 answers: 0,
                 made: 0,
                 failed: false,
@@ -262,6 +264,7 @@ impl<N: Node, R: Read + Device, W: Write + Device> Serving<N, R, W> {
         let (why, _) = self.desk.links[place].end?;
         let link = self.desk.take_out(place);
         self.desk.notes.let_go(link.id, link.standing, why);
+        self.desk.recorder.gone(self.desk.alloc, link.id);
         Some(Ended {
             conn: link.id,
             local: link.local,
@@ -269,6 +272,62 @@ impl<N: Node, R: Read + Device, W: Write + Device> Serving<N, R, W> {
             why,
             streams: link.conn,
         })
+    }
+
+    /// From now on it is recorded what happens.
+    pub fn begin_record(&mut self, recorder: Recorder)
+        ensures { IsRecordedOnly self.old.desk self.new.desk }
+    {
+        self.desk.recorder = recorder;
+    }
+
+    /// What is recorded from now on happens at this moment.
+    pub fn begin_turn(&mut self, moment: Moment)
+        ensures { IsRecordedOnly self.old.desk self.new.desk }
+    {
+        self.desk.recorder.begin_turn(moment);
+    }
+
+    /// Records a connection that the node `local` opens with the node `peer`, which both ends call so.
+    pub fn record_dial(&mut self, conn: ConnId, local: NodeNo, peer: NodeNo, label: u64)
+        ensures { IsRecordedOnly self.old.desk self.new.desk }
+    {
+        self.desk
+            .recorder
+            .dials(self.desk.alloc, conn, local, peer, label);
+    }
+
+    /// What both ends call a connection that somebody has opened. It is recorded once the node at the other end is known.
+    pub fn record_taken(&mut self, conn: ConnId, label: u64)
+        ensures { IsRecordedOnly self.old.desk self.new.desk }
+    {
+        self.desk.recorder.takes(conn, label);
+    }
+
+    /// Records an event of the process.
+    pub fn record_event(&mut self, event: &Event)
+        ensures { IsRecordedOnly self.old.desk self.new.desk }
+    {
+        self.desk.recorder.tell(self.desk.alloc, event);
+    }
+
+    /// What is recorded and not written yet.
+    pub fn recorder(&self) -> &Recorder {
+        &self.desk.recorder
+    }
+
+    /// What is recorded was written.
+    pub fn record_written(&mut self)
+        ensures { IsRecordedOnly self.old.desk self.new.desk }
+    {
+        self.desk.recorder.clear();
+    }
+
+    /// What is recorded cannot be written, and no more is recorded.
+    pub fn record_failed(&mut self)
+        ensures { IsRecordedOnly self.old.desk self.new.desk }
+    {
+        self.desk.recorder.stop();
     }
 
     /// Takes out a note; the oldest first.
@@ -317,5 +376,38 @@ impl<N: Node, R: Read + Device, W: Write + Device> Serving<N, R, W> {
     /// The node.
     pub fn node(&self) -> &N {
         &self.desk.node
+    }
+}
+
+impl<N, R: Drop, W: Drop> Serving<N, R, W> {
+    /// The node, and what is recorded and not written yet. The connections are let go.
+    pub fn into_parts(self) -> (N, Recorder)
+        ensures { result.0 ≡ self.desk.node }
+    {
+        let Serving { desk, locals: _ } = self;
+        let Desk {
+            alloc: _,
+            node,
+            links: _,
+            notes: _,
+            tally: _,
+            recorder,
+            answers: _,
+            made: _,
+            failed: _,
+        } = desk;
+        (node, recorder)
+    }
+}
+
+impl<N: Node + Recorded, R: Read + Device, W: Write + Device> Serving<N, R, W> {
+    /// Records what the node has done that only it can tell of.
+    pub fn record_node(&mut self)
+        ensures tells { Tells N.on_event self.old.desk self.new.desk }
+        ensures settled { AreSettled self.old.desk.links.items → AreSettled self.new.desk.links.items }
+    {
+        self.desk
+            .node
+            .tell_events(self.desk.alloc, &mut self.desk.recorder);
     }
 }

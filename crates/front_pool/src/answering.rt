@@ -58,6 +58,9 @@ fn answer<W: Wire>(
     .ok()
 }
 
+/// What a worker does with a message: its answer, the receipt of the book, and the moment with which the book was asked.
+type Worked = (Option<Message>, Option<Receipt>, Option<Moment>);
+
 /// Has a request served that was read in a message, and answers it. One that is not served, or for which no moment can be
 /// read, is answered DIAMETER_TOO_BUSY.
 fn charge<W: Wire, L: Pooling, R: Wait + Clock>(
@@ -68,24 +71,24 @@ fn charge<W: Wire, L: Pooling, R: Wait + Clock>(
     site: &PoolSite,
     message: &Message,
     request: CcRequest,
-) -> (Option<Message>, Option<Receipt>)
+) -> Worked
     requires view { view_of site.now.vendors message.now ≡ Ok request }
     ensures { Answers site.now L.opened.terms message.now result.0 result.1 }
 {
     let Some(moment) = now(rt) else {
-        return (too_busy::<W>(alloc, site, message), None);
+        return (too_busy::<W>(alloc, site, message), None, None);
     };
     match shared.serve(rt, alloc, seat, moment, request) {
         Ok(receipt) => {
             let written = answer::<W>(alloc, site, message, &receipt);
-            (written, Some(receipt))
+            (written, Some(receipt), Some(moment))
         }
-        Err(_) => (too_busy::<W>(alloc, site, message), None),
+        Err(_) => (too_busy::<W>(alloc, site, message), None, Some(moment)),
     }
 }
 
 /// The answer to a message, and the receipt of the book where the book was asked. The message passes the gate once it is
-/// read.
+/// read, and the clock is read behind it.
 fn work<W: Wire, L: Pooling, R: Wait + Clock, G: Gate>(
     rt: &R,
     alloc: Global,
@@ -94,18 +97,18 @@ fn work<W: Wire, L: Pooling, R: Wait + Clock, G: Gate>(
     site: &PoolSite,
     gate: &G,
     job: &Job,
-) -> (Option<Message>, Option<Receipt>)
+) -> Worked
     ensures { Answers site.now L.opened.terms job.now.request result.0 result.1 }
 {
     let vendors = site.vendors.as_slice();
     let prepared = prepare::<W>(alloc, &site.name, &site.realm, vendors, &job.request);
     gate.before_book(rt, job.number);
     match prepared {
-        Ok(Prepared::Refused(refusal)) => (Some(refusal), None),
+        Ok(Prepared::Refused(refusal)) => (Some(refusal), None, None),
         Ok(Prepared::Ask(request)) => {
             charge::<W, L, R>(rt, alloc, shared, seat, site, &job.request, request)
         }
-        Err(_) => (too_busy::<W>(alloc, site, &job.request), None),
+        Err(_) => (too_busy::<W>(alloc, site, &job.request), None, None),
     }
 }
 
@@ -124,7 +127,7 @@ pub fn finish<W: Wire, L: Pooling, R: Wait + Clock, G: Gate>(
     ensures job { job_of result ≡ job }
     ensures answered { IsAnsweredByOne L.site L.opened.terms result }
 {
-    let (written, receipt) = work::<W, L, R, G>(rt, alloc, shared, seat, site, gate, &job);
+    let (written, receipt, moment) = work::<W, L, R, G>(rt, alloc, shared, seat, site, gate, &job);
     let Job {
         number,
         conn,
@@ -137,5 +140,6 @@ pub fn finish<W: Wire, L: Pooling, R: Wait + Clock, G: Gate>(
         request,
         answer: written,
         receipt,
+        moment,
     }
 }

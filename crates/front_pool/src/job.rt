@@ -5,7 +5,7 @@ ghost use Rattle.std.specs.Bool.{Decides};
 
 use crate::site::Pooling;
 use cc_shared::{Receipt, Seat};
-use dia_base::{ConnId, NodeNo};
+use dia_base::{ConnId, Moment, NodeNo};
 use dia_message::Message;
 
 /// A request that was handed over: its number, which no other of its pool has, and the connection that it came on.
@@ -30,6 +30,8 @@ pub struct Finished {
     pub answer: Option<Message>,
     /// The book's receipt. None where the book was not asked, or did not serve.
     pub receipt: Option<Receipt>,
+    /// The moment with which the book was asked. None where it was not.
+    pub moment: Option<Moment>,
 }
 
 /// What is left of a pool: the seats, as many as it was started with, the jobs that its workers have finished, and those

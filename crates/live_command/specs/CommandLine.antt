@@ -29,6 +29,7 @@ id_of word.Peer = codes "peer"
 id_of word.Answers = codes "answers"
 id_of word.Status = codes "status"
 id_of word.Token = codes "token"
+id_of word.Record = codes "record"
 id_of word.Log = codes "log"
 
 -- `--NAME VALUE`
@@ -44,13 +45,13 @@ with_options line [] = line
 with_options line (w ∷ words) = with_options (with_rule line (option w)) words
 
 abbrev pub relay_line : App
-relay_line = with_options (new_app (codes "relay")) (word.Site ∷ word.Name ∷ word.Answers ∷ word.Status ∷ word.Token ∷ word.Log ∷ [])
+relay_line = with_options (new_app (codes "relay")) (word.Site ∷ word.Name ∷ word.Answers ∷ word.Status ∷ word.Token ∷ word.Record ∷ word.Log ∷ [])
 
 abbrev pub front_line : App
-front_line = with_options (new_app (codes "front")) (word.Site ∷ word.Answers ∷ word.Status ∷ word.Token ∷ word.Log ∷ [])
+front_line = with_options (new_app (codes "front")) (word.Site ∷ word.Answers ∷ word.Status ∷ word.Token ∷ word.Record ∷ word.Log ∷ [])
 
 abbrev pub send_line : App
-send_line = with_options (new_app (codes "send")) (word.Site ∷ word.Client ∷ word.Peer ∷ word.Log ∷ [])
+send_line = with_options (new_app (codes "send")) (word.Site ∷ word.Client ∷ word.Peer ∷ word.Record ∷ word.Log ∷ [])
 
 -- the program named `farm`, which has a version and no subcommand `help`; the words do not begin with its name
 abbrev pub program : App
@@ -92,6 +93,7 @@ IsReadFrom (Some entered) command =
     IsTask entered.0 entered.1 command.task × (value_in word.Site entered.1 ≡ Some (string_bytes command.site))
     × (value_in word.Status entered.1 ≡ option_map string_bytes command.status)
     × (value_in word.Token entered.1 ≡ option_map string_bytes command.token)
+    × (value_in word.Record entered.1 ≡ option_map string_bytes command.record_path)
     × IsLevel (value_in word.Log entered.1) command.level
 
 -- ---- why the words are refused

@@ -35,6 +35,8 @@ pub struct LiveCommand {
     pub status: Option<String>,
     /// The path of the file with the token that ends it, if there is to be one.
     pub token: Option<String>,
+    /// The path of the record of what happens, if there is to be one.
+    pub record_path: Option<String>,
     /// What is told on standard error.
     pub level: LevelFilter,
 }
@@ -91,6 +93,15 @@ fn with_status<'a>(line: Line<'a>, alloc: Global) -> Result<Line<'a>, AllocError
     with_option(stated, alloc, "token", "FILE", help)
 }
 
+/// The line with `--record FILE`.
+fn with_record<'a>(line: Line<'a>, alloc: Global) -> Result<Line<'a>, AllocError>
+    ensures shape { (fields_of line.entry).has_globals ≡ false → IfOk result (λ made. app_of made ≡ with_rule (app_of line.entry) (option Word.Record)) }
+    ensures local { (fields_of line.entry).has_globals ≡ false → IfOk result (λ made. (fields_of made).has_globals ≡ false) }
+{
+    let help = "Writes down what happens, behind what the file has: farm audit plays it";
+    with_option(line, alloc, "record", "FILE", help)
+}
+
 /// The line with `--log LEVEL`.
 fn with_log<'a>(line: Line<'a>, alloc: Global) -> Result<Line<'a>, AllocError>
     ensures shape { (fields_of line.entry).has_globals ≡ false → IfOk result (λ made. app_of made ≡ with_rule (app_of line.entry) (option Word.Log)) }
@@ -110,7 +121,8 @@ fn relay_line<'a>(alloc: Global) -> Result<Line<'a>, AllocError>
     let named = with_option(sited, alloc, "name", "NAME", "The relay that serves")?;
     let counted = with_answers(named, alloc)?;
     let stated = with_status(counted, alloc)?;
-    with_log(stated, alloc)
+    let recorded = with_record(stated, alloc)?;
+    with_log(recorded, alloc)
 }
 
 /// The subcommand `front`.
@@ -122,7 +134,8 @@ fn front_line<'a>(alloc: Global) -> Result<Line<'a>, AllocError>
     let sited = with_site(bare, alloc)?;
     let counted = with_answers(sited, alloc)?;
     let stated = with_status(counted, alloc)?;
-    with_log(stated, alloc)
+    let recorded = with_record(stated, alloc)?;
+    with_log(recorded, alloc)
 }
 
 /// The subcommand `send`.
@@ -137,7 +150,8 @@ fn send_line<'a>(alloc: Global) -> Result<Line<'a>, AllocError>
     let named = with_option(sited, alloc, "client", "NAME", "The client that sends")?;
     let help = "The node that the client connects to";
     let peered = with_option(named, alloc, "peer", "NAME", help)?;
-    with_log(peered, alloc)
+    let recorded = with_record(peered, alloc)?;
+    with_log(recorded, alloc)
 }
 
 /// The command line of the program, in clap's terms.
@@ -258,6 +272,7 @@ fn command_in(alloc: Global, found: &ArgMatches<'_>) -> Result<LiveCommand, Live
         site: text_in(alloc, options, Word::Site)?,
         status: text_if_there(alloc, options, Word::Status)?,
         token: text_if_there(alloc, options, Word::Token)?,
+        record_path: text_if_there(alloc, options, Word::Record)?,
         level: level_in(options)?,
     })
 }

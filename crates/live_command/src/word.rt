@@ -17,6 +17,7 @@ pub enum Word {
     Answers,
     Status,
     Token,
+    Record,
     Log,
 }
 
@@ -34,6 +35,7 @@ impl Word {
             Word::Answers => "answers",
             Word::Status => "status",
             Word::Token => "token",
+            Word::Record => "record",
             Word::Log => "log",
         }
     }
@@ -42,7 +44,7 @@ impl Word {
     fn value_name(self) -> &'static str {
         match self {
             Word::Subcommand | Word::Name | Word::Client | Word::Peer => "NAME",
-            Word::Site | Word::Token => "FILE",
+            Word::Site | Word::Token | Word::Record => "FILE",
             Word::Status => "ADDRESS",
             Word::Answers => "N",
             Word::Log => "LEVEL",
@@ -61,6 +63,7 @@ impl fmt::Display for Word {
             | Word::Answers
             | Word::Status
             | Word::Token
+            | Word::Record
             | Word::Log => { write!(f, "--{} {}", self.id(), self.value_name()) }
         }
     }

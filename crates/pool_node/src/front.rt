@@ -1,7 +1,8 @@
 //! One front: its connections, and its workers.
 
-ghost use Rattle.std.specs.Prelude.{◌≡◌, [], ◌∷◌, ◌++◌, ◌<◌, IfOk, IfSome, IfNone, OnOk, OnErr, vec_len, vec_capacity};
-ghost use Rattle.front_pool.specs.Answering.{too_busy};
+ghost use Rattle.std.specs.Prelude.{◌≡◌, [], ◌∷◌, ◌++◌, ◌<◌, length, All, IfOk, IfSome, IfNone, OnOk, OnErr, vec_len, vec_capacity};
+ghost use Rattle.front_pool.specs.Answering.{IsAnsweredBy, too_busy};
+ghost use Rattle.front_pool.specs.Keeping.{Balances};
 ghost use Rattle.pool_node.specs.Fronts.{CollectsOne, OnMessage, is_node, is_up, outcome_for, sent_for, with_connection, without_connection};
 
 use cc_view::{Refusal, ResultCode, refusal_bytes};
@@ -9,10 +10,12 @@ use dia_avp::Wire;
 use dia_base::{ConnId, NodeNo};
 use dia_message::{Message, Out};
 use farm_node::NodeError;
-use front_pool::{Finished, Pool, PoolSite, Pooling, SubmitError};
+use front_pool::{Finished, Pool, PoolSite, Pooling, Stopped, SubmitError};
 use std::alloc::{AllocError, Global};
 use std::marker::Model;
+use std::rt::Clock;
 use std::sync::Wait;
+use std::thread::Threads;
 
 /// A front with worker threads of its own.
 #[derive(Drop)]
@@ -133,6 +136,20 @@ impl<L: Pooling> PoolFront<L> {
         self.pool.collect(rt)
     }
 
+    /// Ends all workers. Each job that was handed over and not collected is there once.
+    pub fn stop<R: Threads + Wait + Clock>(self, rt: &R) -> Stopped<L>
+        ensures balances { Balances self.pool (length result.seats.items) result.finished.items result.unserved.items }
+        ensures answered { All (IsAnsweredBy self.pool.front L.site L.opened.terms) result.finished.items }
+    {
+        let PoolFront {
+            node: _,
+            site: _,
+            connections: _,
+            pool,
+        } = self;
+        pool.stop(rt)
+    }
+
     /// Puts the answer of a finished job behind what is sent, where its connection is up. It is a fault where it has none,
     /// for want of memory.
     pub fn post(
@@ -154,6 +171,7 @@ impl<L: Pooling> PoolFront<L> {
             request: _,
             answer,
             receipt: _,
+            moment: _,
         } = finished;
         match answer {
             Some(answer) => {

@@ -1,20 +1,26 @@
 //! All fronts of a site as one node.
 
-ghost use Rattle.std.specs.Prelude.{◌≡◌, ◌<◌, length, position};
+ghost use Rattle.std.specs.Prelude.{◌≡◌, ◌<◌, length, position, IfSome};
+ghost use Rattle.cc_book.specs.History.{IsLegal};
 ghost use Rattle.pool_node.specs.Fronts.{CollectsMore, OnFrontsEvent, is_node, is_up, told_of_one, told_of_tick};
 
+use crate::ending::stop_all;
+use crate::events::BookEvents;
 use crate::figures::BookFigures;
 use crate::front::PoolFront;
-use cc_book::BookRefusal;
+use cc_book::{Book, BookRefusal};
 use cc_shared::SharedBook;
 use dia_avp::Wire;
 use dia_base::{ConnId, Listing, Moment, NodeNo};
 use dia_message::{Message, Out};
 use farm_node::{Node, NodeError, Reaction};
+use farm_record::{Recorded, Recorder};
 use front_pool::Pooling;
 use std::alloc::Global;
 use std::marker::Model;
+use std::rt::Clock;
 use std::sync::Wait;
+use std::thread::Threads;
 
 /// The most finished jobs that are collected of a front at one event.
 pub const COLLECT_LIMIT: u32 = 1_024;
@@ -26,6 +32,7 @@ pub struct PoolFronts<L: Pooling, R> {
     shared: SharedBook<L>,
     fronts: Vec<PoolFront<L>>,
     figures: BookFigures,
+    events: BookEvents,
 }
 
 impl<L: Pooling, R> Model for PoolFronts<L, R> {
@@ -79,7 +86,7 @@ fn outcome_of_tick(
 
 impl<L: Pooling, R: Wait> PoolFronts<L, R> {
     /// These fronts, whose workers serve on this book.
-    pub fn new(rt: R, shared: SharedBook<L>, fronts: Vec<PoolFront<L>>) -> Self
+    pub fn new(rt: R, alloc: Global, shared: SharedBook<L>, fronts: Vec<PoolFront<L>>) -> Self
         ensures { result ≡ fronts.items }
     {
         PoolFronts {
@@ -87,14 +94,23 @@ impl<L: Pooling, R: Wait> PoolFronts<L, R> {
             shared,
             fronts,
             figures: BookFigures::nothing(),
+            events: BookEvents::off(alloc),
         }
     }
 
-    /// A sweep of the book came to this.
-    fn book_swept(&mut self, swept: &Result<u64, BookRefusal>)
+    /// A sweep of the book at this moment came to this.
+    fn book_swept(&mut self, moment: Moment, swept: &Result<u64, BookRefusal>)
         ensures { self.new ≡ self.old }
     {
         self.figures.swept(swept);
+        self.events.swept(moment, swept);
+    }
+
+    /// From now on it keeps what its workers do until it is told ([`Recorded`]).
+    pub fn begin_record(&mut self)
+        ensures { self.new ≡ self.old }
+    {
+        self.events.begin();
     }
 
     /// What the book has come to, as far as answers were collected.
@@ -121,6 +137,7 @@ impl<L: Pooling, R: Wait> PoolFronts<L, R> {
             return Ok(false);
         };
         self.figures.collected(&finished);
+        self.events.collected(&finished);
         front.post(finished, sent)?;
         Ok(true)
     }
@@ -151,6 +168,36 @@ impl<L: Pooling, R: Wait> PoolFronts<L, R> {
             self.collect_at(place, sent)?;
         }
         Ok(())
+    }
+}
+
+impl<L: Pooling, R: Drop> PoolFronts<L, R> {
+    /// Ends all workers, and closes the book. What they have finished and nobody has collected is told. The book; none where
+    /// memory was missing.
+    pub fn end<T: Threads + Wait + Clock>(
+        self,
+        rt: &T,
+        alloc: Global,
+        recorder: &mut Recorder,
+    ) -> Option<Book>
+        ensures { IfSome result (λ book. IsLegal book.terms book.history) }
+    {
+        let PoolFronts {
+            rt: _,
+            shared,
+            fronts,
+            figures: _,
+            mut events,
+        } = self;
+        let stopped = stop_all(rt, alloc, fronts, &mut events);
+        events.tell(alloc, recorder);
+        let Ok(seats) = stopped else {
+            return None;
+        };
+        match shared.finish(rt, alloc, seats, &[]) {
+            Ok(book) => Some(book),
+            Err(_) => None,
+        }
     }
 }
 
@@ -189,7 +236,7 @@ impl<L: Pooling, R: Wait> Node for PoolFronts<L, R> {
         let mut sent = Vec::new(alloc);
         let collected = self.collect_all(&mut sent);
         let swept = self.shared.sweep(&self.rt, moment);
-        self.book_swept(&swept);
+        self.book_swept(moment, &swept);
         reaction(sent, outcome_of_tick(collected, swept))
     }
 
@@ -197,5 +244,12 @@ impl<L: Pooling, R: Wait> Node for PoolFronts<L, R> {
         let mut sent = Vec::new(alloc);
         let collected = self.collect_all(&mut sent);
         reaction(sent, collected)
+    }
+}
+
+/// Their charges, refusals and sweeps.
+impl<L: Pooling, R> Recorded for PoolFronts<L, R> {
+    fn tell_events(&mut self, alloc: Global, recorder: &mut Recorder) {
+        self.events.tell(alloc, recorder);
     }
 }

@@ -5,16 +5,21 @@
 //! - [`PoolFront`]: one front: its connections, and its [`front_pool::Pool`].
 //! - [`start_fronts`]: starts the fronts of a site. [`COLLECT_LIMIT`]: how much is collected of a front at one event.
 //!
-//! - [`BookFigures`]: what the book has come to, as far as answers were collected.
+//! - [`BookFigures`]: what the book has come to, as far as answers were collected. [`PoolFronts::end`] ends all workers and
+//!   gives the book back.
+//! - [`BookEvents`]: what the fronts have done that nobody else can tell of, for those who record it.
 //!
 //! What the node does at each event stands in `specs/Fronts`.
 #![tactic(auto)]
 
+mod ending;
+mod events;
 mod figures;
 mod front;
 mod fronts;
 mod start;
 
+pub use events::BookEvents;
 pub use figures::BookFigures;
 pub use front::PoolFront;
 pub use fronts::{COLLECT_LIMIT, PoolFronts};

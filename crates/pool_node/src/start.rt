@@ -149,5 +149,5 @@ where
         };
         fronts.push(start_front::<W, L, R, K>(&rt, alloc, &shared, own, site, *node, bell)?)?;
     }
-    Ok(PoolFronts::new(rt, shared, fronts))
+    Ok(PoolFronts::new(rt, alloc, shared, fronts))
 }

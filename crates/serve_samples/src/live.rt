@@ -1,4 +1,5 @@
-//! A front, a relay and a client in one process, over TCP on this machine: what the client is answered to its debit.
+//! A front, a relay and a client in one process, over TCP on this machine: what the client is answered to its debit, and what
+//! each of them records.
 
 ghost use Rattle.farm_base.specs.CheckedSite.{IsChecked};
 
@@ -52,15 +53,33 @@ fn site_text(rt: &HostRuntime) -> anyhow::Result<String> {
     )?)
 }
 
-/// A process of one node.
+/// A process of one node, which is recorded.
 fn live<N: Node + Drop>(
     rt: &HostRuntime,
     site: &Site,
     node: N,
     place: Place,
+    is_client: bool,
 ) -> anyhow::Result<Live<N>> {
+    let nodes = vec![in rt.alloc(); place.node]?;
     let places = vec![in rt.alloc(); place]?;
-    Ok(Live::new(rt, rt.alloc(), site, node, places)?)
+    let mut live = Live::new(rt, rt.alloc(), site, node, places)?;
+    live.begin_record(rt, site, nodes, is_client)?;
+    Ok(live)
+}
+
+/// Prints what a process has recorded: of each line the first word, but for moments.
+fn print_record(rt: &HostRuntime, name: &str, lines: &[u8]) -> anyhow::Result<()> {
+    print!(rt; "{name}:")?;
+    for line in lines.split(|octet| *octet == b'\n') {
+        let word = line.split(|octet| *octet == b' ').next();
+        match word.and_then(|word| std::str::from_utf8(word).ok()) {
+            None | Some("" | "time") => {}
+            Some(word) => print!(rt; " {word}")?,
+        }
+    }
+    println!(rt; "")?;
+    Ok(())
 }
 
 fn front_of(rt: &HostRuntime, site: &Site) -> anyhow::Result<Live<Fronts>>
@@ -69,7 +88,7 @@ fn front_of(rt: &HostRuntime, site: &Site) -> anyhow::Result<Live<Fronts>>
     let front = front(rt.alloc())?;
     let at = vec![in rt.alloc(); FrontAt { node: FRONT, front }]?;
     let place = place_of(rt.alloc(), site, FRONT)?;
-    live(rt, site, Fronts::new(at, book(rt.alloc())?), place)
+    live(rt, site, Fronts::new(at, book(rt.alloc())?), place, false)
 }
 
 fn relay_of(rt: &HostRuntime, site: &Site) -> anyhow::Result<Option<Live<Relay>>>
@@ -77,7 +96,7 @@ fn relay_of(rt: &HostRuntime, site: &Site) -> anyhow::Result<Option<Live<Relay>>
 {
     let place = place_of_relay(rt.alloc(), site, b"r1.example")?;
     match relays_of(rt.alloc(), site)?.pop() {
-        Some(at) => Ok(Some(live(rt, site, at.relay, place)?)),
+        Some(at) => Ok(Some(live(rt, site, at.relay, place, false)?)),
         None => Ok(None),
     }
 }
@@ -87,7 +106,7 @@ fn client_of(rt: &HostRuntime, site: &Site) -> anyhow::Result<Live<Sender>>
 {
     let place = place_of_client(rt.alloc(), site, b"c1.example", b"r1.example")?;
     let sender = Sender::new(rt.alloc(), messages_of(rt.alloc(), DEBIT.as_bytes())?);
-    let mut client = live(rt, site, sender, place)?;
+    let mut client = live(rt, site, sender, place, true)?;
     client.listens_nowhere();
     Ok(client)
 }
@@ -119,7 +138,7 @@ fn connect(
     Ok(())
 }
 
-/// Prints what the client is answered.
+/// Prints what the client is answered, and what each of the three has recorded.
 pub fn print(rt: &HostRuntime) -> anyhow::Result<()> {
     let log = Logged::new(*rt, LevelFilter::Off, Console(*rt));
     let text = site_text(rt)?;
@@ -142,5 +161,7 @@ pub fn print(rt: &HostRuntime) -> anyhow::Result<()> {
     for answer in client.serving.node().answers() {
         rt.print(&line_of(rt.alloc(), answer)?)?;
     }
-    Ok(())
+    print_record(rt, "client", client.serving.recorder().lines())?;
+    print_record(rt, "relay", relay.serving.recorder().lines())?;
+    print_record(rt, "front", front.serving.recorder().lines())
 }

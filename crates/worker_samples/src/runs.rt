@@ -173,6 +173,7 @@ fn receipts(alloc: Global, finished: Vec<Finished>) -> anyhow::Result<Vec<Receip
             request: _,
             answer: _,
             receipt,
+            moment: _,
         } = job;
         match receipt {
             Some(receipt) => receipts.push(receipt)?,
