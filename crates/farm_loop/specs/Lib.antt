@@ -1,2 +1,3 @@
 pub mod Dialing
+pub mod Pausing
 pub mod Tokens

@@ -5,12 +5,13 @@
 //!   ends with one tick; [`Live::answer`] writes. Between the two, what happened may be recorded. [`Live::turn`] is both. Who
 //!   calls them says when to end, by [`Live::close`].
 //! - [`Sockets`]: its sockets. [`Sockets::waker`] ends a wait from another thread, and the node is woken then.
+//! - [`Outgoing`]: which connections are read while others are behind with what is to be written, by [`Pause`].
 //! - [`Dial`]: a connection that it makes itself, again and again.
 //! - [`StatusPort`]: where it says what it does, over HTTP. Who shows its token may ask for its end there.
 //! - [`LoopFault`]: why it cannot go on.
 //!
 //! What a socket gives or takes, and what the system reports, no contract can say: all of this is proved safe, `Dial` is
-//! proved to be made when it is due, and the rest is tested.
+//! proved to be made when it is due, `Pause` to let each connection be read by its rule, and the rest is tested.
 #![tactic(auto)]
 
 mod clock;
@@ -18,6 +19,8 @@ mod dial;
 mod fault;
 mod half;
 mod live;
+mod outgoing;
+mod pause;
 mod port;
 mod sockets;
 mod tell;
@@ -28,6 +31,8 @@ use farm_serve::Serving;
 pub use fault::LoopFault;
 pub use half::Half;
 pub use live::Live;
+pub use outgoing::Outgoing;
+pub use pause::{BEHIND, PATIENCE, PIECE, Pause, Traffic, is_behind, traffic_on};
 pub use port::StatusPort;
 pub use sockets::Sockets;
 

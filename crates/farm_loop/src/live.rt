@@ -4,6 +4,7 @@ use crate::clock::Timer;
 use crate::dial::{Dial, DialState};
 use crate::fault::LoopFault;
 use crate::half::{Half, halves};
+use crate::outgoing::Outgoing;
 use crate::sockets::{Ready, Sockets, Source, token_of};
 use crate::{Served, tell};
 use dia_avp::ViewWire;
@@ -40,6 +41,8 @@ struct Unread {
     conn: ConnId,
     /// Whether nothing comes behind what is there: it is read until it ends.
     closes: bool,
+    /// Whether it was not read at all, since others are behind.
+    waits: bool,
 }
 
 /// A process that is nodes of a site: its sockets, and the node with its connections.
@@ -55,6 +58,8 @@ pub struct Live<N> {
     /// Connections that were not read until they would wait at the turn before, and at this one.
     again: Vec<Unread>,
     later: Vec<Unread>,
+    /// Which connections are read while requests wait to be written on others.
+    outgoing: Outgoing,
     timer: Timer,
     interval: u32,
 }
@@ -129,6 +134,8 @@ impl<N: Node + Drop> Live<N> {
                 site: place.watch,
             })?;
         }
+        let timer = Timer::start(os)?;
+        let moment = timer.now(os)?;
         Ok(Live {
             alloc,
             serving: Serving::new(alloc, node, locals),
@@ -138,7 +145,8 @@ impl<N: Node + Drop> Live<N> {
             listens: false,
             again: Vec::new(alloc),
             later: Vec::new(alloc),
-            timer: Timer::start(os)?,
+            outgoing: Outgoing::new(alloc, site.watchdog, moment),
+            timer,
             interval: site.watchdog,
         })
     }
@@ -176,6 +184,7 @@ impl<N: Node + Drop> Live<N> {
             listens: _,
             again: _,
             later: _,
+            outgoing: _,
             timer: _,
             interval: _,
         } = self;
@@ -194,9 +203,9 @@ impl<N: Node + Drop> Live<N> {
         self.answer(os, log, site, moment)
     }
 
-    /// The first half of a turn: waits 100 milliseconds at most, reads what is ready, takes connections from where nodes may
-    /// come, makes those that are due, and ends with one tick. Nothing is written to a connection, so that what is recorded
-    /// can be written before. The moment of the turn.
+    /// The first half of a turn: waits 100 milliseconds at most, reads what is ready and need not wait for others, takes
+    /// connections from where nodes may come, makes those that are due, and ends with one tick. Nothing is written to a
+    /// connection, so that what is recorded can be written before. The moment of the turn.
     pub fn hear<O: Net + Clock, L: Log>(
         &mut self,
         os: &O,
@@ -204,12 +213,15 @@ impl<N: Node + Drop> Live<N> {
         site: &Site,
         access: &Access,
     ) -> Result<Moment, LoopFault> {
-        let at_once = self.may_not_wait();
+        let before = self.timer.now(os)?;
+        self.outgoing.look(&self.serving, before);
+        let at_once = self.may_not_wait(site, before);
         self.sockets.wait(at_once)?;
         let moment = self.timer.now(os)?;
         self.serving.begin_turn(moment);
-        self.read_again(moment)?;
-        self.serve_ready(moment)?;
+        self.outgoing.find(site, &self.serving)?;
+        self.read_again(site, moment)?;
+        self.serve_ready(site, moment)?;
         self.accept_all(log, site, access, moment);
         self.dial_all(os, log, site, moment);
         self.serving.tick::<ViewWire>(moment);
@@ -265,18 +277,39 @@ impl<N: Node + Drop> Live<N> {
         Ok(())
     }
 
-    /// Whether there is something to do at once: a connection that was not read until it would wait, or a listener like that.
-    fn may_not_wait(&self) -> bool {
-        !self.later.is_empty()
-            || self
-                .sockets
-                .listeners
-                .iter()
-                .any(|listening| listening.is_ready)
+    /// Whether there is something to do at once: a connection that was not read until it would wait and may be read, or a
+    /// listener like that.
+    fn may_not_wait(&self, site: &Site, moment: Moment) -> bool {
+        for unread in &self.later {
+            if self
+                .outgoing
+                .may_read(site, &self.serving, unread.conn, moment)
+            {
+                return true;
+            }
+        }
+        self.has_callers()
     }
 
-    /// Reads on a connection for one turn. Where more may be there, it is read again at the next one.
-    fn read_one(&mut self, unread: Unread, moment: Moment) -> Result<(), LoopFault> {
+    /// Whether connections may wait at a listener.
+    fn has_callers(&self) -> bool {
+        self.sockets
+            .listeners
+            .iter()
+            .any(|listening| listening.is_ready)
+    }
+
+    /// Reads on a connection for one turn, unless it has to wait for others. Where more may be there, it is read again at the
+    /// next one.
+    fn read_one(&mut self, site: &Site, unread: Unread, moment: Moment) -> Result<(), LoopFault> {
+        self.outgoing.look(&self.serving, moment);
+        if !self
+            .outgoing
+            .may_read(site, &self.serving, unread.conn, moment)
+        {
+            self.put_off(unread, true)?;
+            return Ok(());
+        }
         let piece = self.sockets.piece.as_mut_slice();
         if piece.is_empty() {
             return Ok(());
@@ -286,37 +319,55 @@ impl<N: Node + Drop> Live<N> {
         if let Some(link) = self.serving.link(unread.conn) {
             let half = link.conn.reader().device();
             if link.end.is_none() && half.may_have_more(unread.closes) {
-                self.later.push(unread)?;
+                self.put_off(unread, false)?;
             }
         }
         Ok(())
     }
 
-    /// Reads where more may be there.
-    fn read_again(&mut self, moment: Moment) -> Result<(), LoopFault> {
+    /// A connection is read again at the next turn: one that waits for others, or one that was read.
+    fn put_off(&mut self, unread: Unread, waits: bool) -> Result<(), LoopFault> {
+        self.later.push(Unread {
+            conn: unread.conn,
+            closes: unread.closes,
+            waits,
+        })?;
+        Ok(())
+    }
+
+    /// Reads where more may be there: first those that have waited for others, so that each has its turn.
+    fn read_again(&mut self, site: &Site, moment: Moment) -> Result<(), LoopFault> {
         swap(&mut self.again, &mut self.later);
         self.later.clear();
+        self.read_those(site, true, moment)?;
+        self.read_those(site, false, moment)
+    }
+
+    /// Reads again those that have waited for others, or those that have not.
+    fn read_those(&mut self, site: &Site, waits: bool, moment: Moment) -> Result<(), LoopFault> {
         for at in 0..self.again.len() {
-            if let Some(unread) = self.again.get(at) {
+            if let Some(unread) = self.again.get(at)
+                && unread.waits == waits
+            {
                 let unread = *unread;
-                self.read_one(unread, moment)?;
+                self.read_one(site, unread, moment)?;
             }
         }
         Ok(())
     }
 
     /// Serves what was reported.
-    fn serve_ready(&mut self, moment: Moment) -> Result<(), LoopFault> {
+    fn serve_ready(&mut self, site: &Site, moment: Moment) -> Result<(), LoopFault> {
         for at in 0..self.sockets.ready.len() {
             if let Some(ready) = self.sockets.ready.get(at) {
                 let ready = *ready;
-                self.serve_one(ready, moment)?;
+                self.serve_one(site, ready, moment)?;
             }
         }
         Ok(())
     }
 
-    fn serve_one(&mut self, ready: Ready, moment: Moment) -> Result<(), LoopFault> {
+    fn serve_one(&mut self, site: &Site, ready: Ready, moment: Moment) -> Result<(), LoopFault> {
         match ready.source {
             Source::Waker => self.serving.wake::<ViewWire>(moment),
             Source::Listener { place } => {
@@ -326,7 +377,7 @@ impl<N: Node + Drop> Live<N> {
             }
             Source::Conn { conn } => {
                 if ready.reads {
-                    self.read_reported(conn, ready.closes, moment)?;
+                    self.read_reported(site, conn, ready.closes, moment)?;
                 }
             }
         }
@@ -336,6 +387,7 @@ impl<N: Node + Drop> Live<N> {
     /// Reads on a connection that was reported, unless it was read for this turn and is read again at the next one.
     fn read_reported(
         &mut self,
+        site: &Site,
         conn: ConnId,
         closes: bool,
         moment: Moment,
@@ -346,7 +398,12 @@ impl<N: Node + Drop> Live<N> {
                 return Ok(());
             }
         }
-        self.read_one(Unread { conn, closes }, moment)
+        let unread = Unread {
+            conn,
+            closes,
+            waits: false,
+        };
+        self.read_one(site, unread, moment)
     }
 
     /// Takes the connections that wait at listeners.

@@ -3,6 +3,7 @@
 ghost use Rattle.std.specs.Prelude.{◌≡◌};
 ghost use Rattle.farm_loop.specs.Tokens.{IsOf, token_for};
 
+use crate::pause::PIECE;
 use dia_base::{ConnId, NodeNo};
 use mio::net::TcpListener;
 use mio::{Events, Interest, Poll, Registry, Token, Waker};
@@ -13,9 +14,6 @@ use std::time::Duration;
 
 /// The most events of a turn.
 const EVENT_LIMIT: usize = 1_024;
-
-/// The octets of a read.
-const PIECE: usize = 65_536;
 
 /// How long a turn waits, in milliseconds, where nothing happens.
 const WAIT: u64 = 100;

@@ -178,6 +178,13 @@ impl<R: Read + Device, W: Write + Device> Conn<R, W> {
         }
     }
 
+    /// How many octets wait to be written.
+    pub fn unsent(&self) -> usize
+        ensures { result ≡ length self.now.unsent }
+    {
+        self.outbox.len()
+    }
+
     /// Whether octets wait to be written.
     pub fn wants_write(&self) -> bool
         ensures { IsTrue result ↔ ((self.now.stage ≢ Stage.Ended) × (0 < length self.now.unsent)) }

@@ -4,7 +4,8 @@
 ghost use Rattle.farm_base.specs.CheckedSite.{IsChecked};
 
 use crate::debit::{book, front};
-use crate::messages::{DEBIT, FRONT};
+use crate::messages::{DEBIT, FRONT, RELAY};
+use dia_base::NodeNo;
 use farm_access::Access;
 use farm_base::Site;
 use farm_client::{Sender, line_of, messages_of};
@@ -18,6 +19,9 @@ use log::sink::Console;
 use log::{LevelFilter, Logged};
 use relay_core::Relay;
 use std::time::{SystemTime, UNIX_EPOCH};
+
+/// The client c1.example.
+const CLIENT: NodeNo = NodeNo(1);
 
 /// How many turns each of them has at most, of 100 milliseconds where nothing happens.
 const TURNS: u32 = 100;
@@ -34,7 +38,7 @@ route = [{ at = "r1.example", realm = "ocs.example", app = 4, peers = ["f1.examp
 "#;
 
 /// The site, with addresses on this machine which another run of this program has not at the same time.
-fn site_text(rt: &HostRuntime) -> anyhow::Result<String> {
+pub fn site_text(rt: &HostRuntime) -> anyhow::Result<String> {
     let nanos = match SystemTime::now(rt)?.duration_since(UNIX_EPOCH) {
         Ok(since) => since.subsec_nanos(),
         Err(_) => 0,
@@ -53,19 +57,27 @@ fn site_text(rt: &HostRuntime) -> anyhow::Result<String> {
     )?)
 }
 
-/// A process of one node, which is recorded.
+/// A process of one node.
 fn live<N: Node + Drop>(
     rt: &HostRuntime,
     site: &Site,
     node: N,
     place: Place,
-    is_client: bool,
 ) -> anyhow::Result<Live<N>> {
-    let nodes = vec![in rt.alloc(); place.node]?;
     let places = vec![in rt.alloc(); place]?;
-    let mut live = Live::new(rt, rt.alloc(), site, node, places)?;
-    live.begin_record(rt, site, nodes, is_client)?;
-    Ok(live)
+    Ok(Live::new(rt, rt.alloc(), site, node, places)?)
+}
+
+/// Has a process recorded, which is this node.
+fn record<N: Node + Drop>(
+    rt: &HostRuntime,
+    site: &Site,
+    live: &mut Live<N>,
+    node: NodeNo,
+    is_client: bool,
+) -> anyhow::Result<()> {
+    let nodes = vec![in rt.alloc(); node]?;
+    Ok(live.begin_record(rt, site, nodes, is_client)?)
 }
 
 /// Prints what a process has recorded: of each line the first word, but for moments.
@@ -88,7 +100,7 @@ fn front_of(rt: &HostRuntime, site: &Site) -> anyhow::Result<Live<Fronts>>
     let front = front(rt.alloc())?;
     let at = vec![in rt.alloc(); FrontAt { node: FRONT, front }]?;
     let place = place_of(rt.alloc(), site, FRONT)?;
-    live(rt, site, Fronts::new(at, book(rt.alloc())?), place, false)
+    live(rt, site, Fronts::new(at, book(rt.alloc())?), place)
 }
 
 fn relay_of(rt: &HostRuntime, site: &Site) -> anyhow::Result<Option<Live<Relay>>>
@@ -96,7 +108,7 @@ fn relay_of(rt: &HostRuntime, site: &Site) -> anyhow::Result<Option<Live<Relay>>
 {
     let place = place_of_relay(rt.alloc(), site, b"r1.example")?;
     match relays_of(rt.alloc(), site)?.pop() {
-        Some(at) => Ok(Some(live(rt, site, at.relay, place, false)?)),
+        Some(at) => Ok(Some(live(rt, site, at.relay, place)?)),
         None => Ok(None),
     }
 }
@@ -106,7 +118,7 @@ fn client_of(rt: &HostRuntime, site: &Site) -> anyhow::Result<Live<Sender>>
 {
     let place = place_of_client(rt.alloc(), site, b"c1.example", b"r1.example")?;
     let sender = Sender::new(rt.alloc(), messages_of(rt.alloc(), DEBIT.as_bytes())?);
-    let mut client = live(rt, site, sender, place, true)?;
+    let mut client = live(rt, site, sender, place)?;
     client.listens_nowhere();
     Ok(client)
 }
@@ -148,8 +160,11 @@ pub fn print(rt: &HostRuntime) -> anyhow::Result<()> {
     let Some(mut relay) = relay_of(rt, &site)? else {
         return Ok(());
     };
+    record(rt, &site, &mut front, FRONT, false)?;
+    record(rt, &site, &mut relay, RELAY, false)?;
     connect(rt, &log, &site, &access, &mut front, &mut relay)?;
     let mut client = client_of(rt, &site)?;
+    record(rt, &site, &mut client, CLIENT, true)?;
     for _ in 0..TURNS {
         client.turn(rt, &log, &site, &access)?;
         relay.turn(rt, &log, &site, &access)?;

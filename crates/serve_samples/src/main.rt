@@ -1,6 +1,6 @@
 //! Connections over readers and writers in memory, each with one thing that happens to it: it prints what the node was
 //! told and why the connection has ended. And a front that is asked for a debit over such a connection: it prints what
-//! is written. At last a front, a relay and a client over TCP.
+//! is written. A client that sends more at once than may wait. At last a front, a relay and a client over TCP.
 //!
 //! - `streams`: readers and writers that fail from a call on.
 //! - `counting`: a node that counts what it is told.
@@ -9,11 +9,13 @@
 //! - `debit`: the first debit through all fronts of a site.
 //! - `elsewhere`: a node that may not come from where it is.
 //! - `places`: who may come from where, by what a site file says.
+//! - `burst`: a relay whose client sends 4 MB at once, to a front that takes less.
 //! - `live`: a front, a relay and a client in one process, over TCP.
 //!
 //! What it must print, `stdout`, was worked out by hand.
 #![tactic(auto)]
 
+mod burst;
 mod counting;
 mod cuts;
 mod debit;
@@ -30,5 +32,6 @@ fn main(rt: HostRuntime) -> anyhow::Result<()> {
     debit::print(&rt, rt.alloc())?;
     elsewhere::print_all(&rt, rt.alloc())?;
     places::print_all(&rt, rt.alloc())?;
+    burst::print(&rt)?;
     live::print(&rt)
 }

@@ -1,0 +1,111 @@
+//! The connections of a process on which requests go out, and which others are read meanwhile.
+
+use crate::pause::{Pause, Traffic, is_behind, traffic_on};
+use dia_base::{ConnId, Moment, NodeKind, NodeNo};
+use farm_base::Site;
+use farm_net::Device;
+use farm_node::Node;
+use farm_serve::{Link, Serving, Standing};
+use std::alloc::{AllocError, Global};
+use std::io::{Read, Write};
+
+/// The connections on which requests go out, as they were at the turn's beginning, and how many of them are behind.
+#[derive(Drop)]
+pub struct Outgoing {
+    conns: Vec<ConnId>,
+    pause: Pause,
+}
+
+/// What a node of the site is.
+fn kind_of(site: &Site, node: NodeNo) -> Option<NodeKind> {
+    let node = site.nodes.as_slice().get(node.0 as usize)?;
+    Some(node.kind)
+}
+
+/// What a connection brings. One of a node that the site has not brings nothing that anybody would wait for.
+fn traffic_of<R, W>(site: &Site, link: &Link<R, W>) -> Traffic {
+    let Some(local) = kind_of(site, link.local) else {
+        return Traffic::Answers;
+    };
+    let peer = match link.standing {
+        Standing::Up { peer } => kind_of(site, peer),
+        Standing::Waiting | Standing::Over { .. } => None,
+    };
+    traffic_on(local, peer)
+}
+
+/// Whether requests go out on a connection that brings this.
+fn sends_requests(traffic: Traffic) -> bool {
+    match traffic {
+        Traffic::Answers | Traffic::Both => true,
+        Traffic::Requests => false,
+    }
+}
+
+/// Whether a connection is behind. One that has ended makes nobody wait.
+fn is_behind_on<N: Node, R: Read + Device, W: Write + Device>(
+    serving: &Serving<N, R, W>,
+    conn: ConnId,
+) -> bool {
+    match serving.link(conn) {
+        Some(link) => link.end.is_none() && is_behind(link.conn.unsent()),
+        None => false,
+    }
+}
+
+impl Outgoing {
+    /// None at this moment. The interval is that of the watchdog, in milliseconds.
+    pub fn new(alloc: Global, interval: u32, moment: Moment) -> Self {
+        Outgoing {
+            conns: Vec::new(alloc),
+            pause: Pause::new(interval, moment),
+        }
+    }
+
+    /// Finds them: to be called at the beginning of a turn.
+    pub fn find<N: Node, R: Read + Device, W: Write + Device>(
+        &mut self,
+        site: &Site,
+        serving: &Serving<N, R, W>,
+    ) -> Result<(), AllocError> {
+        self.conns.clear();
+        for link in serving.links() {
+            if link.end.is_none() && sends_requests(traffic_of(site, link)) {
+                self.conns.push(link.id)?;
+            }
+        }
+        Ok(())
+    }
+
+    /// Looks how many of them are behind at this moment: to be called before it is asked whether one is read.
+    pub fn look<N: Node, R: Read + Device, W: Write + Device>(
+        &mut self,
+        serving: &Serving<N, R, W>,
+        moment: Moment,
+    ) {
+        let mut behind: usize = 0;
+        for conn in &self.conns {
+            if is_behind_on(serving, *conn) {
+                behind = behind.saturating_add(1);
+            }
+        }
+        self.pause.look(behind, moment);
+    }
+
+    /// Whether a connection is read at this moment ([`Pause::may_read`]). One that is gone is, which changes nothing.
+    pub fn may_read<N: Node, R: Read + Device, W: Write + Device>(
+        &self,
+        site: &Site,
+        serving: &Serving<N, R, W>,
+        conn: ConnId,
+        moment: Moment,
+    ) -> bool {
+        match serving.link(conn) {
+            Some(link) => {
+                let traffic = traffic_of(site, link);
+                self.pause.may_read(traffic, link.conn.unsent(), moment)
+            }
+            None => true,
+        }
+    }
+}

@@ -1,0 +1,55 @@
+//! Connections over streams in memory: devices that fail at each call in turn, streams that are cut behind each octet or read
+//! in pieces of any length, a writer that takes nothing. And whole streams of a client, read from standard input, through the
+//! frames, the life of a connection, a relay and a front.
+//!
+//! - `devices`: readers and writers in memory, and what they do.
+//! - `replies`: a node that answers each request alike. `messages`: what the other ends write.
+//! - `failing`, `miser`, `pieces`: what becomes of its connections.
+//! - `lists`: lists of AVPs that end too early, and groups that are too deep.
+//! - `farm`: a relay and a front as one node. `lines`: a client's streams through both.
+//!
+//! With a number behind its name it reads so many octets at a time of each line, and prints nothing else: `bench/fuzz.py` runs
+//! it so. What it must print without one, `stdout`, was worked out by hand.
+#![tactic(auto)]
+
+mod devices;
+mod failing;
+mod farm;
+mod lines;
+mod lists;
+mod messages;
+mod miser;
+mod pieces;
+mod replies;
+
+use farm_text::read_text;
+use std::env;
+
+/// The octets of a read where no number is given.
+const PIECE: usize = 4_096;
+
+/// The number behind the program's name.
+fn piece_of(rt: &HostRuntime) -> anyhow::Result<Option<usize>> {
+    for word in env::args(rt)?.skip(1) {
+        return Ok(word.parse::<usize>().ok());
+    }
+    Ok(None)
+}
+
+/// What needs no input.
+fn print_samples(rt: &HostRuntime) -> anyhow::Result<()> {
+    let alloc = rt.alloc();
+    failing::print_all(rt, alloc)?;
+    miser::print_all(rt, alloc)?;
+    pieces::print_all(rt, alloc)?;
+    lists::print_all(rt, alloc)
+}
+
+fn main(rt: HostRuntime) -> anyhow::Result<()> {
+    let piece = piece_of(&rt)?;
+    if piece.is_none() {
+        print_samples(&rt)?;
+    }
+    let text = read_text(rt.alloc(), &mut rt.reader())?;
+    lines::print_all(&rt, rt.alloc(), &text, piece.unwrap_or(PIECE))
+}
