@@ -31,7 +31,8 @@ _farm() {
       mapfile -t COMPREPLY < <(compgen -W '--site' -- "$word"; compgen -f -- "$word")
       ;;
     picture) mapfile -t COMPREPLY < <(compgen -W '--site --from --to' -- "$word") ;;
-    check | replay | report) mapfile -t COMPREPLY < <(compgen -W '--site' -- "$word") ;;
+    check) mapfile -t COMPREPLY < <(compgen -W '--site' -- "$word") ;;
+    replay | report) mapfile -t COMPREPLY < <(compgen -W '--site --skipped' -- "$word") ;;
   esac
 }
 complete -o filenames -F _farm farm

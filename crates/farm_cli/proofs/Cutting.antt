@@ -12,6 +12,7 @@ use Rattle.farm_base.specs.declared.step.Step.{Step}
 use Rattle.farm_script.specs.Schedule.{steps_of, NoneBefore, all_of, readings_from}
 use Rattle.farm_command.specs.declared.command.Action.{Action}
 use Rattle.farm_cli.specs.Replay.{Replays, IsRefused}
+use Rattle.farm_cli.specs.Skipped.{Names}
 
 abbrev Answer : Type 0
 Answer = Result (List Step) ScriptFault
@@ -79,3 +80,16 @@ stream_replays action site (Some octets) text given out P read same replays p = 
   },
   p,
 )
+
+-- the steps that are named of what was read are those of the whole, which is not too long
+names_for : (asked : Bool) (site : Site) (text octets old new : List ℕ) → text ≡ take 16777217 octets → Names asked site text old new → Names asked site octets old new
+names_for asked site text octets old new read names =
+    let same : IsCut site text octets = ap (steps_of site) read ∙ steps_of-cut site octets in
+    let spelled : steps_of site octets ≡ Ok names.steps = sym same ∙ names.spelled in
+    let short : length octets ≤ 16777216 = not_long site octets 0 (subst (λ (r : Answer). NoneBefore 0 r) (sym spelled) tt) in
+    let all : text ≡ octets = read ∙ take_all 16777217 octets (omega arith) in
+    subst (λ (octets : List ℕ). Names asked site octets old new) all names
+
+pub stream_names : (asked : Bool) (site : Site) (stream : Option (List ℕ)) (text given old new : List ℕ) → IsRead stream text → given ≡ text → Names asked site given old new → IfSome stream (λ octets. Names asked site octets old new)
+stream_names asked site None text given old new read same names = tt
+stream_names asked site (Some octets) text given old new read same names = names_for asked site given octets old new (same ∙ read) names

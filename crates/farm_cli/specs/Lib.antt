@@ -2,3 +2,4 @@ pub mod Ending
 pub mod Output
 pub mod Replay
 pub mod Sites
+pub mod Skipped

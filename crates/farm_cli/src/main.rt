@@ -4,6 +4,7 @@
 //! - `sites`: a replay over the row site, and over the site of a file.
 //! - `replay`: a schedule from a reader, run over a site, and what that prints to a writer.
 //! - `output`: what is printed of a run.
+//! - `skipped`: the steps that did not apply, by name.
 //! - `fault`, `ending`: why the program did not do it, and how it ends.
 #![tactic(auto)]
 
@@ -13,6 +14,7 @@ mod output;
 mod program;
 mod replay;
 mod sites;
+mod skipped;
 
 use ending::{Ending, Stream};
 use fault::Fault;

@@ -7,8 +7,10 @@ ghost use Rattle.farm_base.specs.CheckedSite.{IsChecked};
 ghost use Rattle.farm_text.specs.Reading.{ReadsText};
 ghost use Rattle.farm_text.specs.Writing.{BeginsWriting};
 ghost use Rattle.farm_cli.specs.Replay.{Replays, IsRefused, IsOfText, WasRead, of_reading};
+ghost use Rattle.farm_cli.specs.Skipped.{Names};
 
 use crate::output::output;
+use crate::skipped::name_skipped;
 use dia_avp::Wire;
 use farm_command::Action;
 use farm_script::{ScriptFault, steps_of};
@@ -54,17 +56,21 @@ fn write_output<W: Write>(writer: &mut W, text: &[u8]) -> Result<(), ReplayFault
     }
 }
 
-/// What the action prints of a schedule's text, run over the site from an empty history.
+/// What the action prints of a schedule's text, run over the site from an empty history. Where it is asked for, the steps
+/// that did not apply are named behind what `named` has.
 pub fn replay_text<V: Wire>(
     alloc: Global,
     action: Action,
+    skipped: bool,
     site: &Site,
     text: &[u8],
+    named: &mut Vec<u8>,
 ) -> Result<Vec<u8>, ReplayFault>
     requires { IsChecked site.now }
 
     // The action's output of a run of the text's steps; or the first fault of a text that is no schedule.
     ensures ok { IfOk result (λ printed. Replays action site.now text.now printed.items) }
+    ensures named { IfOk result (λ printed. Names skipped site.now text.now named.old.items named.new.items) }
     ensures script { (fault : ScriptFault) → result ≡ Err (ReplayFault.Script fault) → IsRefused site.now text.now fault }
     ensures fault { IfErr result IsOfText }
 {
@@ -75,6 +81,9 @@ pub fn replay_text<V: Wire>(
     let Ok(trace) = run::<V>(alloc, site, &steps) else {
         return Err(ReplayFault::OutOfMemory);
     };
+    let Ok(()) = name_skipped::<V>(alloc, skipped, site, text, &steps, named) else {
+        return Err(ReplayFault::OutOfMemory);
+    };
     match output(alloc, action, site, steps.len(), &trace) {
         Ok(printed) => Ok(printed),
         Err(_) => Err(ReplayFault::OutOfMemory),
@@ -82,13 +91,16 @@ pub fn replay_text<V: Wire>(
 }
 
 /// Reads a schedule, runs its steps over the site from an empty history, and writes what the
-/// action prints of it. Nothing is written before the run is done.
+/// action prints of it. Nothing is written before the run is done. Where it is asked for, the steps that did not apply are
+/// named behind what `named` has.
 pub fn replay_io<V: Wire, R: Read, W: Write>(
     alloc: Global,
     action: Action,
+    skipped: bool,
     site: &Site,
     reader: &mut R,
     writer: &mut W,
+    named: &mut Vec<u8>,
 ) -> Result<(), ReplayFault>
     requires { IsChecked site.now }
 
@@ -96,6 +108,7 @@ pub fn replay_io<V: Wire, R: Read, W: Write>(
     // of the schedule's steps.
     ensures ok { OnOk result (IfSome (R.remaining reader.old) (λ octets.
         (printed : List ℕ) × Replays action site.now octets printed × Appends (W.contents writer.old) (W.contents writer.new) printed)) }
+    ensures named { OnOk result (IfSome (R.remaining reader.old) (λ octets. Names skipped site.now octets named.old.items named.new.items)) }
 
     // Nothing is read behind the end, nor behind one octet above the size limit.
     ensures read { WasRead result → ReadsText (R.remaining reader.old) (R.remaining reader.new) }
@@ -110,6 +123,6 @@ pub fn replay_io<V: Wire, R: Read, W: Write>(
         (printed : List ℕ) × Replays action site.now octets printed × BeginsWriting (W.contents writer.old) (W.contents writer.new) printed) }
 {
     let text = read_text(alloc, reader)?;
-    let printed = replay_text::<V>(alloc, action, site, &text)?;
+    let printed = replay_text::<V>(alloc, action, skipped, site, &text, named)?;
     write_output(writer, &printed)
 }

@@ -10,7 +10,7 @@ use Rattle.clap.proofs.OnLiterals.{clap_on_literals}
 use Rattle.farm_command.specs.declared.command.Action.{Action}
 use Rattle.farm_command.specs.declared.command.Action.TheVariants.{Replay, Report}
 use Rattle.farm_command.specs.declared.command.Command.{Command}
-use Rattle.farm_command.specs.CommandLine.{action_named, command_line, name_of, with_site, IsNamedIn, IsReadFrom}
+use Rattle.farm_command.specs.CommandLine.{action_named, command_line, name_of, with_options, IsNamedIn, IsReadFrom}
 
 -- clap's words say exactly what it reads of this command line, and how it fails
 pub line_is_simple : is_simple command_line ≡ true
@@ -64,7 +64,7 @@ one_of_two a b false false words command f g named = named
 
 -- what building makes of a subcommand
 abbrev built_sub : Text → Shape
-built_sub name = built_leaf (inherited (on_top with_leaf_noted (on_top marked_built command_line)).top (with_site name).top)
+built_sub name = built_leaf (inherited (on_top with_leaf_noted (on_top marked_built command_line)).top (with_options name).top)
 
 -- a subcommand that is entered is one of the two
 pub read_by_name : (command : Command) (words : List Text) → IsNamedIn (subcommand_of command_line words) command → IsReadFrom (subcommand_of command_line words) command

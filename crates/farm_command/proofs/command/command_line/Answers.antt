@@ -1,7 +1,7 @@
 use Rattle.std.proofs.Common.{◌≡◌, true, codes, ap, ap₂, ◌∙◌}
 use Rattle.std.proofs.lemmas.Result.{IfOk-weaker}
 use Rattle.clap.specs.Simple.{App, Shape, app_of, app_of_fields, new_app, on_top, with_subcommand}
-use Rattle.farm_command.specs.CommandLine.{program, with_site}
+use Rattle.farm_command.specs.CommandLine.{program, with_options}
 use Rattle.farm_command.proofs.command.command_line.Goals as goal
 
 pub returns : goal.returns
@@ -13,7 +13,7 @@ returns c =
     ap app_of_fields c.no_binary_name.ensures ∙ ap (on_top (λ (s : Shape). record s { no_binary_name = true })) versioned in
     let program_is : app_of c.disable_help_subcommand.result ≡ program =
     ap app_of_fields c.disable_help_subcommand.ensures ∙ ap (on_top (λ (s : Shape). record s { disable_help_subcommand = true })) alone in
-    let with_replay : app_of c.in_ok-subcommand.field-0 ≡ with_subcommand program (with_site (codes "replay")).top =
+    let with_replay : app_of c.in_ok-subcommand.field-0 ≡ with_subcommand program (with_options (codes "replay")).top =
     c.in_ok-subcommand.ensures.shape c.in_ok-replay.ensures.local ∙ ap₂ with_subcommand program_is (ap (λ (a : App). a.top) c.in_ok-replay.ensures.shape) in
     IfOk-weaker c.subcommand-4.result _ _
     (λ line h. h.shape c.in_ok-report.ensures.local ∙ ap₂ with_subcommand with_replay (ap (λ (a : App). a.top) c.in_ok-report.ensures.shape))
