@@ -206,6 +206,17 @@ def ratios(figures):
     return "\n".join(lines)
 
 
+def busy():
+    """How many processors have other work, over a second."""
+    def now():
+        times = [int(word) for word in Path("/proc/stat").read_text().splitlines()[0].split()[1:9]]
+        return sum(times) - times[3] - times[4], sum(times)
+    before = now()
+    time.sleep(1)
+    after = now()
+    return os.cpu_count() * (after[0] - before[0]) / max(after[1] - before[1], 1)
+
+
 def main():
     parser = argparse.ArgumentParser()
     parser.add_argument("--seconds", type=float, default=3)
@@ -213,10 +224,10 @@ def main():
     parser.add_argument("--relays", default=",".join(RELAYS))
     parser.add_argument("--write", action="store_true", help="write docs/FIELD.md")
     words = parser.parse_args()
-    load = os.getloadavg()[0]
     with tempfile.TemporaryDirectory() as room:
         subprocess.run(["rustc", "--edition", "2024", "-O", "-o", f"{room}/ends", str(HERE / "field/ends.rs")], check=True)
         print(HEAD)
+        load = busy()
         figures = {name: run(name, room, words.program, words.seconds) for name in words.relays.split(",")}
     print("\n" + ratios(figures))
     if words.write:
@@ -226,4 +237,5 @@ def main():
         (HERE.parent / "docs/FIELD.md").write_text(page)
 
 
-main()
+if __name__ == "__main__":
+    main()

@@ -1,8 +1,9 @@
 #!/usr/bin/env python3
 """Streams that are broken anywhere, through all that a served relay does with them: bench/fuzz.py [PROGRAM]
 
-    --streams N     so many streams of a client (2000)      --seed S      from this seed (1)
-    --refused N     so many runs with memory refused (0)    --jobs J      so many at a time (2)
+    --streams N     so many streams of a client in a run (800)    --seed S    from this seed (1)
+    --runs R        so many runs, a seed each (1)                 --jobs J    so many at a time, of those with memory refused (2)
+    --refused N     so many runs with memory refused (0)
 
 It has the proved program stream_samples (tools/build stream_samples) read streams of a client: an exchange of capabilities,
 requests of all kinds (examples/models/random_requests.py), watchdogs and disconnects, in one of two streams with octets
@@ -38,6 +39,8 @@ from site_data import CREDIT_CONTROL_APPLICATION, CLIENT, FRONT, RELAY
 from world import World
 
 PROGRAM = TOP / "crates/stream_samples/out/stream_samples"
+# The program reads a text of at most so many octets: a run has fewer streams where they are longer.
+TEXT_LIMIT = 16_000_000
 PIECES = [1, 7, 4_096, 65_536]
 # The reads of a turn.
 TURN_LIMIT = 64
@@ -312,33 +315,50 @@ def begins(written, lines, same):
     return had.startswith(has) or "00000bbc" in has
 
 
-def main(words):
-    parser = argparse.ArgumentParser(description=__doc__, formatter_class=argparse.RawDescriptionHelpFormatter)
-    parser.add_argument("program", nargs="?", type=Path, default=PROGRAM)
-    parser.add_argument("--streams", type=int, default=2_000)
-    parser.add_argument("--seed", type=int, default=1)
-    parser.add_argument("--refused", type=int, default=0)
-    parser.add_argument("--jobs", type=int, default=2)
-    arguments = parser.parse_args(words)
-    program, began = arguments.program.resolve(), time.monotonic()
-    model = Model()
-    chosen, streams, told = Streams(Dice(arguments.seed), model), [], []
+def run(arguments, seed):
+    """The findings of a run, its octets, and how its streams ended."""
+    program, model = arguments.program.resolve(), Model()
+    chosen, streams, told = Streams(Dice(seed), model), [], []
+    length = 0
     for _ in range(arguments.streams):
-        streams.append(chosen.next())
-        told.append(model.told(streams[-1]))
-    findings = [it for piece in PIECES for it in compared(program, streams, told, model, piece)]
+        stream = chosen.next()
+        if not stream:
+            # an empty line is none
+            continue
+        length += len(spelled_streams([stream]))
+        if length > TEXT_LIMIT:
+            break
+        streams.append(stream)
+        told.append(model.told(stream))
+    findings = [f"seed {seed}: {it}" for piece in PIECES for it in compared(program, streams, told, model, piece)]
     octets, messages = sum(map(len, streams)), sum(len(frames(octets)[0]) for octets in streams)
     whys = Counter((it.end or it.fault or (0, ENDED))[1] for it in told)
-    print(f"{len(streams)} streams of {octets} octets, {messages} messages, each in reads of {PIECES} octets")
-    for why, count in whys.most_common():
-        print(f"    {count} ended: {why}")
+    print(f"seed {seed}: {len(streams)} streams of {octets} octets, {messages} messages, each in reads of {PIECES} octets", flush=True)
     if arguments.refused:
         names, more = refused(program, streams[:REFUSED_STREAMS], arguments.refused, arguments.jobs)
         print(f"memory refused: {sum(names.values())} runs ({', '.join(f'{it} {n}' for it, n in sorted(names.items()))})")
         findings += more
+    return findings, octets, whys
+
+
+def main(words):
+    parser = argparse.ArgumentParser(description=__doc__, formatter_class=argparse.RawDescriptionHelpFormatter)
+    parser.add_argument("program", nargs="?", type=Path, default=PROGRAM)
+    parser.add_argument("--streams", type=int, default=800)
+    parser.add_argument("--seed", type=int, default=1)
+    parser.add_argument("--runs", type=int, default=1)
+    parser.add_argument("--refused", type=int, default=0)
+    parser.add_argument("--jobs", type=int, default=2)
+    arguments = parser.parse_args(words)
+    began, findings, octets, whys = time.monotonic(), [], 0, Counter()
+    for seed in range(arguments.seed, arguments.seed + arguments.runs):
+        found, count, ends = run(arguments, seed)
+        findings, octets, whys = findings + found, octets + count, whys + ends
+    for why, count in whys.most_common():
+        print(f"    {count} ended: {why}")
     for finding in findings[:20]:
         print(finding)
-    print(f"{len(findings)} findings, {time.monotonic() - began:.0f} seconds")
+    print(f"{octets} octets, {len(findings)} findings, {time.monotonic() - began:.0f} seconds")
     return 1 if findings else 0
 
 
