@@ -15,7 +15,8 @@ seconds are added to the N: until all is answered, and for the audit. It needs t
 bench/soak.py --plant [NAME..] builds the program unproved (bench/planted.py) as it is, and then with each wrong body of
 tools/plants/live, has each serve for N seconds (20, where none are given) and wants the audit to find nothing first, and then
 each of them. Status 1 where one is not found out. It needs the toolchain, a minute or two for each, and the audit's program. What
-is built unproved is some twenty times slower: --rate 20 --interval 3 are enough for it.
+is built unproved is some twenty times slower, so --interval 3; below --rate 60 few writes take a part of what they are given, and
+what is wrong only then may not be found.
 """
 import argparse
 import asyncio
