@@ -11,9 +11,9 @@ hundredth, and its memory. The relays:
 - copy: hands octets on, and knows nothing of messages: the bound of what can be reached with sockets;
 - frame: finds the messages, swaps the identifiers and appends a Route-Record: the least that a relay does.
 
-Below it stands what ours is of the others. With --write all of it becomes docs/FIELD.md. It needs rustc for the ends
-(bench/field/ends.rs). Not part of the gate. What is compared are ratios of one run, on a machine
-without other work.
+Below it stands what ours is of the others. With --write all of it becomes the section on relays of docs/FIELD.md. It needs rustc
+for the ends (bench/field/ends.rs). Not part of the gate. What is compared are ratios of one run, on a machine without other work.
+bench/front.py does the same with fronts.
 """
 import argparse
 import glob
@@ -26,6 +26,7 @@ import subprocess
 import sys
 import tempfile
 import time
+from collections.abc import Callable
 from dataclasses import dataclass
 from pathlib import Path
 
@@ -38,6 +39,7 @@ TICK = os.sysconf("SC_CLK_TCK")
 
 @dataclass
 class Figures:
+    answers: int
     rate: float
     cpu: float
     median: float
@@ -134,18 +136,26 @@ def await_port(port):
     sys.exit(f"field: nobody listens on {port}")
 
 
-def measure(room, pid, names, window, seconds):
-    before, _ = used(pid)
-    words = [f"{room}/ends", "ask", f"127.0.0.1:{PORT}", ",".join(names), str(window), str(seconds), "ocs.example"]
+def ask(room, names, window, seconds, *granted):
+    """What the ends count while they ask, by word, and what is wrong. With `granted`, so many octets are to be granted."""
+    words = [f"{room}/ends", "ask", f"127.0.0.1:{PORT}", ",".join(names), str(window), str(seconds), "ocs.example", *map(str, granted)]
     told = subprocess.run(words, capture_output=True, text=True, timeout=seconds + 30)
-    after, memory = used(pid)
     words = told.stdout.split()
     if not words:
-        return Figures(0, 0, 0, 0, memory, told.stderr.strip().splitlines()[-1] if told.stderr else "no answer")
-    told = dict(zip(words[::2], map(float, words[1::2])))
-    faults = ", ".join(f"{told[word]:.0f} {word}" for word in ("wrong", "strangers", "missing", "ended") if told[word])
-    count = max(told["answers"], 1)
-    return Figures(told["answers"] / told["seconds"], (after - before) / count * 1e6, told["median"], told["p99"], memory, faults)
+        return {}, told.stderr.strip().splitlines()[-1] if told.stderr else "no answer"
+    counted = dict(zip(words[::2], map(float, words[1::2])))
+    return counted, ", ".join(f"{counted[word]:.0f} {word}" for word in ("wrong", "strangers", "missing", "ended") if counted[word])
+
+
+def measure(room, pid, names, window, seconds, *granted):
+    before, _ = used(pid)
+    counted, faults = ask(room, names, window, seconds, *granted)
+    after, memory = used(pid)
+    if not counted:
+        return Figures(0, 0, 0, 0, 0, memory, faults)
+    answers = int(counted["answers"])
+    cpu = (after - before) / max(answers, 1) * 1e6
+    return Figures(answers, answers / counted["seconds"], cpu, counted["median"], counted["p99"], memory, faults)
 
 
 def row_of(name, count, window, it):
@@ -181,12 +191,7 @@ def run(name, room, program, seconds):
     return figures
 
 
-HEAD = """| Relay | Connections | Window | Requests a second | Processor, microseconds a request | Median, microseconds | Slowest hundredth | Memory, MB | Faults |
-|---|---|---|---|---|---|---|---|---|"""
-
-PAGE = """# Beside other relays
-
-What relays carry over TCP on one machine, between clients and a server that answers at once; written by `bench/field.py --write`, whose head says what each of them is. Every answer was checked. {when}, {processors} processors, with {load:.1f} of them busy with other work when it began: what counts are the ratios.
+SECTION = """What relays carry over TCP on one machine, between clients and a server that answers at once; written by `bench/field.py --write`, whose head says what each of them is. Every answer was checked. {machine}
 
 {table}
 
@@ -206,6 +211,27 @@ def ratios(figures):
     return "\n".join(lines)
 
 
+def write_section(heading, text):
+    """Puts a section of docs/FIELD.md in place of the one with this heading, or behind the others."""
+    page = HERE.parent / "docs/FIELD.md"
+    head, *sections = page.read_text().split("\n## ")
+    written = f"{heading}\n\n{text.strip()}\n"
+    places = [place for place, section in enumerate(sections) if section.splitlines()[0] == heading]
+    if places:
+        sections[places[0]] = written
+    else:
+        sections.append(written)
+    page.write_text("\n## ".join([head, *sections]))
+
+
+def machine(load):
+    """The day and the machine, and how many of its processors were busy with other work."""
+    model = re.search(r"model name\s*: (.*)", Path("/proc/cpuinfo").read_text())
+    of_make = f" ({model[1]})" if model else ""
+    when = time.strftime("%-d %B %Y")
+    return f"{when}, {os.cpu_count()} processors{of_make}, with {load:.1f} of them busy with other work when it began: what counts are the ratios."
+
+
 def busy():
     """How many processors have other work, over a second."""
     def now():
@@ -217,25 +243,41 @@ def busy():
     return os.cpu_count() * (after[0] - before[0]) / max(after[1] - before[1], 1)
 
 
-def main():
-    parser = argparse.ArgumentParser()
-    parser.add_argument("--seconds", type=float, default=3)
-    parser.add_argument("--program", default=str(HERE.parent / "crates/farm_live/out/farm_live"))
-    parser.add_argument("--relays", default=",".join(RELAYS))
-    parser.add_argument("--write", action="store_true", help="write docs/FIELD.md")
-    words = parser.parse_args()
-    with tempfile.TemporaryDirectory() as room:
-        subprocess.run(["rustc", "--edition", "2024", "-O", "-o", f"{room}/ends", str(HERE / "field/ends.rs")], check=True)
-        print(HEAD)
-        load = busy()
-        figures = {name: run(name, room, words.program, words.seconds) for name in words.relays.split(",")}
-    print("\n" + ratios(figures))
-    if words.write:
-        rows = [row_of(name, *place, it) for name, of_it in figures.items() for place, it in of_it.items()]
-        when = time.strftime("%-d %B %Y")
-        page = PAGE.format(when=when, processors=os.cpu_count(), load=load, table="\n".join([HEAD, *rows]), ratios=ratios(figures))
-        (HERE.parent / "docs/FIELD.md").write_text(page)
+@dataclass
+class Bench:
+    """What is measured, and the section of docs/FIELD.md that it becomes."""
+    heading: str
+    names: list
+    run: Callable
+    section: str
+    ratios: Callable
+
+    def head(self):
+        kind = self.heading.removesuffix("s")
+        columns = [kind, "Connections", "Window", "Requests a second", "Processor, microseconds a request", "Median, microseconds",
+                   "Slowest hundredth", "Memory, MB", "Faults"]
+        return "| " + " | ".join(columns) + " |\n" + "|---" * len(columns) + "|"
+
+    def measure(self, doc):
+        """Measures those that the command line names, prints what it finds, and writes the section where that is asked for."""
+        parser = argparse.ArgumentParser(description=doc, formatter_class=argparse.RawDescriptionHelpFormatter)
+        parser.add_argument("--seconds", type=float, default=3)
+        parser.add_argument("--program", default=str(HERE.parent / "crates/farm_live/out/farm_live"))
+        parser.add_argument(f"--{self.heading.lower()}", dest="names", default=",".join(self.names))
+        parser.add_argument("--write", action="store_true", help=f"write the section on {self.heading.lower()} of docs/FIELD.md")
+        words = parser.parse_args()
+        with tempfile.TemporaryDirectory() as room:
+            subprocess.run(["rustc", "--edition", "2024", "-O", "-o", f"{room}/ends", str(HERE / "field/ends.rs")], check=True)
+            print(self.head())
+            load = busy()
+            figures = {name: self.run(name, room, words.program, words.seconds) for name in words.names.split(",")}
+        print("\n" + self.ratios(figures))
+        if words.write:
+            rows = [row_of(name, *place, it) for name, of_it in figures.items() for place, it in of_it.items()]
+            table = "\n".join([self.head(), *rows])
+            write_section(self.heading, self.section.format(machine=machine(load), table=table, ratios=self.ratios(figures)))
+        return figures
 
 
 if __name__ == "__main__":
-    main()
+    Bench("Relays", list(RELAYS), run, SECTION, ratios).measure(__doc__)

@@ -10,7 +10,7 @@ say the same; else the run ends.
 All ports are chosen free. A proxy has small buffers and small segments, so that what it does not read soon waits in the node
 that writes, and writes take a part. It connects from an address of its link's own, 127.0.1.N, and by the very port of who has
 connected to it: so both ends call the connection the same (docs/RECORD.md), and records need no change before they are audited.
-A port that was used on the link before is refused: the system gives them out again, and by its label an `accept` has to be known.
+The system gives ports out again, which is counted: the audit tells connections of one port apart.
 
 Where the program knows --record, each process is recorded, and the clients C1 and C2 write records too; the others have none.
 """
@@ -168,10 +168,9 @@ class Proxy:
         return await asyncio.start_server(self.meet, sock=it, limit=BUFFER)
 
     async def connect(self, port):
-        """Connects from the link's own address, by the port of who has connected, where that is new."""
+        """Connects from the link's own address, by the port of who has connected."""
         if port in self.used:
-            self.farm.count["ports refused"] += 1
-            raise OSError
+            self.farm.count["ports again"] += 1
         self.used.add(port)
         it = small_socket()
         try:

@@ -1,8 +1,10 @@
 //! What stands around a relay that is measured, in plain Rust without crates (`rustc -O`): who asks, who answers, and two
 //! relays that do less than one has to. Linux alone: it waits by epoll.
 //!
-//! - `ask HOST:PORT NAME[,NAME..] WINDOW SECONDS REALM`: a connection for each name, with so many requests unanswered on each.
-//!   Checks each answer, and prints what it has counted.
+//! - `ask HOST:PORT NAME[,NAME..] WINDOW SECONDS REALM [OCTETS]`: a connection for each name, with so many requests unanswered on
+//!   each. Checks each answer, and prints what it has counted. With OCTETS an answer has to grant so many, too.
+//! - `check HOST:PORT NAME REALM OCTETS..`: asks for each of these whether the account has what so many octets cost, and prints
+//!   0 where it has, else 1 (Check-Balance-Result).
 //! - `answer PORT NAME`: a server that answers each credit-control request with DIAMETER_SUCCESS.
 //! - `copy PORT HOST:PORT`: hands octets on, each connection to one of its own.
 //! - `frame PORT HOST:PORT`: finds the messages, gives each request an identifier of its own and appends a Route-Record to it;
@@ -150,23 +152,29 @@ fn code_of(message: &[u8]) -> u32 {
     number(message, 4) & 0xFF_FFFF
 }
 
-/// The AVPs of a message: code and value.
-fn avps(message: &[u8]) -> impl Iterator<Item = (u32, &[u8])> {
-    let mut at = 20;
+/// AVPs that stand behind one another: code and value.
+fn avps(octets: &[u8]) -> impl Iterator<Item = (u32, &[u8])> {
+    let mut at = 0;
     std::iter::from_fn(move || {
-        if at + 8 > message.len() {
+        if at + 8 > octets.len() {
             return None;
         }
-        let (code, length) = (number(message, at), number(message, at + 4) as usize & 0xFF_FFFF);
-        let head = if message[at + 4] & 0x80 != 0 { 12 } else { 8 };
-        let value = message.get(at + head..at + length)?;
+        let (code, length) = (number(octets, at), number(octets, at + 4) as usize & 0xFF_FFFF);
+        let head = if octets[at + 4] & 0x80 != 0 { 12 } else { 8 };
+        let value = octets.get(at + head..at + length)?;
         at += length.next_multiple_of(4);
         Some((code, value))
     })
 }
 
+/// The value of the first AVP of this code in a group.
+fn inner(group: &[u8], code: u32) -> Option<&[u8]> {
+    avps(group).find(|avp| avp.0 == code).map(|avp| avp.1)
+}
+
+/// The value of the first AVP of this code in a message.
 fn value_of(message: &[u8], code: u32) -> Option<&[u8]> {
-    avps(message).find(|avp| avp.0 == code).map(|avp| avp.1)
+    inner(&message[20..], code)
 }
 
 fn put(message: &mut Vec<u8>, code: u32, flags: u8, value: &[u8]) {
@@ -349,6 +357,8 @@ struct Asked {
 struct Client {
     name: String,
     realm: String,
+    /// What an answer has to grant, if it has to.
+    granted: Option<u64>,
     slots: Vec<Option<Asked>>,
     free: Vec<usize>,
     count: u32,
@@ -362,33 +372,51 @@ struct Count {
     wrong: u64,
 }
 
+/// A Session-Id that no other process gives.
+fn session_of(name: &str, count: u32) -> String {
+    format!("{name};{};{count:08x}", std::process::id())
+}
+
+/// An EVENT on the one account, for so many octets of service 10; the action is DIRECT_DEBITING (0) or CHECK_BALANCE (2).
+fn event(ids: [u32; 2], session: &str, name: &str, realm: &str, action: u32, octet_count: u64) -> Vec<u8> {
+    message(0xC0, 272, 4, ids, |octets| {
+        put(octets, 263, 0x40, session.as_bytes());
+        put_node(octets, name, "example");
+        put(octets, 283, 0x40, realm.as_bytes());
+        put(octets, 258, 0x40, &4u32.to_be_bytes());
+        put(octets, 461, 0x40, b"32251@3gpp.org");
+        put(octets, 416, 0x40, &4u32.to_be_bytes());
+        put(octets, 415, 0x40, &[0; 4]);
+        put(octets, 436, 0x40, &action.to_be_bytes());
+        let mut subscription = Vec::new();
+        put(&mut subscription, 450, 0x40, &[0; 4]);
+        put(&mut subscription, 444, 0x40, b"491700000001");
+        put(octets, 443, 0x40, &subscription);
+        let (mut counted, mut service) = (Vec::new(), Vec::new());
+        put(&mut counted, 421, 0x40, &octet_count.to_be_bytes());
+        put(&mut service, 437, 0x40, &counted);
+        put(&mut service, 432, 0x40, &10u32.to_be_bytes());
+        put(octets, 456, 0x40, &service);
+    })
+}
+
+/// Whether an answer grants so many octets, with success for the service too if it says anything of it.
+fn grants(answer: &[u8], octet_count: u64) -> bool {
+    let is_granted = |service: &[u8]| {
+        let granted = inner(service, 431).and_then(|group| inner(group, 421));
+        granted == Some(&octet_count.to_be_bytes()) && inner(service, 268).is_none_or(|code| code == SUCCESS)
+    };
+    value_of(answer, 456).is_some_and(is_granted)
+}
+
 impl Client {
     fn ask(&mut self, output: &mut Vec<u8>) {
         let Some(slot) = self.free.pop() else { return };
         self.count += 1;
-        let session = format!("{};1;{:08x}", self.name, self.count);
+        let session = session_of(&self.name, self.count);
         let end_to_end = self.count;
         let hop_by_hop = self.count << 10 | slot as u32;
-        output.extend(message(0xC0, 272, 4, [hop_by_hop, end_to_end], |octets| {
-            put(octets, 263, 0x40, session.as_bytes());
-            put_node(octets, &self.name, "example");
-            put(octets, 283, 0x40, self.realm.as_bytes());
-            put(octets, 258, 0x40, &4u32.to_be_bytes());
-            put(octets, 461, 0x40, b"32251@3gpp.org");
-            put(octets, 416, 0x40, &4u32.to_be_bytes());
-            put(octets, 415, 0x40, &[0; 4]);
-            put(octets, 436, 0x40, &[0; 4]);
-            let mut subscription = Vec::new();
-            put(&mut subscription, 450, 0x40, &[0; 4]);
-            put(&mut subscription, 444, 0x40, b"491700000001");
-            put(octets, 443, 0x40, &subscription);
-            let (mut octet_count, mut unit, mut service) = (Vec::new(), Vec::new(), Vec::new());
-            put(&mut octet_count, 421, 0x40, &3_200u64.to_be_bytes());
-            put(&mut unit, 437, 0x40, &octet_count);
-            service.append(&mut unit);
-            put(&mut service, 432, 0x40, &10u32.to_be_bytes());
-            put(octets, 456, 0x40, &service);
-        }));
+        output.extend(event([hop_by_hop, end_to_end], &session, &self.name, &self.realm, 0, 3_200));
         self.slots[slot] = Some(Asked { at: Instant::now(), end_to_end, session });
     }
 
@@ -405,7 +433,8 @@ impl Client {
         };
         let is_right = asked.end_to_end == end_to_end
             && value_of(octets, 263) == Some(asked.session.as_bytes())
-            && value_of(octets, 268) == Some(&SUCCESS);
+            && value_of(octets, 268) == Some(&SUCCESS)
+            && self.granted.is_none_or(|octet_count| grants(octets, octet_count));
         count.wrong += u64::from(!is_right);
         count.micros.push(asked.at.elapsed().as_nanos() as f32 / 1_000.0);
         self.free.push(slot);
@@ -416,29 +445,56 @@ impl Client {
     }
 }
 
-/// A connection over which capabilities were exchanged.
-fn connect(to: &str, name: &str) -> io::Result<Conn> {
+fn read_message(stream: &mut TcpStream) -> io::Result<Vec<u8>> {
+    let mut octets = vec![0; 20];
+    stream.read_exact(&mut octets)?;
+    octets.resize((number(&octets, 0) as usize & 0xFF_FFFF).max(20), 0);
+    stream.read_exact(&mut octets[20..])?;
+    Ok(octets)
+}
+
+/// A connection over which capabilities were exchanged. OTP's diameter loses about one in a hundred of the requests that come
+/// right behind its answer to that, so some time passes first.
+fn connect(to: &str, name: &str) -> io::Result<TcpStream> {
     let mut stream = TcpStream::connect(to)?;
     stream.write_all(&message(0x80, 257, 0, [1, 1], |octets| {
         put_node(octets, name, "example");
         put_capabilities(octets);
     }))?;
-    let mut head = [0; 4];
-    stream.read_exact(&mut head)?;
-    let mut rest = vec![0; (number(&head, 0) as usize & 0xFF_FFFF) - 4];
-    stream.read_exact(&mut rest)?;
-    Ok(Conn::new(stream))
+    read_message(&mut stream)?;
+    std::thread::sleep(Duration::from_millis(200));
+    Ok(stream)
 }
 
-fn ask(to: &str, names: &str, window: usize, seconds: f64, realm: &str) -> io::Result<()> {
+/// What the account is told to have of what so many octets cost.
+fn check(to: &str, name: &str, realm: &str, octet_counts: &[&str]) -> io::Result<()> {
+    let mut stream = connect(to, name)?;
+    stream.set_read_timeout(Some(Duration::from_secs(10)))?;
+    for (id, octet_count) in (1..).zip(octet_counts) {
+        let octet_count = octet_count.parse().expect("octets");
+        stream.write_all(&event([id, id], &session_of(name, id), name, realm, 2, octet_count))?;
+        let mut answer = read_message(&mut stream)?;
+        while is_request(&answer) {
+            stream.write_all(&base_answer(&answer, name, "example"))?;
+            answer = read_message(&mut stream)?;
+        }
+        match value_of(&answer, 422) {
+            Some(told) => println!("{}", number(told, 0)),
+            None => println!("no Check-Balance-Result"),
+        }
+    }
+    Ok(())
+}
+
+fn ask(to: &str, names: &str, window: usize, seconds: f64, realm: &str, granted: Option<u64>) -> io::Result<()> {
     let poll = Poll::new();
     let mut conns = Vec::new();
     for (token, name) in names.split(',').enumerate() {
-        let conn = connect(to, name)?;
+        let conn = Conn::new(connect(to, name)?);
         poll.add(conn.fd(), token);
         let slots = (0..window).map(|_| None).collect();
         let free = (0..window).collect();
-        conns.push((conn, Client { name: name.into(), realm: realm.into(), slots, free, count: 0 }));
+        conns.push((conn, Client { name: name.into(), realm: realm.into(), granted, slots, free, count: 0 }));
     }
     let mut count = Count::default();
     let began = Instant::now();
@@ -482,12 +538,14 @@ fn main() -> io::Result<()> {
     let words: Vec<String> = std::env::args().skip(1).collect();
     let words: Vec<&str> = words.iter().map(String::as_str).collect();
     match words[..] {
-        ["ask", to, names, window, seconds, realm] => {
-            ask(to, names, window.parse().expect("a window"), seconds.parse().expect("seconds"), realm)
+        ["ask", to, names, window, seconds, realm, ref granted @ ..] => {
+            let granted = granted.first().map(|word| word.parse().expect("octets"));
+            ask(to, names, window.parse().expect("a window"), seconds.parse().expect("seconds"), realm, granted)
         }
+        ["check", to, name, realm, ref octet_counts @ ..] => check(to, name, realm, octet_counts),
         ["answer", port, name, realm] => answer(port, name, realm),
         ["copy", port, to] => copy(port, to),
         ["frame", port, to] => frame(port, to),
-        _ => Err(io::Error::other("ask HOST:PORT NAMES WINDOW SECONDS REALM | answer PORT NAME REALM | copy PORT HOST:PORT | frame PORT HOST:PORT")),
+        _ => Err(io::Error::other("ask HOST:PORT NAMES WINDOW SECONDS REALM [OCTETS] | check HOST:PORT NAME REALM OCTETS.. | answer PORT NAME REALM | copy PORT HOST:PORT | frame PORT HOST:PORT")),
     }
 }

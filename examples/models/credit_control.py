@@ -8,7 +8,7 @@ from dataclasses import dataclass
 from diameter import (APPLICATION_UNSUPPORTED, COMMAND_UNSUPPORTED, DESTINATION_REALM, FAILED_LIMIT, INVALID_AVP_LENGTH,
                       MANDATORY, ORIGIN_HOST, ORIGIN_REALM, RESULT_CODE, SESSION_ID, Avp, NoList, carried,
                       carries_too_much, first, group, number, octets_of_kind, origin, split)
-from site_data import APPLICATION_IN_GROUP, CREDIT_CONTROL_APPLICATION, ORIGIN_TWICE, Profile
+from site_data import APPLICATION_IN_GROUP, CREDIT_CONTROL_APPLICATION, ORIGIN_TWICE
 
 CREDIT_CONTROL = 272
 AUTH_APPLICATION_ID, SERVICE_CONTEXT_ID, CC_REQUEST_NUMBER, CC_REQUEST_TYPE = 258, 461, 415, 416
@@ -86,11 +86,6 @@ class Request:
     services: list
 
 
-def request_of(message, vendors):
-    """What a front that knows AVPs of these vendors reads in a message. Raises Refused."""
-    return request_under(message, Profile(tuple(vendors)))
-
-
 def request_under(message, profile):
     """What a front reads in a message under a profile. Raises Refused."""
     if message.application != CREDIT_CONTROL_APPLICATION:
@@ -127,16 +122,16 @@ def check_command(avps, profile):
     if not avps[0].has_code(SESSION_ID):
         raise Refused(UNABLE_TO_COMPLY)
     check_known(avps, profile)
-    check_once(counted(avps, profile), COMMAND_ONCE)
-    named = APPLICATION_IN_GROUP in profile.tolerated and any(names_application(avp) for avp in avps)
-    check_there(avps, [code for code in COMMAND_NEEDED if not (named and code == AUTH_APPLICATION_ID)])
+    counted = without_repeats(avps, profile) + applications_of_groups(avps, profile)
+    check_once(counted, COMMAND_ONCE)
+    check_there(counted, COMMAND_NEEDED)
     kind = first(avps, CC_REQUEST_TYPE).value
     if len(kind) == 4 and int.from_bytes(kind) == EVENT:
         check_there(avps, [REQUESTED_ACTION])
     check_values(avps, COMMAND_VALUES)
 
 
-def counted(avps, profile):
+def without_repeats(avps, profile):
     """The AVPs without those that say again who sends, where that is tolerated."""
     if ORIGIN_TWICE not in profile.tolerated:
         return avps
@@ -151,16 +146,26 @@ def counted(avps, profile):
     return kept
 
 
-def names_application(avp):
-    """Whether it is a Vendor-Specific-Application-Id with the Auth-Application-Id of Credit-Control inside."""
+def applications_of_groups(avps, profile):
+    """Auth-Application-Ids in groups that count as the command's own, where that is tolerated: the first of
+    Credit-Control where the command has none, else each that says another one than the command."""
+    if APPLICATION_IN_GROUP not in profile.tolerated:
+        return []
+    inner = [one for avp in avps for one in applications_inside(avp)]
+    said = {avp.value for avp in avps if avp.has_code(AUTH_APPLICATION_ID)}
+    if said:
+        return [one for one in inner if one.value not in said]
+    return [one for one in inner if one.value == CREDIT_CONTROL_APPLICATION.to_bytes(4)][:1]
+
+
+def applications_inside(avp):
+    """The Auth-Application-Ids of a Vendor-Specific-Application-Id; a group that is no list has none."""
     if not avp.has_code(VENDOR_SPECIFIC_APPLICATION_ID):
-        return False
+        return []
     try:
-        inner = split(avp.value)
+        return [one for one in split(avp.value) if one.has_code(AUTH_APPLICATION_ID)]
     except NoList:
-        return False
-    return any(one.has_code(AUTH_APPLICATION_ID) and one.value == CREDIT_CONTROL_APPLICATION.to_bytes(4)
-               for one in inner)
+        return []
 
 
 def check_group(avp, profile):

@@ -16,7 +16,7 @@ from collections import Counter
 from dataclasses import replace
 
 from at_random import RING, ROW, WITH_ENDS, Dice, Player, Requests
-from credit_control import Refused, credit_control_answer, request_of
+from credit_control import Refused, credit_control_answer, request_under
 from diameter import ERROR, FAILED_AVP, ORIGIN_HOST, RESULT_CODE, NoList, first, refusal, split
 from ends import (crashed_relay, crashed_unnoticed, cut_where_one_knows, faster_way, given_up, old_front_charges_first,
                   old_front_reads_on, one_end_alone)
@@ -200,7 +200,7 @@ def told_refusals(world, request, answer):
 def told_replies(world, request):
     """What the fronts may answer this request, by the book's reply to it."""
     try:
-        view = request_of(request, world.site.vendors)
+        view = request_under(request, world.site.profile)
     except Refused:
         return
     reply = world.book.kept_reply(view)
@@ -220,7 +220,7 @@ def is_told(world, conn, answer):
 def keys_sent(world):
     for _, message in world.sent:
         try:
-            view = request_of(message, world.site.vendors)
+            view = request_under(message, world.site.profile)
             yield view.session, view.number
         except (Refused, NoList):
             continue

@@ -13,9 +13,10 @@
 Its parts: diameter.py has messages, credit_control.py requests and answers, book.py the accounts, site_data.py what a
 site is, row_site.py the row site, site_file.py how a site file is read, nodes.py clients, fronts and relays, world.py
 the farm, its steps and its output, program.py the command line, messages.py, scenarios.py and site_stories.py the
-schedules written by hand, ends.py those of connections of which the two nodes learn apart, at_random.py those that are
-chosen, rows.py and each_end.py the worked examples. Three programs stand beside it: request.py prints a request for a schedule of one's own, follow.py
-what a schedule puts in flight at each step, and at_large.py compares the program with the model in random runs.
+schedules written by hand, ends.py those of connections of which the two nodes learn apart, deviations.py those of
+clients that deviate from the rules, at_random.py those that are chosen, rows.py and each_end.py the worked examples.
+Three programs stand beside it: request.py prints a request for a schedule of one's own, follow.py what a schedule puts
+in flight at each step, and at_large.py compares the program with the model in random runs.
 """
 import sys
 from pathlib import Path
@@ -23,6 +24,7 @@ from pathlib import Path
 import each_end
 import program
 from at_random import KINDS, STORED, STORED_BY_SITE, Dice, schedule, site_of_kind
+from deviations import DEVIATIONS, DEVIATIONS_OF_THE_FIELD
 from each_end import found_in
 from ends import ENDS, ENDS_OF_THE_RING
 from program import run
@@ -83,6 +85,10 @@ def stored_schedules():
         yield name, ROW_SITE, script().text()
     for name, script in ENDS_OF_THE_RING.items():
         yield f"sites/ring/{name}", site_named("ring"), script().text()
+    for name, script in DEVIATIONS.items():
+        yield name, ROW_SITE, script().text()
+    for name, script in DEVIATIONS_OF_THE_FIELD.items():
+        yield f"sites/field/{name}", site_named("field"), script().text()
     for site, stories in STORIES.items():
         for name, script in stories.items():
             yield f"sites/{site}/{name}", site_named(site), script().text()

@@ -9,7 +9,7 @@ from collections import deque
 from dataclasses import dataclass, field
 
 from book import Book, Full
-from credit_control import Refused, credit_control_answer, request_of
+from credit_control import Refused, credit_control_answer, request_under
 from diameter import TOO_BUSY, refusal
 from nodes import SlabRelay
 from records import beginning, spelled
@@ -161,11 +161,13 @@ class LiveFarm:
     """The processes of a site, and the dice that say what happens next. `requests` chooses what clients send."""
 
     process = Process
+    # How many ports the system has for the connections of one node with another; None where it gives out none again.
+    ports = None
 
     def __init__(self, dice, site, requests=None):
         self.dice, self.site, self.moment, self.received, self.label = dice, site, 1000, [], 40_000
         self.book, self.places, self.told = Book(site), {}, []
-        self.requests = requests
+        self.requests, self.dialled = requests, {}
         names = {kind: [name for name, it in site.nodes.items() if it == kind] for kind in (RELAY, FRONT, CLIENT)}
         crowds = [[name] for name in names[RELAY]] + [names[FRONT]] + [[name] for name in names[CLIENT]]
         self.processes = [self.process(self, crowd) for crowd in crowds if crowd]
@@ -193,7 +195,7 @@ class LiveFarm:
             case "send":
                 return [end for end in ends if end.is_up and end.process.kind == CLIENT and len(end.outbox) < PIPE]
             case "read":
-                return [end for end in ends if end.inbox]
+                return [end for end in ends if end.inbox and not self.is_behind(end, ends)]
             case "notice":
                 return [end for end in ends if end.other and end.other.is_gone]
             case "flush":
@@ -219,6 +221,12 @@ class LiveFarm:
         one, other = self.process_of(a), self.process_of(b)
         return one.is_alive and other.is_alive and not any(it.node == a and it.peer == b for it in one.ends.values())
 
+    @staticmethod
+    def is_behind(end, ends):
+        """Whether what came by the same ports before is not read yet: TCP gives them out again only once all that has come."""
+        return any(it.inbox and it.process is end.process and (it.node, it.peer, it.label) == (end.node, end.peer, end.label)
+                   and it.conn < end.conn for it in ends)
+
     def pools(self):
         return [pool for it in self.processes if it.kind == FRONT and it.is_alive for pool in it.pools.values()]
 
@@ -237,12 +245,20 @@ class LiveFarm:
 
     def dial(self, pair):
         a, b = pair
-        self.label += 1
-        one = self.process_of(a).new_end(a, b, True, self.label)
-        other = self.process_of(b).new_end(b, a, False, self.label)
+        label = self.next_label(a, b)
+        one = self.process_of(a).new_end(a, b, True, label)
+        other = self.process_of(b).new_end(b, a, False, label)
         one.other, other.other = other, one
         one.process.tell("dial", one.conn, a, b, one.label)
         one.outbox.append(CER)
+
+    def next_label(self, a, b):
+        """The port of the side that opens. Where there are few, each pair of nodes has them one after the other, again and again."""
+        self.label += 1
+        if self.ports is None:
+            return self.label
+        self.dialled[a, b] = self.dialled.get((a, b), 0) + 1
+        return 40_000 + self.dialled[a, b] % self.ports
 
     def send(self, end):
         message = self.requests.next(end.node)
@@ -300,7 +316,7 @@ class LiveFarm:
         job.moment = self.moment
         entries = self.book.entries
         try:
-            request = request_of(job.request, self.site.vendors)
+            request = request_under(job.request, self.site.profile)
             reply = self.book.take(request, job.moment)
             job.answer = credit_control_answer(pool.name, self.site, job.request, request, reply)
             job.is_new = self.book.entries > entries

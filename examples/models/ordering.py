@@ -19,7 +19,8 @@ class Conn:
     """A connection as the record of one of its nodes has it.
 
     `arrived` are the messages that have arrived at a front and are in flight yet in the farm that is played. `answers` is
-    what a front has sent on it and nobody has received, `pending` how many of its requests are not charged yet.
+    what a front has sent on it and nobody has received, `pending` how many of its requests are not charged yet. `is_taken`
+    tells of a dial that an accept was played for, or that one of a later dial with its label was.
     """
 
     node: str
@@ -27,8 +28,10 @@ class Conn:
     label: int
     is_up: bool = True
     opens: bool = False
+    order: int = 0
     is_closing: bool = False
     is_gone: bool = False
+    is_taken: bool = False
     arrived: list = field(default_factory=list)
     answers: deque = field(default_factory=deque)
     pending: int = 0
@@ -110,7 +113,8 @@ class Reader:
                 if node not in self.names or number in self.up:
                     raise event.fault("no such connection can be made here")
                 opens = event.word == "dial"
-                self.up[number] = event.conn = Conn(node, peer, label, not opens, opens)
+                self.audit.conns_told += 1
+                self.up[number] = event.conn = Conn(node, peer, label, not opens, opens, self.audit.conns_told)
             case "opened" | "deliver" | "send" | "drop":
                 event.conn = self.up.get(event.words[0])
                 if event.conn is None:
@@ -175,7 +179,7 @@ class Audit:
     def __init__(self, site, files):
         self.site, self.world, self.steps = site, World(site, None), []
         self.links, self.dials, self.charges, self.kept, self.sweeps, self.open = {}, {}, {}, [], deque(), {}
-        self.jobs_told, self.place, self.short, self.events = 0, 0, set(), 0
+        self.jobs_told, self.conns_told, self.place, self.short, self.events, self.taken = 0, 0, 0, set(), 0, {}
         self.fronts = {name: FrontState(site.workers) for name, kind in site.nodes.items() if kind == FRONT}
         self.readers = []
         self.owners = {}
@@ -222,7 +226,7 @@ class Audit:
 
     def run(self):
         """What the book does comes last: so a front never has more room than it had."""
-        while self.go_on() or self.charge_next() or self.charge_kept() or self.read_ahead():
+        while self.go_on() or self.charge_next() or self.charge_kept() or self.read_ahead() or self.settle():
             pass
         self.look_at_the_rest()
         return self
@@ -247,8 +251,9 @@ class Audit:
         return True
 
     def forget(self, event, name):
-        for (node, _, _), conn in self.dials.items():
-            conn.is_gone = conn.is_gone or node == name
+        for (node, _, _), conns in self.dials.items():
+            for conn in conns:
+                conn.is_gone = conn.is_gone or node == name
         if self.site.nodes[name] == RELAY:
             self.play(event, "crash", name)
             for client in self.silent_at(event, name):
@@ -260,8 +265,13 @@ class Audit:
 
     def dial(self, event):
         conn = event.conn
-        self.dials[conn.node, conn.peer, conn.label] = conn
+        self.dials.setdefault((conn.node, conn.peer, conn.label), []).append(conn)
         return True
+
+    def open_dials(self, a, b, label):
+        """The dials with this label that no accept was played for, the first one first."""
+        dials = self.dials[a, b, label] = [it for it in self.dials.get((a, b, label), []) if not it.is_taken]
+        return dials
 
     def silent_at(self, event, name):
         """The clients without a record that know a connection with this node."""
@@ -271,28 +281,74 @@ class Audit:
     def accept(self, event):
         """A connection is accepted once the other node has opened it, and both have no other one any more."""
         _, b, a, label = event.words
-        dial = self.dials.get((a, b, label))
-        if dial is None and not self.is_silent(event, a):
+        dials = self.open_dials(a, b, label)
+        if not dials and self.is_silent(event, a):
+            if not self.is_free(event, a, b):
+                return False
+            self.take(event, None)
+            self.play(event, "opened", a, b)
+            return True
+        if not dials or not self.is_free(event, a, b) or all(it.is_gone for it in dials):
             return False
-        if not self.is_free(event, a, b):
-            return False
+        self.take(event, dials[0])
+        return True
+
+    def take(self, event, dial):
+        """A connection is accepted. It is one of this dial, as it seems; so where a later one is open, A may still learn of it."""
+        _, b, a, _ = event.words
         self.play(event, "accept", b, a)
         self.links[frozenset((a, b))] = {b: event.conn}
-        if dial is None:
-            self.play(event, "opened", a, b)
-        elif dial.is_gone:
+        self.taken[frozenset((a, b))] = dial
+        if dial:
+            dial.is_taken = True
+
+    # ---- Where nothing else may happen
+
+    def settle(self):
+        """An accept of a dial that was given up, of several that of the dial which was told last; or a connection comes up
+        that was accepted after an earlier dial with the same label, which was given up and not accepted."""
+        heads = [(name, event) for name, reader in self.owners.items() if (event := reader.head(name))]
+        late = [(dial, name, event) for name, event in heads if event.word == "accept" and (dial := self.late_dial(event))]
+        if late:
+            dial, name, event = max(late, key=lambda it: it[0].order)
+            self.accept_late(dial, event)
+        else:
+            name = next((name for name, event in heads if event.word == "opened" and self.come_up(event)), None)
+        if name:
+            self.owners[name].ahead[name].popleft()
+        return name is not None
+
+    def late_dial(self, event):
+        """The dial for which this accept may be played where nothing else may happen; None where there is none."""
+        _, b, a, label = event.words
+        dials = self.open_dials(a, b, label)
+        return dials[0] if dials and (not self.world.connection(a, b) or self.is_given_up(a, b, label)) else None
+
+    def is_given_up(self, a, b, label):
+        """Whether `b` has dropped the connection that it accepted under this label, which may be one that `a` has given up,
+        and `a` has not learned of it."""
+        pair = frozenset((a, b))
+        connection, dial = self.world.connection(a, b), self.taken.get(pair)
+        return connection.knows == {a: False} and bool(dial and dial.is_gone and dial.label == label)
+
+    def accept_late(self, dial, event):
+        _, b, a, label = event.words
+        if self.world.connection(a, b):
             self.play(event, "drop", a, b)
-        return True
+        self.take(event, dial)
+        if dial.is_gone and all(it.is_gone for it in self.open_dials(a, b, label)):
+            self.play(event, "drop", a, b)
 
     def is_free(self, event, a, b):
         """Whether these nodes have no connection any more."""
         for front, peer in ((a, b), (b, a)):
-            if self.site.nodes[front] == FRONT:
+            if self.site.nodes[front] == FRONT and (not self.stands(front, peer) or self.is_silent(event, peer)):
                 self.close(event, front, peer)
         return self.world.connection(a, b) is None
 
     def close(self, event, front, peer):
-        """A front that has lost its connection drops it, though requests wait that came on it, if there is room for them."""
+        """A front that has lost its connection, and whose peer has too, drops it, though requests wait that came on it, if there
+        is room for them."""
         conn = self.links.get(frozenset((front, peer)), {}).get(front)
         if not conn or not conn.is_closing:
             return
@@ -319,12 +375,26 @@ class Audit:
                 return False
             self.play(event, "accept", b, a)
             self.links[frozenset((a, b))] = {b: event.conn}
-        link = self.links.get(frozenset((a, b)), {})
-        if a in link or b not in link or link[b].label != event.conn.label:
+            event.conn.is_taken = True
+        return event.conn.is_taken and self.come_up(event)
+
+    def come_up(self, event):
+        """A node learns that its connection is made, if the other one has accepted it."""
+        conn = event.conn
+        if not self.is_awaited(conn):
             return False
-        self.play(event, "opened", a, b)
-        link[a] = event.conn
+        for dial in self.open_dials(conn.node, conn.peer, conn.label):
+            dial.is_taken = True
+        self.play(event, "opened", conn.node, conn.peer)
+        self.links[frozenset((conn.node, conn.peer))][conn.node] = conn
         return True
+
+    def is_awaited(self, conn):
+        """Whether the node at the other end has accepted a connection with this label, of which this node has not learned, and
+        which it has not given up."""
+        link = self.links.get(frozenset((conn.node, conn.peer)), {})
+        is_accepted = conn.peer in link and conn.node not in link and link[conn.peer].label == conn.label
+        return is_accepted and self.stands(conn.peer, conn.node)
 
     def send(self, event):
         self.play(event, "send", event.conn.node, event.conn.peer, event.words[1])
@@ -437,8 +507,7 @@ class Audit:
 
     def give_up(self, event, conn):
         """A node gives up a connection that it has opened and does not know, whether or not the other has accepted it."""
-        link = self.links.get(frozenset((conn.node, conn.peer)), {})
-        if conn.peer in link and link[conn.peer].label == conn.label:
+        if self.is_awaited(conn):
             self.play(event, "drop", conn.node, conn.peer)
 
     def drop_if_done(self, event, conn):

@@ -7,14 +7,14 @@ from credit_control import (AUTH_APPLICATION_ID, CC_REQUEST_NUMBER, CC_REQUEST_T
                             CREDIT_CONTROL, EVENT, GROUP_ONCE, INITIAL, MULTIPLE_SERVICES, RATING_GROUP,
                             REQUESTED_ACTION, REQUESTED_UNITS, SERVICE_CONTEXT_ID, SERVICE_IDENTIFIER, SERVICES_LIMIT,
                             SUBSCRIPTION_ID, SUBSCRIPTION_ID_DATA, SUBSCRIPTION_ID_TYPE, TERMINATION, UPDATE,
-                            USED_UNITS)
+                            USED_UNITS, VENDOR_SPECIFIC_APPLICATION_ID)
 from diameter import (CARRIED_LIMIT, DESTINATION_HOST, DESTINATION_REALM, ERROR, FAILED_LIMIT, MANDATORY, MESSAGE_LIMIT,
                       ORIGIN_HOST, ORIGIN_REALM, PROXIABLE, PROXY_INFO, REQUEST, RETRANSMITTED,
                       ROUTE_RECORD, SESSION_ID, VENDOR, Avp, Message, NoList, first, group, number, octets_of_kind,
                       spelled, split, text)
 from messages import PROXY, again, appended
 from random_sites import REALMS, SERVICES, SUBSCRIBERS
-from site_data import CREDIT_CONTROL_APPLICATION, RELAY
+from site_data import APPLICATION_IN_GROUP, CREDIT_CONTROL_APPLICATION, ORIGIN_TWICE, RELAY
 
 GOING_ON = [UPDATE] * 6 + [TERMINATION] * 2 + [EVENT] * 2 + [INITIAL]
 NOT_YET = [INITIAL] * 5 + [UPDATE, TERMINATION] + [EVENT] * 5
@@ -26,6 +26,8 @@ USED = [0, 1, 60, 999, 1000, 1001, 3000]
 LARGE_USED = [10**6, 2**32, 2**63, 2**64 - 1]
 EVENT_TIMESTAMP, CC_INPUT_OCTETS, USER_NAME, ORIGIN_STATE_ID, CC_SUB_SESSION_ID = 55, 412, 1, 278, 419
 SERVICE_INFORMATION, CODE_WITHOUT_ROW, VENDOR_3GPP = 873, 440, 10_415
+VENDOR_ID, RECORD_TYPE, RECORD_NUMBER = 266, 480, 485
+OTHER_APPLICATIONS = [0, 3, 5, 2**24 + 4, 2**32 - 1]
 ODD_CODES = [0, CODE_WITHOUT_ROW, 461, 462, 9999, SERVICE_INFORMATION, SESSION_ID, MULTIPLE_SERVICES, PROXY_INFO,
              CC_INPUT_OCTETS, 2**32 - 1]
 ODD_VENDORS = [0, 1, 9, VENDOR_3GPP, 2**32 - 1]
@@ -42,6 +44,7 @@ class RandomRequests:
         self.subscribers = list(self.site.accounts)
         self.services = [(rating_group, None) for rating_group in self.site.group_tariffs]
         self.services += [(None, identifier) for identifier in self.site.ident_tariffs]
+        self.deviations = [deviation for deviation, is_taken in DEVIATIONS.items() if is_taken(self.site)]
         # How many messages there are for one that is broken.
         self.care = dice.one_of([1, 3, 6, 12, 40])
 
@@ -64,6 +67,8 @@ class RandomRequests:
         avps = self.asking(client, session, self.kind(session))
         if self.dice.one_in(3):
             avps = self.with_any(avps, HARMLESS)
+        if self.dice.one_in(3 if self.deviations else 30):
+            avps = self.with_any(avps, self.deviations or list(DEVIATIONS))
         if self.dice.one_in(self.care):
             avps = self.with_any(avps, HARMFUL)
         message = Message(REQUEST | PROXIABLE, CREDIT_CONTROL, CREDIT_CONTROL_APPLICATION, self.dice.one_of(HOPS),
@@ -271,6 +276,46 @@ class RandomRequests:
     def harmless_inside(self, avps):
         return self.inside(avps, HARMLESS_INSIDE)
 
+    # ---- Deviations that a site may take, and what would use them to say two things
+
+    def with_known_code(self, avps):
+        """An AVP with M whose code is none of the dictionary's, in the command or in a group."""
+        code = self.dice.one_of([*self.site.known[:3], RECORD_TYPE, RECORD_NUMBER])
+        of_vendor = Avp(code, self.octets(4), VENDOR | MANDATORY, self.dice.one_of(ODD_VENDORS))
+        avp = of_vendor if self.dice.one_in(8) else Avp(code, self.octets(self.dice.below(9)))
+        if self.dice.one_in(4):
+            return self.inside(avps, [lambda it, inner: [*inner, avp]])
+        return self.inserted(avps, avp)
+
+    def with_origin_again(self, avps):
+        """Who sends is said again: with the same octets, in other letters, or as another name."""
+        said = [avp for avp in avps if avp.has_code(ORIGIN_HOST, ORIGIN_REALM)]
+        if not said:
+            return avps
+        avp = self.dice.one_of(said)
+        if self.dice.one_in(6):
+            avp = replace(avp, value=self.dice.one_of([avp.value.swapcase(), self.host().encode(), avp.value + b"."]))
+        return self.inserted(avps, avp)
+
+    def with_application_inside(self, avps):
+        """The application in a group of a vendor, mostly there alone."""
+        count = self.dice.one_of([1, 1, 1, 2, 0])
+        inside = [number(VENDOR_ID, VENDOR_3GPP), *(self.application() for _ in range(count))]
+        octets = spelled(self.shuffled(inside))
+        if self.dice.one_in(12):
+            octets = octets[:max(len(octets) - self.dice.one_of([1, 3, 4]), 0)]
+        if not self.dice.one_in(3):
+            avps = [avp for avp in avps if not avp.has_code(AUTH_APPLICATION_ID)]
+        return self.inserted(avps, Avp(VENDOR_SPECIFIC_APPLICATION_ID, octets))
+
+    def application(self):
+        if not self.dice.one_in(4):
+            return number(AUTH_APPLICATION_ID, CREDIT_CONTROL_APPLICATION)
+        odd = [number(AUTH_APPLICATION_ID, self.dice.one_of(OTHER_APPLICATIONS)), Avp(AUTH_APPLICATION_ID, b"\4"),
+               number(AUTH_APPLICATION_ID, CREDIT_CONTROL_APPLICATION, 8),
+               Avp(AUTH_APPLICATION_ID, CREDIT_CONTROL_APPLICATION.to_bytes(4), VENDOR | MANDATORY, VENDOR_3GPP)]
+        return self.dice.one_of(odd)
+
     # ---- What is broken in a list of AVPs
 
     def harmful_inside(self, avps):
@@ -413,6 +458,10 @@ def counted(unit, count):
 
 
 It = RandomRequests
+# Each with whether a site takes it.
+DEVIATIONS = {It.with_known_code: lambda site: bool(site.known),
+              It.with_origin_again: lambda site: ORIGIN_TWICE in site.tolerate,
+              It.with_application_inside: lambda site: APPLICATION_IN_GROUP in site.tolerate}
 HARMLESS_INSIDE = [It.with_opaque, It.in_another_order, It.with_other_flags, It.harmless_inside]
 HARMLESS = [It.with_proxy_info, It.with_proxy_info, It.with_route_record, It.with_timestamp, It.with_opaque,
             It.with_second_destination, It.with_first_destination_host, It.in_another_order, It.with_other_flags,

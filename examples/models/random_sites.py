@@ -1,5 +1,5 @@
 """Site files chosen at random: every key within its range and often at its limits, spelled in the ways TOML has."""
-from site_data import CLIENT, FRONT, RELAY
+from site_data import APPLICATION_IN_GROUP, CLIENT, FRONT, ORIGIN_TWICE, RELAY, TOLERANCES
 from site_file import I64, PEERS_LIMIT, U32, UNITS
 
 REALMS = ["ocs.example", "home.example", "loop.example", "!", "Round.Example"]
@@ -14,7 +14,8 @@ SUBSCRIBERS = ["491700000001", "491700000002", "491700000003", "491700000004", "
 # What stands in the place of a value that is refused, or not.
 ODD_VALUES = [0, 1, -1, 3, 4, 5, 17, 65, 1000, 1025, 86_401, 1_048_577, 2**32, 2**63 - 1, -2**63, "", "a b", "relay",
               "front", "client", "f1.example", "F1.EXAMPLE", "r1.example", "c1.example", "é", "x" * 255, "x" * 256,
-              True, 1.5, [], {}, ["f1.example"], [1], "127.0.0.1:3868", "127.0.0.1"]
+              True, 1.5, [], {}, ["f1.example"], [1], "127.0.0.1:3868", "127.0.0.1", [480], [480, 480], [461, 480],
+              ["origin-twice"], ["origin-twice", "origin-twice"], ["application-in-group", "origin"], [480, "485"]]
 # What makes a file no TOML, or another one, where it stands first.
 ODD_BEGINNINGS = [b"\xff\n", b"]\n", b"x =\n", b"x = 9223372036854775808\n", b'realm = "x"\n', b"[realm]\n",
                   b"x = " + b"[" * 81 + b"]" * 81 + b"\n"]
@@ -118,7 +119,10 @@ class RandomSite:
         top = {"realm": self.realm, "validity": self.dice.one_of([1, 2, 600, 600, 86_400]),
                "currency": self.dice.one_of([0, 978, 999]), "exponent": self.dice.one_of([-9, -2, 0, 9])}
         choices = {"limit": [1, 3, 10, 30, 1_048_576], "workers": [1, 1, 3, 16], "queue": [1, 1, 2, 4, 1024],
-                   "vendors": [[], [10_415, 0], [1, U32]], "watchdog": [100, 600_000], "shade": [1]}
+                   "vendors": [[], [10_415, 0], [1, U32]], "watchdog": [100, 600_000], "shade": [1],
+                   "known": [[], [480, 485], [485, 462, U32], list(range(462, 718))],
+                   "tolerate": [[], [ORIGIN_TWICE], [APPLICATION_IN_GROUP], [*TOLERANCES], [*reversed(TOLERANCES)]],
+                   "advertise": [[], [10_415], [0, U32, 10_415], list(range(16))]}
         return top | {key: self.dice.one_of(values) for key, values in choices.items() if self.dice.one_in(3)}
 
     def break_one(self):

@@ -1,13 +1,14 @@
 #!/usr/bin/env python3
 """Records of live farms chosen at random, put in order and played.
 
-    records_at_random.py [--runs N] [--seed S] [--wrong]
+    records_at_random.py [--runs N] [--seed S] [--ports P | --wrong]
     records_at_random.py write FOLDER SEED [--steps N]
 
 runs N live farms (200) from the seed S (1) over all kinds of sites, and puts what their processes wrote down into a schedule,
 clients without a record among them. The farm that plays it has to give each client what it received, octet for octet, and the
 book what it came to. With --wrong the same runs are those of farms in which something goes wrong between the nodes (WRONG),
-and each such farm has to be found out. `write` puts the records of one run over the ring of relays into a folder, with their
+and each such farm has to be found out. With --ports each two nodes have so many ports, which are given out again one after
+the other; with fewer than about ten a connection is here and there taken for another of the same port. `write` puts the records of one run over the ring of relays into a folder, with their
 schedule. Exit status: 0, or 1 where something was found that must not be, or was not that must be.
 """
 import argparse
@@ -102,6 +103,11 @@ class FailsOverToNobody(LiveFarm):
     process = ForgetsAtALoss
 
 
+def with_ports(ports):
+    """Live farms where the nodes of each pair have so many ports."""
+    return type("FewPorts", (LiveFarm,), {"ports": ports})
+
+
 WRONG = [SendsTwice, SendsElsewhere, LosesOne, Overtakes, CollectsTwice, ChargesAgain, FailsOverToNobody]
 
 
@@ -136,11 +142,11 @@ def found(seed, place, made=LiveFarm):
     return list(differences(farm, audit)), audit
 
 
-def found_in(runs, seed):
+def found_in(runs, seed, made=LiveFarm):
     """What must not be, in so many runs, and figures of what they have played."""
     faults, figures = [], Counter()
     for place in range(runs):
-        told, audit = found(seed, place)
+        told, audit = found(seed, place, made)
         faults += [f"records of run {place} of seed {seed}: {it}" for it in told]
         if audit:
             figures.update(step[0] for step in audit.steps)
@@ -173,6 +179,7 @@ def main(words):
     parser = argparse.ArgumentParser(usage=__doc__)
     parser.add_argument("--runs", type=int, default=RUNS)
     parser.add_argument("--seed", type=int, default=1)
+    parser.add_argument("--ports", type=int)
     parser.add_argument("--wrong", action="store_true")
     chosen = parser.parse_args(words)
     if chosen.wrong:
@@ -180,7 +187,7 @@ def main(words):
         for name, it in told.items():
             print(f"{name}: {f'run {it[0]}: {it[1]}' if it else 'not found out'}")
         return 0 if all(told.values()) else 1
-    faults, figures = found_in(chosen.runs, chosen.seed)
+    faults, figures = found_in(chosen.runs, chosen.seed, with_ports(chosen.ports))
     for fault in faults:
         print(fault)
     received = figures.pop("received")

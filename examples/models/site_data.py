@@ -43,8 +43,7 @@ class Site:
     """Tariffs are found by Rating-Group or Service-Identifier, accounts by the type and text of a Subscription-Id.
 
     Nodes have kinds by their names, routes peers by relay, realm and application. A schedule is not asked for the time
-    of `watchdog` in milliseconds, nor for addresses. No site file has `known` and `tolerate` yet: the model of a front that
-    takes what Kamailio sends (bench/kamailio_model.py) sets them.
+    of `watchdog` in milliseconds, nor for addresses, nor for which vendors nodes advertise credit control.
     """
 
     realm: str
@@ -63,6 +62,7 @@ class Site:
     vendors: tuple = (10_415,)
     known: tuple = ()
     tolerate: tuple = ()
+    advertise: tuple = ()
     watchdog: int = 30_000
     addresses: dict = field(default_factory=dict, compare=False)
     linked: frozenset = field(init=False)

@@ -16,13 +16,15 @@ import sys
 import tomllib
 from pathlib import Path
 
-from site_data import CLIENT, FRONT, RELAY, Site, Tariff
-from credit_control import CC_SERVICE_SPECIFIC_UNITS, CC_TIME, CC_TOTAL_OCTETS
+from site_data import CLIENT, FRONT, RELAY, TOLERANCES, Site, Tariff
+from credit_control import CC_SERVICE_SPECIFIC_UNITS, CC_TIME, CC_TOTAL_OCTETS, LAST_KNOWN_CODE
 
 TEXT_LIMIT, DEPTH_LIMIT = 16_777_216, 80
 # The most entries of each table, and peers of a route.
 ENTRIES = {"node": 64, "link": 256, "route": 256, "tariff": 1024, "account": 65_536}
 PEERS_LIMIT = 16
+# The most codes that a site makes known, and vendors that its nodes advertise.
+KNOWN_LIMIT, ADVERTISE_LIMIT = 256, 16
 KINDS = {kind: kind for kind in (RELAY, FRONT, CLIENT)}
 UNITS = {"time": CC_TIME, "octets": CC_TOTAL_OCTETS, "units": CC_SERVICE_SPECIFIC_UNITS}
 U32, I64 = 2**32 - 1, 2**63 - 1
@@ -120,6 +122,9 @@ def top_level(top):
             "workers": integer(top, "workers", 1, 16, 2),
             "queue": integer(top, "queue", 1, 1024, 1024),
             "vendors": vendors(top),
+            "known": numbers_once(top, "known", LAST_KNOWN_CODE + 1, KNOWN_LIMIT),
+            "tolerate": tolerances(top),
+            "advertise": numbers_once(top, "advertise", 0, ADVERTISE_LIMIT),
             "currency": integer(top, "currency", 0, 999),
             "exponent": integer(top, "exponent", -9, 9),
             "watchdog": integer(top, "watchdog", 100, 600_000, 30_000)}
@@ -129,6 +134,28 @@ def vendors(top):
     found = array(top, "vendors", int, [10_415])
     if not all(0 <= vendor <= U32 for vendor in found):
         raise SiteFault("OutOfRange", "vendors")
+    return tuple(found)
+
+
+def numbers_once(top, key, least, most):
+    """Numbers of 32 bits from the least, none twice: that all are in range is looked at first."""
+    found = array(top, key, int, [], most)
+    if not all(least <= number <= U32 for number in found):
+        raise SiteFault("OutOfRange", key)
+    if len(set(found)) < len(found):
+        raise SiteFault("Twice", key)
+    return tuple(found)
+
+
+def tolerances(top):
+    """Names of deviations, one by one."""
+    found = []
+    for word in array(top, "tolerate", str, []):
+        if word not in TOLERANCES:
+            raise SiteFault("UnknownName", "tolerate")
+        if word in found:
+            raise SiteFault("Twice", "tolerate")
+        found.append(word)
     return tuple(found)
 
 

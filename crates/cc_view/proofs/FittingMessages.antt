@@ -17,6 +17,7 @@ use Rattle.dia_message.specs.declared.message.Message.{Message}
 use Rattle.dia_message.specs.Header.{HasOctets}
 use Rattle.dia_base.specs.Codes.{auth_application_id, cc_request_number, cc_request_type, session_id, cc_session_failover, credit_control_application, failed_avp, proxy_info, result_code}
 use Rattle.dia_grammar.specs.Grammar.{is_of}
+use Rattle.dia_grammar.specs.Profile.{RequestProfile}
 use Rattle.cc_view.specs.declared.code.ResultCode.{ResultCode}
 use Rattle.cc_view.specs.declared.code.ResultCode.TheVariants.{Success}
 use Rattle.cc_view.specs.declared.refusal.Refusal.{Refusal}
@@ -30,7 +31,7 @@ use Rattle.cc_view.specs.RequestView.Content.{octets_in}
 use Rattle.cc_view.specs.Refusal.FailedAvp.{failed_part, is_copied}
 use Rattle.cc_view.specs.Answer.Fitting.{Fits, IsReadBack}
 use Rattle.cc_view.specs.Request.Number.{kind_number}
-use Rattle.cc_view.specs.RequestView.{view_of}
+use Rattle.cc_view.specs.RequestView.{view_under}
 use Rattle.cc_view.specs.ResultNumber.{number_of}
 use Rattle.cc_view.specs.Answer.Writing.{group_avp, octets_avp, spelling_of, u32_avp}
 use Rattle.cc_view.proofs.Drafts.{spelled_len}
@@ -128,14 +129,14 @@ session-written : (found : Option RawAvp) → spelled_len (octets_avp session_id
 session-written (Some avp) = omega arith
 session-written None = lit≤ tt
 
-carries-answer : (vendors : List ℕ) (message : Message) (request : CcRequest) → AreOctets message.body → view_of vendors message ≡ Ok request
+carries-answer : (profile : RequestProfile) (message : Message) (request : CcRequest) → AreOctets message.body → view_under profile message ≡ Ok request
     → Carries 49160 (session_part request.session) (proxies_in (carriable_avps (split_of message.body)))
-carries-answer vendors message request octets e =
-    let viewed = viewed_avps vendors message request e in
+carries-answer profile message request octets e =
+    let viewed = viewed_avps profile message request e in
     let avps = viewed.0 in
     let carried = carries avps (spells message.body avps octets viewed.1) viewed.2 in
     let same : session_part request.session ≡ octets_avp session_id (octets_in session_id avps) ∷ [] =
-    session_part-viewed vendors message request e ∙ ap (λ (r : CcRequest). octets_avp session_id r.session ∷ []) (sym viewed.3) in
+    session_part-viewed profile message request e ∙ ap (λ (r : CcRequest). octets_avp session_id r.session ∷ []) (sym viewed.3) in
     let proxies : carriable_avps (split_of message.body) ≡ avps = ap carriable_avps viewed.1 ∙ ap (λ (b : Bool). cond b [] avps) viewed.2 in
     let long : spelled_len (octets_avp session_id (octets_in session_id avps) ∷ []) ≤ spelled_len (session_in avps) + 8 = session-written (find (is_of session_id) avps) in
     let short : length (octets_in session_id avps) ≤ 65536 = omega (arith, long, carried.most, spelled_len-cons (octets_avp session_id (octets_in session_id avps)) []) in
@@ -196,12 +197,12 @@ takes-command front realm request code p q each =
     (takes-u32 cc_request_number request.number (lit≤ tt)))
     (takes-failover request.kind code))
 
-pub answer-read_back : (vendors front realm : List ℕ) (message : Message) (request : CcRequest) (reply : CcReply)
-    → IsIdentity front → IsIdentity realm → HasOctets message.header → AreOctets message.body → view_of vendors message ≡ Ok request → Fits reply
+pub answer-read_back : (profile : RequestProfile) (front realm : List ℕ) (message : Message) (request : CcRequest) (reply : CcReply)
+    → IsIdentity front → IsIdentity realm → HasOctets message.header → AreOctets message.body → view_under profile message ≡ Ok request → Fits reply
     → IsReadBack (answer_to front realm message request reply) (answer_avps front realm message request reply)
 unfolding answer_to
-answer-read_back vendors front realm message request reply p q header octets e fits =
-    let carried = carries-answer vendors message request octets e in
+answer-read_back profile front realm message request reply p q header octets e fits =
+    let carried = carries-answer profile message request octets e in
     let command = command_part front realm request reply.code in
     let units = units_part reply in
     let proxies = proxies_in (carriable_avps (split_of message.body)) in

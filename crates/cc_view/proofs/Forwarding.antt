@@ -22,7 +22,8 @@ use Rattle.cc_view.specs.Forwarding.{CarryAlike, IsForwarded, SameButHop, with_h
 use Rattle.cc_view.specs.Refusal.{avps_by, avps_of}
 use Rattle.cc_view.specs.Refusal.FailedAvp.{failed_part}
 use Rattle.cc_view.specs.RefusalByCode.{failed_in, is_refused_with, refusal_by_code}
-use Rattle.cc_view.specs.RequestView.{view_of}
+use Rattle.dia_grammar.specs.Profile.{RequestProfile, strict}
+use Rattle.cc_view.specs.RequestView.{view_of, view_under}
 use Rattle.cc_view.specs.RequestView.UnreadAvps.{is_read}
 use Rattle.cc_view.specs.ResultNumber.{number_of}
 use Rattle.cc_view.proofs.Kept.{filter-filter, find-filter}
@@ -109,11 +110,11 @@ forwarded-carried request forwarded f = record {
   header = f.header;
 }
 
-pub view-forwarded : (vendors : List ℕ) (request forwarded : Message) → IsForwarded request forwarded → view_of vendors forwarded ≡ view_of vendors request
-view-forwarded vendors request forwarded f =
+pub view_under-forwarded : (profile : RequestProfile) (request forwarded : Message) → IsForwarded request forwarded → view_under profile forwarded ≡ view_under profile request
+view_under-forwarded profile request forwarded f =
     let skipped : is_read f.appended ≡ false = unread f.appended f.is_record in
     let carried = dropped is_carried f.avps f.appended (uncarried f.appended f.is_record) in
-    sym (view-unread vendors request forwarded (record {
+    sym (view-unread profile request forwarded (record {
       avps = f.avps;
       others = f.avps ++ f.appended ∷ [];
       body = f.body;
@@ -124,6 +125,10 @@ view-forwarded vendors request forwarded f =
       application = sym (ap (λ (h : Header). h.application) f.header);
       command = sym (ap (λ (h : Header). h.command) f.header);
     }))
+
+pub view-forwarded : (vendors : List ℕ) (request forwarded : Message) → IsForwarded request forwarded → view_of vendors forwarded ≡ view_of vendors request
+unfolding view_of
+view-forwarded vendors = view_under-forwarded (strict vendors)
 
 pub answer-forwarded : (front realm : List ℕ) (request forwarded : Message) (content : CcRequest) (reply : CcReply) → IsForwarded request forwarded
     → answer_to front realm forwarded content reply ≡ with_hop forwarded.header.hop (answer_to front realm request content reply)
@@ -143,8 +148,8 @@ by_parts code view found = record {
 by_avps : (code : ResultCode) (view : Result CcRequest Refusal) (octets : List ℕ) (s : Result (List RawAvp) AvpFault) (avps : List RawAvp) → s ≡ Ok avps → by_parts code view (avps_by octets s) ≡ by_parts code view (Ok avps)
 by_avps code view octets s avps e = ap (λ (r : Result (List RawAvp) AvpFault). by_parts code view (avps_by octets r)) e
 
-pub refusal_by_code-forwarded : (vendors : List ℕ) (code : ResultCode) (request forwarded : Message) → IsForwarded request forwarded → refusal_by_code vendors code forwarded ≡ refusal_by_code vendors code request
-refusal_by_code-forwarded vendors code request forwarded f =
-    ap (λ (view : Result CcRequest Refusal). by_parts code view (avps_of forwarded.body)) (view-forwarded vendors request forwarded f)
-    ∙ by_avps code (view_of vendors request) forwarded.body (split_of forwarded.body) (f.avps ++ f.appended ∷ []) f.forwarded_body
-    ∙ sym (by_avps code (view_of vendors request) request.body (split_of request.body) f.avps f.body)
+pub refusal_by_code-forwarded : (profile : RequestProfile) (code : ResultCode) (request forwarded : Message) → IsForwarded request forwarded → refusal_by_code profile code forwarded ≡ refusal_by_code profile code request
+refusal_by_code-forwarded profile code request forwarded f =
+    ap (λ (view : Result CcRequest Refusal). by_parts code view (avps_of forwarded.body)) (view_under-forwarded profile request forwarded f)
+    ∙ by_avps code (view_under profile request) forwarded.body (split_of forwarded.body) (f.avps ++ f.appended ∷ []) f.forwarded_body
+    ∙ sym (by_avps code (view_under profile request) request.body (split_of request.body) f.avps f.body)

@@ -1,5 +1,6 @@
 mod Carrying
 mod Checks
+mod Counting
 mod Drafts
 mod Examples
 mod Findings
@@ -21,4 +22,5 @@ mod TypedAnswers
 mod Unread
 mod ViewedSessions
 mod Views
+mod Whole
 mod WithinLimits

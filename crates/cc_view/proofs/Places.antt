@@ -11,6 +11,7 @@ use Rattle.dia_grammar.specs.declared.fault.GrammarFault.{GrammarFault}
 use Rattle.dia_grammar.specs.declared.fault.GrammarFault.TheVariants.{Missing, Twice, UnknownM, FirstNotSessionId}
 use Rattle.dia_base.specs.Codes.{session_id}
 use Rattle.dia_grammar.specs.Grammar.{begins_with_session, first_fault, grammar_fault, has_avp, is_second, is_unknown_mandatory, missing_of, required_in, second_behind, second_of, single_codes, unknown_of}
+use Rattle.dia_grammar.specs.Profile.{RequestProfile}
 use Rattle.cc_view.specs.declared.code.ResultCode.TheVariants.{AvpUnsupported, AvpOccursTooManyTimes, UnableToComply}
 use Rattle.cc_view.specs.declared.refusal.Refusal.{Refusal}
 use Rattle.cc_view.specs.Refusal.{grammar_refusal, refusal_with, refusal_by_fault, refusal_for, refusal_for_missing}
@@ -81,12 +82,12 @@ by_parts avps true true None None None (Some avp) m p q = let no = q.1 in absurd
 by_parts avps true true None None None None (Some code) p q = refl
 by_parts avps true true None None None None None p q = refl
 
-pub grammar-is : (vendors : List ℕ) (avps : List RawAvp) → grammar_refusal vendors avps
-    ≡ grammar_by (has_avp session_id avps) (begins_with_session avps) (find (is_unknown_mandatory vendors) avps) (second_in single_codes [] avps) (missing_of (required_in avps) avps)
+pub grammar-is : (profile : RequestProfile) (avps : List RawAvp) → grammar_refusal profile avps
+    ≡ grammar_by (has_avp session_id avps) (begins_with_session avps) (find (is_unknown_mandatory profile) avps) (second_in single_codes [] avps) (missing_of (required_in avps) avps)
 unfolding grammar_fault
-grammar-is vendors avps =
+grammar-is profile avps =
     by_parts avps (has_avp session_id avps) (begins_with_session avps)
-    (unknown_of vendors avps) (find (is_unknown_mandatory vendors) avps)
+    (unknown_of profile avps) (find (is_unknown_mandatory profile) avps)
     (second_of single_codes avps) (second_in single_codes [] avps)
     (missing_of (required_in avps) avps)
-    (find-is (is_unknown_mandatory vendors) avps) (second-is single_codes [] avps)
+    (find-is (is_unknown_mandatory profile) avps) (second-is single_codes [] avps)

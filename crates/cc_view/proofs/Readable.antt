@@ -22,13 +22,15 @@ use Rattle.dia_dict.specs.Reading.{reading_by, unless}
 use Rattle.dia_dict.specs.Values.{content_fault, has_length, in_range, value_fault, value_of}
 use Rattle.dia_message.specs.declared.message.Message.{Message}
 use Rattle.dia_grammar.specs.Grammar.{is_among, is_of, missing_of, second_of, unknown_of}
+use Rattle.dia_grammar.specs.Profile.{RequestProfile}
 use Rattle.cc_view.specs.declared.code.ResultCode.TheVariants.{AvpOccursTooManyTimes, AvpUnsupported, UnableToComply}
 use Rattle.cc_view.specs.declared.refusal.Refusal.{Refusal}
 use Rattle.cc_view.specs.declared.request.CcRequest.{CcRequest}
 use Rattle.cc_view.specs.Answer.Carried.{carries_too_much}
 use Rattle.cc_view.specs.Refusal.{avps_by, avps_of, grammar_refusal, refusal_at, refusal_for_missing, refusal_with, unless_refused}
-use Rattle.cc_view.specs.RequestView.{request_refusal, view_of, view_of_list}
+use Rattle.cc_view.specs.RequestView.{request_refusal, view_under, view_of_list}
 use Rattle.cc_view.specs.RequestView.Checking.{command_values, count_codes, fault_refusal, first_refusal, group_refusal, groups_refusal, group_values, inner_group_refusal, inner_refusal, is_units, members_refusal, service_codes, service_members_refusal, service_refusal, subscription_codes, subscription_refusal, tested_in, units_refusal, value_refusal, value_refusal_among, values_refusal}
+use Rattle.cc_view.specs.RequestView.Counting.{counted}
 use Rattle.cc_view.specs.RequestView.Content.{are_within_limits, content_of, request_in, services_in}
 use Rattle.cc_view.specs.RequestView.Readable.{AreTyped, HasTypedMembers, HaveTypedUnits, IsReadable, IsTyped, IsTypedService}
 use Rattle.cc_view.proofs.Unread.{code_is}
@@ -37,7 +39,7 @@ use Rattle.cc_view.proofs.WithinLimits.{within_limits}
 
 -- ---- one test after the other, and none refuses
 
-none-first : (a b : Option Refusal) → option_or a b ≡ None → a ≡ None
+pub none-first : (a b : Option Refusal) → option_or a b ≡ None → a ≡ None
 none-first None b e = refl
 none-first (Some refusal) b e = absurd cc
 
@@ -126,9 +128,9 @@ typed-values codes avps known e = each-passes (value_refusal_among codes) (λ av
 
 -- ---- a group
 
-typed-members : (vendors single required : List ℕ) (avps : List RawAvp) → members_refusal vendors single required avps ≡ None → AreTyped group_values avps
-typed-members vendors single required avps e =
-    let unknown = option_and_then (refusal_at AvpUnsupported avps) (unknown_of vendors avps) in
+typed-members : (profile : RequestProfile) (single required : List ℕ) (avps : List RawAvp) → members_refusal profile single required avps ≡ None → AreTyped group_values avps
+typed-members profile single required avps e =
+    let unknown = option_and_then (refusal_at AvpUnsupported avps) (unknown_of profile avps) in
     let second = option_and_then (refusal_at AvpOccursTooManyTimes avps) (second_of single avps) in
     let missing = option_map refusal_for_missing (missing_of required avps) in
     let values = values_refusal group_values avps in
@@ -140,27 +142,27 @@ splits : (test : List RawAvp → Option Refusal) (P : List RawAvp → Type 0) �
 splits test P holds octets (Ok members) is e = (members, is, holds members e)
 splits test P holds octets (Err fault) is e = absurd cc
 
-subscription-splits : (vendors : List ℕ) (avp : RawAvp) → subscription_refusal vendors avp ≡ None → HasTypedMembers avp
+subscription-splits : (profile : RequestProfile) (avp : RawAvp) → subscription_refusal profile avp ≡ None → HasTypedMembers avp
 unfolding subscription_refusal
-subscription-splits vendors avp e =
-    splits (members_refusal vendors subscription_codes subscription_codes) (AreTyped group_values) (typed-members vendors subscription_codes subscription_codes) avp.value (split_of avp.value) refl e
+subscription-splits profile avp e =
+    splits (members_refusal profile subscription_codes subscription_codes) (AreTyped group_values) (typed-members profile subscription_codes subscription_codes) avp.value (split_of avp.value) refl e
 
-units-split : (vendors : List ℕ) (avp : RawAvp) → units_refusal vendors avp ≡ None → HasTypedMembers avp
+units-split : (profile : RequestProfile) (avp : RawAvp) → units_refusal profile avp ≡ None → HasTypedMembers avp
 unfolding units_refusal
-units-split vendors avp e = splits (members_refusal vendors count_codes []) (AreTyped group_values) (typed-members vendors count_codes []) avp.value (split_of avp.value) refl e
+units-split profile avp e = splits (members_refusal profile count_codes []) (AreTyped group_values) (typed-members profile count_codes []) avp.value (split_of avp.value) refl e
 
-inner-units : (vendors : List ℕ) (avp : RawAvp) → inner_group_refusal vendors avp ≡ None → is_units avp ≡ true → HasTypedMembers avp
-inner-units vendors avp e units = units-split vendors avp (ap (λ (b : Bool). cond b (units_refusal vendors avp) None) (sym units) ∙ e)
+inner-units : (profile : RequestProfile) (avp : RawAvp) → inner_group_refusal profile avp ≡ None → is_units avp ≡ true → HasTypedMembers avp
+inner-units profile avp e units = units-split profile avp (ap (λ (b : Bool). cond b (units_refusal profile avp) None) (sym units) ∙ e)
 
-service-splits : (vendors : List ℕ) (avp : RawAvp) → service_refusal vendors avp ≡ None → IsTypedService avp
+service-splits : (profile : RequestProfile) (avp : RawAvp) → service_refusal profile avp ≡ None → IsTypedService avp
 unfolding service_refusal
-service-splits vendors avp e =
-    splits (service_members_refusal vendors) (λ members. AreTyped group_values members × HaveTypedUnits members)
+service-splits profile avp e =
+    splits (service_members_refusal profile) (λ members. AreTyped group_values members × HaveTypedUnits members)
     (λ members none.
-    let first = members_refusal vendors service_codes [] members in
-    let inner = inner_refusal vendors members in (
-      typed-members vendors service_codes [] members (none-first first inner none),
-      each-passes (inner_group_refusal vendors) (λ avp. is_units avp ≡ true → HasTypedMembers avp) (inner-units vendors) members (none-next first inner none),
+    let first = members_refusal profile service_codes [] members in
+    let inner = inner_refusal profile members in (
+      typed-members profile service_codes [] members (none-first first inner none),
+      each-passes (inner_group_refusal profile) (λ avp. is_units avp ≡ true → HasTypedMembers avp) (inner-units profile) members (none-next first inner none),
     ))
     avp.value (split_of avp.value) refl e
 
@@ -174,34 +176,34 @@ units-no-subscription true used avp p q e = other requested_service_unit subscri
 units-no-subscription false true avp p q e = other used_service_unit subscription_id avp (λ same. omega (arith, same)) q
 units-no-subscription false false avp p q e = absurd cc
 
-abbrev group_by : List ℕ → RawAvp → Bool → Bool → Bool → Option Refusal
-group_by vendors avp subscription units service =
-    cond subscription (subscription_refusal vendors avp) (cond units (units_refusal vendors avp) (cond service (service_refusal vendors avp) None))
+abbrev group_by : RequestProfile → RawAvp → Bool → Bool → Bool → Option Refusal
+group_by profile avp subscription units service =
+    cond subscription (subscription_refusal profile avp) (cond units (units_refusal profile avp) (cond service (service_refusal profile avp) None))
 
-subscription-here : (vendors : List ℕ) (avp : RawAvp) → group_refusal vendors avp ≡ None → is_of subscription_id avp ≡ true → HasTypedMembers avp
-subscription-here vendors avp e is = subscription-splits vendors avp (ap (λ (b : Bool). group_by vendors avp b (is_units avp) (is_of multiple_services avp)) (sym is) ∙ e)
+subscription-here : (profile : RequestProfile) (avp : RawAvp) → group_refusal profile avp ≡ None → is_of subscription_id avp ≡ true → HasTypedMembers avp
+subscription-here profile avp e is = subscription-splits profile avp (ap (λ (b : Bool). group_by profile avp b (is_units avp) (is_of multiple_services avp)) (sym is) ∙ e)
 
-units-here : (vendors : List ℕ) (avp : RawAvp) → group_refusal vendors avp ≡ None → is_units avp ≡ true → HasTypedMembers avp
-units-here vendors avp e is =
+units-here : (profile : RequestProfile) (avp : RawAvp) → group_refusal profile avp ≡ None → is_units avp ≡ true → HasTypedMembers avp
+units-here profile avp e is =
     let no_subscription = units-no-subscription (is_of requested_service_unit avp) (is_of used_service_unit avp) avp refl refl is in
-    units-split vendors avp (
-    ap (λ (b : Bool). group_by vendors avp false b (is_of multiple_services avp)) (sym is)
-    ∙ ap (λ (b : Bool). group_by vendors avp b (is_units avp) (is_of multiple_services avp)) (sym no_subscription) ∙ e)
+    units-split profile avp (
+    ap (λ (b : Bool). group_by profile avp false b (is_of multiple_services avp)) (sym is)
+    ∙ ap (λ (b : Bool). group_by profile avp b (is_units avp) (is_of multiple_services avp)) (sym no_subscription) ∙ e)
 
-service-here : (vendors : List ℕ) (avp : RawAvp) → group_refusal vendors avp ≡ None → is_of multiple_services avp ≡ true → IsTypedService avp
-service-here vendors avp e is =
+service-here : (profile : RequestProfile) (avp : RawAvp) → group_refusal profile avp ≡ None → is_of multiple_services avp ≡ true → IsTypedService avp
+service-here profile avp e is =
     let no_subscription = other multiple_services subscription_id avp (λ same. omega (arith, same)) is in
     let no_requested = other multiple_services requested_service_unit avp (λ same. omega (arith, same)) is in
     let no_used = other multiple_services used_service_unit avp (λ same. omega (arith, same)) is in
     let no_units : is_units avp ≡ false = ap (λ (b : Bool). b || is_of used_service_unit avp) no_requested ∙ no_used in
-    service-splits vendors avp (
-    ap (λ (b : Bool). group_by vendors avp false false b) (sym is)
-    ∙ ap (λ (b : Bool). group_by vendors avp false b (is_of multiple_services avp)) (sym no_units)
-    ∙ ap (λ (b : Bool). group_by vendors avp b (is_units avp) (is_of multiple_services avp)) (sym no_subscription) ∙ e)
+    service-splits profile avp (
+    ap (λ (b : Bool). group_by profile avp false false b) (sym is)
+    ∙ ap (λ (b : Bool). group_by profile avp false b (is_of multiple_services avp)) (sym no_units)
+    ∙ ap (λ (b : Bool). group_by profile avp b (is_units avp) (is_of multiple_services avp)) (sym no_subscription) ∙ e)
 
 -- ---- the message
 
-not_refused : (refusal : Option Refusal) (content : Result CcRequest Refusal) (request : CcRequest) (much : Bool)
+pub not_refused : (refusal : Option Refusal) (content : Result CcRequest Refusal) (request : CcRequest) (much : Bool)
     → cond much (Err (refusal_with UnableToComply)) (unless_refused refusal content) ≡ Ok request → refusal ≡ None
 not_refused refusal content request true e = absurd cc
 not_refused None content request false e = refl
@@ -211,29 +213,29 @@ within : (limits : Bool) (content request : CcRequest) → cond limits (Ok conte
 within true content request e = refl
 within false content request e = absurd cc
 
-readable_avps : (vendors : List ℕ) (message : Message) (request : CcRequest) (s : Result (List RawAvp) AvpFault) → split_of message.body ≡ s → view_of_list vendors (avps_by message.body s) ≡ Ok request → IsReadable message
-readable_avps vendors message request (Err fault) is e = absurd cc
-readable_avps vendors message request (Ok avps) is e =
-    let grammar = grammar_refusal vendors avps in
+readable_avps : (profile : RequestProfile) (message : Message) (request : CcRequest) (s : Result (List RawAvp) AvpFault) → split_of message.body ≡ s → view_of_list profile (avps_by message.body s) ≡ Ok request → IsReadable message
+readable_avps profile message request (Err fault) is e = absurd cc
+readable_avps profile message request (Ok avps) is e =
+    let grammar = grammar_refusal profile (counted profile avps) in
     let values = values_refusal command_values avps in
-    let groups = groups_refusal vendors avps in
-    let none : request_refusal vendors avps ≡ None = not_refused (request_refusal vendors avps) (content_of avps) request (carries_too_much avps) e in
+    let groups = groups_refusal profile avps in
+    let none : request_refusal profile avps ≡ None = not_refused (request_refusal profile avps) (content_of avps) request (carries_too_much avps) e in
     let later = none-next grammar (option_or values groups) none in
     let passed : groups ≡ None = none-next values groups later in
-    let parts = unrefused (carries_too_much avps) (request_refusal vendors avps) (content_of avps) request e in
+    let parts = unrefused (carries_too_much avps) (request_refusal profile avps) (content_of avps) request e in
     let limits = within_limits (services_in avps) (within (are_within_limits (services_in avps)) (request_in avps) request parts.1) in
     record {
       avps = avps;
       body = is;
       values = typed-values command_values avps command-rows (none-first values groups later);
-      subscriptions = each-passes (group_refusal vendors) (λ avp. is_of subscription_id avp ≡ true → HasTypedMembers avp) (subscription-here vendors) avps passed;
-      units = each-passes (group_refusal vendors) (λ avp. is_units avp ≡ true → HasTypedMembers avp) (units-here vendors) avps passed;
-      services = each-passes (group_refusal vendors) (λ avp. is_of multiple_services avp ≡ true → IsTypedService avp) (service-here vendors) avps passed;
+      subscriptions = each-passes (group_refusal profile) (λ avp. is_of subscription_id avp ≡ true → HasTypedMembers avp) (subscription-here profile) avps passed;
+      units = each-passes (group_refusal profile) (λ avp. is_units avp ≡ true → HasTypedMembers avp) (units-here profile) avps passed;
+      services = each-passes (group_refusal profile) (λ avp. is_of multiple_services avp ≡ true → IsTypedService avp) (service-here profile) avps passed;
       names = limits.own_names;
     }
 
-pub viewed-readable : (vendors : List ℕ) (message : Message) (request : CcRequest) → view_of vendors message ≡ Ok request → IsReadable message
-unfolding view_of
-viewed-readable vendors message request e =
-    readable_avps vendors message request (split_of message.body) refl
-    (viewed vendors (eqb message.header.application 4) (eqb message.header.command 272) (avps_of message.body) request e)
+pub viewed-readable : (profile : RequestProfile) (message : Message) (request : CcRequest) → view_under profile message ≡ Ok request → IsReadable message
+unfolding view_under
+viewed-readable profile message request e =
+    readable_avps profile message request (split_of message.body) refl
+    (viewed profile (eqb message.header.application 4) (eqb message.header.command 272) (avps_of message.body) request e)

@@ -20,6 +20,7 @@ use Rattle.dia_message.specs.declared.message.Message.{Message}
 use Rattle.dia_grammar.specs.declared.fault.GrammarFault.{GrammarFault}
 use Rattle.dia_grammar.specs.declared.fault.GrammarFault.TheVariants.{Missing, Twice, UnknownM, FirstNotSessionId}
 use Rattle.dia_grammar.specs.Grammar.{grammar_fault, is_among, is_of, missing_of, second_of, unknown_of}
+use Rattle.dia_grammar.specs.Profile.{RequestProfile}
 use Rattle.cc_view.specs.declared.code.ResultCode.{ResultCode}
 use Rattle.cc_view.specs.declared.code.ResultCode.TheVariants.{ApplicationUnsupported, AvpOccursTooManyTimes, AvpUnsupported, CommandUnsupported, UnableToComply}
 use Rattle.cc_view.specs.declared.refusal.Refusal.{Refusal}
@@ -27,10 +28,11 @@ use Rattle.cc_view.specs.declared.request.CcRequest.{CcRequest}
 use Rattle.cc_view.specs.Answer.Carried.{carries_too_much}
 use Rattle.cc_view.specs.RequestView.Checking.{command_values, count_codes, first_refusal, group_refusal, group_values, groups_refusal, inner_group_refusal, inner_refusal, is_units, members_refusal, fault_refusal, service_codes, service_members_refusal, service_refusal, subscription_codes, subscription_refusal, tested_in, units_refusal, value_refusal, value_refusal_among, values_refusal}
 use Rattle.dia_base.specs.Codes.{multiple_services, subscription_id}
+use Rattle.cc_view.specs.RequestView.Counting.{counted}
 use Rattle.cc_view.specs.RequestView.Content.{are_within_limits, content_of, request_in, services_in}
 use Rattle.cc_view.specs.Refusal.FailedAvp.{copy_or_least_form, fixed_len, is_copied, kind_at, least_form, least_len}
 use Rattle.cc_view.specs.Refusal.{grammar_refusal, avps_by, avps_of, refusal_with, refusal_at, refusal_by_fault, refusal_for, refusal_of_octets, refusal_for_missing, unless_refused}
-use Rattle.cc_view.specs.RequestView.{request_refusal, view_of, view_of_list}
+use Rattle.cc_view.specs.RequestView.{request_refusal, view_under, view_of_list}
 
 abbrev IsShortIn : Refusal → Type 0
 IsShortIn refusal = IfSome refusal.failed (λ avp. length_of avp ≤ 8192)
@@ -127,13 +129,13 @@ short-value avp = short-then (fault_refusal avp) (short-fault avp) (result_err (
 short-values : (codes : List ℕ) (avps : List RawAvp) → Short (values_refusal codes avps)
 short-values codes avps = short-first (value_refusal_among codes) (λ avp. short-if (is_among codes avp) (value_refusal avp) None (short-value avp) tt) avps
 
-short-members : (vendors single required : List ℕ) (avps : List RawAvp) → Short (members_refusal vendors single required avps)
-short-members vendors single required avps =
-    let unknown = option_and_then (refusal_at AvpUnsupported avps) (unknown_of vendors avps) in
+short-members : (profile : RequestProfile) (single required : List ℕ) (avps : List RawAvp) → Short (members_refusal profile single required avps)
+short-members profile single required avps =
+    let unknown = option_and_then (refusal_at AvpUnsupported avps) (unknown_of profile avps) in
     let second = option_and_then (refusal_at AvpOccursTooManyTimes avps) (second_of single avps) in
     let missing = option_map refusal_for_missing (missing_of required avps) in
     let values = values_refusal group_values avps in
-    short-or unknown (option_or second (option_or missing values)) (short-then (refusal_at AvpUnsupported avps) (short-at AvpUnsupported avps) (unknown_of vendors avps))
+    short-or unknown (option_or second (option_or missing values)) (short-then (refusal_at AvpUnsupported avps) (short-at AvpUnsupported avps) (unknown_of profile avps))
     (short-or second (option_or missing values) (short-then (refusal_at AvpOccursTooManyTimes avps) (short-at AvpOccursTooManyTimes avps) (second_of single avps))
     (short-or missing values (short-missing (missing_of required avps)) (short-values group_values avps)))
 
@@ -141,31 +143,31 @@ short-tested : (test : List RawAvp → Option Refusal) → ((avps : List RawAvp)
 short-tested test each octets (Ok avps) = each avps
 short-tested test each octets (Err fault) = short-octets octets fault
 
-short-subscription : (vendors : List ℕ) (avp : RawAvp) → Short (subscription_refusal vendors avp)
+short-subscription : (profile : RequestProfile) (avp : RawAvp) → Short (subscription_refusal profile avp)
 unfolding subscription_refusal
-short-subscription vendors avp = short-tested (members_refusal vendors subscription_codes subscription_codes) (short-members vendors subscription_codes subscription_codes) avp.value (split_of avp.value)
+short-subscription profile avp = short-tested (members_refusal profile subscription_codes subscription_codes) (short-members profile subscription_codes subscription_codes) avp.value (split_of avp.value)
 
-short-units : (vendors : List ℕ) (avp : RawAvp) → Short (units_refusal vendors avp)
+short-units : (profile : RequestProfile) (avp : RawAvp) → Short (units_refusal profile avp)
 unfolding units_refusal
-short-units vendors avp = short-tested (members_refusal vendors count_codes []) (short-members vendors count_codes []) avp.value (split_of avp.value)
+short-units profile avp = short-tested (members_refusal profile count_codes []) (short-members profile count_codes []) avp.value (split_of avp.value)
 
-short-inner : (vendors : List ℕ) (avps : List RawAvp) → Short (inner_refusal vendors avps)
-short-inner vendors avps = short-first (inner_group_refusal vendors) (λ avp. short-if (is_units avp) (units_refusal vendors avp) None (short-units vendors avp) tt) avps
+short-inner : (profile : RequestProfile) (avps : List RawAvp) → Short (inner_refusal profile avps)
+short-inner profile avps = short-first (inner_group_refusal profile) (λ avp. short-if (is_units avp) (units_refusal profile avp) None (short-units profile avp) tt) avps
 
-short-service : (vendors : List ℕ) (avp : RawAvp) → Short (service_refusal vendors avp)
+short-service : (profile : RequestProfile) (avp : RawAvp) → Short (service_refusal profile avp)
 unfolding service_refusal
-short-service vendors avp =
-    short-tested (service_members_refusal vendors)
-    (λ avps. short-or (members_refusal vendors service_codes [] avps) (inner_refusal vendors avps) (short-members vendors service_codes [] avps) (short-inner vendors avps))
+short-service profile avp =
+    short-tested (service_members_refusal profile)
+    (λ avps. short-or (members_refusal profile service_codes [] avps) (inner_refusal profile avps) (short-members profile service_codes [] avps) (short-inner profile avps))
     avp.value (split_of avp.value)
 
-short-group : (vendors : List ℕ) (avp : RawAvp) → Short (group_refusal vendors avp)
-short-group vendors avp =
-    let service = cond (is_of multiple_services avp) (service_refusal vendors avp) None in
-    let units = cond (is_units avp) (units_refusal vendors avp) service in
-    short-if (is_of subscription_id avp) (subscription_refusal vendors avp) units (short-subscription vendors avp)
-    (short-if (is_units avp) (units_refusal vendors avp) service (short-units vendors avp)
-    (short-if (is_of multiple_services avp) (service_refusal vendors avp) None (short-service vendors avp) tt))
+short-group : (profile : RequestProfile) (avp : RawAvp) → Short (group_refusal profile avp)
+short-group profile avp =
+    let service = cond (is_of multiple_services avp) (service_refusal profile avp) None in
+    let units = cond (is_units avp) (units_refusal profile avp) service in
+    short-if (is_of subscription_id avp) (subscription_refusal profile avp) units (short-subscription profile avp)
+    (short-if (is_units avp) (units_refusal profile avp) service (short-units profile avp)
+    (short-if (is_of multiple_services avp) (service_refusal profile avp) None (short-service profile avp) tt))
 
 -- ---- a request
 
@@ -175,12 +177,12 @@ short-by avps FirstNotSessionId = tt
 short-by avps (UnknownM at) = short-at AvpUnsupported avps at
 short-by avps (Twice at) = short-at AvpOccursTooManyTimes avps at
 
-short-request : (vendors : List ℕ) (avps : List RawAvp) → Short (request_refusal vendors avps)
-short-request vendors avps =
+short-request : (profile : RequestProfile) (avps : List RawAvp) → Short (request_refusal profile avps)
+short-request profile avps =
     let values = values_refusal command_values avps in
-    let groups = groups_refusal vendors avps in
-    short-or (grammar_refusal vendors avps) (option_or values groups) (short-then (refusal_by_fault avps) (short-by avps) (grammar_fault vendors avps))
-    (short-or values groups (short-values command_values avps) (short-first (group_refusal vendors) (short-group vendors) avps))
+    let groups = groups_refusal profile avps in
+    short-or (grammar_refusal profile (counted profile avps)) (option_or values groups) (short-then (refusal_by_fault (counted profile avps)) (short-by (counted profile avps)) (grammar_fault profile (counted profile avps)))
+    (short-or values groups (short-values command_values avps) (short-first (group_refusal profile) (short-group profile) avps))
 
 -- ---- the view
 
@@ -196,20 +198,20 @@ short-avps true refusal content p q = tt
 short-avps false (Some refusal) content p q = p
 short-avps false None content p q = q
 
-short-list : (vendors octets : List ℕ) (s : Result (List RawAvp) AvpFault) → ShortErr (view_of_list vendors (avps_by octets s))
-short-list vendors octets (Err fault) = short-octets octets fault
-short-list vendors octets (Ok avps) =
-    short-avps (carries_too_much avps) (request_refusal vendors avps) (content_of avps) (short-request vendors avps) (short-content (are_within_limits (services_in avps)) (request_in avps))
+short-list : (profile : RequestProfile) (octets : List ℕ) (s : Result (List RawAvp) AvpFault) → ShortErr (view_of_list profile (avps_by octets s))
+short-list profile octets (Err fault) = short-octets octets fault
+short-list profile octets (Ok avps) =
+    short-avps (carries_too_much avps) (request_refusal profile avps) (content_of avps) (short-request profile avps) (short-content (are_within_limits (services_in avps)) (request_in avps))
 
 short-header : (application command : Bool) (view : Result CcRequest Refusal) → ShortErr view → ShortErr (cond (not application) (Err (refusal_with ApplicationUnsupported)) (cond (not command) (Err (refusal_with CommandUnsupported)) view))
 short-header true true view p = p
 short-header true false view p = tt
 short-header false command view p = tt
 
-short-view : (vendors : List ℕ) (message : Message) → ShortErr (view_of vendors message)
-unfolding view_of
-short-view vendors message =
-    short-header (eqb message.header.application 4) (eqb message.header.command 272) (view_of_list vendors (avps_of message.body)) (short-list vendors message.body (split_of message.body))
+short-view : (profile : RequestProfile) (message : Message) → ShortErr (view_under profile message)
+unfolding view_under
+short-view profile message =
+    short-header (eqb message.header.application 4) (eqb message.header.command 272) (view_of_list profile (avps_of message.body)) (short-list profile message.body (split_of message.body))
 
-pub failed-short : (vendors : List ℕ) (message : Message) (refusal : Refusal) → view_of vendors message ≡ Err refusal → IfSome refusal.failed (λ avp. length_of avp ≤ 8192)
-failed-short vendors message refusal e = subst ShortErr e (short-view vendors message)
+pub failed-short : (profile : RequestProfile) (message : Message) (refusal : Refusal) → view_under profile message ≡ Err refusal → IfSome refusal.failed (λ avp. length_of avp ≤ 8192)
+failed-short profile message refusal e = subst ShortErr e (short-view profile message)

@@ -17,6 +17,7 @@ use Rattle.dia_avp.proofs.Splitting.{Reads-only}
 use Rattle.dia_message.specs.declared.message.Message.{Message}
 use Rattle.dia_message.specs.Header.{HasOctets}
 use Rattle.dia_grammar.specs.Grammar.{is_among, is_of}
+use Rattle.dia_grammar.specs.Profile.{RequestProfile}
 use Rattle.cc_view.specs.declared.code.ResultCode.{ResultCode}
 use Rattle.cc_view.specs.declared.code.ResultCode.TheVariants.{Success}
 use Rattle.cc_view.specs.declared.reply.CcReply.{CcReply}
@@ -32,7 +33,7 @@ use Rattle.cc_view.specs.Answer.Typed.{AreTypedInDepth, GrantsUnits, HasUnits, I
 use Rattle.cc_view.specs.Answer.Typed.AreTypedInDepth.{none, value, group, carried}
 use Rattle.cc_view.specs.Answer.Writing.{group_avp, octets_avp, spelling_of, i32_avp, i64_avp, u32_avp, u64_avp}
 use Rattle.cc_view.specs.Request.Number.{kind_number}
-use Rattle.cc_view.specs.RequestView.{view_of}
+use Rattle.cc_view.specs.RequestView.{view_under}
 use Rattle.cc_view.specs.RequestView.Checking.{command_values}
 use Rattle.cc_view.specs.RequestView.Content.{octets_in}
 use Rattle.cc_view.specs.RequestView.Readable.{AreTyped, IsReadable, IsTyped}
@@ -188,17 +189,17 @@ first-session (avp ∷ avps) values =
     let P = λ (x : RawAvp). is_among command_values x ≡ true → IsTyped x in
     session_more (is_of session_id avp) avp (find (is_of session_id) avps) refl (All-head P avp avps values) (first-session avps (All-tail P avp avps values))
 
-typed-session : (vendors : List ℕ) (message : Message) (request : CcRequest) → view_of vendors message ≡ Ok request → AreTypedInDepth (session_part request.session)
-typed-session vendors message request e =
-    let readable : IsReadable message = viewed-readable vendors message request e in
-    let viewed = viewed_avps vendors message request e in
+typed-session : (profile : RequestProfile) (message : Message) (request : CcRequest) → view_under profile message ≡ Ok request → AreTypedInDepth (session_part request.session)
+typed-session profile message request e =
+    let readable : IsReadable message = viewed-readable profile message request e in
+    let viewed = viewed_avps profile message request e in
     let body : split_of message.body ≡ Ok readable.avps = readable.body in
     let other : split_of message.body ≡ Ok viewed.0 = viewed.1 in
     let same : readable.avps ≡ viewed.0 = cc in
     let values : AreTyped command_values viewed.0 = subst (AreTyped command_values) same readable.values in
     let session : octets_in session_id viewed.0 ≡ request.session = ap (λ (r : CcRequest). r.session) viewed.3 in
     let typed : IsTyped (octets_avp session_id request.session) = subst (λ (octets : List ℕ). IsTyped (octets_avp session_id octets)) session (first-session viewed.0 values) in
-    subst AreTypedInDepth (sym (session_part-viewed vendors message request e)) (alone (octets_avp session_id request.session) refl typed)
+    subst AreTypedInDepth (sym (session_part-viewed profile message request e)) (alone (octets_avp session_id request.session) refl typed)
 
 -- ---- the command
 
@@ -244,16 +245,16 @@ typed-proxies (avp ∷ avps) = proxy_more (is_of proxy_info avp) avp (proxies_in
 
 -- ---- the whole
 
-pub answer-typed : (vendors front realm : List ℕ) (message : Message) (request : CcRequest) (reply : CcReply)
-    → IsIdentity front → IsIdentity realm → HasOctets message.header → AreOctets message.body → view_of vendors message ≡ Ok request → Fits reply → GrantsUnits reply
+pub answer-typed : (profile : RequestProfile) (front realm : List ℕ) (message : Message) (request : CcRequest) (reply : CcReply)
+    → IsIdentity front → IsIdentity realm → HasOctets message.header → AreOctets message.body → view_under profile message ≡ Ok request → Fits reply → GrantsUnits reply
     → SplitTyped (answer_to front realm message request reply).body
-answer-typed vendors front realm message request reply p q header octets e fits units =
+answer-typed profile front realm message request reply p q header octets e fits units =
     let command = command_part front realm request reply.code in
     let proxies = proxies_in (carriable_avps (split_of message.body)) in
     let avps = answer_avps front realm message request reply in (
       avps,
-      sym (Reads-only (answer_to front realm message request reply).body (Ok avps) (answer-read_back vendors front realm message request reply p q header octets e fits).body),
+      sym (Reads-only (answer_to front realm message request reply).body (Ok avps) (answer-read_back profile front realm message request reply p q header octets e fits).body),
       append (command ++ units_part reply) proxies
-          (append command (units_part reply) (typed-command front realm request reply.code (typed-session vendors message request e)) (typed-units reply fits units))
+          (append command (units_part reply) (typed-command front realm request reply.code (typed-session profile message request e)) (typed-units reply fits units))
           (typed-proxies (carriable_avps (split_of message.body))),
     )

@@ -1,8 +1,9 @@
 -- The view of a message, case by case.
-use Rattle.std.proofs.Common.{◌≡◌, ℕ, List, Bool, true, false, not, cond, eqb, eq-eqb, Option, Result, Ok, Err, sym, ap, subst, ◌∙◌}
+use Rattle.std.proofs.Common.{◌≡◌, List, Bool, true, false, not, cond, eqb, eq-eqb, Option, Result, Ok, Err, sym, ap, subst, ◌∙◌}
 use Rattle.std.proofs.lemmas.Bool.{ne_eqb}
 use Rattle.dia_avp.specs.declared.avp.RawAvp.{RawAvp}
 use Rattle.dia_message.specs.declared.message.Message.{Message}
+use Rattle.dia_grammar.specs.Profile.{RequestProfile}
 use Rattle.cc_view.specs.declared.code.ResultCode.TheVariants.{ApplicationUnsupported, CommandUnsupported, UnableToComply}
 use Rattle.cc_view.specs.declared.refusal.Refusal.{Refusal}
 use Rattle.cc_view.specs.declared.view.ViewError.{ViewError}
@@ -12,46 +13,46 @@ use Rattle.cc_view.specs.Answer.Carried.{carries_too_much}
 use Rattle.cc_view.specs.RequestView.Content.{content_of}
 use Rattle.cc_view.specs.Finding.{Gives, GivesAll, Passes}
 use Rattle.cc_view.specs.Refusal.{refusal_with, avps_of, unless_refused}
-use Rattle.cc_view.specs.RequestView.{request_refusal, view_of_avps, view_of_list, view_of, IsView}
+use Rattle.cc_view.specs.RequestView.{request_refusal, view_of_avps, view_of_list, view_under, IsView}
 
-abbrev view_by : List ℕ → Bool → Bool → Result (List RawAvp) Refusal → Result CcRequest Refusal
-view_by vendors application command s = cond (not application) (Err (refusal_with ApplicationUnsupported)) (cond (not command) (Err (refusal_with CommandUnsupported)) (view_of_list vendors s))
+abbrev view_by : RequestProfile → Bool → Bool → Result (List RawAvp) Refusal → Result CcRequest Refusal
+view_by profile application command s = cond (not application) (Err (refusal_with ApplicationUnsupported)) (cond (not command) (Err (refusal_with CommandUnsupported)) (view_of_list profile s))
 
-pub view_of-application : (vendors : List ℕ) (m : Message) → (m.header.application ≡ 4 → ⊥) → view_of vendors m ≡ Err (refusal_with ApplicationUnsupported)
-unfolding view_of
-view_of-application vendors m h = ap (λ (b : Bool). view_by vendors b (eqb m.header.command 272) (avps_of m.body)) (ne_eqb m.header.application 4 h)
+pub view_of-application : (profile : RequestProfile) (m : Message) → (m.header.application ≡ 4 → ⊥) → view_under profile m ≡ Err (refusal_with ApplicationUnsupported)
+unfolding view_under
+view_of-application profile m h = ap (λ (b : Bool). view_by profile b (eqb m.header.command 272) (avps_of m.body)) (ne_eqb m.header.application 4 h)
 
-pub view_of-command : (vendors : List ℕ) (m : Message) → m.header.application ≡ 4 → (m.header.command ≡ 272 → ⊥) → view_of vendors m ≡ Err (refusal_with CommandUnsupported)
-unfolding view_of
-view_of-command vendors m a h =
-    ap (λ (b : Bool). view_by vendors b (eqb m.header.command 272) (avps_of m.body)) (eq-eqb m.header.application 4 a)
-    ∙ ap (λ (b : Bool). view_by vendors true b (avps_of m.body)) (ne_eqb m.header.command 272 h)
+pub view_of-command : (profile : RequestProfile) (m : Message) → m.header.application ≡ 4 → (m.header.command ≡ 272 → ⊥) → view_under profile m ≡ Err (refusal_with CommandUnsupported)
+unfolding view_under
+view_of-command profile m a h =
+    ap (λ (b : Bool). view_by profile b (eqb m.header.command 272) (avps_of m.body)) (eq-eqb m.header.application 4 a)
+    ∙ ap (λ (b : Bool). view_by profile true b (avps_of m.body)) (ne_eqb m.header.command 272 h)
 
-pub view_of-list : (vendors : List ℕ) (m : Message) (s : Result (List RawAvp) Refusal) → m.header.application ≡ 4 → m.header.command ≡ 272 → avps_of m.body ≡ s → view_of vendors m ≡ view_of_list vendors s
-unfolding view_of
-view_of-list vendors m s a c e =
-    ap (λ (b : Bool). view_by vendors b (eqb m.header.command 272) (avps_of m.body)) (eq-eqb m.header.application 4 a)
-    ∙ ap (λ (b : Bool). view_by vendors true b (avps_of m.body)) (eq-eqb m.header.command 272 c)
-    ∙ ap (view_of_list vendors) e
+pub view_of-list : (profile : RequestProfile) (m : Message) (s : Result (List RawAvp) Refusal) → m.header.application ≡ 4 → m.header.command ≡ 272 → avps_of m.body ≡ s → view_under profile m ≡ view_of_list profile s
+unfolding view_under
+view_of-list profile m s a c e =
+    ap (λ (b : Bool). view_by profile b (eqb m.header.command 272) (avps_of m.body)) (eq-eqb m.header.application 4 a)
+    ∙ ap (λ (b : Bool). view_by profile true b (avps_of m.body)) (eq-eqb m.header.command 272 c)
+    ∙ ap (view_of_list profile) e
 
 abbrev view_in : List RawAvp → Bool → Option Refusal → Result CcRequest Refusal
 view_in avps much refusal = cond much (Err (refusal_with UnableToComply)) (unless_refused refusal (content_of avps))
 
-pub view_of_avps-much : (vendors : List ℕ) (avps : List RawAvp) → carries_too_much avps ≡ true → view_of_avps vendors avps ≡ Err (refusal_with UnableToComply)
-view_of_avps-much vendors avps much = ap (λ (b : Bool). view_in avps b (request_refusal vendors avps)) much
+pub view_of_avps-much : (profile : RequestProfile) (avps : List RawAvp) → carries_too_much avps ≡ true → view_of_avps profile avps ≡ Err (refusal_with UnableToComply)
+view_of_avps-much profile avps much = ap (λ (b : Bool). view_in avps b (request_refusal profile avps)) much
 
-pub view_of_avps-few : (vendors : List ℕ) (avps : List RawAvp) (refusal : Option Refusal) → carries_too_much avps ≡ false → request_refusal vendors avps ≡ refusal
-    → view_of_avps vendors avps ≡ unless_refused refusal (content_of avps)
-view_of_avps-few vendors avps refusal few e = ap (λ (b : Bool). view_in avps b (request_refusal vendors avps)) few ∙ ap (view_in avps false) e
+pub view_of_avps-few : (profile : RequestProfile) (avps : List RawAvp) (refusal : Option Refusal) → carries_too_much avps ≡ false → request_refusal profile avps ≡ refusal
+    → view_of_avps profile avps ≡ unless_refused refusal (content_of avps)
+view_of_avps-few profile avps refusal few e = ap (λ (b : Bool). view_in avps b (request_refusal profile avps)) few ∙ ap (view_in avps false) e
 
 -- a refusal that the view has
 pub IsView-refused : (view : Result CcRequest Refusal) (e : ViewError) (refusal : Refusal) → e ≡ Refused refusal → view ≡ Err refusal → IsView view (Err e)
 IsView-refused view e refusal is h = subst (λ (x : ViewError). IsView view (Err x)) (sym is) h
 
 -- octets that are no list of AVPs
-pub IsView-unlisted : (vendors : List ℕ) (view : Result CcRequest Refusal) (found : Result (List RawAvp) Refusal) (e : ViewError) → view ≡ view_of_list vendors found → GivesAll found (Err e) → IsView view (Err e)
-IsView-unlisted vendors view found (Refused refusal) is h = is ∙ ap (view_of_list vendors) h
-IsView-unlisted vendors view found OutOfMemory is h = tt
+pub IsView-unlisted : (profile : RequestProfile) (view : Result CcRequest Refusal) (found : Result (List RawAvp) Refusal) (e : ViewError) → view ≡ view_of_list profile found → GivesAll found (Err e) → IsView view (Err e)
+IsView-unlisted profile view found (Refused refusal) is h = is ∙ ap (view_of_list profile) h
+IsView-unlisted profile view found OutOfMemory is h = tt
 
 -- AVPs that a test refuses
 pub IsView-tested : (view : Result CcRequest Refusal) (refusal : Option Refusal) (content : Result CcRequest Refusal) (e : ViewError) → view ≡ unless_refused refusal content → Passes refusal (Err e) → IsView view (Err e)

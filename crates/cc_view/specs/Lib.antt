@@ -8,3 +8,4 @@ pub mod RefusalByCode
 pub mod Request
 pub mod RequestView
 pub mod ResultNumber
+pub mod ToleranceExample

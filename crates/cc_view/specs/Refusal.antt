@@ -8,6 +8,7 @@ use Rattle.dia_avp.specs.declared.fault.AvpFault.{AvpFault}
 use Rattle.dia_avp.specs.AvpReading.{split_of}
 use Rattle.dia_grammar.specs.declared.fault.GrammarFault.{GrammarFault}
 use Rattle.dia_grammar.specs.declared.fault.GrammarFault.TheVariants.{Missing, Twice, UnknownM, FirstNotSessionId}
+use Rattle.dia_grammar.specs.Profile.{RequestProfile}
 use Rattle.dia_grammar.specs.Grammar.{grammar_fault}
 use Rattle.cc_view.specs.declared.code.ResultCode.{ResultCode}
 use Rattle.cc_view.specs.declared.code.ResultCode.TheVariants.{AvpUnsupported, AvpOccursTooManyTimes, InvalidAvpLength, MissingAvp, UnableToComply}
@@ -56,6 +57,6 @@ refusal_by_fault avps FirstNotSessionId = Some (refusal_with UnableToComply)
 refusal_by_fault avps (UnknownM at) = refusal_at AvpUnsupported avps at
 refusal_by_fault avps (Twice at) = refusal_at AvpOccursTooManyTimes avps at
 
--- why the AVPs of a request are refused for breaking the grammar, where these vendors are listed
-abbrev pub grammar_refusal : List ℕ → List RawAvp → Option Refusal
-grammar_refusal vendors avps = option_and_then (refusal_by_fault avps) (grammar_fault vendors avps)
+-- why AVPs, as they are counted under a profile, are refused for breaking the grammar
+abbrev pub grammar_refusal : RequestProfile → List RawAvp → Option Refusal
+grammar_refusal profile avps = option_and_then (refusal_by_fault avps) (grammar_fault profile avps)

@@ -1,6 +1,13 @@
 //! Laws of views and answers.
 
-ghost use Rattle.std.specs.Prelude.{◌≡◌, ◌≤◌, ℕ, List, Bool, [], ◌∷◌, IfSome, Result, Ok, Err};
+ghost use Rattle.std.specs.Prelude.{◌≡◌, ◌≤◌, ℕ, List, Bool, [], ◌∷◌, filter, map, IfSome, None, Some, Result, Ok, Err};
+ghost use Rattle.dia_avp.specs.declared.avp.RawAvp.{RawAvp};
+ghost use Rattle.dia_grammar.specs.declared.fault.GrammarFault.TheVariants.{Missing, Twice};
+ghost use Rattle.dia_grammar.specs.declared.profile.Tolerance.TheVariants.{ApplicationInGroup, OriginTwice};
+ghost use Rattle.dia_grammar.specs.Profile.{RequestProfile, strict};
+ghost use Rattle.dia_grammar.specs.RequestExample.{host, realm, session};
+ghost use Rattle.cc_view.specs.RequestView.Counting.{counted, is_untouched};
+ghost use Rattle.cc_view.specs.ToleranceExample.{application, fault_in, host_in_capitals, in_group, other_realm};
 ghost use Rattle.dia_base.specs.Identity.{IsIdentity};
 ghost use Rattle.dia_avp.specs.AvpList.{AreOctets, length_of};
 ghost use Rattle.dia_message.specs.Header.{HasOctets};
@@ -16,7 +23,7 @@ ghost use Rattle.cc_view.specs.Refusal.{avps_of};
 ghost use Rattle.cc_view.specs.Refusal.FaultyAvps.{IsFaultOf};
 ghost use Rattle.cc_view.specs.RefusalByCode.{refusal_by_code};
 ghost use Rattle.cc_view.specs.Request.Number.{action_number, kind_number};
-ghost use Rattle.cc_view.specs.RequestView.{view_of};
+ghost use Rattle.cc_view.specs.RequestView.{Asks, IsWhole, view_of, view_under};
 ghost use Rattle.cc_view.specs.RequestView.Content.{action_by, kind_by};
 ghost use Rattle.cc_view.specs.RequestView.Readable.{IsReadable};
 ghost use Rattle.cc_view.specs.RequestView.UnreadAvps.{DifferUnread};
@@ -40,6 +47,64 @@ pub fn view_without_identifiers()
 /// Proxy-Info together pass the limit on what is carried.
 pub fn view_without_unread_avps()
     ensures { (vendors : List ℕ) (message other : Message) → DifferUnread message other → view_of vendors message ≡ view_of vendors other }
+{}
+
+/// A profile that has vendors and nothing more: AVPs are counted as they came, and the view is that of a
+/// server which lists these vendors.
+pub fn profiles_with_nothing_more()
+    ensures counted { (vendors : List ℕ) (avps : List RawAvp) → counted (strict vendors) avps ≡ avps }
+    ensures view { (vendors : List ℕ) (message : Message) → view_under (strict vendors) message ≡ view_of vendors message }
+{}
+
+/// A profile decides whether a request is refused, and never what it asks: session, number, type, action,
+/// subscriptions and services are read in its AVPs as they came. So two requests are read alike under a
+/// profile only where they ask the same, and whoever accepts a request reads the same in it.
+pub fn profiles_change_no_request()
+    ensures asked { (profile : RequestProfile) (message : Message) (request : CcRequest) → view_under profile message ≡ Ok request → Asks message request }
+    ensures alike { (profile other : RequestProfile) (message : Message) (request content : CcRequest) →
+        view_under profile message ≡ Ok request → view_under other message ≡ Ok content → request ≡ content }
+{}
+
+/// What is accepted is a request, as its AVPs are counted: none is missing, none that M makes mandatory is
+/// unknown, and each single one stands there once. They are counted as they came but for Origin-Host,
+/// Origin-Realm and Auth-Application-Id.
+pub fn accepted_requests_are_whole()
+    ensures whole { (profile : RequestProfile) (message : Message) (request : CcRequest) → view_under profile message ≡ Ok request → IsWhole profile message }
+    ensures others { (profile : RequestProfile) (avps : List RawAvp) → filter is_untouched (counted profile avps) ≡ filter is_untouched avps }
+{}
+
+/// Under any profile a view reads neither identifiers nor the flag T, nor Route-Record, Proxy-Info,
+/// Destination-Host or Event-Timestamp; and a request that a relay forwarded has the view of the request.
+pub fn profiles_read_no_more()
+    ensures identifiers { (profile : RequestProfile) (message : Message) (hop end : ℕ) (resent : Bool) → view_under profile (sent_again hop end resent message) ≡ view_under profile message }
+    ensures unread { (profile : RequestProfile) (message other : Message) → DifferUnread message other → view_under profile message ≡ view_under profile other }
+    ensures forwarded { (profile : RequestProfile) (request forwarded : Message) → IsForwarded request forwarded → view_under profile forwarded ≡ view_under profile request }
+{}
+
+/// Under any profile what is accepted is readable, and the AVP that a refusal names is one of the request's,
+/// a missing one or the one at which a list is cut off, and short.
+pub fn profiles_refuse_what_is_there()
+    ensures readable { (profile : RequestProfile) (message : Message) (request : CcRequest) → view_under profile message ≡ Ok request → IsReadable message }
+    ensures there { (profile : RequestProfile) (message : Message) (refusal : Refusal) → view_under profile message ≡ Err refusal → IfSome refusal.failed (IsFaultOf message.body) }
+    ensures short { (profile : RequestProfile) (message : Message) (refusal : Refusal) → view_under profile message ≡ Err refusal → IfSome refusal.failed (λ avp. length_of avp ≤ 8192) }
+{}
+
+/// Worked examples: a further Origin-Host and Origin-Realm are not counted where they are tolerated and
+/// have the same octets; one in other letters or of another realm is a second one.
+pub fn origins_are_tolerated_twice()
+    ensures untolerated { fault_in [] (host ∷ realm ∷ application 4 ∷ host ∷ realm ∷ []) ≡ Some (Twice 8) }
+    ensures tolerated { fault_in (OriginTwice ∷ []) (host ∷ realm ∷ application 4 ∷ host ∷ realm ∷ host ∷ []) ≡ None }
+    ensures other { map (λ avp. fault_in (OriginTwice ∷ []) (host ∷ realm ∷ application 4 ∷ avp ∷ [])) (host_in_capitals ∷ other_realm ∷ application 4 ∷ session ∷ [])
+        ≡ Some (Twice 8) ∷ Some (Twice 8) ∷ Some (Twice 8) ∷ Some (Twice 8) ∷ [] }
+{}
+
+/// Worked examples: an Auth-Application-Id in a group stands for one that is missing where that is
+/// tolerated and it is of Credit-Control. Beside one of the request it has to be the same.
+pub fn applications_are_tolerated_in_groups()
+    ensures untolerated { map (fault_in []) ((host ∷ realm ∷ in_group 4 ∷ []) ∷ (host ∷ realm ∷ application 4 ∷ in_group 5 ∷ []) ∷ []) ≡ Some (Missing 258) ∷ None ∷ [] }
+    ensures missing { map (λ n. fault_in (ApplicationInGroup ∷ []) (host ∷ realm ∷ in_group n ∷ [])) (4 ∷ 5 ∷ []) ≡ None ∷ Some (Missing 258) ∷ [] }
+    ensures beside { map (λ n. fault_in (ApplicationInGroup ∷ []) (host ∷ realm ∷ application 4 ∷ in_group n ∷ [])) (4 ∷ 5 ∷ []) ≡ None ∷ Some (Twice 9) ∷ [] }
+    ensures groups { fault_in (ApplicationInGroup ∷ []) (host ∷ realm ∷ in_group 4 ∷ in_group 4 ∷ []) ≡ None }
 {}
 
 /// The answer to a message that is sent again differs in its identifiers alone.
@@ -71,7 +136,7 @@ pub fn refusal_by_what_is_carried()
 /// answer and its refusal are those of the request by the Hop-by-Hop Identifier alone.
 pub fn forwarded_requests()
     ensures view { (vendors : List ℕ) (request forwarded : Message) → IsForwarded request forwarded → view_of vendors forwarded ≡ view_of vendors request }
-    ensures by_code { (vendors : List ℕ) (code : ResultCode) (request forwarded : Message) → IsForwarded request forwarded → refusal_by_code vendors code forwarded ≡ refusal_by_code vendors code request }
+    ensures by_code { (profile : RequestProfile) (code : ResultCode) (request forwarded : Message) → IsForwarded request forwarded → refusal_by_code profile code forwarded ≡ refusal_by_code profile code request }
     ensures answer { (front realm : List ℕ) (request forwarded : Message) (content : CcRequest) (reply : CcReply) → IsForwarded request forwarded →
         answer_to front realm forwarded content reply ≡ with_hop forwarded.header.hop (answer_to front realm request content reply) }
     ensures refusal { (node realm : List ℕ) (request forwarded : Message) (refusal : Refusal) → IsForwarded request forwarded →
@@ -118,11 +183,11 @@ pub fn failed_avps_are_short()
     ensures { (vendors : List ℕ) (message : Message) (refusal : Refusal) → view_of vendors message ≡ Err refusal → IfSome refusal.failed (λ avp. length_of avp ≤ 8192) }
 {}
 
-/// A refusal is known by its code: by the code of its view it is what the view says, and of a body that is
-/// no list of AVPs it is the body's, whatever the view says of the header.
+/// A refusal is known by its code, under any profile: by the code of its view it is what the view says, and of a
+/// body that is no list of AVPs it is the body's, whatever the view says of the header.
 pub fn refusals_by_code()
-    ensures view { (vendors : List ℕ) (message : Message) (refusal : Refusal) → view_of vendors message ≡ Err refusal → refusal_by_code vendors refusal.code message ≡ refusal }
-    ensures body { (vendors : List ℕ) (message : Message) (refusal : Refusal) → avps_of message.body ≡ Err refusal → refusal_by_code vendors InvalidAvpLength message ≡ refusal }
+    ensures view { (profile : RequestProfile) (message : Message) (refusal : Refusal) → view_under profile message ≡ Err refusal → refusal_by_code profile refusal.code message ≡ refusal }
+    ensures body { (profile : RequestProfile) (message : Message) (refusal : Refusal) → avps_of message.body ≡ Err refusal → refusal_by_code profile InvalidAvpLength message ≡ refusal }
 {}
 
 /// The AVP that a view names is one of the request's, at whatever depth, as it was received or in its least

@@ -2,11 +2,13 @@
 
 ghost use Rattle.std.specs.Prelude.{◌≡◌, Err};
 ghost use Rattle.cc_view.specs.Finding.{Passes};
-ghost use Rattle.cc_view.specs.RequestView.{IsCreditControl, IsView, request_refusal, view_of};
+ghost use Rattle.dia_grammar.specs.Profile.{profile_of};
+ghost use Rattle.cc_view.specs.RequestView.{IsCreditControl, IsView, request_refusal, view_of, view_under};
 ghost use Rattle.cc_view.specs.declared.view.ViewError.TheVariants.{OutOfMemory};
 
 pub(crate) mod broken;
 pub(crate) mod content;
+pub(crate) mod counting;
 pub(crate) mod counts;
 pub(crate) mod failed_avp;
 pub(crate) mod groups;
@@ -26,6 +28,7 @@ use crate::view::refusals::{avps_by, check_grammar, refusal_with};
 use crate::view::values::{COMMAND_VALUES, check_values};
 use dia_avp::{RawAvp, Wire};
 use dia_base::codes::{CREDIT_CONTROL_APPLICATION, CREDIT_CONTROL_COMMAND};
+use dia_grammar::Profile;
 use dia_message::Message;
 use std::alloc::{AllocError, AllocFailed, Global};
 use thiserror::Error;
@@ -55,14 +58,28 @@ impl<T: Drop> From<AllocFailed<T>> for ViewError {
     }
 }
 
-/// What a message asks of a server that knows AVPs of these vendors, or why it is refused. Of the
-/// header only the Application-ID and the Command Code are read.
+/// What a message asks of a server that knows AVPs of these vendors, and knows and tolerates nothing
+/// more, or why it is refused.
 pub fn request_of<W: Wire>(
     alloc: Global,
     message: &Message,
     vendors: &[u32],
 ) -> Result<CcRequest, ViewError>
     ensures view { IsView (view_of vendors.now message.now) result }
+    // No memory is taken for a message of another application or command.
+    ensures memory { result ≡ Err OutOfMemory → IsCreditControl message.now.header }
+{
+    request_under::<W>(alloc, message, Profile::strict(vendors))
+}
+
+/// What a message asks of a server with this profile, or why it is refused. Of the header only the
+/// Application-ID and the Command Code are read.
+pub fn request_under<W: Wire>(
+    alloc: Global,
+    message: &Message,
+    profile: Profile,
+) -> Result<CcRequest, ViewError>
+    ensures view { IsView (view_under (profile_of profile.entry) message.now) result }
     // No memory is taken for a message of another application or command.
     ensures memory { result ≡ Err OutOfMemory → IsCreditControl message.now.header }
 {
@@ -77,15 +94,15 @@ pub fn request_of<W: Wire>(
     if carries_too_much(&avps) {
         return Err(refusal_with(ResultCode::UnableToComply));
     }
-    check_request::<W>(alloc, vendors, &avps)?;
+    check_request::<W>(alloc, profile, &avps)?;
     content_of::<W>(alloc, &avps)
 }
 
 /// Refuses AVPs that are none of a request: for the grammar, then for a value, then for a group.
-fn check_request<W: Wire>(alloc: Global, vendors: &[u32], avps: &[RawAvp]) -> Result<(), ViewError>
-    ensures { Passes (request_refusal vendors.now avps.now) result }
+fn check_request<W: Wire>(alloc: Global, profile: Profile, avps: &[RawAvp]) -> Result<(), ViewError>
+    ensures { Passes (request_refusal (profile_of profile.entry) avps.now) result }
 {
-    check_grammar(alloc, vendors, avps)?;
+    check_grammar::<W>(alloc, profile, avps)?;
     check_values(alloc, &COMMAND_VALUES, avps)?;
-    check_groups::<W>(alloc, vendors, avps)
+    check_groups::<W>(alloc, profile, avps)
 }

@@ -12,6 +12,12 @@ use crate::writer::write_avp;
 use bytes::Bytes;
 use std::alloc::Global;
 
+/// The octets that an AVP of a request takes, or somewhat more.
+const OCTETS_OF_ONE: usize = 16;
+
+/// For how many AVPs there is room at once, at most.
+const MOST_AT_ONCE: usize = 14;
+
 /// The AVP that stands at a place of the buffer, and the octets behind its padding.
 fn front_of<'a>(buffer: &Bytes, at: usize, octets: &'a [u8]) -> Result<(RawAvp, &'a [u8]), AvpFault>
     requires there { octets.now ≡ drop at buffer.now }
@@ -31,12 +37,18 @@ fn front_of<'a>(buffer: &Bytes, at: usize, octets: &'a [u8]) -> Result<(RawAvp, 
     Ok((avp, rest))
 }
 
+/// For how many AVPs there is room at once when so many octets are read: as many as most messages have that are so long.
+/// More are read as well.
+fn room_for(length: usize) -> usize {
+    (length / OCTETS_OF_ONE + 1).min(MOST_AT_ONCE)
+}
+
 /// The AVPs that the buffer spells, as cuts of it.
 fn cuts_of(alloc: Global, buffer: &Bytes) -> Result<Vec<RawAvp>, AvpFault>
     ensures { Answers (Reads buffer.now) result }
 {
     let length = buffer.len();
-    let mut avps = Vec::new(alloc);
+    let mut avps = Vec::with_capacity(alloc, room_for(length))?;
     let mut rest = buffer.as_slice();
     while !rest.is_empty() {
         let (avp, behind) = front_of(buffer, length - rest.len(), rest)?;

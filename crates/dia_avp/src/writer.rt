@@ -14,6 +14,10 @@ use std::alloc::Global;
 /// What no AVP's length reaches.
 const TOO_LONG: usize = 0x0100_0000;
 
+/// The most octets that stand beside a body and a value when an AVP goes behind that body: a header with a vendor, and twice
+/// a padding.
+const BESIDE: usize = 18;
+
 /// A header with a vendor. Without V it is the first 8 octets.
 fn header_of(code: u32, flags: u8, vendor: u32, len: u32) -> [u8; 12]
     requires { len < 2 ^ 24 }
@@ -68,7 +72,11 @@ pub fn with_avp(alloc: Global, body: &Octets, avp: &RawAvp) -> Result<Octets, Av
     if value.len() >= TOO_LONG - header_len(avp.flags) {
         return Err(AvpFault::TooLong);
     }
-    let mut out = Vec::new(alloc);
+    let room = octets
+        .len()
+        .saturating_add(value.len())
+        .saturating_add(BESIDE);
+    let mut out = Vec::with_capacity(alloc, room)?;
     out.extend_from_slice(octets)?;
     out.extend_from_slice(&[0; 3][..padding_of(octets.len())])?;
     write_avp(&mut out, avp.code, avp.flags, avp.vendor, value)?;

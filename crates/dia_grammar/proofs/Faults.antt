@@ -8,6 +8,7 @@ use Rattle.dia_avp.specs.declared.avp.RawAvp.{RawAvp}
 use Rattle.dia_grammar.specs.declared.fault.GrammarFault.{GrammarFault}
 use Rattle.dia_grammar.specs.declared.fault.GrammarFault.TheVariants.{Missing, Twice, UnknownM, FirstNotSessionId}
 use Rattle.dia_base.specs.Codes.{session_id}
+use Rattle.dia_grammar.specs.Profile.{RequestProfile}
 use Rattle.dia_grammar.specs.Grammar.{is_unknown_mandatory, has_avp, unknown_of, second_of, missing_of, begins_with_session, session_fault, single_codes, required_in, first_fault, grammar_fault}
 use Rattle.dia_grammar.specs.Request.{IsUnknownAt, IsFaultOf}
 use Rattle.dia_base.proofs.Finding.{none_passes}
@@ -38,11 +39,11 @@ first_from : {X : Type 0} (p : X → Bool) (i : ℕ) (xs : List X) (at : ℕ) �
 first_from p i [] at e = absurd cc
 first_from p i (x ∷ xs) at e = first_here p (p x) i x xs at (position_from p (i + 1) xs) refl e (first_from p (i + 1) xs at)
 
-unknown-is : (vendors : List ℕ) (avps : List RawAvp) (at : ℕ) → unknown_of vendors avps ≡ Some at → IsUnknownAt vendors avps at
-unknown-is vendors avps at e =
-    let found = first_from (is_unknown_mandatory vendors) 0 avps at (sym (position_from-zero (is_unknown_mandatory vendors) avps) ∙ e) in
+unknown-is : (profile : RequestProfile) (avps : List RawAvp) (at : ℕ) → unknown_of profile avps ≡ Some at → IsUnknownAt profile avps at
+unknown-is profile avps at e =
+    let found = first_from (is_unknown_mandatory profile) 0 avps at (sym (position_from-zero (is_unknown_mandatory profile) avps) ∙ e) in
     let place = found.place in
-    record { before = found.before; avp = found.x; behind = found.behind; parts = found.parts; place = omega arith; unknown = found.passes; first = none_passes (is_unknown_mandatory vendors) found.before found.first }
+    record { before = found.before; avp = found.x; behind = found.behind; parts = found.parts; place = omega arith; unknown = found.passes; first = none_passes (is_unknown_mandatory profile) found.before found.first }
 
 -- ---- what is missing
 
@@ -59,22 +60,22 @@ missing-is : (codes : List ℕ) (avps : List RawAvp) (code : ℕ) → missing_of
 missing-is [] avps code e = absurd cc
 missing-is (first ∷ codes) avps code e = missing_here codes avps (has_avp first avps) first code (missing_of codes avps) refl e (missing-is codes avps code)
 
-missing_is_fault : (vendors : List ℕ) (avps : List RawAvp) (code : ℕ) → missing_of (required_in avps) avps ≡ Some code → IsFaultOf vendors avps (Missing code)
-missing_is_fault vendors avps code e =
+missing_is_fault : (profile : RequestProfile) (avps : List RawAvp) (code : ℕ) → missing_of (required_in avps) avps ≡ Some code → IsFaultOf profile avps (Missing code)
+missing_is_fault profile avps code e =
     let found = missing-is (required_in avps) avps code e in
     (Contains-append_right (session_id ∷ []) (required_in avps) code found.0, found.1)
 
 -- ---- Session-Id
 
-session_case : (vendors : List ℕ) (avps : List RawAvp) (has first : Bool) (fault : GrammarFault) → has_avp session_id avps ≡ has → begins_with_session avps ≡ first
-    → cond (not has) (Some (Missing session_id)) (cond (not first) (Some FirstNotSessionId) None) ≡ Some fault → IsFaultOf vendors avps fault
-session_case vendors avps false first fault has_is first_is e =
+session_case : (profile : RequestProfile) (avps : List RawAvp) (has first : Bool) (fault : GrammarFault) → has_avp session_id avps ≡ has → begins_with_session avps ≡ first
+    → cond (not has) (Some (Missing session_id)) (cond (not first) (Some FirstNotSessionId) None) ≡ Some fault → IsFaultOf profile avps fault
+session_case profile avps false first fault has_is first_is e =
     let same : Missing session_id ≡ fault = cc in
-    subst (IsFaultOf vendors avps) same ((0, omega arith, refl), has_is)
-session_case vendors avps true false fault has_is first_is e =
+    subst (IsFaultOf profile avps) same ((0, omega arith, refl), has_is)
+session_case profile avps true false fault has_is first_is e =
     let same : FirstNotSessionId ≡ fault = cc in
-    subst (IsFaultOf vendors avps) same (has_is, first_is)
-session_case vendors avps true true fault has_is first_is e = absurd cc
+    subst (IsFaultOf profile avps) same (has_is, first_is)
+session_case profile avps true true fault has_is first_is e = absurd cc
 
 -- ---- any fault
 
@@ -90,13 +91,13 @@ mapped : (P : GrammarFault → Type 0) (f : ℕ → GrammarFault) (o : Option �
 mapped P f None fault is e = absurd cc
 mapped P f (Some n) fault is e = let same : f n ≡ fault = cc in subst P same (is n refl)
 
-pub fault-of : (vendors : List ℕ) (avps : List RawAvp) (fault : GrammarFault) → grammar_fault vendors avps ≡ Some fault → IsFaultOf vendors avps fault
+pub fault-of : (profile : RequestProfile) (avps : List RawAvp) (fault : GrammarFault) → grammar_fault profile avps ≡ Some fault → IsFaultOf profile avps fault
 unfolding grammar_fault
-fault-of vendors avps fault e =
-    one_of_four (IsFaultOf vendors avps)
-    (session_fault avps) (option_map (λ at. UnknownM at) (unknown_of vendors avps)) (option_map (λ at. Twice at) (second_of single_codes avps)) (option_map (λ code. Missing code) (missing_of (required_in avps) avps))
+fault-of profile avps fault e =
+    one_of_four (IsFaultOf profile avps)
+    (session_fault avps) (option_map (λ at. UnknownM at) (unknown_of profile avps)) (option_map (λ at. Twice at) (second_of single_codes avps)) (option_map (λ code. Missing code) (missing_of (required_in avps) avps))
     fault e
-    (session_case vendors avps (has_avp session_id avps) (begins_with_session avps) fault refl refl)
-    (mapped (IsFaultOf vendors avps) (λ at. UnknownM at) (unknown_of vendors avps) fault (λ at. unknown-is vendors avps at))
-    (mapped (IsFaultOf vendors avps) (λ at. Twice at) (second_of single_codes avps) fault (λ at. second-is single_codes avps at))
-    (mapped (IsFaultOf vendors avps) (λ code. Missing code) (missing_of (required_in avps) avps) fault (λ code. missing_is_fault vendors avps code))
+    (session_case profile avps (has_avp session_id avps) (begins_with_session avps) fault refl refl)
+    (mapped (IsFaultOf profile avps) (λ at. UnknownM at) (unknown_of profile avps) fault (λ at. unknown-is profile avps at))
+    (mapped (IsFaultOf profile avps) (λ at. Twice at) (second_of single_codes avps) fault (λ at. second-is single_codes avps at))
+    (mapped (IsFaultOf profile avps) (λ code. Missing code) (missing_of (required_in avps) avps) fault (λ code. missing_is_fault profile avps code))

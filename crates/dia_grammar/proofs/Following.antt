@@ -7,6 +7,7 @@ use Rattle.byteorder.specs.Endian.{big_number}
 use Rattle.dia_avp.specs.declared.avp.RawAvp.{RawAvp}
 use Rattle.dia_grammar.specs.declared.fault.GrammarFault.TheVariants.{Missing, FirstNotSessionId}
 use Rattle.dia_base.specs.Codes.{session_id, cc_request_type, requested_action, requested_service_unit, service_identifier}
+use Rattle.dia_grammar.specs.Profile.{RequestProfile}
 use Rattle.dia_grammar.specs.Grammar.{is_of, is_among, is_mandatory, is_known, is_unknown_mandatory, has_row, has_avp, unknown_of, is_second, second_behind, second_of, missing_of, session_fault, required_codes, single_codes, is_event_type, required_in, grammar_fault}
 use Rattle.dia_grammar.specs.Request.{route_record}
 use Rattle.std.proofs.lemmas.Bool.{or_parts}
@@ -32,11 +33,11 @@ position_follows : (p : RawAvp → Bool) (i : ℕ) (avps : List RawAvp) (avp : R
 position_follows p i [] avp e = ap (λ (b : Bool). cond b (Some i) None) e
 position_follows p i (first ∷ avps) avp e = ap (λ (o : Option ℕ). cond (p first) (Some i) o) (position_follows p (i + 1) avps avp e)
 
-unknown_follows : (vendors : List ℕ) (avps : List RawAvp) (avp : RawAvp) → is_unknown_mandatory vendors avp ≡ false → unknown_of vendors (avps ++ avp ∷ []) ≡ unknown_of vendors avps
-unknown_follows vendors avps avp e =
-    position_from-zero (is_unknown_mandatory vendors) (avps ++ avp ∷ [])
-    ∙ position_follows (is_unknown_mandatory vendors) 0 avps avp e
-    ∙ sym (position_from-zero (is_unknown_mandatory vendors) avps)
+unknown_follows : (profile : RequestProfile) (avps : List RawAvp) (avp : RawAvp) → is_unknown_mandatory profile avp ≡ false → unknown_of profile (avps ++ avp ∷ []) ≡ unknown_of profile avps
+unknown_follows profile avps avp e =
+    position_from-zero (is_unknown_mandatory profile) (avps ++ avp ∷ [])
+    ∙ position_follows (is_unknown_mandatory profile) 0 avps avp e
+    ∙ sym (position_from-zero (is_unknown_mandatory profile) avps)
 
 second_follows : (codes : List ℕ) (before avps : List RawAvp) (avp : RawAvp) → is_among codes avp ≡ false → second_behind codes before (avps ++ avp ∷ []) ≡ second_behind codes before avps
 second_follows codes before [] avp e = ap (λ (b : Bool). cond (b && has_avp avp.code before) (Some (length before)) None) e
@@ -80,27 +81,28 @@ required_follows avps avp e =
 
 -- ---- a request
 
-pub fault-follows : (vendors : List ℕ) (avps : List RawAvp) (avp : RawAvp) → is_unknown_mandatory vendors avp ≡ false → is_among single_codes avp ≡ false → grammar_fault vendors (avps ++ avp ∷ []) ≡ grammar_fault vendors avps
+pub fault-follows : (profile : RequestProfile) (avps : List RawAvp) (avp : RawAvp) → is_unknown_mandatory profile avp ≡ false → is_among single_codes avp ≡ false → grammar_fault profile (avps ++ avp ∷ []) ≡ grammar_fault profile avps
 unfolding grammar_fault
-fault-follows vendors avps avp known other =
-    fault-is vendors (avps ++ avp ∷ []) (session_fault avps) (unknown_of vendors avps) (second_of single_codes avps) (missing_of (required_in avps) avps)
+fault-follows profile avps avp known other =
+    fault-is profile (avps ++ avp ∷ []) (session_fault avps) (unknown_of profile avps) (second_of single_codes avps) (missing_of (required_in avps) avps)
     (session_follows avps avp (or_parts (is_of session_id avp) _ other).0)
-    (unknown_follows vendors avps avp known)
+    (unknown_follows profile avps avp known)
     (second_follows single_codes [] avps avp other)
     (required_follows avps avp other)
 
 -- ---- Route-Record
 
-known_by : (row listed : Bool) → ((row || true) || listed) ≡ true
-known_by true listed = refl
-known_by false listed = refl
+known_by : (own row listed : Bool) → (own || ((row || true) || listed)) ≡ true
+known_by true row listed = refl
+known_by false true listed = refl
+known_by false false listed = refl
 
 not_unknown : (mandatory known : Bool) → known ≡ true → (mandatory && not known) ≡ false
 not_unknown true true e = refl
 not_unknown true false e = absurd cc
 not_unknown false known e = refl
 
-pub record-known : (vendors : List ℕ) (flags : ℕ) (value : List ℕ) → is_unknown_mandatory vendors (route_record flags value) ≡ false
-record-known vendors flags value =
-    not_unknown (is_mandatory (route_record flags value)) (is_known vendors (route_record flags value))
-    (known_by (has_row 282 0) (list_any (λ (vendor : ℕ). vendor == 0) vendors))
+pub record-known : (profile : RequestProfile) (flags : ℕ) (value : List ℕ) → is_unknown_mandatory profile (route_record flags value) ≡ false
+record-known profile flags value =
+    not_unknown (is_mandatory (route_record flags value)) (is_known profile (route_record flags value))
+    (known_by (is_among profile.known (route_record flags value)) (has_row 282 0) (list_any (λ (vendor : ℕ). vendor == 0) profile.vendors))

@@ -7,6 +7,7 @@ use Rattle.dia_avp.specs.declared.avp.RawAvp.{RawAvp}
 use Rattle.dia_grammar.specs.declared.fault.GrammarFault.{GrammarFault}
 use Rattle.dia_grammar.specs.declared.fault.GrammarFault.TheVariants.{Missing, Twice, UnknownM, FirstNotSessionId}
 use Rattle.dia_base.specs.Codes.{session_id, requested_action}
+use Rattle.dia_grammar.specs.Profile.{RequestProfile}
 use Rattle.dia_grammar.specs.Grammar.{is_of, is_mandatory, is_known, is_unknown_mandatory, has_avp, unknown_of, second_of, missing_of, begins_with_session, session_fault, required_codes, single_codes, is_event_type, required_in, first_fault, grammar_fault}
 use Rattle.dia_grammar.specs.Request.{IsRequest}
 use Rattle.std.proofs.lemmas.Bool.{not-false, not_from_true, or_left}
@@ -30,13 +31,13 @@ four : (a a2 b b2 c c2 d d2 : Option GrammarFault) → a ≡ a2 → b ≡ b2 →
 four a a2 b b2 c c2 d d2 p q r s = cc
 
 -- the fault of AVPs, by what the four looks at them give
-pub fault-is : (vendors : List ℕ) (avps : List RawAvp) (session : Option GrammarFault) (unknown second missing : Option ℕ)
-    → session_fault avps ≡ session → unknown_of vendors avps ≡ unknown → second_of single_codes avps ≡ second → missing_of (required_in avps) avps ≡ missing
-    → grammar_fault vendors avps ≡ first_fault (session ∷ option_map (λ at. UnknownM at) unknown ∷ option_map (λ at. Twice at) second ∷ option_map (λ code. Missing code) missing ∷ [])
+pub fault-is : (profile : RequestProfile) (avps : List RawAvp) (session : Option GrammarFault) (unknown second missing : Option ℕ)
+    → session_fault avps ≡ session → unknown_of profile avps ≡ unknown → second_of single_codes avps ≡ second → missing_of (required_in avps) avps ≡ missing
+    → grammar_fault profile avps ≡ first_fault (session ∷ option_map (λ at. UnknownM at) unknown ∷ option_map (λ at. Twice at) second ∷ option_map (λ code. Missing code) missing ∷ [])
 unfolding grammar_fault
-fault-is vendors avps session unknown second missing p q r s =
+fault-is profile avps session unknown second missing p q r s =
     four (session_fault avps) session
-    (option_map (λ at. UnknownM at) (unknown_of vendors avps)) (option_map (λ at. UnknownM at) unknown)
+    (option_map (λ at. UnknownM at) (unknown_of profile avps)) (option_map (λ at. UnknownM at) unknown)
     (option_map (λ at. Twice at) (second_of single_codes avps)) (option_map (λ at. Twice at) second)
     (option_map (λ code. Missing code) (missing_of (required_in avps) avps)) (option_map (λ code. Missing code) missing)
     p (ap (option_map (λ at. UnknownM at)) q) (ap (option_map (λ at. Twice at)) r) (ap (option_map (λ code. Missing code)) s)
@@ -67,15 +68,15 @@ passes_if : (mandatory known : Bool) → (mandatory ≡ true → known ≡ true)
 passes_if true known f = not_from_true known (f refl)
 passes_if false known f = refl
 
-all_known : (vendors : List ℕ) (avps : List RawAvp) → unknown_of vendors avps ≡ None → All (λ avp. is_mandatory avp ≡ true → is_known vendors avp ≡ true) avps
-all_known vendors avps none k d lt =
-    known_if (is_mandatory (get_or avps k d)) (is_known vendors (get_or avps k d))
-    (none_passes (is_unknown_mandatory vendors) avps (position-none (is_unknown_mandatory vendors) avps none) k d lt)
+all_known : (profile : RequestProfile) (avps : List RawAvp) → unknown_of profile avps ≡ None → All (λ avp. is_mandatory avp ≡ true → is_known profile avp ≡ true) avps
+all_known profile avps none k d lt =
+    known_if (is_mandatory (get_or avps k d)) (is_known profile (get_or avps k d))
+    (none_passes (is_unknown_mandatory profile) avps (position-none (is_unknown_mandatory profile) avps none) k d lt)
 
-none_unknown : (vendors : List ℕ) (avps : List RawAvp) → All (λ avp. is_mandatory avp ≡ true → is_known vendors avp ≡ true) avps → unknown_of vendors avps ≡ None
-none_unknown vendors avps known =
-    none-position (is_unknown_mandatory vendors) avps
-    (list_any_none (is_unknown_mandatory vendors) avps (λ k d lt. passes_if (is_mandatory (get_or avps k d)) (is_known vendors (get_or avps k d)) (known k d lt)))
+none_unknown : (profile : RequestProfile) (avps : List RawAvp) → All (λ avp. is_mandatory avp ≡ true → is_known profile avp ≡ true) avps → unknown_of profile avps ≡ None
+none_unknown profile avps known =
+    none-position (is_unknown_mandatory profile) avps
+    (list_any_none (is_unknown_mandatory profile) avps (λ k d lt. passes_if (is_mandatory (get_or avps k d)) (is_known profile (get_or avps k d)) (known k d lt)))
 
 -- ---- what is there
 
@@ -122,23 +123,23 @@ missing_already false avps e = refl
 
 -- ---- a request
 
-pub request-from_none : (vendors : List ℕ) (avps : List RawAvp) → grammar_fault vendors avps ≡ None → IsRequest vendors avps
+pub request-from_none : (profile : RequestProfile) (avps : List RawAvp) → grammar_fault profile avps ≡ None → IsRequest profile avps
 unfolding grammar_fault
-request-from_none vendors avps e =
-    let parts = all_none (session_fault avps) (option_map (λ at. UnknownM at) (unknown_of vendors avps)) (option_map (λ at. Twice at) (second_of single_codes avps)) (option_map (λ code. Missing code) (missing_of (required_in avps) avps)) e in
+request-from_none profile avps e =
+    let parts = all_none (session_fault avps) (option_map (λ at. UnknownM at) (unknown_of profile avps)) (option_map (λ at. Twice at) (second_of single_codes avps)) (option_map (λ code. Missing code) (missing_of (required_in avps) avps)) e in
     let required = required_parts (list_any is_event_type avps) avps (unmapped (λ code. Missing code) (missing_of (required_in avps) avps) parts.3) in
     record {
       session = begins (has_avp session_id avps) (begins_with_session avps) parts.0;
-      known = all_known vendors avps (unmapped (λ at. UnknownM at) (unknown_of vendors avps) parts.1);
+      known = all_known profile avps (unmapped (λ at. UnknownM at) (unknown_of profile avps) parts.1);
       single = single-from_none single_codes avps (unmapped (λ at. Twice at) (second_of single_codes avps) parts.2);
       required = all_there required_codes avps required.0;
       action = required.1;
     }
 
-pub none-from_request : (vendors : List ℕ) (avps : List RawAvp) → IsRequest vendors avps → grammar_fault vendors avps ≡ None
-none-from_request vendors avps r =
-    fault-is vendors avps None None None None
+pub none-from_request : (profile : RequestProfile) (avps : List RawAvp) → IsRequest profile avps → grammar_fault profile avps ≡ None
+none-from_request profile avps r =
+    fault-is profile avps None None None None
     (no_session_fault (has_avp session_id avps) (begins_with_session avps) (has_first avps r.session) r.session)
-    (none_unknown vendors avps r.known)
+    (none_unknown profile avps r.known)
     (none-from_single single_codes avps r.single)
     (required_whole (list_any is_event_type avps) avps (none_missing required_codes avps r.required) r.action)

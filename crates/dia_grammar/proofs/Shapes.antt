@@ -6,6 +6,7 @@ use Rattle.std.proofs.lemmas.List.{length-map, map-append}
 use Rattle.dia_avp.specs.declared.avp.RawAvp.{RawAvp}
 use Rattle.dia_grammar.specs.declared.fault.GrammarFault.TheVariants.{Missing, FirstNotSessionId}
 use Rattle.dia_base.specs.Codes.{session_id, requested_action}
+use Rattle.dia_grammar.specs.Profile.{RequestProfile}
 use Rattle.dia_grammar.specs.Grammar.{is_of, is_among, is_unknown_mandatory, has_avp, unknown_of, is_second, second_behind, second_of, missing_of, session_fault, required_codes, single_codes, is_event_type, required_in, grammar_fault}
 use Rattle.dia_grammar.specs.Request.{shape_of}
 use Rattle.dia_grammar.proofs.Requests.{fault-is}
@@ -20,16 +21,16 @@ session-shapes (avp ∷ avps) =
     ap (λ (b : Bool). cond (not b) (Some (Missing session_id)) (cond (not (is_of session_id avp)) (Some FirstNotSessionId) None))
     (has_avp-shapes session_id (avp ∷ avps))
 
-unknown_from-shapes : (vendors : List ℕ) (i : ℕ) (avps : List RawAvp) → position_from (is_unknown_mandatory vendors) i (map shape_of avps) ≡ position_from (is_unknown_mandatory vendors) i avps
-unknown_from-shapes vendors i [] = refl
-unknown_from-shapes vendors i (avp ∷ avps) =
-    ap (λ (o : Option ℕ). cond (is_unknown_mandatory vendors avp) (Some i) o) (unknown_from-shapes vendors (i + 1) avps)
+unknown_from-shapes : (profile : RequestProfile) (i : ℕ) (avps : List RawAvp) → position_from (is_unknown_mandatory profile) i (map shape_of avps) ≡ position_from (is_unknown_mandatory profile) i avps
+unknown_from-shapes profile i [] = refl
+unknown_from-shapes profile i (avp ∷ avps) =
+    ap (λ (o : Option ℕ). cond (is_unknown_mandatory profile avp) (Some i) o) (unknown_from-shapes profile (i + 1) avps)
 
-unknown-shapes : (vendors : List ℕ) (avps : List RawAvp) → unknown_of vendors (map shape_of avps) ≡ unknown_of vendors avps
-unknown-shapes vendors avps =
-    position_from-zero (is_unknown_mandatory vendors) (map shape_of avps)
-    ∙ unknown_from-shapes vendors 0 avps
-    ∙ sym (position_from-zero (is_unknown_mandatory vendors) avps)
+unknown-shapes : (profile : RequestProfile) (avps : List RawAvp) → unknown_of profile (map shape_of avps) ≡ unknown_of profile avps
+unknown-shapes profile avps =
+    position_from-zero (is_unknown_mandatory profile) (map shape_of avps)
+    ∙ unknown_from-shapes profile 0 avps
+    ∙ sym (position_from-zero (is_unknown_mandatory profile) avps)
 
 second_behind-shapes : (codes : List ℕ) (before avps : List RawAvp) → second_behind codes (map shape_of before) (map shape_of avps) ≡ second_behind codes before avps
 second_behind-shapes codes before [] = refl
@@ -54,11 +55,11 @@ required-alike avps others e event =
     ap (λ (b : Bool). missing_of (cond b (required_codes ++ requested_action ∷ []) required_codes) avps) event
     ∙ alike (missing_of (required_in others)) (missing-shapes (required_in others)) avps others e
 
-pub fault-alike : (vendors : List ℕ) (avps others : List RawAvp) → map shape_of avps ≡ map shape_of others → list_any is_event_type avps ≡ list_any is_event_type others → grammar_fault vendors avps ≡ grammar_fault vendors others
+pub fault-alike : (profile : RequestProfile) (avps others : List RawAvp) → map shape_of avps ≡ map shape_of others → list_any is_event_type avps ≡ list_any is_event_type others → grammar_fault profile avps ≡ grammar_fault profile others
 unfolding grammar_fault
-fault-alike vendors avps others e event =
-    fault-is vendors avps (session_fault others) (unknown_of vendors others) (second_of single_codes others) (missing_of (required_in others) others)
+fault-alike profile avps others e event =
+    fault-is profile avps (session_fault others) (unknown_of profile others) (second_of single_codes others) (missing_of (required_in others) others)
     (alike session_fault session-shapes avps others e)
-    (alike (unknown_of vendors) (unknown-shapes vendors) avps others e)
+    (alike (unknown_of profile) (unknown-shapes profile) avps others e)
     (alike (second_of single_codes) (second_behind-shapes single_codes []) avps others e)
     (required-alike avps others e event)

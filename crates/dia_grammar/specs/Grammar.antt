@@ -7,6 +7,7 @@ use Rattle.dia_avp.specs.AvpList.{is_mandatory as has_flag_m}
 use Rattle.dia_dict.specs.Dictionary.{row_of}
 use Rattle.dia_grammar.specs.declared.fault.GrammarFault.{GrammarFault}
 use Rattle.dia_grammar.specs.declared.fault.GrammarFault.TheVariants.{Missing, Twice, UnknownM, FirstNotSessionId}
+use Rattle.dia_grammar.specs.Profile.{RequestProfile}
 use Rattle.dia_base.specs.Codes.{auth_application_id, session_id, origin_host, destination_realm, origin_realm, cc_request_number, cc_request_type, requested_action, requested_service_unit, service_identifier, service_context_id}
 
 -- ---- one AVP
@@ -31,13 +32,14 @@ has_row code vendor = is_some (row_of code vendor)
 abbrev pub is_standard : ℕ → ℕ → Bool
 is_standard code vendor = vendor == 0 && nat_le 1 code && nat_le code service_context_id
 
--- an AVP that is known where these vendors are listed
-abbrev pub is_known : List ℕ → RawAvp → Bool
-is_known vendors avp =
-    has_row avp.code avp.vendor || is_standard avp.code avp.vendor || list_any (λ vendor. vendor == avp.vendor) vendors
+-- an AVP that is known under a profile: its codes are of vendor 0, and known beside the dictionary's. Nothing is read in such an AVP for that
+abbrev pub is_known : RequestProfile → RawAvp → Bool
+is_known profile avp =
+    is_among profile.known avp
+    || (has_row avp.code avp.vendor || is_standard avp.code avp.vendor || list_any (λ vendor. vendor == avp.vendor) profile.vendors)
 
-abbrev pub is_unknown_mandatory : List ℕ → RawAvp → Bool
-is_unknown_mandatory vendors avp = is_mandatory avp && not (is_known vendors avp)
+abbrev pub is_unknown_mandatory : RequestProfile → RawAvp → Bool
+is_unknown_mandatory profile avp = is_mandatory avp && not (is_known profile avp)
 
 -- ---- a list of AVPs, of a message or of a group
 
@@ -46,8 +48,8 @@ abbrev pub has_avp : ℕ → List RawAvp → Bool
 has_avp code avps = list_any (is_of code) avps
 
 -- the place of the first AVP that has M and is not known (RFC 6733, section 7.1.5, DIAMETER_AVP_UNSUPPORTED)
-abbrev pub unknown_of : List ℕ → List RawAvp → Option ℕ
-unknown_of vendors avps = position (is_unknown_mandatory vendors) avps
+abbrev pub unknown_of : RequestProfile → List RawAvp → Option ℕ
+unknown_of profile avps = position (is_unknown_mandatory profile) avps
 
 -- an AVP of one of these codes, with one of its code before it
 abbrev pub is_second : List ℕ → List RawAvp → RawAvp → Bool
@@ -102,11 +104,12 @@ first_fault [] = None
 first_fault (Some fault ∷ faults) = Some fault
 first_fault (None ∷ faults) = first_fault faults
 
--- what is wrong with the AVPs of a request, where these vendors are listed: the first case that applies
-unfoldable pub grammar_fault : List ℕ → List RawAvp → Option GrammarFault
-grammar_fault vendors avps = first_fault (
+-- What is wrong with the AVPs of a request under a profile: the first case that applies. It takes the AVPs as they are counted: what a
+-- profile tolerates has been left out or put in.
+unfoldable pub grammar_fault : RequestProfile → List RawAvp → Option GrammarFault
+grammar_fault profile avps = first_fault (
     session_fault avps
-    ∷ option_map (λ at. UnknownM at) (unknown_of vendors avps)
+    ∷ option_map (λ at. UnknownM at) (unknown_of profile avps)
     ∷ option_map (λ at. Twice at) (second_of single_codes avps)
     ∷ option_map (λ code. Missing code) (missing_of (required_in avps) avps)
     ∷ [])

@@ -1,3 +1,4 @@
 pub mod Grammar
+pub mod Profile
 pub mod Request
 pub mod RequestExample

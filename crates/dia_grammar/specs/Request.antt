@@ -6,12 +6,13 @@ use Rattle.dia_grammar.specs.declared.fault.GrammarFault.{GrammarFault}
 use Rattle.dia_grammar.specs.declared.fault.GrammarFault.TheVariants.{Missing, Twice, UnknownM, FirstNotSessionId}
 use Rattle.dia_base.specs.Codes.{session_id, requested_action}
 use Rattle.dia_base.specs.Codes
+use Rattle.dia_grammar.specs.Profile.{RequestProfile}
 use Rattle.dia_grammar.specs.Grammar.{is_of, is_among, is_mandatory, is_known, is_unknown_mandatory, has_avp, begins_with_session, single_codes, required_codes, is_event_type, required_in}
 
--- what a Credit-Control-Request is, where these vendors are listed (RFC 8506, section 3.1)
-pub record IsRequest (vendors : List ℕ) (avps : List RawAvp) : Type 0 where
+-- what a Credit-Control-Request is, under a profile (RFC 8506, section 3.1)
+pub record IsRequest (profile : RequestProfile) (avps : List RawAvp) : Type 0 where
   pub session : begins_with_session avps ≡ true
-  pub known : All (λ avp. is_mandatory avp ≡ true → is_known vendors avp ≡ true) avps
+  pub known : All (λ avp. is_mandatory avp ≡ true → is_known profile avp ≡ true) avps
   pub single : All (λ code. count_by (is_of code) avps ≤ 1) single_codes
   pub required : All (λ code. has_avp code avps ≡ true) required_codes
   pub action : list_any is_event_type avps ≡ true → has_avp requested_action avps ≡ true
@@ -28,21 +29,21 @@ pub record IsSecondAt (codes : List ℕ) (avps : List RawAvp) (at : ℕ) : Type 
   pub first : All (λ code. count_by (is_of code) before ≤ 1) codes
 
 -- the AVP at this place has M and is not known, and none before it is so
-pub record IsUnknownAt (vendors : List ℕ) (avps : List RawAvp) (at : ℕ) : Type 0 where
+pub record IsUnknownAt (profile : RequestProfile) (avps : List RawAvp) (at : ℕ) : Type 0 where
   pub before : List RawAvp
   pub avp : RawAvp
   pub behind : List RawAvp
   pub parts : avps ≡ before ++ avp ∷ behind
   pub place : length before ≡ at
-  pub unknown : is_unknown_mandatory vendors avp ≡ true
-  pub first : All (λ other. is_unknown_mandatory vendors other ≡ false) before
+  pub unknown : is_unknown_mandatory profile avp ≡ true
+  pub first : All (λ other. is_unknown_mandatory profile other ≡ false) before
 
 -- what a fault says of the AVPs
-abbrev pub IsFaultOf : List ℕ → List RawAvp → GrammarFault → Type 0
-IsFaultOf vendors avps (Missing code) = Contains (session_id ∷ required_in avps) code × (has_avp code avps ≡ false)
-IsFaultOf vendors avps FirstNotSessionId = (has_avp session_id avps ≡ true) × (begins_with_session avps ≡ false)
-IsFaultOf vendors avps (UnknownM at) = IsUnknownAt vendors avps at
-IsFaultOf vendors avps (Twice at) = IsSecondAt single_codes avps at
+abbrev pub IsFaultOf : RequestProfile → List RawAvp → GrammarFault → Type 0
+IsFaultOf profile avps (Missing code) = Contains (session_id ∷ required_in avps) code × (has_avp code avps ≡ false)
+IsFaultOf profile avps FirstNotSessionId = (has_avp session_id avps ≡ true) × (begins_with_session avps ≡ false)
+IsFaultOf profile avps (UnknownM at) = IsUnknownAt profile avps at
+IsFaultOf profile avps (Twice at) = IsSecondAt single_codes avps at
 
 -- an AVP without its value
 abbrev pub shape_of : RawAvp → RawAvp

@@ -5,6 +5,7 @@ use Rattle.dia_avp.specs.AvpList.{raw_avp}
 use Rattle.dia_dict.specs.declared.value.Typed.TheVariants.{Unsigned32}
 use Rattle.dia_dict.specs.Reading.{avp_of}
 use Rattle.dia_grammar.specs.declared.fault.GrammarFault.{GrammarFault}
+use Rattle.dia_grammar.specs.Profile.{strict}
 use Rattle.dia_grammar.specs.Grammar.{grammar_fault}
 
 -- an AVP of vendor 0 with the flag M
@@ -54,7 +55,11 @@ beginning = session ∷ host ∷ realm ∷ destination ∷ avp 258 (0 ∷ 0 ∷ 
 
 -- the fault of those with others behind them, where vendor 10415 is listed
 abbrev pub fault_behind : List RawAvp → Option GrammarFault
-fault_behind avps = grammar_fault (10415 ∷ []) (beginning ++ avps)
+fault_behind avps = grammar_fault (strict (10415 ∷ [])) (beginning ++ avps)
+
+-- the fault of those with others behind them, where these codes are known and no vendor is listed
+abbrev pub fault_knowing : List ℕ → List RawAvp → Option GrammarFault
+fault_knowing known avps = grammar_fault (record { vendors = []; known = known; tolerated = [] }) (beginning ++ avps)
 
 -- the members of a group: two of one code, and one of vendor 7 between them
 abbrev pub group : List RawAvp

@@ -2,7 +2,9 @@
 
 ghost use Rattle.std.specs.Prelude.{◌≡◌, ◌<◌, length, IfSome};
 ghost use Rattle.dia_grammar.specs.Grammar.{has_avp, has_row, is_among, is_known, is_of, is_second, is_standard, is_unknown_mandatory, missing_of, second_of, unknown_of};
+ghost use Rattle.dia_grammar.specs.Profile.{profile_of};
 
+use crate::profile::Profile;
 use dia_avp::RawAvp;
 use dia_avp::layout::is_mandatory;
 use dia_base::Code;
@@ -23,7 +25,8 @@ pub fn is_among(avp: &RawAvp, codes: &[u32]) -> bool
     codes.iter().any(|code| is_of(avp, *code))
 }
 
-pub(crate) fn has_avp(avps: &[RawAvp], code: u32) -> bool
+/// Whether an AVP of this code and vendor 0 is there.
+pub fn has_avp(avps: &[RawAvp], code: u32) -> bool
     ensures { result ≡ has_avp code avps.now }
 {
     avps.iter().any(|avp| is_of(avp, code))
@@ -42,28 +45,31 @@ fn is_standard(avp: &RawAvp) -> bool
     avp.vendor == 0 && 1 <= avp.code && avp.code <= SERVICE_CONTEXT_ID
 }
 
-/// Whether the AVP is known: the dictionary has a row for it, or its vendor is 0 and its code one of
-/// 1 to 461, or its vendor is listed.
-pub fn is_known(avp: &RawAvp, vendors: &[u32]) -> bool
-    ensures { result ≡ is_known vendors.now avp.now }
+/// Whether the AVP is known: its vendor is 0 and its code is known under the profile or one of 1 to 461,
+/// or the dictionary has a row for it, or its vendor is listed.
+pub fn is_known(avp: &RawAvp, profile: Profile) -> bool
+    ensures { result ≡ is_known (profile_of profile.entry) avp.now }
 {
-    has_row(avp) || is_standard(avp) || vendors.contains(&avp.vendor)
+    is_among(avp, profile.known)
+        || has_row(avp)
+        || is_standard(avp)
+        || profile.vendors.contains(&avp.vendor)
 }
 
-fn is_unknown_mandatory(avp: &RawAvp, vendors: &[u32]) -> bool
-    ensures { result ≡ is_unknown_mandatory vendors.now avp.now }
+fn is_unknown_mandatory(avp: &RawAvp, profile: Profile) -> bool
+    ensures { result ≡ is_unknown_mandatory (profile_of profile.entry) avp.now }
 {
-    is_mandatory(avp.flags) && !is_known(avp, vendors)
+    is_mandatory(avp.flags) && !is_known(avp, profile)
 }
 
 /// The place of the first AVP that has the flag M and is not known (RFC 6733, section 7.1.5:
 /// DIAMETER_AVP_UNSUPPORTED).
-pub fn first_unknown(avps: &[RawAvp], vendors: &[u32]) -> Option<usize>
-    ensures place { result ≡ unknown_of vendors.now avps.now }
+pub fn first_unknown(avps: &[RawAvp], profile: Profile) -> Option<usize>
+    ensures place { result ≡ unknown_of (profile_of profile.entry) avps.now }
     ensures within { IfSome result (λ at. at < length avps.now) }
 {
     avps.iter()
-        .position(|avp| is_unknown_mandatory(avp, vendors))
+        .position(|avp| is_unknown_mandatory(avp, profile))
 }
 
 /// Whether it has one of the codes, and an AVP before it has the same.

@@ -2,18 +2,20 @@
 //! 4.1), whatever most of their values are.
 //!
 //! - [`check`]: the first fault of a request's AVPs, as a [`GrammarFault`] with its code or place.
-//! - [`is_of`], [`is_among`], [`is_known`], [`first_unknown`], [`first_repeated`], [`first_missing`]:
+//! - [`check_under`]: the same under a [`Profile`]: what a server knows beside the dictionary, and each
+//!   [`Tolerance`] that it has for what clients send.
+//! - [`is_of`], [`is_among`], [`has_avp`], [`is_known`], [`first_unknown`], [`first_repeated`], [`first_missing`]:
 //!   the same questions of any AVP or list of AVPs, for groups.
 //!
 //! An AVP that is named by its code is one of vendor 0. A place is one in the list of AVPs, counted
 //! from 0. No call takes memory.
 //!
 //! `specs/Grammar` says what is asked of the AVPs, case by case in the order in which the cases
-//! decide. The functions of `laws` have no body: their contracts are laws of these definitions. They
+//! decide, and `specs/Profile` what a profile is. The functions of `laws` have no body: their contracts are laws of these definitions. They
 //! say what a request is ([`faultless_avps_are_a_request`]) and what a fault is ([`told_faults_are_there`],
 //! [`second_ones_are_counted`]), and what leaves the answer as it is ([`more_may_follow`],
 //! [`route_record_may_follow`], [`values_do_not_count`]). Worked examples are laws too
-//! ([`known_avps_may_stand_behind`], [`faults_are_told_in_their_order`], [`session_ids_come_first`],
+//! ([`known_avps_may_stand_behind`], [`codes_of_a_profile_are_known`], [`faults_are_told_in_their_order`], [`session_ids_come_first`],
 //! [`groups_lack_what_is_missing`]).
 //!
 //! ```
@@ -34,13 +36,18 @@
 mod asking;
 mod fault;
 mod laws;
+mod profile;
 mod request;
 
-pub use asking::{first_missing, first_repeated, first_unknown, is_among, is_known, is_of};
+pub use asking::{
+    first_missing, first_repeated, first_unknown, has_avp, is_among, is_known, is_of,
+};
 pub use fault::GrammarFault;
 pub use laws::{
-    faultless_avps_are_a_request, faults_are_told_in_their_order, groups_lack_what_is_missing,
-    known_avps_may_stand_behind, more_may_follow, route_record_may_follow, second_ones_are_counted,
-    session_ids_come_first, told_faults_are_there, values_do_not_count,
+    codes_of_a_profile_are_known, faultless_avps_are_a_request, faults_are_told_in_their_order,
+    groups_lack_what_is_missing, known_avps_may_stand_behind, more_may_follow,
+    route_record_may_follow, second_ones_are_counted, session_ids_come_first,
+    told_faults_are_there, values_do_not_count,
 };
-pub use request::check;
+pub use profile::{Profile, SiteProfile, Tolerance};
+pub use request::{check, check_under};

@@ -4,9 +4,11 @@ ghost use Rattle.std.specs.Prelude.{◌≡◌, IfErr};
 ghost use Rattle.std.specs.List.{list_any};
 ghost use Rattle.std.specs.Result.{result_err};
 ghost use Rattle.dia_grammar.specs.Grammar.{IsWithin, begins_with_session, grammar_fault, is_event_type, missing_of, required_in, session_fault};
+ghost use Rattle.dia_grammar.specs.Profile.{profile_of, strict};
 
 use crate::asking::{first_missing, first_repeated, first_unknown, has_avp, is_of};
 use crate::fault::GrammarFault;
+use crate::profile::Profile;
 use dia_avp::{RawAvp, u32_of};
 use dia_base::codes::{
     AUTH_APPLICATION_ID, CC_REQUEST_NUMBER, CC_REQUEST_TYPE, DESTINATION_REALM, ORIGIN_HOST,
@@ -93,7 +95,16 @@ fn missing_in_request(avps: &[RawAvp]) -> Option<u32>
 }
 
 /// Whether these are the AVPs of a Credit-Control-Request, where AVPs of the listed vendors are
-/// known. The first of these that applies is the answer:
+/// known and nothing more is known or tolerated: the answer of [`check_under`] to such a profile.
+pub fn check(avps: &[RawAvp], vendors: &[u32]) -> Result<(), GrammarFault>
+    ensures fault { result_err result ≡ grammar_fault (strict vendors.now) avps.now }
+    ensures within { IfErr result (IsWithin avps.now) }
+{
+    check_under(avps, Profile::strict(vendors))
+}
+
+/// Whether these are the AVPs of a Credit-Control-Request, as they are counted under the profile: what
+/// it tolerates has been left out or put in. The first of these that applies is the answer:
 ///
 /// 1. There is no Session-Id (`Missing`), or it is not the first AVP (`FirstNotSessionId`).
 /// 2. An AVP has the flag M and is not known (`UnknownM`), the first in order.
@@ -105,14 +116,14 @@ fn missing_in_request(avps: &[RawAvp]) -> Option<u32>
 ///    EVENT_REQUEST and there is no Requested-Action (`Missing`).
 ///
 /// No value but that of CC-Request-Type is looked at. It takes no memory.
-pub fn check(avps: &[RawAvp], vendors: &[u32]) -> Result<(), GrammarFault>
-    ensures fault { result_err result ≡ grammar_fault vendors.now avps.now }
+pub fn check_under(avps: &[RawAvp], profile: Profile) -> Result<(), GrammarFault>
+    ensures fault { result_err result ≡ grammar_fault (profile_of profile.entry) avps.now }
     ensures within { IfErr result (IsWithin avps.now) }
 {
     if let Some(fault) = session_fault(avps) {
         return Err(fault);
     }
-    if let Some(at) = first_unknown(avps, vendors) {
+    if let Some(at) = first_unknown(avps, profile) {
         return Err(GrammarFault::UnknownM { at });
     }
     if let Some(at) = first_repeated(avps, &SINGLE) {

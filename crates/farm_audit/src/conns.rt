@@ -16,6 +16,8 @@ pub struct Conn {
     pub is_up: bool,
     /// Whether it was opened, as far as the record was played.
     pub was_dialled: bool,
+    /// Whether an `accept` was played that is of it, or that is of a later one with its label.
+    pub is_taken: bool,
     /// Whether it was lost or given up, as far as the record was played.
     pub is_gone: bool,
     /// A front has lost it and did not drop it yet, since requests wait that came on it.
@@ -26,6 +28,17 @@ pub struct Conn {
     pub pending: u64,
 }
 
+impl Conn {
+    /// Whether it is a dial of these nodes under this label that an `accept` may be of.
+    pub fn is_open_dial(&self, opener: NodeNo, acceptor: NodeNo, label: u64) -> bool {
+        self.was_dialled
+            && !self.is_taken
+            && self.node == opener
+            && self.peer == acceptor
+            && self.label == label
+    }
+}
+
 /// A connection that stands in the farm that plays: who has opened and who has accepted it, by their places among all.
 #[derive(Clone, Copy)]
 pub struct Joint {
@@ -34,6 +47,8 @@ pub struct Joint {
     pub opened: Option<usize>,
     pub accepted: Option<usize>,
     pub label: u64,
+    /// The dial that was accepted, as far as is known; none of a client without a record.
+    pub dial: Option<usize>,
 }
 
 impl Joint {

@@ -285,14 +285,15 @@ impl<R: Read + Drop> Audit<R> {
         Ok(self.is_free(a, b))
     }
 
-    /// A front that has lost its connection drops it, though requests wait that came on it, if there is room for them.
+    /// A front that has lost its connection, as the node at the other end has too, drops it, though requests wait that came on
+    /// it, if there is room for them.
     fn close(&mut self, site: &Site, at: At, node: NodeNo, peer: NodeNo) -> Result<(), AuditFault> {
         let side = self.joint(node, peer).and_then(|joint| joint.side(node));
         let Some(conn) = side else {
             return Ok(());
         };
         let is_closing = self.conns.get(conn).map_or(false, |conn| conn.is_closing);
-        if !is_closing {
+        if !is_closing || (self.stands(node, peer) && !self.is_silent(site, at, peer)?) {
             return Ok(());
         }
         let last = self

@@ -232,6 +232,7 @@ impl<R: Read + Drop> Audit<R> {
             opens,
             is_up: !opens,
             was_dialled: false,
+            is_taken: false,
             is_gone: false,
             is_closing: false,
             answers: Vec::new(self.alloc),

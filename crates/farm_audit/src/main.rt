@@ -3,7 +3,7 @@
 //! the records contradict one another or the farm, it tells the first place.
 //!
 //! - `source`: a record, event by event. `keeping`: what is read is kept until it is played.
-//! - `playing`, `fronts`, `book`: whether an event may happen, and then it has. `run`: all of them.
+//! - `playing`, `dials`, `fronts`, `book`: whether an event may happen, and then it has. `run`: all of them.
 //! - `audit`, `conns`, `told`: what there is of all that. `steps`: the lines of a schedule.
 #![tactic(auto)]
 
@@ -12,6 +12,7 @@ ghost use Rattle.farm_base.specs.CheckedSite.{IsChecked};
 mod audit;
 mod book;
 mod conns;
+mod dials;
 mod fault;
 mod fronts;
 mod keeping;

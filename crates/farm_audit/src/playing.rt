@@ -1,7 +1,6 @@
 //! The events of nodes: whether they may happen, and then they have.
 
 use crate::audit::{Audit, is_front};
-use crate::conns::Joint;
 use crate::fault::{At, AuditFault, Why, found};
 use crate::told::{Deed, Told, Whereabouts};
 use dia_base::NodeNo;
@@ -23,7 +22,10 @@ impl<R: Read + Drop> Audit<R> {
         let (at, conn) = (told.at, told.conn);
         match &told.deed {
             Deed::Begin { is_first } => Ok(*is_first),
-            Deed::Dial => self.dial(conn),
+            Deed::Dial => {
+                self.dial(conn);
+                Ok(true)
+            }
             Deed::Accept => self.accept(site, at, conn),
             Deed::Opened => self.opened(site, at, conn),
             Deed::Send(message) => {
@@ -83,90 +85,6 @@ impl<R: Read + Drop> Audit<R> {
             }
         }
         Ok(())
-    }
-
-    fn dial(&mut self, conn: usize) -> Result<bool, AuditFault> {
-        if let Some(conn) = self.conns.get_mut(conn) {
-            conn.was_dialled = true;
-        }
-        Ok(true)
-    }
-
-    /// Where a node has opened the connection that another one accepts.
-    fn dialled(&self, opener: NodeNo, acceptor: NodeNo, label: u64) -> Option<usize> {
-        self.conns.iter().rposition(|conn| {
-            conn.was_dialled && conn.node == opener && conn.peer == acceptor && conn.label == label
-        })
-    }
-
-    /// A connection is accepted once the other node has opened it, and both have no other one any more.
-    fn accept(&mut self, site: &Site, at: At, conn: usize) -> Result<bool, AuditFault> {
-        let (b, a) = self.nodes_of(at, conn)?;
-        let label = self.label_of(conn);
-        let dial = self.dialled(a, b, label);
-        if dial.is_none() && !self.is_silent(site, at, a)? {
-            return Ok(false);
-        }
-        if !self.make_free(site, at, a, b)? {
-            return Ok(false);
-        }
-        self.play(site, at, Step::Accept { at: b, from: a })?;
-        self.join(Joint {
-            opener: a,
-            acceptor: b,
-            opened: None,
-            accepted: Some(conn),
-            label,
-        })?;
-        match dial {
-            None => self.play(site, at, Step::Opened { a, b })?,
-            Some(dial) => {
-                if self.is_gone(dial) {
-                    self.play(site, at, Step::Drop { a, b })?;
-                }
-            }
-        }
-        Ok(true)
-    }
-
-    fn label_of(&self, conn: usize) -> u64 {
-        self.conns.get(conn).map_or(0, |conn| conn.label)
-    }
-
-    fn is_gone(&self, conn: usize) -> bool {
-        self.conns.get(conn).map_or(false, |conn| conn.is_gone)
-    }
-
-    /// A node learns that its connection is made, once the other one has accepted it. A client without a record does so
-    /// then.
-    fn opened(&mut self, site: &Site, at: At, conn: usize) -> Result<bool, AuditFault> {
-        let (a, b) = self.nodes_of(at, conn)?;
-        let label = self.label_of(conn);
-        if self.is_silent(site, at, b)? {
-            if !self.make_free(site, at, a, b)? {
-                return Ok(false);
-            }
-            self.play(site, at, Step::Accept { at: b, from: a })?;
-            self.join(Joint {
-                opener: a,
-                acceptor: b,
-                opened: None,
-                accepted: None,
-                label,
-            })?;
-        }
-        let joint = self.joints.iter_mut().find(|joint| {
-            joint.opener == a
-                && joint.acceptor == b
-                && joint.opened.is_none()
-                && joint.label == label
-        });
-        let Some(joint) = joint else {
-            return Ok(false);
-        };
-        joint.opened = Some(conn);
-        self.play(site, at, Step::Opened { a, b })?;
-        Ok(true)
     }
 
     /// A message arrives, once it was sent.
@@ -344,7 +262,8 @@ impl<R: Read + Drop> Audit<R> {
             conn.is_gone = true;
         }
         if !was_up {
-            return self.give_up(site, at, conn);
+            self.give_up(site, at, conn)?;
+            return Ok(true);
         }
         if is_front(site, node) {
             if let Some(conn) = self.conns.get_mut(conn) {
@@ -355,22 +274,6 @@ impl<R: Read + Drop> Audit<R> {
         }
         self.react(site, told, node, Step::Drop { a: node, b: peer })?;
         self.drop_silent(site, at, node, peer)?;
-        Ok(true)
-    }
-
-    /// A node gives up a connection that it has opened and does not know, whether or not the other one has accepted it.
-    fn give_up(&mut self, site: &Site, at: At, conn: usize) -> Result<bool, AuditFault> {
-        let (a, b) = self.nodes_of(at, conn)?;
-        let label = self.label_of(conn);
-        let is_accepted = self.joints.iter().any(|joint| {
-            joint.opener == a
-                && joint.acceptor == b
-                && joint.opened.is_none()
-                && joint.label == label
-        });
-        if is_accepted && self.stands(b, a) {
-            self.play(site, at, Step::Drop { a, b })?;
-        }
         Ok(true)
     }
 

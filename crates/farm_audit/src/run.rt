@@ -30,7 +30,8 @@ impl<R: Read + Drop> Audit<R> {
             let went = self.go_on(site)?
                 || self.charge_next(site)?
                 || self.charge_kept(site)?
-                || self.read_ahead(site)?;
+                || self.read_ahead(site)?
+                || self.settle(site)?;
             self.write_lines(writer, WRITTEN)?;
             if !went {
                 break;
@@ -81,13 +82,16 @@ impl<R: Read + Drop> Audit<R> {
             return Ok(None);
         };
         self.refill(site, source)?;
-        let Some(stream) = self.streams.get_mut(stream) else {
-            return Ok(None);
-        };
+        Ok(self.take_head(stream))
+    }
+
+    /// Takes out the next event of a node that was read.
+    pub fn take_head(&mut self, stream: usize) -> Option<Told> {
+        let stream = self.streams.get_mut(stream)?;
         if stream.told.is_empty() {
-            return Ok(None);
+            return None;
         }
-        Ok(Some(stream.told.remove(0)))
+        Some(stream.told.remove(0))
     }
 
     /// Puts back an event that may not happen yet.

@@ -5,6 +5,8 @@ use Rattle.cc_book.specs.declared.account.Account.{Account}
 use Rattle.cc_rating.specs.Tariffs.{fault_of}
 use Rattle.dia_base.specs.Folding.{same_folded}
 use Rattle.dia_base.specs.declared.number.NodeNo.{NodeNo}
+use Rattle.dia_grammar.specs.declared.profile.Tolerance.{Tolerance}
+use Rattle.dia_grammar.specs.declared.profile.Tolerance.TheVariants.{OriginTwice, ApplicationInGroup}
 use Rattle.farm_base.specs.declared.site.Link.{Link}
 use Rattle.farm_base.specs.declared.site.Node.{Node}
 use Rattle.farm_base.specs.declared.site.Route.{Route}
@@ -14,6 +16,21 @@ use Rattle.farm_base.specs.Lists.{are_distinct}
 
 abbrev pub is_within : ℕ → ℕ → ℕ → Bool
 is_within least most n = nat_le least n && nat_le n most
+
+-- ---- what fronts know and tolerate, and what is advertised: each once
+
+abbrev pub same_number : ℕ → ℕ → Bool
+same_number a b = a == b
+
+-- the codes behind the last that the dictionary has, 461
+abbrev pub is_free_code : ℕ → Bool
+is_free_code code = is_within 462 4294967295 code
+
+abbrev pub same_tolerance : Tolerance → Tolerance → Bool
+same_tolerance OriginTwice OriginTwice = true
+same_tolerance OriginTwice ApplicationInGroup = false
+same_tolerance ApplicationInGroup OriginTwice = false
+same_tolerance ApplicationInGroup ApplicationInGroup = true
 
 -- ---- nodes: distinct names, without ASCII case (RFC 6733, section 4.3.1)
 
@@ -81,6 +98,12 @@ pub record IsChecked (site : Site) : Type 0 where
   pub limit : is_within 1 1048576 site.limit ≡ true
   pub workers : is_within 1 16 site.workers ≡ true
   pub queue : is_within 1 1024 site.queue ≡ true
+  pub known_count : nat_le (length site.known) 256 ≡ true
+  pub free_codes : list_all is_free_code site.known ≡ true
+  pub known : are_distinct same_number site.known ≡ true
+  pub tolerate : are_distinct same_tolerance site.tolerate ≡ true
+  pub advertise_count : nat_le (length site.advertise) 16 ≡ true
+  pub advertise : are_distinct same_number site.advertise ≡ true
   pub currency : nat_le site.currency 999 ≡ true
   pub exponent : nat_le (size_of site.exponent) 9 ≡ true
   pub watchdog : is_within 100 600000 site.watchdog ≡ true

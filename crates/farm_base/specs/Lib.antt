@@ -1,4 +1,5 @@
 pub mod CheckedSite
+pub mod FrontProfile
 pub mod Lists
 pub mod Nodes
 pub mod RowSite

@@ -1,9 +1,14 @@
 //! The site: its nodes, their links and routes, and what the book is opened with.
 
+ghost use Rattle.std.specs.Prelude.{◌≡◌, IfOk};
+ghost use Rattle.farm_base.specs.FrontProfile.{front_profile};
+
 use cc_book::Account;
 use cc_rating::Tariff;
 use dia_avp::Octets;
 use dia_base::{Identity, Listing, NodeKind, NodeNo};
+use dia_grammar::{SiteProfile, Tolerance};
+use std::alloc::AllocError;
 
 /// A node. Its number is its place in the list of nodes.
 #[derive(Debug, Drop)]
@@ -46,6 +51,12 @@ pub struct Site {
     pub queue: u32,
     /// The vendors whose AVPs are known, beside vendor 0.
     pub vendors: Listing<u32>,
+    /// The codes of vendor 0 that are known, beside those of the dictionary.
+    pub known: Listing<u32>,
+    /// The deviations of clients that fronts tolerate.
+    pub tolerate: Listing<Tolerance>,
+    /// The vendors for which a node advertises credit control to its neighbours.
+    pub advertise: Listing<u32>,
     /// Currency-Code (ISO 4217).
     pub currency: u32,
     /// The power of ten of a minor unit.
@@ -57,4 +68,17 @@ pub struct Site {
     pub routes: Listing<Route>,
     pub tariffs: Listing<Tariff>,
     pub accounts: Listing<Account>,
+}
+
+impl Site {
+    /// What each front knows beside the dictionary, and what it tolerates: a copy.
+    pub fn front_profile(&self) -> Result<SiteProfile, AllocError>
+        ensures { IfOk result (λ profile. profile ≡ front_profile self.now) }
+    {
+        Ok(SiteProfile {
+            vendors: self.vendors.clone()?,
+            known: self.known.clone()?,
+            tolerated: self.tolerate.clone()?,
+        })
+    }
 }

@@ -1,5 +1,6 @@
 //! What may look wrong in a site that is accepted.
 
+use crate::clients::push_client_doubts;
 use crate::lines::{Lines, identity_text, node_name, text_of};
 use crate::money::{cost_by, services_of};
 use crate::nodes::kind_word;
@@ -15,6 +16,7 @@ pub fn push_doubts(
     site: &Site,
     tariffs: &Tariffs,
 ) -> Result<(), AllocError> {
+    push_client_doubts(lines, site)?;
     push_empty_tables(lines, site)?;
     for (place, node) in site.nodes.as_slice().iter().enumerate() {
         push_node_doubts(alloc, lines, site, place, node)?;

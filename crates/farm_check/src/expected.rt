@@ -38,6 +38,9 @@ pub fn expected_at(fault: SiteFault) -> &'static str {
 fn expected_once(key: Key) -> &'static str {
     match key {
         Key::Name => "another name in each node, without case",
+        Key::Known => "each code once",
+        Key::Tolerate => "each name once",
+        Key::Advertise => "each vendor once",
         Key::Route => "another relay, realm or application in each route",
         Key::Group => "another group in each tariff",
         Key::Ident => "another ident in each tariff, and no group beside it",
@@ -79,12 +82,15 @@ fn most_of(key: Key) -> &'static str {
         Key::Tariff => "at most 1024 tariffs",
         Key::Account => "at most 65536 accounts",
         Key::Peers => "at most 16 peers",
+        Key::Known => "at most 256 codes",
+        Key::Advertise => "at most 16 vendors",
         Key::Realm
         | Key::Validity
         | Key::Limit
         | Key::Workers
         | Key::Queue
         | Key::Vendors
+        | Key::Tolerate
         | Key::Currency
         | Key::Exponent => "fewer",
         Key::Watchdog
@@ -116,6 +122,10 @@ fn value_of(key: Key) -> &'static str {
         Key::Workers => "an integer, 1 to 16",
         Key::Queue => "an integer, 1 to 1024",
         Key::Vendors => "a list of integers, 0 to 4294967295",
+        Key::Known =>
+            "a list of integers, 462 to 4294967295 (codes that the dictionary does not have)",
+        Key::Tolerate => "a list of texts, each origin-twice or application-in-group",
+        Key::Advertise => "a list of integers, 0 to 4294967295 (vendors)",
         Key::Currency => "an integer, 0 to 999 (ISO 4217; 978 is the euro)",
         Key::Exponent => "an integer, -9 to 9 (-2 for cents)",
         Key::Watchdog => "an integer, 100 to 600000 (milliseconds)",

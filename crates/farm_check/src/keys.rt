@@ -12,9 +12,24 @@ const LINE_LIMIT: usize = 20;
 const KEY_LIMIT: usize = 64;
 
 /// The keys of the file itself.
-const OWN_KEYS: [&str; 14] = [
-    "realm", "validity", "limit", "workers", "queue", "vendors", "currency", "exponent",
-    "watchdog", "node", "link", "route", "tariff", "account",
+const OWN_KEYS: [&str; 17] = [
+    "realm",
+    "validity",
+    "limit",
+    "workers",
+    "queue",
+    "vendors",
+    "currency",
+    "exponent",
+    "watchdog",
+    "node",
+    "link",
+    "route",
+    "tariff",
+    "account",
+    "known",
+    "tolerate",
+    "advertise",
 ];
 
 /// The keys of the entries of each table, in the order of [`TABLES`].

@@ -6,6 +6,7 @@ ghost use Rattle.std.specs.Prelude.{◌≢◌, IfErr, IfOk, OnOk};
 ghost use Rattle.std.specs.Io.KnownBytes.{Keeps};
 ghost use Rattle.farm_check.specs.Checking.{IsAccepted, IsRefused};
 
+mod clients;
 mod doubts;
 mod expected;
 mod fault;

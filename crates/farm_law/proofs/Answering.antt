@@ -65,7 +65,7 @@ pub answers_back : (l : Premises) (p : Parties) {book : Ledger} {refused : List 
     p.is_relay relay ≡ true → HasFrom p relay node → split_of first.body ≡ Ok avps → Descends first message → Answers p book refused node conn message answer → Answers p book refused relay c first (under first.header.hop answer)
 answers_back l p {node = node} {relay = relay} {first = first} {message = message} avps is_relay from sp d (of_front front is_front tells a) = of_front front is_front (told_on p front relay node is_relay from tells) (record {
   request = a.request;
-  view = sym (l.same_view site.vendors first message avps sp d) ∙ a.view;
+  view = sym (l.same_view site.profile first message avps sp d) ∙ a.view;
   reply = a.reply;
   kept = a.kept;
   written =

@@ -8,7 +8,7 @@ use Rattle.dia_base.specs.declared.number.Moment.{Moment}
 use Rattle.dia_base.proofs.Counting.{one}
 use Rattle.dia_message.specs.declared.message.Message.{Message}
 use Rattle.dia_message.specs.Traffic.{Traffic}
-use Rattle.cc_view.specs.RequestView.{view_of}
+use Rattle.cc_view.specs.RequestView.{view_under}
 use Rattle.cc_view.specs.declared.request.CcRequest.{CcRequest}
 use Rattle.cc_book.specs.declared.entry.Entry.{Entry}
 use Rattle.cc_book.specs.declared.entry.Entry.TheVariants.{Take, Sweep}
@@ -105,7 +105,7 @@ module _ (p : Parties) {has_ended : NodeNo → ConnId → Bool} {items : List It
   pub keep_refused : (more : List Refused) → Keeps p has_ended items rows book (refused ++ more) sent received
   keep_refused more = keep_grows book (refused ++ more) (record { answered = λ site message answer a. a; refused_still = λ at h. Has-append more h }) v.taken v.legal v.within
 
-  pub keep_takes : (l : Premises) {item : Item} (moment : Moment) (request : CcRequest) → Has item items → item.message.header.request ≡ true → view_of p.vendors item.message ≡ Ok request →
+  pub keep_takes : (l : Premises) {item : Item} (moment : Moment) (request : CcRequest) → Has item items → item.message.header.request ≡ true → view_under p.profile item.message ≡ Ok request →
       kept_reply book.terms book.history request ≡ None → length book.history < book.limit → Keeps p has_ended items rows (with_take book moment request) refused sent received
   keep_takes l {item} moment request h e view new room = keep_grows (with_take book moment request) refused
       (record { answered = λ site message answer a. l.answers_stay site book (Take moment request ∷ []) message answer a; refused_still = λ at k. k })
@@ -115,7 +115,7 @@ module _ (p : Parties) {has_ended : NodeNo → ConnId → Bool} {items : List It
     where
       taken : ComesFrom sent item.message → IsTaken p sent (Take moment request)
       taken (as_sent conn was_sent) = (conn, item.message, was_sent, e, view)
-      taken (on_its_way d) = (d.conn, d.first, d.was_sent, d.request, sym (l.same_view p.vendors d.first item.message d.avps d.splits d.descends) ∙ view)
+      taken (on_its_way d) = (d.conn, d.first, d.was_sent, d.request, sym (l.same_view p.profile d.first item.message d.avps d.splits d.descends) ∙ view)
 
   pub keep_sweeps : (l : Premises) (moment : Moment) → 0 < ended_sessions book.terms book.history moment → length book.history < book.limit → Keeps p has_ended items rows (with_sweep book moment) refused sent received
   keep_sweeps l moment ends room = keep_grows (with_sweep book moment) refused

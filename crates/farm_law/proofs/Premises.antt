@@ -6,7 +6,8 @@ use Rattle.dia_avp.specs.AvpReading.{split_of}
 use Rattle.dia_message.specs.declared.message.Message.{Message}
 use Rattle.cc_view.specs.Answer.{answer_to, refusal_of}
 use Rattle.cc_view.specs.Forwarding.{with_hop}
-use Rattle.cc_view.specs.RequestView.{view_of}
+use Rattle.dia_grammar.specs.Profile.{RequestProfile}
+use Rattle.cc_view.specs.RequestView.{view_under}
 use Rattle.cc_view.specs.declared.refusal.Refusal.{Refusal}
 use Rattle.cc_view.specs.declared.reply.CcReply.{CcReply}
 use Rattle.cc_view.specs.declared.request.CcRequest.{CcRequest}
@@ -25,7 +26,7 @@ pub record Premises : Type 0 where
   pub legal_sweeps : (terms : Terms) (history : List Entry) (moment : Moment) → IsLegal terms history → 0 < ended_sessions terms history moment → IsLegal terms (history ++ Sweep moment ∷ [])
   pub answers_stay : (site : FrontSite) (ledger : Ledger) (more : List Entry) (message answer : Message) → IsBookAnswer site ledger message answer → IsBookAnswer site (record ledger { history = ledger.history ++ more }) message answer
   pub descends_on : (request passed last : Message) → Descends request passed → Descends passed last → Descends request last
-  pub same_view : (vendors : List ℕ) (request passed : Message) (avps : List RawAvp) → split_of request.body ≡ Ok avps → Descends request passed → view_of vendors passed ≡ view_of vendors request
+  pub same_view : (profile : RequestProfile) (request passed : Message) (avps : List RawAvp) → split_of request.body ≡ Ok avps → Descends request passed → view_under profile passed ≡ view_under profile request
   pub same_answer : (front realm : List ℕ) (request passed : Message) (content : CcRequest) (reply : CcReply) (avps : List RawAvp) → split_of request.body ≡ Ok avps → Descends request passed →
       answer_to front realm passed content reply ≡ with_hop passed.header.hop (answer_to front realm request content reply)
   pub same_refusal : (node realm : List ℕ) (request passed : Message) (refusal : Refusal) (avps : List RawAvp) → split_of request.body ≡ Ok avps → Descends request passed →

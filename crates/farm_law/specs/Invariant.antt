@@ -6,7 +6,7 @@ use Rattle.dia_avp.specs.declared.avp.RawAvp.{RawAvp}
 use Rattle.dia_avp.specs.AvpReading.{split_of}
 use Rattle.dia_message.specs.declared.message.Message.{Message}
 use Rattle.dia_message.specs.Traffic.{Traffic}
-use Rattle.cc_view.specs.RequestView.{view_of}
+use Rattle.cc_view.specs.RequestView.{view_under}
 use Rattle.cc_book.specs.declared.entry.Entry.{Entry}
 use Rattle.cc_book.specs.declared.entry.Entry.TheVariants.{Take, Sweep}
 use Rattle.cc_book.specs.History.{IsLegal}
@@ -75,7 +75,7 @@ pub data ComesFrom (sent : Traffic) (message : Message) : Type 0 where
 
 -- An entry takes what is read in a request that a client sent. A sweep takes nothing of any message.
 abbrev pub IsTaken : Parties → Traffic → Entry → Type 0
-IsTaken p sent (Take moment request) = (conn : ConnId) × (message : Message) × Has (conn, message) sent × (message.header.request ≡ true) × (view_of p.vendors message ≡ Ok request)
+IsTaken p sent (Take moment request) = (conn : ConnId) × (message : Message) × Has (conn, message) sent × (message.header.request ≡ true) × (view_under p.profile message ≡ Ok request)
 IsTaken p sent (Sweep moment) = Unit {0}
 
 -- ---- the whole

@@ -10,7 +10,7 @@ use Rattle.dia_message.specs.declared.message.Message.{Message}
 use Rattle.cc_view.specs.declared.refusal.Refusal.{Refusal}
 use Rattle.cc_view.specs.declared.request.CcRequest.{CcRequest}
 use Rattle.cc_view.specs.Answer.{refusal_of}
-use Rattle.cc_view.specs.RequestView.{view_of}
+use Rattle.cc_view.specs.RequestView.{view_under}
 use Rattle.cc_book.specs.AccountMachine.{kept_reply}
 use Rattle.cc_book.specs.History.{ended_sessions}
 use Rattle.cc_book.specs.Taking.{with_take, with_sweep}
@@ -67,7 +67,7 @@ pub data Move (p : Parties) : Farm → Farm → Type 0 where
       IsBookAnswer (p.front_site (p.name_of item.to)) f.book item.message answer → Without (reply_to item answer) items rest →
       Move p f (record f { items = items })
   -- the book takes what is read in a request
-  takes : {f : Farm} {item : Item} (moment : Moment) (request : CcRequest) → Has item f.items → item.message.header.request ≡ true → view_of p.vendors item.message ≡ Ok request →
+  takes : {f : Farm} {item : Item} (moment : Moment) (request : CcRequest) → Has item f.items → item.message.header.request ≡ true → view_under p.profile item.message ≡ Ok request →
       kept_reply f.book.terms f.book.history request ≡ None → length f.book.history < f.book.limit →
       Move p f (record f { book = with_take f.book moment request })
   -- the book ends sessions that are due (RFC 8506, section 13)

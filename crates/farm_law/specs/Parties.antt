@@ -2,6 +2,7 @@
 use Rattle.std.specs.Prelude.{ℕ, Bool, List}
 use Rattle.dia_base.specs.declared.number.ConnId.{ConnId}
 use Rattle.dia_base.specs.declared.number.NodeNo.{NodeNo}
+use Rattle.dia_grammar.specs.Profile.{RequestProfile}
 use Rattle.front_core.specs.declared.site.FrontSite.{FrontSite}
 
 pub record Parties : Type 0 where
@@ -12,9 +13,9 @@ pub record Parties : Type 0 where
   pub is_linked : NodeNo → NodeNo → Bool
   -- the identity of a node (RFC 6733, section 4.3.1)
   pub name_of : NodeNo → List ℕ
-  -- the Origin-Realm of each relay and front, and the vendors whose AVPs are known
+  -- the Origin-Realm of each relay and front, and what fronts know and tolerate
   pub realm : List ℕ
-  pub vendors : List ℕ
+  pub profile : RequestProfile
   -- what a front of an identity is configured with
   pub front_site : List ℕ → FrontSite
   -- the client of a connection that has one, and the node at its other end

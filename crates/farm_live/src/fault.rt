@@ -118,7 +118,7 @@ pub fn status_of(fault: &Fault) -> u8 {
         | Fault::Read
         | Fault::Write
         | Fault::Loop(LoopFault::Sockets(_))
-        | Fault::Start(StartFault::NoWorker | StartFault::UnknownNode { .. })
+        | Fault::Start(StartFault::NoWorker | StartFault::NoClock | StartFault::UnknownNode { .. })
         | Fault::Status(_)
         | Fault::TokenFile
         | Fault::TokenSeen

@@ -15,9 +15,11 @@ use std::alloc::{AllocError, Global};
 use std::fs::File;
 use std::sync::Wait;
 
-/// A node that says what its book has come to, if it has one.
+/// A node that says what its book has come to, if it has one, and how many requests it has passed on and awaits answers for.
 pub trait Booked: Node + Drop {
     fn book(&self) -> Option<BookFigures>;
+
+    fn pending(&self) -> u64;
 
     /// What only the node can tell of is recorded.
     fn tell(live: &mut Live<Self>);
@@ -28,6 +30,10 @@ impl Booked for Relay {
         None
     }
 
+    fn pending(&self) -> u64 {
+        Relay::pending(self) as u64
+    }
+
     fn tell(_live: &mut Live<Relay>) {}
 }
 
@@ -36,12 +42,20 @@ impl Booked for Sender {
         None
     }
 
+    fn pending(&self) -> u64 {
+        0
+    }
+
     fn tell(_live: &mut Live<Sender>) {}
 }
 
 impl<L: Pooling, R: Wait + Drop> Booked for PoolFronts<L, R> {
     fn book(&self) -> Option<BookFigures> {
         Some(self.figures())
+    }
+
+    fn pending(&self) -> u64 {
+        0
     }
 
     fn tell(live: &mut Live<PoolFronts<L, R>>) {
@@ -222,16 +236,10 @@ impl<N: Node + Drop + Booked> View<'_, N> {
                     book: Some(book),
                 })
             }
-            None => {
-                let mut pending: u64 = 0;
-                for node in self.nodes {
-                    pending = pending.saturating_add(open_at(&self.live.serving, *node));
-                }
-                Ok(Work::Relay {
-                    pending,
-                    limit: u64::from(PENDING_LIMIT),
-                })
-            }
+            None => Ok(Work::Relay {
+                pending: self.live.serving.node().pending(),
+                limit: u64::from(PENDING_LIMIT),
+            }),
         }
     }
 }

@@ -1,3 +1,4 @@
+pub mod Callers
 pub mod Dialing
 pub mod Pausing
 pub mod Tokens

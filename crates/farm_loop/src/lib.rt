@@ -14,7 +14,6 @@
 //! proved to be made when it is due, `Pause` to let each connection be read by its rule, and the rest is tested.
 #![tactic(auto)]
 
-mod clock;
 mod dial;
 mod fault;
 mod half;

@@ -1,16 +1,16 @@
 //! The loop of a process: sockets, its node with its connections, and the time.
 
-use crate::clock::Timer;
 use crate::dial::{Dial, DialState};
 use crate::fault::LoopFault;
 use crate::half::{Half, halves};
 use crate::outgoing::Outgoing;
-use crate::sockets::{Ready, Sockets, Source, token_of};
+use crate::sockets::{Callers, Ready, Sockets, Source, token_of};
 use crate::{Served, tell};
 use dia_avp::ViewWire;
 use dia_base::{ConnId, Identity, Moment, NodeNo};
 use farm_access::{Access, canonical};
 use farm_base::Site;
+use farm_clock::Timer;
 use farm_net::Counted;
 use farm_node::Node;
 use farm_place::{Place, socket_of};
@@ -27,6 +27,9 @@ use std::rt::Clock;
 
 /// The most connections that are taken of one listener in a turn.
 const ACCEPT_LIMIT: u32 = 64;
+
+/// After how many milliseconds the system is asked again for a connection that it had no room for.
+const AGAIN: u64 = 1_000;
 
 /// A node of this process that listens.
 #[derive(Clone, Copy)]
@@ -288,15 +291,15 @@ impl<N: Node + Drop> Live<N> {
                 return true;
             }
         }
-        self.has_callers()
+        self.has_callers(moment)
     }
 
-    /// Whether connections may wait at a listener.
-    fn has_callers(&self) -> bool {
+    /// Whether connections may wait at a listener, of which the system is to be asked at this moment.
+    fn has_callers(&self, moment: Moment) -> bool {
         self.sockets
             .listeners
             .iter()
-            .any(|listening| listening.is_ready)
+            .any(|listening| listening.callers.may_wait(moment))
     }
 
     /// Reads on a connection for one turn, unless it has to wait for others. Where more may be there, it is read again at the
@@ -372,7 +375,7 @@ impl<N: Node + Drop> Live<N> {
             Source::Waker => self.serving.wake::<ViewWire>(moment),
             Source::Listener { place } => {
                 if let Some(listening) = self.sockets.listeners.get_mut(place) {
-                    listening.is_ready = true;
+                    listening.callers = Callers::MayWait;
                 }
             }
             Source::Conn { conn } => {
@@ -429,7 +432,7 @@ impl<N: Node + Drop> Live<N> {
         let Some(listening) = self.sockets.listeners.get_mut(place) else {
             return false;
         };
-        if !listening.is_ready {
+        if !listening.callers.may_wait(moment) {
             return false;
         }
         let local = listening.local;
@@ -438,13 +441,21 @@ impl<N: Node + Drop> Live<N> {
                 self.take(log, site, access, local, stream, peer, moment);
                 true
             }
-            Err(error) => {
-                listening.is_ready = false;
-                if error.kind() != ErrorKind::WouldBlock {
-                    tell::failed(log, "a connection cannot be accepted", &error);
+            Err(error) => match error.kind() {
+                ErrorKind::WouldBlock => {
+                    listening.callers = Callers::Nobody;
+                    false
                 }
-                false
-            }
+                // who called has given up; others may wait behind
+                ErrorKind::ConnectionAborted => true,
+                // the system has no room for one more socket: those who wait are not reported again
+                _ => {
+                    let moment = Moment(moment.0.saturating_add(AGAIN));
+                    listening.callers = Callers::From { moment };
+                    tell::failed(log, "a connection cannot be accepted", &error);
+                    false
+                }
+            },
         }
     }
 

@@ -1,7 +1,7 @@
 //! The status port of a process: who connects there reads what the node says of itself, or asks it to end.
 
-use crate::clock::Timer;
 use dia_base::Moment;
+use farm_clock::Timer;
 use farm_status::{Answering, Source, Token};
 use http_server::{Config, Connection, Service};
 use mio::net::{TcpListener, TcpStream};

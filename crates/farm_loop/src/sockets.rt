@@ -1,10 +1,11 @@
 //! The sockets of a process: who listens, and which are ready.
 
 ghost use Rattle.std.specs.Prelude.{◌≡◌};
+ghost use Rattle.farm_loop.specs.Callers.{may_wait};
 ghost use Rattle.farm_loop.specs.Tokens.{IsOf, token_for};
 
 use crate::pause::PIECE;
-use dia_base::{ConnId, NodeNo};
+use dia_base::{ConnId, Moment, NodeNo};
 use mio::net::TcpListener;
 use mio::{Events, Interest, Poll, Registry, Token, Waker};
 use std::alloc::Global;
@@ -23,8 +24,31 @@ const WAIT: u64 = 100;
 pub struct Listening {
     pub local: NodeNo,
     pub listener: TcpListener,
-    /// Whether connections may wait there.
-    pub is_ready: bool,
+    pub callers: Callers,
+}
+
+/// Whether connections wait at a listener.
+#[derive(Clone, Copy, Debug, PartialEq, Eq)]
+pub enum Callers {
+    /// None does, until some are reported.
+    Nobody,
+    /// Some may.
+    MayWait,
+    /// Some may, for whom the system had no room: it is asked again from this moment on.
+    From { moment: Moment },
+}
+
+impl Callers {
+    /// Whether the system is to be asked for one at this moment.
+    pub fn may_wait(self, now: Moment) -> bool
+        ensures { result ≡ may_wait self now }
+    {
+        match self {
+            Callers::Nobody => false,
+            Callers::MayWait => true,
+            Callers::From { moment } => moment.0 <= now.0,
+        }
+    }
 }
 
 /// What a report is of.
@@ -122,7 +146,7 @@ impl Sockets {
         self.listeners.push(Listening {
             local,
             listener,
-            is_ready: true,
+            callers: Callers::MayWait,
         })?;
         Ok(())
     }

@@ -13,7 +13,7 @@ use Rattle.cc_view.specs.declared.reply.CcReply.{CcReply}
 use Rattle.cc_view.specs.declared.request.CcRequest.{CcRequest}
 use Rattle.cc_view.specs.Answer.{refusal_of}
 use Rattle.cc_view.specs.Refusal.{refusal_with}
-use Rattle.cc_view.specs.RequestView.{view_of}
+use Rattle.cc_view.specs.RequestView.{view_under}
 use Rattle.cc_book.specs.declared.entry.Entry.{Entry}
 use Rattle.cc_book.specs.declared.entry.Entry.TheVariants.{Take, Sweep}
 use Rattle.cc_book.specs.declared.terms.Terms.{Terms}
@@ -28,6 +28,7 @@ use Rattle.relay_core.specs.Forwarding.{Descends, with_record}
 use Rattle.farm_base.specs.declared.site.Node.{Node}
 use Rattle.dia_base.specs.declared.node.NodeKind.TheVariants.{Front}
 use Rattle.farm_base.specs.declared.site.Site.{Site}
+use Rattle.farm_base.specs.FrontProfile.{front_profile}
 use Rattle.farm_model.specs.declared.state.Direction.{Direction}
 use Rattle.farm_model.specs.declared.state.Trace.{Trace}
 use Rattle.farm_base.specs.declared.step.Step.{Step}
@@ -189,7 +190,7 @@ WasCharged past moment = (front : NodeNo) × (worker : ℕ) × Contains (steps_i
 -- client sent, or is a sweep of a step of the run
 abbrev pub IsOfRun : Site → Past → Traffic → Entry → Type 0
 IsOfRun site past sent (Take moment request) = (conn : ConnId) × (message : Message) × WasRequested sent conn message ×
-    (view_of site.vendors message ≡ Ok request) × WasCharged past moment
+    (view_under (front_profile site) message ≡ Ok request) × WasCharged past moment
 IsOfRun site past sent (Sweep moment) = WasSwept past moment
 
 -- ---- loops

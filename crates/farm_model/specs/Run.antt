@@ -18,6 +18,7 @@ use Rattle.farm_model.specs.declared.state.Trace.{Trace}
 use Rattle.farm_base.specs.declared.step.Step.{Step}
 use Rattle.farm_model.specs.FarmStep.{FarmStep}
 use Rattle.farm_model.specs.Loss.{LossAt}
+use Rattle.farm_base.specs.FrontProfile.{front_profile}
 use Rattle.farm_base.specs.Nodes.{is_node, is_linked}
 use Rattle.farm_model.specs.World.{WorldState}
 
@@ -25,7 +26,7 @@ use Rattle.farm_model.specs.World.{WorldState}
 
 -- what a front of this name is configured with
 abbrev pub front_site : Site → List ℕ → FrontSite
-front_site site name = record { name = name; realm = site.realm; vendors = site.vendors; workers = site.workers; queue = site.queue }
+front_site site name = record { name = name; realm = site.realm; profile = front_profile site; workers = site.workers; queue = site.queue }
 
 -- a front before its first event
 abbrev pub fresh_front : Site → Node → FrontState

@@ -14,6 +14,7 @@ use Rattle.farm_base.specs.declared.site.Link.{Link}
 use Rattle.farm_base.specs.declared.site.Node.{Node}
 use Rattle.farm_base.specs.declared.site.Route.{Route}
 use Rattle.farm_base.specs.declared.site.Site.{Site}
+use Rattle.farm_base.specs.FrontProfile.{front_profile}
 use Rattle.farm_model.specs.Run.{Past, Transition}
 use Rattle.farm_model.specs.World.{WorldState, front_at, relay_at}
 
@@ -23,7 +24,7 @@ use Rattle.farm_model.specs.World.{WorldState, front_at, relay_at}
 pub record IsFrontOf (site : Site) (node : Node) (front : FrontState) : Type 0 where
   pub name : front.site.name ≡ node.name
   pub realm : front.site.realm ≡ site.realm
-  pub vendors : front.site.vendors ≡ site.vendors
+  pub profile : front.site.profile ≡ front_profile site
   pub queue : front.site.queue ≡ site.queue
   pub workers : front.site.workers ≡ site.workers
   -- and so many there are

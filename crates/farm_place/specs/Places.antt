@@ -95,6 +95,7 @@ watch_site site at node address = record {
   realm = site.realm;
   address = host_of address;
   application = application_of node.kind;
+  advertised = site.advertise;
   neighbours = neighbours_from site at 0 site.nodes;
   interval = site.watchdog;
 }

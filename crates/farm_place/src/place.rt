@@ -56,6 +56,7 @@ fn watch_site(
         realm: site.realm.clone()?,
         address: host_of(address),
         application: application_of(node.kind),
+        advertised: site.advertise.clone()?,
         neighbours: neighbours_of(alloc, site, at)?,
         interval: site.watchdog,
     })

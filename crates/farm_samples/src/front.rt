@@ -5,6 +5,7 @@ use cc_book::{Account, Book, Money};
 use cc_rating::{Tariff, Tariffs, UnitKind};
 use dia_avp::{Octets, ViewWire};
 use dia_base::{ConnId, Identity, Listing, Moment};
+use dia_grammar::SiteProfile;
 use front_core::{Front, FrontEvent, FrontSite};
 use std::alloc::Global;
 
@@ -53,7 +54,7 @@ pub fn print_run(rt: &impl Print, alloc: Global) -> anyhow::Result<()> {
     let site = FrontSite {
         name: Identity::read(alloc, b"f1.example")?,
         realm: Identity::read(alloc, b"ocs.example")?,
-        vendors: Listing::empty(alloc),
+        profile: SiteProfile::strict(alloc, Listing::empty(alloc)),
         workers: 1,
         queue: 1,
     };

@@ -10,7 +10,7 @@ use Rattle.toml.specs.View.{items_of}
 use Rattle.dia_base.specs.Identity.{fault_of}
 use Rattle.farm_base.specs.CheckedSite.{is_visible, is_within, size_of}
 use Rattle.farm_site.specs.Faults.{IsFaultOf, IsOfKeys, IsOfOptionalKey, IsTableFault, StandsAt, of_entry, of_table}
-use Rattle.farm_site.specs.Forms.{Form, Need, account_id, all_items, any_text, form_of, has_more_than, has_too_many, has_type, identity_text, integer_of_size, is_in_range, is_integer, is_key, is_number, is_string, is_table, items_len, known_word, list_of_numbers, list_of_tables, list_of_texts, number_within, units_number, required}
+use Rattle.farm_site.specs.Forms.{Form, Need, account_id, all_items, any_text, form_of, has_more_than, has_too_many, has_type, identity_text, integer_of_size, is_in_range, is_integer, is_key, is_number, is_string, is_table, items_len, known_word, list_of_numbers, list_of_numbers_from, list_of_tables, list_of_texts, list_of_words, number_within, units_number, required}
 use Rattle.farm_site.specs.Spelling.{SpellsTable, has_32_bits, number, numbers, tables, texts, value_at, value_or}
 use Rattle.farm_site.specs.declared.fault.SiteFault.{SiteFault}
 use Rattle.farm_site.specs.declared.fault.SiteFault.TheVariants.{NotToml, Missing, WrongType, OutOfRange, Twice, UnknownName, BadIdentity, TooMany, BadLink, OutOfMemory}
@@ -108,9 +108,11 @@ all_pass : {A : Type 0} (value : A → Data) (test : Data → Bool) → ((a : A)
 all_pass value test pass [] = refl
 all_pass value test pass (x ∷ xs) = and_both (test (value x)) (all_items test (items_of (map value xs))) (pass x) (all_pass value test pass xs)
 
-all_in_range : (ns : List ℕ) → list_all has_32_bits ns ≡ true → all_items (is_number 0 4294967295) (items_of (map number ns)) ≡ true
-all_in_range [] small = refl
-all_in_range (n ∷ ns) small = and_both (has_32_bits n) (all_items (is_number 0 4294967295) (items_of (map number ns))) (and_left (has_32_bits n) (list_all has_32_bits ns) small) (all_in_range ns (and_right (has_32_bits n) (list_all has_32_bits ns) small))
+all_in_range : (least most : ℕ) (ns : List ℕ) → list_all (is_within least most) ns ≡ true → all_items (is_number least most) (items_of (map number ns)) ≡ true
+all_in_range least most [] within = refl
+all_in_range least most (n ∷ ns) within =
+    and_both (is_within least most n) (all_items (is_number least most) (items_of (map number ns))) (and_left (is_within least most n) (list_all (is_within least most) ns) within)
+    (all_in_range least most ns (and_right (is_within least most n) (list_all (is_within least most) ns) within))
 
 mapped_len : {A : Type 0} (value : A → Data) (xs : List A) → items_len (items_of (map value xs)) ≡ length xs
 mapped_len value [] = refl
@@ -126,7 +128,13 @@ pub texts_fit : (key : Key) (most : ℕ) (names : List (List ℕ)) → form_of k
 texts_fit key most names wants few = fits key (list_of_texts most) (texts names) wants (all_pass string is_string (λ name. refl) names) refl (not_too_many string names most few) (λ is. absurd cc)
 
 pub vendors_fit : (key : Key) (ns : List ℕ) → form_of key ≡ list_of_numbers → list_all has_32_bits ns ≡ true → Fits key (numbers ns)
-vendors_fit key ns wants small = fits key list_of_numbers (numbers ns) wants (all_pass number is_integer (λ n. refl) ns) (all_in_range ns small) refl (λ is. absurd cc)
+vendors_fit key ns wants small = fits key list_of_numbers (numbers ns) wants (all_pass number is_integer (λ n. refl) ns) (all_in_range 0 4294967295 ns small) refl (λ is. absurd cc)
+
+pub numbers_fit : (key : Key) (least most : ℕ) (ns : List ℕ) → form_of key ≡ list_of_numbers_from least most → list_all (is_within least 4294967295) ns ≡ true → length ns ≤ most → Fits key (numbers ns)
+numbers_fit key least most ns wants within few = fits key (list_of_numbers_from least most) (numbers ns) wants (all_pass number is_integer (λ n. refl) ns) (all_in_range least 4294967295 ns within) (not_too_many number ns most few) (λ is. absurd cc)
+
+pub words_fit : (key : Key) (words : List (List ℕ)) → form_of key ≡ list_of_words → Fits key (texts words)
+words_fit key words wants = fits key list_of_words (texts words) wants (all_pass string is_string (λ word. refl) words) refl refl (λ is. absurd cc)
 
 -- ---- keys that may be left out
 

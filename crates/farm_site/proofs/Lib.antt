@@ -1,7 +1,9 @@
 pub mod Checking
+pub mod Elements
 pub mod Faultless
 pub mod Fitting
 pub mod Following
+pub mod FreeCodes
 pub mod OneSite
 pub mod Owning
 pub mod Parting

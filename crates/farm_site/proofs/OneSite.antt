@@ -12,13 +12,15 @@ use Rattle.cc_rating.specs.declared.tariff.UnitKind.TheVariants.{Time, Octets, U
 use Rattle.dia_base.specs.declared.node.NodeKind.{NodeKind}
 use Rattle.dia_base.specs.declared.node.NodeKind.TheVariants.{Relay, Front, Client}
 use Rattle.dia_base.specs.declared.number.NodeNo.{NodeNo}
+use Rattle.dia_grammar.specs.declared.profile.Tolerance.{Tolerance}
+use Rattle.dia_grammar.specs.declared.profile.Tolerance.TheVariants.{OriginTwice, ApplicationInGroup}
 use Rattle.farm_base.specs.declared.site.Link.{Link}
 use Rattle.farm_base.specs.declared.site.Node.{Node}
 use Rattle.farm_base.specs.declared.site.Route.{Route}
 use Rattle.farm_base.specs.declared.site.Site.{Site}
 use Rattle.farm_site.specs.declared.key.Key.{Key}
 use Rattle.farm_site.specs.declared.key.Key.TheVariants as keys
-use Rattle.farm_site.specs.Spelling.{Names, NamesAllAt, NamesAt, SpellsAccount, SpellsLink, SpellsNode, SpellsRoute, SpellsSite, SpellsTable, SpellsTariff, is_named, node_word, number, numbers, tables, texts, unit_word, value_at}
+use Rattle.farm_site.specs.Spelling.{Names, NamesAllAt, NamesAt, SpellsAccount, SpellsLink, SpellsNode, SpellsRoute, SpellsSite, SpellsTable, SpellsTariff, is_named, node_word, number, numbers, tables, texts, tolerance_word, unit_word, value_at}
 
 -- ---- values
 
@@ -64,7 +66,7 @@ tables_same xs ys e = map_same table table_same xs ys (items_same (map table xs)
 pub texts_same : (xs ys : List (List ℕ)) → texts xs ≡ texts ys → xs ≡ ys
 texts_same xs ys e = map_same string string_same xs ys (items_same (map string xs) (map string ys) (array_same (items_of (map string xs)) (items_of (map string ys)) e))
 
-numbers_same : (xs ys : List ℕ) → numbers xs ≡ numbers ys → xs ≡ ys
+pub numbers_same : (xs ys : List ℕ) → numbers xs ≡ numbers ys → xs ≡ ys
 numbers_same xs ys e = map_same number number_same xs ys (items_same (map number xs) (map number ys) (array_same (items_of (map number xs)) (items_of (map number ys)) e))
 
 option_same : {A B : Type 0} (f : A → B) → ((a b : A) → f a ≡ f b → a ≡ b) → (x y : Option A) → option_map f x ≡ option_map f y → x ≡ y
@@ -101,6 +103,15 @@ unit_word_same Octets Units e = absurd (words_differ (unit_word Octets) (unit_wo
 unit_word_same Units Time e = absurd (words_differ (unit_word Units) (unit_word Time) e (λ first. omega arith))
 unit_word_same Units Octets e = absurd (words_differ (unit_word Units) (unit_word Octets) e (λ first. omega arith))
 unit_word_same Units Units e = refl
+
+pub tolerance_word_same : (a b : Tolerance) → tolerance_word a ≡ tolerance_word b → a ≡ b
+tolerance_word_same OriginTwice OriginTwice e = refl
+tolerance_word_same OriginTwice ApplicationInGroup e = absurd (words_differ (tolerance_word OriginTwice) (tolerance_word ApplicationInGroup) e (λ first. omega arith))
+tolerance_word_same ApplicationInGroup OriginTwice e = absurd (words_differ (tolerance_word ApplicationInGroup) (tolerance_word OriginTwice) e (λ first. omega arith))
+tolerance_word_same ApplicationInGroup ApplicationInGroup e = refl
+
+pub tolerances_same : (xs ys : List Tolerance) → texts (map tolerance_word xs) ≡ texts (map tolerance_word ys) → xs ≡ ys
+tolerances_same xs ys e = map_same tolerance_word tolerance_word_same xs ys (texts_same (map tolerance_word xs) (map tolerance_word ys) e)
 
 -- what stands at a key stands there alone
 pub text_at : (found : Option Data) (a b : List ℕ) → found ≡ Some (string a) → found ≡ Some (string b) → a ≡ b
@@ -204,6 +215,9 @@ one_site file a b p q =
     let workers : a.workers ≡ b.workers = number_or _ a.workers b.workers p.workers q.workers in
     let queue : a.queue ≡ b.queue = number_or _ a.queue b.queue p.queue q.queue in
     let vendors : a.vendors ≡ b.vendors = numbers_same a.vendors b.vendors (sym p.vendors ∙ q.vendors) in
+    let known : a.known ≡ b.known = numbers_same a.known b.known (sym p.known ∙ q.known) in
+    let tolerate : a.tolerate ≡ b.tolerate = tolerances_same a.tolerate b.tolerate (sym p.tolerate ∙ q.tolerate) in
+    let advertise : a.advertise ≡ b.advertise = numbers_same a.advertise b.advertise (sym p.advertise ∙ q.advertise) in
     let currency : a.currency ≡ b.currency = number_at _ a.currency b.currency p.currency q.currency in
     let exponent : a.exponent ≡ b.exponent = integer_at _ a.exponent b.exponent p.exponent q.exponent in
     let watchdog : a.watchdog ≡ b.watchdog = number_or _ a.watchdog b.watchdog p.watchdog q.watchdog in
@@ -219,6 +233,9 @@ one_site file a b p q =
       workers = workers i;
       queue = queue i;
       vendors = vendors i;
+      known = known i;
+      tolerate = tolerate i;
+      advertise = advertise i;
       currency = currency i;
       exponent = exponent i;
       watchdog = watchdog i;

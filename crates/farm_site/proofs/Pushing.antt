@@ -44,7 +44,7 @@ any_push test [] x e h = ap (λ b. b || false) h
 any_push test (y ∷ ys) x e h =
     ap (λ b. b || list_any test (ys ++ x ∷ [])) (or_left (test y) (list_any test ys) e) ∙ any_push test ys x (or_right (test y) (list_any test ys) e) h
 
-distinct_push : {A : Type 0} (same : A → A → Bool) (xs : List A) (x : A) → are_distinct same xs ≡ true → list_any (λ other. same other x) xs ≡ false → are_distinct same (xs ++ x ∷ []) ≡ true
+pub distinct_push : {A : Type 0} (same : A → A → Bool) (xs : List A) (x : A) → are_distinct same xs ≡ true → list_any (λ other. same other x) xs ≡ false → are_distinct same (xs ++ x ∷ []) ≡ true
 distinct_push same [] x e new = refl
 distinct_push same (y ∷ ys) x e new =
     and_both (not (list_any (same y) (ys ++ x ∷ []))) (are_distinct same (ys ++ x ∷ []))

@@ -1,5 +1,5 @@
 -- A text that spells a checked site is read as this site, or memory runs out.
-use Rattle.std.proofs.Common.{◌≡◌, ℕ, ◌<◌, ◌≤◌, Bool, true, false, List, [], ◌∷◌, length, Some, Result, Ok, Err, refl, sym, subst, ap, ◌∙◌, inl, inr, ◌⊎◌, arith}
+use Rattle.std.proofs.Common.{◌≡◌, ℕ, ◌<◌, ◌≤◌, Bool, true, false, List, [], ◌∷◌, length, map, Some, Result, Ok, Err, refl, sym, subst, ap, ◌∙◌, inl, inr, ◌⊎◌, arith}
 use Rattle.std.proofs.lemmas.Option.{same_Some}
 use Rattle.std.specs.List.{list_all}
 use Rattle.std.specs.Prelude.{IfErr, IfOk, IsSome, nat_le, nat_lt}
@@ -16,15 +16,16 @@ use Rattle.farm_base.specs.declared.site.Link.{Link}
 use Rattle.farm_base.specs.declared.site.Node.{Node}
 use Rattle.farm_base.specs.declared.site.Route.{Route}
 use Rattle.farm_base.specs.declared.site.Site.{Site}
-use Rattle.farm_site.specs.Faults.{AreNoFile, AreWhyOctets, IsAccountFault, IsFaultIn, IsLinkFault, IsNodeFault, IsRouteFault, IsTableFault, IsTariffFault, IsToldOf, IsWhyText, of_accounts, of_file, of_links, of_nodes, of_routes, of_tariffs}
+use Rattle.farm_site.specs.Faults.{AreNoFile, AreWhyOctets, IsAccountFault, IsFaultIn, IsLinkFault, IsNodeFault, IsRouteFault, IsTableFault, IsTariffFault, IsToldOf, IsWhyText, of_accounts, of_elements, of_file, of_links, of_nodes, of_routes, of_tariffs}
 use Rattle.farm_site.specs.Forms.{is_key, need_of_file, required}
-use Rattle.farm_site.specs.Spelling.{IsSiteFile, IsTyped, Spells, SpellsAccount, SpellsLink, SpellsNode, SpellsRoute, SpellsSite, SpellsTable, SpellsTariff, is_typed_route, is_typed_tariff, number, numbers, value_at}
+use Rattle.farm_site.specs.Spelling.{IsSiteFile, IsTyped, Spells, SpellsAccount, SpellsLink, SpellsNode, SpellsRoute, SpellsSite, SpellsTable, SpellsTariff, is_typed_route, is_typed_tariff, number, numbers, texts, tolerance_word, value_at}
 use Rattle.farm_site.specs.declared.fault.SiteFault.{SiteFault}
 use Rattle.farm_site.specs.declared.fault.SiteFault.TheVariants.{NotToml, Missing, WrongType, OutOfRange, Twice, UnknownName, BadIdentity, TooMany, BadLink, OutOfMemory}
 use Rattle.farm_site.specs.declared.key.Key.{Key}
 use Rattle.farm_site.specs.declared.key.Key.TheVariants as keys
+use Rattle.farm_site.proofs.Elements.{no_element_fault}
 use Rattle.farm_site.proofs.Faultless.{no_account_fault, no_link_fault, no_node_fault, no_route_fault, no_tariff_fault}
-use Rattle.farm_site.proofs.Fitting.{FitsAt, NoFaultBehind, default_fits, identity_fits, is_there, known_fits, no_fault_of, no_table_fault, number_fits, sized_fits, table_fits, vendors_fit}
+use Rattle.farm_site.proofs.Fitting.{FitsAt, NoFaultBehind, default_fits, identity_fits, is_there, known_fits, no_fault_of, no_table_fault, number_fits, numbers_fit, sized_fits, table_fits, vendors_fit, words_fit}
 use Rattle.farm_site.proofs.OneSite.{one_account, one_link, one_node, one_route, one_site, one_table, one_tariff}
 use Rattle.farm_site.proofs.Parting.{all_at, faultless_at, new_behind}
 use Rattle.farm_site.proofs.Pushing.{and_both}
@@ -53,6 +54,9 @@ file_key file site spelled checked typed keys.Limit has = default_fits keys.Limi
 file_key file site spelled checked typed keys.Workers has = default_fits keys.Workers file (number 2) (number site.workers) spelled.workers (number_fits keys.Workers 1 16 site.workers refl checked.workers)
 file_key file site spelled checked typed keys.Queue has = default_fits keys.Queue file (number 1024) (number site.queue) spelled.queue (number_fits keys.Queue 1 1024 site.queue refl checked.queue)
 file_key file site spelled checked typed keys.Vendors has = default_fits keys.Vendors file (numbers (10415 ∷ [])) (numbers site.vendors) spelled.vendors (vendors_fit keys.Vendors site.vendors refl typed.vendors)
+file_key file site spelled checked typed keys.Known has = default_fits keys.Known file (numbers []) (numbers site.known) spelled.known (numbers_fit keys.Known 462 256 site.known refl checked.free_codes (leb-true (length site.known) 256 checked.known_count))
+file_key file site spelled checked typed keys.Tolerate has = default_fits keys.Tolerate file (texts []) (texts (map tolerance_word site.tolerate)) spelled.tolerate (words_fit keys.Tolerate (map tolerance_word site.tolerate) refl)
+file_key file site spelled checked typed keys.Advertise has = default_fits keys.Advertise file (numbers []) (numbers site.advertise) spelled.advertise (numbers_fit keys.Advertise 0 16 site.advertise refl typed.advertise (leb-true (length site.advertise) 16 checked.advertise_count))
 file_key file site spelled checked typed keys.Currency has = known_fits keys.Currency file (number site.currency) spelled.currency (number_fits keys.Currency 0 999 site.currency refl (and_both (nat_le 0 site.currency) (nat_le site.currency 999) (le-leb 0 site.currency (omega arith)) checked.currency))
 file_key file site spelled checked typed keys.Exponent has = known_fits keys.Exponent file (integer site.exponent) spelled.exponent (sized_fits keys.Exponent 9 site.exponent refl checked.exponent)
 file_key file site spelled checked typed keys.Watchdog has = default_fits keys.Watchdog file (number 30000) (number site.watchdog) spelled.watchdog (number_fits keys.Watchdog 100 600000 site.watchdog refl checked.watchdog)
@@ -107,6 +111,7 @@ no_accounts_fault site checked before rest account entry fault whole spelled tol
 
 no_fault_in : (file : Members) (site : Site) (fault : SiteFault) → SpellsSite file site → IsChecked site → IsTyped site → IsFaultIn file fault → fault ≡ OutOfMemory
 no_fault_in file site fault spelled checked typed (of_file told of) = no_fault_of need_of_file file fault (record { fit = file_key file site spelled checked typed; stands = file_stands file site spelled }) told of
+no_fault_in file site fault spelled checked typed (of_elements told) = no_element_fault file site fault spelled checked told
 no_fault_in file site fault spelled checked typed (of_nodes told) = no_table_fault SpellsNode IsNodeFault one_node keys.Node file site.nodes fault (nodes_fit file site spelled checked) spelled.nodes (no_nodes_fault site checked) told
 no_fault_in file site fault spelled checked typed (of_links nodes are_nodes told) =
     let same : nodes ≡ site.nodes = one_table SpellsNode one_node keys.Node file nodes site.nodes are_nodes spelled.nodes in

@@ -20,7 +20,7 @@ use Rattle.farm_site.specs.declared.fault.SiteFault.{SiteFault}
 use Rattle.farm_site.specs.declared.fault.SiteFault.TheVariants.{NotToml, Missing, WrongType, OutOfRange, Twice, UnknownName, BadIdentity, TooMany, BadLink, OutOfMemory}
 use Rattle.farm_site.specs.declared.key.Key.{Key}
 use Rattle.farm_site.specs.declared.key.Key.TheVariants as keys
-use Rattle.farm_site.specs.Faults.{AreWhyOctets, IsAccountFault, IsFaultIn, IsFaultOf, IsGroupTwice, IsIdentTwice, IsLinkFault, IsOfKeys, IsNodeFault, IsRouteFault, IsTableFault, IsTariffFault, IsUnknownAmong, IsWhyText, NamesNone, of_accounts, of_entry, of_file, of_links, of_nodes, of_routes, of_table, of_tariffs}
+use Rattle.farm_site.specs.Faults.{AreWhyOctets, IsAccountFault, IsElementFault, IsFaultIn, IsFaultOf, IsGroupTwice, IsIdentTwice, IsLinkFault, IsOfKeys, IsNodeFault, IsRouteFault, IsTableFault, IsTariffFault, IsUnknownAmong, IsWhyText, NamesNone, of_accounts, of_elements, of_entry, of_file, of_links, of_nodes, of_routes, of_table, of_tariffs}
 use Rattle.farm_site.specs.Forms.{Form, all_in, all_items, form_of, has_more_than, has_type, is_in_range, items_len, need_of_account, on_integer}
 use Rattle.farm_site.specs.Spelling.{SpellsAccount, SpellsLink, SpellsNode, SpellsRoute, SpellsTariff, number, tables, tables_of, texts, value_at, value_or}
 
@@ -160,6 +160,7 @@ never_of_table spells IsFault key file never (of_entry before after entry items 
 
 never_told : (file : Members) → IsFaultIn file NotToml → ⊥
 never_told file (of_file told of) = told
+never_told file (of_elements told) = told
 never_told file (of_nodes told) = never_of_table SpellsNode IsNodeFault keys.Node file (λ items entry told. told.0) told
 never_told file (of_links nodes are_nodes told) = never_of_table (SpellsLink nodes) (IsLinkFault nodes) keys.Link file (λ items entry told. told.0) told
 never_told file (of_routes nodes links are_nodes are_links told) = never_of_table (SpellsRoute nodes) (IsRouteFault nodes links) keys.Route file (λ items entry told. told.0) told

@@ -12,7 +12,9 @@ use Rattle.cc_rating.specs.Tariffs.{rates, units_limit}
 use Rattle.dia_base.specs.Folding.{same_folded}
 use Rattle.dia_base.specs.Identity.{fault_of}
 use Rattle.dia_base.specs.declared.number.NodeNo.{NodeNo}
-use Rattle.farm_base.specs.CheckedSite.{is_candidate, is_known, joins_two_of, same_octets, same_pair}
+use Rattle.dia_grammar.specs.declared.profile.Tolerance.{Tolerance}
+use Rattle.farm_base.specs.CheckedSite.{is_candidate, is_known, joins_two_of, same_number, same_octets, same_pair}
+use Rattle.farm_base.specs.Lists.{are_distinct}
 use Rattle.farm_base.specs.Nodes.{is_client, is_front, is_node, is_relay}
 use Rattle.farm_base.specs.declared.site.Link.{Link}
 use Rattle.farm_base.specs.declared.site.Node.{Node}
@@ -23,7 +25,7 @@ use Rattle.farm_site.specs.declared.key.Key.{Key}
 use Rattle.farm_site.specs.declared.key.Key.TheVariants as keys
 use Rattle.farm_site.specs.Forms.{Need, form_of, has_type, identity_text, is_in_range, is_number, has_too_many, is_key, need_of_account, need_of_file, need_of_link, need_of_node, need_of_route, need_of_tariff, required}
 use Rattle.farm_site.specs.Graph.{site_over}
-use Rattle.farm_site.specs.Spelling.{Names, NamesAt, SpellsAccount, SpellsLink, SpellsNode, SpellsRoute, SpellsTable, SpellsTariff, is_named, node_word, number, tables, texts, unit_word, value_at, value_or}
+use Rattle.farm_site.specs.Spelling.{Names, NamesAt, SpellsAccount, SpellsLink, SpellsNode, SpellsRoute, SpellsTable, SpellsTariff, is_named, node_word, number, numbers, tables, texts, tolerance_word, unit_word, value_at, value_or}
 
 -- ---- what stands at one key
 
@@ -100,6 +102,35 @@ abbrev pub IsUnknownInRoute : List Node → List Link → Members → Key → Ty
 IsUnknownInRoute nodes links entry keys.At = IsUnknownAt nodes (is_relay (site_over nodes links)) keys.At entry
 IsUnknownInRoute nodes links entry keys.Peers = (relay : NodeNo) × NamesAt nodes keys.At entry relay × IsUnknownAmong nodes (is_candidate (site_over nodes links) relay) keys.Peers entry
 IsUnknownInRoute nodes links entry key = ⊥
+
+-- ---- elements of an array of the file
+
+-- one of the numbers at the key stands twice
+pub record IsNumberTwice (key : Key) (file : Members) : Type 0 where
+  pub ns : List ℕ
+  pub stand : value_at key file ≡ Some (numbers ns)
+  pub twice : are_distinct same_number ns ≡ false
+
+-- one of the names of tolerances does
+pub record IsToleranceTwice (file : Members) : Type 0 where
+  pub names : List (List ℕ)
+  pub stand : value_at keys.Tolerate file ≡ Some (texts names)
+  pub twice : are_distinct same_octets names ≡ false
+
+-- one of them is the name of none
+pub record IsNoTolerance (file : Members) : Type 0 where
+  pub names : List (List ℕ)
+  pub name : List ℕ
+  pub stand : value_at keys.Tolerate file ≡ Some (texts names)
+  pub among : Contains names name
+  pub none : (tolerance : Tolerance) → ¬ (name ≡ tolerance_word tolerance)
+
+abbrev pub IsElementFault : Members → SiteFault → Type 0
+IsElementFault file (Twice keys.Known) = IsNumberTwice keys.Known file
+IsElementFault file (Twice keys.Tolerate) = IsToleranceTwice file
+IsElementFault file (Twice keys.Advertise) = IsNumberTwice keys.Advertise file
+IsElementFault file (UnknownName keys.Tolerate) = IsNoTolerance file
+IsElementFault file fault = ⊥
 
 -- ---- links
 
@@ -208,9 +239,10 @@ pub data IsTableFault {A : Type 0} (spells : Members → A → Type 0) (IsFault 
   of_table : IsFaultOf file fault → IsOfOptionalKey key fault → IsTableFault spells IsFault key file fault
   of_entry : (before after : List Members) (entry : Members) (items : List A) → value_or (tables []) key file ≡ tables (before ++ entry ∷ after) → AllZip spells before items → IsFault items entry fault → IsTableFault spells IsFault key file fault
 
--- of the file as a whole, or of one of its tables: of links between the nodes of the file, of routes over its links
+-- of the file as a whole, of an element of one of its arrays, or of one of its tables: of links between the nodes of the file, of routes over its links
 pub data IsFaultIn (file : Members) (fault : SiteFault) : Type 0 where
   of_file : IsFaultOf file fault → IsOfKeys need_of_file fault → IsFaultIn file fault
+  of_elements : IsElementFault file fault → IsFaultIn file fault
   of_nodes : IsTableFault SpellsNode IsNodeFault keys.Node file fault → IsFaultIn file fault
   of_links : (nodes : List Node) → SpellsTable SpellsNode keys.Node file nodes → IsTableFault (SpellsLink nodes) (IsLinkFault nodes) keys.Link file fault → IsFaultIn file fault
   of_routes : (nodes : List Node) (links : List Link) → SpellsTable SpellsNode keys.Node file nodes → SpellsTable (SpellsLink nodes) keys.Link file links → IsTableFault (SpellsRoute nodes) (IsRouteFault nodes links) keys.Route file fault → IsFaultIn file fault

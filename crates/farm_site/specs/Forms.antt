@@ -4,13 +4,14 @@ use Rattle.std.specs.List.{list_all}
 use Rattle.toml.specs.Data.{Data, Items, no_items, item, as_array, as_integer, as_str, as_table}
 use Rattle.farm_base.specs.CheckedSite.{is_visible, is_within, size_of}
 use Rattle.farm_site.specs.declared.key.Key.{Key}
-use Rattle.farm_site.specs.declared.key.Key.TheVariants.{Realm, Validity, Limit, Workers, Queue, Vendors, Currency, Exponent, Watchdog, Node, Link, Route, Tariff, Account, Name, Kind, Address, From, To, At, App, Peers, Group, Ident, Block, Price, Quantum, Greatest, IdKind, Id, Opening}
+use Rattle.farm_site.specs.declared.key.Key.TheVariants.{Realm, Validity, Limit, Workers, Queue, Vendors, Known, Tolerate, Advertise, Currency, Exponent, Watchdog, Node, Link, Route, Tariff, Account, Name, Kind, Address, From, To, At, App, Peers, Group, Ident, Block, Price, Quantum, Greatest, IdKind, Id, Opening}
 
 -- ---- forms
 
 -- A text; an identity; a text, or a number, of which the entry says which are in range; the text of an account; a number
--- from the least to the most; an integer of at most a size; an array of numbers of 32 bits; an array of at most so many
--- texts, or tables.
+-- from the least to the most; an integer of at most a size; an array of numbers of 32 bits; an array of at most so many of
+-- them, from the least; an array of texts, of which the file says which are known; an array of at most so many texts, or
+-- tables.
 pub data Form : Type 0 where
   any_text : Form
   identity_text : Form
@@ -20,6 +21,8 @@ pub data Form : Type 0 where
   number_within : ℕ → ℕ → Form
   integer_of_size : ℕ → Form
   list_of_numbers : Form
+  list_of_numbers_from : ℕ → ℕ → Form
+  list_of_words : Form
   list_of_texts : ℕ → Form
   list_of_tables : ℕ → Form
 
@@ -30,6 +33,9 @@ form_of Limit = number_within 1 1048576
 form_of Workers = number_within 1 16
 form_of Queue = number_within 1 1024
 form_of Vendors = list_of_numbers
+form_of Known = list_of_numbers_from 462 256
+form_of Tolerate = list_of_words
+form_of Advertise = list_of_numbers_from 0 16
 form_of Currency = number_within 0 999
 form_of Exponent = integer_of_size 9
 form_of Watchdog = number_within 100 600000
@@ -77,6 +83,9 @@ need_of_file Limit = optional
 need_of_file Workers = optional
 need_of_file Queue = optional
 need_of_file Vendors = optional
+need_of_file Known = optional
+need_of_file Tolerate = optional
+need_of_file Advertise = optional
 need_of_file Currency = required
 need_of_file Exponent = required
 need_of_file Watchdog = optional
@@ -133,6 +142,8 @@ is_for_text account_id = true
 is_for_text (number_within least most) = false
 is_for_text (integer_of_size size) = false
 is_for_text list_of_numbers = false
+is_for_text (list_of_numbers_from least most) = false
+is_for_text list_of_words = false
 is_for_text (list_of_texts most) = false
 is_for_text (list_of_tables most) = false
 
@@ -146,6 +157,8 @@ covers least most account_id = false
 covers least most (number_within from to) = nat_le least from && nat_le to most
 covers least most (integer_of_size size) = false
 covers least most list_of_numbers = false
+covers least most (list_of_numbers_from from count) = false
+covers least most list_of_words = false
 covers least most (list_of_texts count) = false
 covers least most (list_of_tables count) = false
 
@@ -178,6 +191,8 @@ has_type account_id value = is_string value
 has_type (number_within least most) value = is_integer value
 has_type (integer_of_size size) value = is_integer value
 has_type list_of_numbers value = all_in is_integer (as_array value)
+has_type (list_of_numbers_from least most) value = all_in is_integer (as_array value)
+has_type list_of_words value = all_in is_string (as_array value)
 has_type (list_of_texts most) value = all_in is_string (as_array value)
 has_type (list_of_tables most) value = all_in is_table (as_array value)
 
@@ -212,6 +227,8 @@ is_in_range account_id value = is_account_text (as_str value)
 is_in_range (number_within least most) value = is_number least most value
 is_in_range (integer_of_size size) value = is_sized size value
 is_in_range list_of_numbers value = all_in (is_number 0 4294967295) (as_array value)
+is_in_range (list_of_numbers_from least most) value = all_in (is_number least 4294967295) (as_array value)
+is_in_range list_of_words value = true
 is_in_range (list_of_texts most) value = true
 is_in_range (list_of_tables most) value = true
 
@@ -234,5 +251,7 @@ has_too_many account_id value = false
 has_too_many (number_within least most) value = false
 has_too_many (integer_of_size size) value = false
 has_too_many list_of_numbers value = false
+has_too_many (list_of_numbers_from least most) value = has_more_than most (as_array value)
+has_too_many list_of_words value = false
 has_too_many (list_of_texts most) value = has_more_than most (as_array value)
 has_too_many (list_of_tables most) value = has_more_than most (as_array value)

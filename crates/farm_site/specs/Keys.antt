@@ -1,7 +1,7 @@
 -- How the file of a site spells its keys.
 use Rattle.std.specs.Prelude.{ℕ, List, codes}
 use Rattle.farm_site.specs.declared.key.Key.{Key}
-use Rattle.farm_site.specs.declared.key.Key.TheVariants.{Realm, Validity, Limit, Workers, Queue, Vendors, Currency, Exponent, Watchdog, Node, Link, Route, Tariff, Account, Name, Kind, Address, From, To, At, App, Peers, Group, Ident, Block, Price, Quantum, Greatest, IdKind, Id, Opening}
+use Rattle.farm_site.specs.declared.key.Key.TheVariants.{Realm, Validity, Limit, Workers, Queue, Vendors, Known, Tolerate, Advertise, Currency, Exponent, Watchdog, Node, Link, Route, Tariff, Account, Name, Kind, Address, From, To, At, App, Peers, Group, Ident, Block, Price, Quantum, Greatest, IdKind, Id, Opening}
 
 -- a key as the file spells it
 abbrev pub spelled : Key → List ℕ
@@ -11,6 +11,9 @@ spelled Limit = codes "limit"
 spelled Workers = codes "workers"
 spelled Queue = codes "queue"
 spelled Vendors = codes "vendors"
+spelled Known = codes "known"
+spelled Tolerate = codes "tolerate"
+spelled Advertise = codes "advertise"
 spelled Currency = codes "currency"
 spelled Exponent = codes "exponent"
 spelled Watchdog = codes "watchdog"

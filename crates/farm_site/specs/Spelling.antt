@@ -15,6 +15,8 @@ use Rattle.dia_base.specs.Identity.{fault_of}
 use Rattle.dia_base.specs.declared.node.NodeKind.{NodeKind}
 use Rattle.dia_base.specs.declared.node.NodeKind.TheVariants.{Relay, Front, Client}
 use Rattle.dia_base.specs.declared.number.NodeNo.{NodeNo}
+use Rattle.dia_grammar.specs.declared.profile.Tolerance.{Tolerance}
+use Rattle.dia_grammar.specs.declared.profile.Tolerance.TheVariants.{OriginTwice, ApplicationInGroup}
 use Rattle.farm_base.specs.CheckedSite.{IsChecked, is_within}
 use Rattle.farm_base.specs.declared.site.Link.{Link}
 use Rattle.farm_base.specs.declared.site.Node.{Node}
@@ -57,6 +59,10 @@ abbrev pub unit_word : UnitKind → List ℕ
 unit_word Time = codes "time"
 unit_word Octets = codes "octets"
 unit_word Units = codes "units"
+
+abbrev pub tolerance_word : Tolerance → List ℕ
+tolerance_word OriginTwice = codes "origin-twice"
+tolerance_word ApplicationInGroup = codes "application-in-group"
 
 -- ---- tables
 
@@ -137,6 +143,9 @@ pub record SpellsSite (file : Members) (site : Site) : Type 0 where
   pub workers : value_or (number 2) keys.Workers file ≡ number site.workers
   pub queue : value_or (number 1024) keys.Queue file ≡ number site.queue
   pub vendors : value_or (numbers (10415 ∷ [])) keys.Vendors file ≡ numbers site.vendors
+  pub known : value_or (numbers []) keys.Known file ≡ numbers site.known
+  pub tolerate : value_or (texts []) keys.Tolerate file ≡ texts (map tolerance_word site.tolerate)
+  pub advertise : value_or (numbers []) keys.Advertise file ≡ numbers site.advertise
   pub currency : value_at keys.Currency file ≡ Some (number site.currency)
   pub exponent : value_at keys.Exponent file ≡ Some (integer site.exponent)
   pub watchdog : value_or (number 30000) keys.Watchdog file ≡ number site.watchdog
@@ -170,6 +179,7 @@ is_typed_tariff tariff = may_have_32_bits tariff.group && may_have_32_bits tarif
 pub record IsTyped (site : Site) : Type 0 where
   pub realm : fault_of site.realm ≡ None
   pub vendors : list_all has_32_bits site.vendors ≡ true
+  pub advertise : list_all has_32_bits site.advertise ≡ true
   pub routes : list_all is_typed_route site.routes ≡ true
   pub tariffs : list_all is_typed_tariff site.tariffs ≡ true
 

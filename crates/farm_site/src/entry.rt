@@ -3,9 +3,10 @@
 ghost use Rattle.std.specs.Prelude.{◌≡◌, ◌≤◌, ◌⊎◌, [], ◌∷◌, IfErr, IfOk, None, true, false, length, vec_len, nat_le, map, option_map, pos};
 ghost use Rattle.std.specs.List.{list_all};
 ghost use Rattle.dia_base.specs.Identity.{fault_of};
-ghost use Rattle.farm_base.specs.CheckedSite.{is_within, size_of};
-ghost use Rattle.farm_site.specs.Faults.{IsFaultOf, IsOfKey, IsOfOptionalKey, StandsAt};
-ghost use Rattle.farm_site.specs.Forms.{all_items, covers, form_of, has_more_than, identity_text, integer_of_size, is_for_text, is_from_to, is_integer, is_number, is_string, is_table, list_of_numbers, list_of_tables, list_of_texts, units_number};
+ghost use Rattle.farm_base.specs.CheckedSite.{is_within, same_number, size_of};
+ghost use Rattle.farm_base.specs.Lists.{are_distinct};
+ghost use Rattle.farm_site.specs.Faults.{IsFaultOf, IsNumberTwice, IsOfKey, IsOfOptionalKey, StandsAt};
+ghost use Rattle.farm_site.specs.Forms.{all_items, covers, form_of, has_more_than, identity_text, integer_of_size, is_for_text, is_from_to, is_integer, is_number, is_string, is_table, list_of_numbers, list_of_numbers_from, list_of_tables, list_of_texts, list_of_words, units_number};
 ghost use Rattle.farm_site.specs.Spelling.{has_32_bits, may_have_32_bits, value_at, value_or, number, numbers, texts, tables, tables_of};
 ghost use Rattle.toml.specs.Data.{string, integer, array, table, as_array};
 ghost use Rattle.toml.specs.View.{table_view, view, items_view};
@@ -175,7 +176,6 @@ impl<'a> Entry<'a> {
     }
 
     /// The numbers of the array at a key, or this one alone where the key is absent.
-    #[tactic(auto, using(crate::proofs::Pushing::all_push))]
     pub fn numbers_or(self, alloc: Global, key: Key, absent: u32) -> Result<Vec<u32>, SiteFault>
         ensures small { IfOk result (λ read. list_all has_32_bits read.items ≡ true) }
         ensures value { IfOk result (λ read. value_or (numbers (absent ∷ [])) key (table_view self.entry.table.now) ≡ numbers read.items) }
@@ -185,12 +185,34 @@ impl<'a> Entry<'a> {
         let Some(value) = self.find(key) else {
             return Ok(vec![in alloc; absent]?);
         };
-        let integers = integers_of(alloc, key, array_of(key, value)?)?;
-        let mut numbers = Vec::new(alloc);
-        for integer in &integers {
-            numbers.push(small_of(key, *integer)?)?;
+        numbers_of(alloc, key, array_of(key, value)?, 0)
+    }
+
+    /// The numbers of the array at a key, from the least, each once; none where the key is absent. How many they are is
+    /// judged before any is looked at, and that each is in range before which stands twice.
+    pub fn numbers_once(
+        self,
+        alloc: Global,
+        key: Key,
+        least: u32,
+        most: usize,
+    ) -> Result<Vec<u32>, SiteFault>
+        ensures count { IfOk result (λ read. vec_len read ≤ most) }
+        ensures range { IfOk result (λ read. list_all (is_within least 4294967295) read.items ≡ true) }
+        ensures once { IfOk result (λ read. are_distinct same_number read.items ≡ true) }
+        ensures value { IfOk result (λ read. value_or (numbers []) key (table_view self.entry.table.now) ≡ numbers read.items) }
+        ensures fault { form_of key ≡ list_of_numbers_from least most → IfErr result (λ fault. IsFaultOf (table_view self.entry.table.now) fault ⊎ ((fault ≡ SiteFault.Twice key) × IsNumberTwice key (table_view self.entry.table.now))) }
+        ensures told { IfErr result (IsOfOptionalKey key) }
+    {
+        let Some(value) = self.find(key) else {
+            return Ok(Vec::new(alloc));
+        };
+        let numbers = numbers_of(alloc, key, array_within(key, value, most)?, least)?;
+        if are_distinct(&numbers) {
+            Ok(numbers)
+        } else {
+            Err(SiteFault::Twice { key })
         }
-        Ok(numbers)
     }
 
     /// The texts of the array at a key that must be there. How many they are is judged before any is looked at.
@@ -200,12 +222,19 @@ impl<'a> Entry<'a> {
         ensures fault { form_of key ≡ list_of_texts most → IfErr result (IsFaultOf (table_view self.entry.table.now)) }
         ensures told { IfErr result (IsOfKey key) }
     {
-        let values = array_within(key, self.value(key)?, most)?;
-        let mut texts = Vec::new(alloc);
-        for value in values {
-            texts.push(text_of(key, value)?)?;
+        texts_of(alloc, key, array_within(key, self.value(key)?, most)?)
+    }
+
+    /// The texts of the array at a key, which has none where the key is absent.
+    pub fn optional_texts(self, alloc: Global, key: Key) -> Result<Vec<&'a str>, SiteFault>
+        ensures value { IfOk result (λ read. value_or (texts []) key (table_view self.entry.table.now) ≡ texts (map (λ text. text.now) read.items)) }
+        ensures fault { form_of key ≡ list_of_words → IfErr result (IsFaultOf (table_view self.entry.table.now)) }
+        ensures told { IfErr result (IsOfOptionalKey key) }
+    {
+        match self.find(key) {
+            None => Ok(Vec::new(alloc)),
+            Some(value) => texts_of(alloc, key, array_of(key, value)?),
         }
-        Ok(texts)
     }
 
     /// The entries of the array of tables at a key, which has none where the key is absent. How many they are is
@@ -263,13 +292,16 @@ fn unsigned_of(key: Key, value: &Value, least: u64, most: u64) -> Result<u64, Si
     }
 }
 
-/// The integer, where it is from 0 to 4294967295.
-fn small_of(key: Key, integer: i64) -> Result<u32, SiteFault>
-    ensures small { IfOk result (λ n. has_32_bits n ≡ true) }
+/// The integer, where it is from the least to 4294967295.
+fn small_of(key: Key, integer: i64, least: u32) -> Result<u32, SiteFault>
+    ensures range { IfOk result (λ n. is_within least 4294967295 n ≡ true) }
     ensures value { IfOk result (λ n. integer ≡ pos n) }
-    ensures fault { IfErr result (λ fault. (fault ≡ SiteFault.OutOfRange key) × (is_from_to 0 4294967295 integer ≡ false)) }
+    ensures fault { IfErr result (λ fault. (fault ≡ SiteFault.OutOfRange key) × (is_from_to least 4294967295 integer ≡ false)) }
 {
-    u32::try_from(integer).map_err(|_| SiteFault::OutOfRange { key })
+    match u32::try_from(integer) {
+        Ok(number) if least <= number => Ok(number),
+        Ok(_) | Err(_) => Err(SiteFault::OutOfRange { key }),
+    }
 }
 
 fn array_of(key: Key, value: &Value) -> Result<&[Value], SiteFault>
@@ -292,6 +324,46 @@ fn array_within(key: Key, value: &Value, most: usize) -> Result<&[Value], SiteFa
         return Err(SiteFault::TooMany { key });
     }
     Ok(values)
+}
+
+/// The numbers of an array. That all are integers is judged before the range of any.
+#[tactic(auto, using(crate::proofs::Pushing::all_push))]
+fn numbers_of(alloc: Global, key: Key, values: &[Value], least: u32) -> Result<Vec<u32>, SiteFault>
+    ensures count { IfOk result (λ read. vec_len read ≡ length values.now) }
+    ensures range { IfOk result (λ read. list_all (is_within least 4294967295) read.items ≡ true) }
+    ensures value { IfOk result (λ read. map view values.now ≡ map number read.items) }
+    ensures fault { IfErr result (λ fault. (fault ≡ SiteFault.OutOfMemory) ⊎ ((fault ≡ SiteFault.WrongType key) × (all_items is_integer (items_view values.now) ≡ false)) ⊎ ((fault ≡ SiteFault.OutOfRange key) × (all_items (is_number least 4294967295) (items_view values.now) ≡ false))) }
+{
+    let integers = integers_of(alloc, key, values)?;
+    let mut numbers = Vec::new(alloc);
+    for integer in &integers {
+        numbers.push(small_of(key, *integer, least)?)?;
+    }
+    Ok(numbers)
+}
+
+/// Whether no number stands twice.
+fn are_distinct(numbers: &[u32]) -> bool
+    ensures { result ≡ are_distinct same_number numbers.now }
+{
+    for (place, number) in numbers.iter().enumerate() {
+        if numbers[..place].contains(number) {
+            return false;
+        }
+    }
+    true
+}
+
+fn texts_of<'a>(alloc: Global, key: Key, values: &'a [Value]) -> Result<Vec<&'a str>, SiteFault>
+    ensures count { IfOk result (λ read. vec_len read ≡ length values.now) }
+    ensures value { IfOk result (λ read. map view values.now ≡ map string (map (λ text. text.now) read.items)) }
+    ensures fault { IfErr result (λ fault. (fault ≡ SiteFault.OutOfMemory) ⊎ ((fault ≡ SiteFault.WrongType key) × (all_items is_string (items_view values.now) ≡ false))) }
+{
+    let mut texts = Vec::new(alloc);
+    for value in values {
+        texts.push(text_of(key, value)?)?;
+    }
+    Ok(texts)
 }
 
 fn integers_of(alloc: Global, key: Key, values: &[Value]) -> Result<Vec<i64>, SiteFault>

@@ -1,8 +1,11 @@
 //! What a text spells, and has no fault where it spells a site; worked examples: whose names are unknown, which links no
 //! site may have, and what stands twice.
 
-ghost use Rattle.std.specs.Prelude.{◌≡◌, ℕ, List, [], ◌∷◌, codes, map, true, false};
+ghost use Rattle.std.specs.Prelude.{◌≡◌, ℕ, List, [], ◌∷◌, codes, map, None, true, false};
+ghost use Rattle.std.specs.List.{Contains};
 ghost use Rattle.std.specs.Str.{IsUtf8};
+ghost use Rattle.dia_dict.specs.Dictionary.{row_of};
+ghost use Rattle.dia_grammar.specs.Grammar.{is_standard};
 ghost use Rattle.farm_base.specs.declared.site.Site.{Site};
 ghost use Rattle.farm_site.specs.FaultExample.{entry_of_link, entry_of_node, five_nodes, link, one_link};
 ghost use Rattle.farm_site.specs.Faults.{AreWhyOctets, IsLinkFault, IsNodeFault, IsWhyText, is_bad_link};
@@ -20,6 +23,12 @@ pub fn one_site()
 pub fn site_files_have_no_fault()
     ensures text { (text : List ℕ) (site : Site) (fault : SiteFault) → IsSiteFile text site → IsWhyText text fault → fault ≡ OutOfMemory }
     ensures octets { (octets : List ℕ) (site : Site) (fault : SiteFault) → IsUtf8 octets → IsSiteFile octets site → AreWhyOctets octets fault → fault ≡ OutOfMemory }
+{}
+
+/// No site file makes a code known that is known without it: none with a row in the dictionary, and none of those from 1 to 461.
+pub fn known_codes_are_none_of_the_dictionary()
+    ensures row { (text : List ℕ) (site : Site) (code : ℕ) → IsSiteFile text site → Contains site.known code → row_of code 0 ≡ None }
+    ensures standard { (text : List ℕ) (site : Site) (code : ℕ) → IsSiteFile text site → Contains site.known code → is_standard code 0 ≡ false }
 {}
 
 /// A link of a node with itself is bad, of two clients, of two fronts, and of two nodes that are linked already, in

@@ -7,6 +7,9 @@
 //! workers = 2                # 1 to 16 (2): of each front
 //! queue = 1024               # 1 to 1024 (1024): the most requests that wait at a front
 //! vendors = [10415]          # 0 to 4294967295 each ([10415]): whose AVPs are known, beside vendor 0
+//! known = [480, 485]         # 462 to 4294967295 each, at most 256 ([]): codes of vendor 0 that are known beside the dictionary's
+//! tolerate = ["origin-twice"] # or "application-in-group" ([]): deviations of clients that are tolerated
+//! advertise = [10415]        # 0 to 4294967295 each, at most 16 ([]): vendors for which credit control is advertised
 //! currency = 978             # 0 to 999: Currency-Code
 //! exponent = -2              # -9 to 9: a minor unit is ten to this power of the currency
 //! watchdog = 30000           # 100 to 600000 (30000): milliseconds
@@ -41,7 +44,8 @@
 //! ```
 //!
 //! Unknown keys are ignored; a table that is missing has no entries. A link joins two nodes, not two
-//! clients and not two fronts, and each two nodes once, in either direction. No two routes have one
+//! clients and not two fronts, and each two nodes once, in either direction. No code, name or vendor stands twice in
+//! `known`, `tolerate` or `advertise`. No two routes have one
 //! relay, realm and application, no two tariffs one group or one identifier, and no two accounts one
 //! type and one text.
 //!
@@ -52,11 +56,12 @@
 //! - [`SiteFault`] with its [`Key`]: why a text is no site, with the words that are printed.
 //! - [`one_site`], [`site_files_have_no_fault`]: a text spells one site at most, and where it does, no fault could be told
 //!   of it.
+//! - [`known_codes_are_none_of_the_dictionary`]: what a site makes known was not known without it.
 //! - [`links_join_two_nodes_once`], [`ends_are_nodes_of_the_file`], [`names_stand_once`]: worked examples of faults that
 //!   other entries decide.
 //!
-//! Inside, `entry` reads a key of a table, `graph` finds nodes and links by name, and `node`, `link`,
-//! `route`, `tariff` and `account` each read a table of the file.
+//! Inside, `entry` reads a key of a table, `client` what deviates in clients, `graph` finds nodes and links by name, and
+//! `node`, `link`, `route`, `tariff` and `account` each read a table of the file.
 //!
 //! ```text
 //! use farm_site::site_of;
@@ -80,6 +85,7 @@ ghost use Rattle.toml.specs.Parse.{parse_document};
 ghost use Rattle.toml.specs.View.{table_view};
 
 mod account;
+mod client;
 mod entry;
 mod fault;
 mod graph;
@@ -91,6 +97,7 @@ mod route;
 mod tariff;
 
 use account::accounts_of;
+use client::{advertised_of, known_of, tolerated_of};
 use dia_base::{HISTORY_LIMIT, Listing, QUEUE_LIMIT, WORKER_LIMIT};
 use entry::Entry;
 use farm_base::Site;
@@ -98,8 +105,8 @@ pub use fault::SiteFault;
 use graph::Graph;
 pub use key::Key;
 pub use laws::{
-    ends_are_nodes_of_the_file, links_join_two_nodes_once, names_stand_once, one_site,
-    site_files_have_no_fault,
+    ends_are_nodes_of_the_file, known_codes_are_none_of_the_dictionary, links_join_two_nodes_once,
+    names_stand_once, one_site, site_files_have_no_fault,
 };
 use link::links_of;
 use node::nodes_of;
@@ -135,8 +142,9 @@ pub fn site_of_octets(alloc: Global, octets: &[u8]) -> Result<Site, SiteFault>
 /// [`Key`], tables entry by entry and the keys of an entry in their order; the first that has a fault
 /// is told. Of one key the faults come in the order of [`SiteFault`], but for these:
 ///
-/// - `TooMany` comes before anything is looked at in a table or in `peers`. Then an array with an
-///   element of another type than its own is `WrongType`.
+/// - `TooMany` comes before anything is looked at in a table, in `known`, in `advertise` or in `peers`. Then an array
+///   with an element of another type than its own is `WrongType`.
+/// - the names of `tolerate` are looked at one by one: `UnknownName` or `Twice`.
 /// - a tariff with neither group nor identifier is `Missing group`, one with both `Twice ident`.
 /// - `Twice route` is told before `peers` is read, and `Twice id` before `opening`.
 pub fn site_of(alloc: Global, text: &str) -> Result<Site, SiteFault>
@@ -181,6 +189,9 @@ fn site_in(alloc: Global, file: Entry) -> Result<Site, SiteFault>
     let workers = file.unsigned32_or(Key::Workers, 1, WORKER_LIMIT, 2)?;
     let queue = file.unsigned32_or(Key::Queue, 1, QUEUE_LIMIT, QUEUE_LIMIT)?;
     let vendors = file.numbers_or(alloc, Key::Vendors, 10_415)?;
+    let known = known_of(alloc, file)?;
+    let tolerate = tolerated_of(alloc, file)?;
+    let advertise = advertised_of(alloc, file)?;
     let currency = file.unsigned32(Key::Currency, 0, 999)?;
     let exponent = exponent_of(file)?;
     let watchdog = file.unsigned32_or(Key::Watchdog, 100, 600_000, 30_000)?;
@@ -200,6 +211,9 @@ fn site_in(alloc: Global, file: Entry) -> Result<Site, SiteFault>
         workers,
         queue,
         vendors: Listing::from_vec(vendors),
+        known: Listing::from_vec(known),
+        tolerate: Listing::from_vec(tolerate),
+        advertise: Listing::from_vec(advertise),
         currency,
         exponent,
         watchdog,

@@ -31,6 +31,9 @@ host_ip_address = 257
 abbrev pub vendor_specific_application_id : ℕ
 vendor_specific_application_id = 260
 
+abbrev pub supported_vendor_id : ℕ
+supported_vendor_id = 265
+
 abbrev pub vendor_id : ℕ
 vendor_id = 266
 

@@ -1,9 +1,9 @@
 -- The messages between two neighbours, octet for octet (RFC 6733, sections 5.3 to 5.5).
-use Rattle.std.specs.Prelude.{ℕ, List, [], ◌∷◌, ◌++◌, Bool, true, false, ◌==◌, codes, if◌then◌else◌, pos}
+use Rattle.std.specs.Prelude.{ℕ, List, [], ◌∷◌, ◌++◌, Bool, true, false, ◌==◌, codes, flat_map, if◌then◌else◌, pos}
 use Rattle.dia_base.specs.Codes.{auth_application_id, origin_host, origin_realm, product_name, result_code, credit_control_application}
 use Rattle.dia_avp.specs.declared.avp.RawAvp.{RawAvp}
 use Rattle.dia_avp.specs.AvpList.{written_list}
-use Rattle.dia_dict.specs.declared.value.Typed.TheVariants.{Unsigned32, Enumerated, Utf8String, DiameterIdentity, Address}
+use Rattle.dia_dict.specs.declared.value.Typed.TheVariants.{Unsigned32, Enumerated, Utf8String, DiameterIdentity, Address, Grouped}
 use Rattle.dia_dict.specs.Reading.{avp_of}
 use Rattle.dia_message.specs.declared.header.Header.{Header}
 use Rattle.dia_message.specs.declared.message.Message.{Message}
@@ -14,7 +14,7 @@ use Rattle.farm_watch.specs.declared.site.Application.TheVariants.{Relay, Credit
 use Rattle.farm_watch.specs.declared.site.HostAddress.{HostAddress}
 use Rattle.farm_watch.specs.declared.site.HostAddress.TheVariants.{V4, V6}
 use Rattle.farm_watch.specs.declared.site.WatchSite.{WatchSite}
-use Rattle.farm_watch.specs.Numbers.{capabilities_exchange, device_watchdog, disconnect_peer, common_messages, relay_application, host_ip_address, vendor_id, disconnect_cause}
+use Rattle.farm_watch.specs.Numbers.{capabilities_exchange, device_watchdog, disconnect_peer, common_messages, relay_application, host_ip_address, vendor_specific_application_id, supported_vendor_id, vendor_id, disconnect_cause}
 
 -- ---- which message it is
 
@@ -63,14 +63,29 @@ abbrev pub application_number : Application → ℕ
 application_number Relay = relay_application
 application_number CreditControl = credit_control_application
 
--- what it can do (5.3)
-abbrev pub capabilities_part : WatchSite → List RawAvp
-capabilities_part site =
+-- what it can do, for whatever vendor (5.3)
+abbrev pub own_part : WatchSite → List RawAvp
+own_part site =
     origin_part site
     ++ avp_of host_ip_address (Address (address_octets site.address)) ∷ []
     ++ avp_of vendor_id (Unsigned32 0) ∷ []
     ++ avp_of product_name (Utf8String (codes "Diameter relay farm")) ∷ []
     ++ avp_of auth_application_id (Unsigned32 (application_number site.application)) ∷ []
+
+-- credit control as an application of a vendor (6.11)
+abbrev pub vendor_application : ℕ → List RawAvp
+vendor_application vendor =
+    avp_of vendor_id (Unsigned32 vendor) ∷ avp_of auth_application_id (Unsigned32 credit_control_application) ∷ []
+
+-- it speaks credit control for a vendor, whether it is a relay or not (5.3.6, 6.11)
+abbrev pub vendor_part : ℕ → List RawAvp
+vendor_part vendor =
+    avp_of supported_vendor_id (Unsigned32 vendor)
+    ∷ avp_of vendor_specific_application_id (Grouped (written_list (vendor_application vendor))) ∷ []
+
+-- what it can do, and for each vendor in order that it speaks credit control for that one (5.3)
+abbrev pub capabilities_part : WatchSite → List RawAvp
+capabilities_part site = own_part site ++ flat_map vendor_part site.advertised
 
 abbrev pub result_part : ℕ → List RawAvp
 result_part code = avp_of result_code (Unsigned32 code) ∷ []

@@ -20,6 +20,8 @@ pub const HOST_IP_ADDRESS: u32 = 257;
 
 pub const VENDOR_SPECIFIC_APPLICATION_ID: u32 = 260;
 
+pub const SUPPORTED_VENDOR_ID: u32 = 265;
+
 pub const VENDOR_ID: u32 = 266;
 
 pub const DISCONNECT_CAUSE: u32 = 273;

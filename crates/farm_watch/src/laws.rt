@@ -1,18 +1,19 @@
 //! Laws and worked examples. Each is the contract of a function without a body.
 
-ghost use Rattle.std.specs.Prelude.{◌≡◌, ◌∷◌, [], List, map, codes, Some, true, false};
+ghost use Rattle.std.specs.Prelude.{◌≡◌, ◌∷◌, ◌++◌, [], ℕ, List, map, codes, Some, true, false};
 ghost use Rattle.dia_avp.specs.AvpExample.{from_hex};
 ghost use Rattle.dia_dict.specs.Dictionary.{name_of};
+ghost use Rattle.dia_message.specs.declared.header.Header.{Header};
 ghost use Rattle.dia_message.specs.Spelling.{octets_of};
 ghost use Rattle.farm_watch.specs.Capabilities.{avps_in, is_success};
 ghost use Rattle.dia_base.specs.declared.number.Moment.{Moment};
 ghost use Rattle.farm_watch.specs.Life.{Event, IsLife, before_up, life_of};
 ghost use Rattle.farm_watch.specs.declared.site.Side.{Side};
 ghost use Rattle.farm_watch.specs.declared.site.WatchSite.{WatchSite};
-ghost use Rattle.farm_watch.specs.Numbers.{capabilities_exchange, common_messages, device_watchdog, disconnect_cause, disconnect_peer, host_ip_address, no_common_application, relay_application, success, vendor_id, vendor_specific_application_id};
-ghost use Rattle.farm_watch.specs.PeerMessages.{cea, cer, dpr, dwr, success_to};
+ghost use Rattle.farm_watch.specs.Numbers.{capabilities_exchange, common_messages, device_watchdog, disconnect_cause, disconnect_peer, host_ip_address, no_common_application, relay_application, success, supported_vendor_id, vendor_id, vendor_specific_application_id};
+ghost use Rattle.farm_watch.specs.PeerMessages.{answer_header, cea, cer, dpr, dwr, message_of, own_part, request_header, result_part, success_to};
 ghost use Rattle.farm_watch.specs.Table.{after_close, after_message, after_tick, beginning, drops, identifier_after, stays};
-ghost use Rattle.farm_watch.specs.WatchExample.{application_of_vendor_text, asked, at, c1, cea_text, cer_of_client_text, cer_text, dpa_text, dpr_text, dwa_text, dwr_of_front_text, dwr_text, f1, greeting_at_front, heard, message, node, other_application_text, r1, refusing_cea_text, waiting};
+ghost use Rattle.farm_watch.specs.WatchExample.{application_of_vendor_text, asked, at, c1, cea_of_vendor_text, cea_text, cer_of_client_text, cer_of_vendors_text, cer_text, dpa_text, dpr_text, dwa_text, dwr_of_front_text, dwr_text, f1, f1_of_vendor, greeting_at_front, heard, message, node, other_application_text, r1, r1_of_vendors, refusing_cea_text, waiting};
 ghost use Rattle.farm_watch.specs.declared.acts.Act.TheVariants as act;
 ghost use Rattle.farm_watch.specs.declared.reading.Greeting.TheVariants as greeted;
 ghost use Rattle.farm_watch.specs.declared.site.Side.TheVariants.{Connects};
@@ -20,16 +21,16 @@ ghost use Rattle.farm_watch.specs.declared.watch.Waits.TheVariants as waits;
 
 use crate::codes::{
     CAPABILITIES_EXCHANGE, COMMON_MESSAGES, DEVICE_WATCHDOG, DISCONNECT_CAUSE, DISCONNECT_PEER,
-    HOST_IP_ADDRESS, NO_COMMON_APPLICATION, RELAY_APPLICATION, SUCCESS, VENDOR_ID,
-    VENDOR_SPECIFIC_APPLICATION_ID,
+    HOST_IP_ADDRESS, NO_COMMON_APPLICATION, RELAY_APPLICATION, SUCCESS, SUPPORTED_VENDOR_ID,
+    VENDOR_ID, VENDOR_SPECIFIC_APPLICATION_ID,
 };
 
 /// The constants of [`crate::codes`] are the numbers that definitions name, and those of AVPs are the rows of
 /// the dictionary under these names.
 pub fn peer_codes_are_defined()
     ensures numbers { (CAPABILITIES_EXCHANGE ∷ DEVICE_WATCHDOG ∷ DISCONNECT_PEER ∷ COMMON_MESSAGES ∷ RELAY_APPLICATION ∷ SUCCESS ∷ NO_COMMON_APPLICATION ∷ []) ≡ capabilities_exchange ∷ device_watchdog ∷ disconnect_peer ∷ common_messages ∷ relay_application ∷ success ∷ no_common_application ∷ [] }
-    ensures avps { (HOST_IP_ADDRESS ∷ VENDOR_SPECIFIC_APPLICATION_ID ∷ VENDOR_ID ∷ DISCONNECT_CAUSE ∷ []) ≡ host_ip_address ∷ vendor_specific_application_id ∷ vendor_id ∷ disconnect_cause ∷ [] }
-    ensures names { map name_of (host_ip_address ∷ vendor_specific_application_id ∷ vendor_id ∷ disconnect_cause ∷ []) ≡ Some (codes "Host-IP-Address") ∷ Some (codes "Vendor-Specific-Application-Id") ∷ Some (codes "Vendor-Id") ∷ Some (codes "Disconnect-Cause") ∷ [] }
+    ensures avps { (HOST_IP_ADDRESS ∷ VENDOR_SPECIFIC_APPLICATION_ID ∷ SUPPORTED_VENDOR_ID ∷ VENDOR_ID ∷ DISCONNECT_CAUSE ∷ []) ≡ host_ip_address ∷ vendor_specific_application_id ∷ supported_vendor_id ∷ vendor_id ∷ disconnect_cause ∷ [] }
+    ensures names { map name_of (host_ip_address ∷ vendor_specific_application_id ∷ supported_vendor_id ∷ vendor_id ∷ disconnect_cause ∷ []) ≡ Some (codes "Host-IP-Address") ∷ Some (codes "Vendor-Specific-Application-Id") ∷ Some (codes "Supported-Vendor-Id") ∷ Some (codes "Vendor-Id") ∷ Some (codes "Disconnect-Cause") ∷ [] }
 {}
 
 /// Of a whole life of a connection: the node at its other end comes up at most once, the node here is passed messages only
@@ -38,12 +39,21 @@ pub fn peers_come_up_once_and_nothing_follows_the_end()
     ensures { (site : WatchSite) (moment : Moment) (side : Side) (events : List Event) → IsLife before_up (life_of site moment side events) }
 {}
 
+/// A node that advertises credit control for no vendor writes what it can do for whatever vendor, and nothing behind it.
+pub fn no_vendor_adds_no_octet()
+    ensures cer { (site : WatchSite) (identifier : ℕ) → site.advertised ≡ [] → cer site identifier ≡ message_of (request_header capabilities_exchange identifier) (own_part site) }
+    ensures cea { (site : WatchSite) (code : ℕ) (request : Header) → site.advertised ≡ [] → cea site code request ≡ message_of (answer_header request) (result_part code ++ own_part site) }
+{}
+
 /// Worked examples: the messages between a relay r1, a front f1 and a client c1 as octets.
 pub fn neighbours_write_their_octets()
     ensures cer { octets_of (cer r1 1) ≡ from_hex cer_text }
     // An address of IPv6.
     ensures client { octets_of (cer c1 1) ≡ from_hex cer_of_client_text }
     ensures cea { octets_of (cea f1 2001 (message cer_text).header) ≡ from_hex cea_text }
+    // Credit control for two vendors, and for one.
+    ensures cer_of_vendors { octets_of (cer r1_of_vendors 1) ≡ from_hex cer_of_vendors_text }
+    ensures cea_of_vendor { octets_of (cea f1_of_vendor 2001 (message cer_text).header) ≡ from_hex cea_of_vendor_text }
     ensures refusing { octets_of (cea f1 5010 (message cer_text).header) ≡ from_hex refusing_cea_text }
     ensures dwr { octets_of (dwr r1 1) ≡ from_hex dwr_text }
     ensures dwa { octets_of (success_to r1 (message dwr_of_front_text).header) ≡ from_hex dwa_text }
@@ -56,6 +66,7 @@ pub fn only_linked_nodes_are_welcome()
     ensures relay { greeting_at_front [] cer_text ≡ greeted.Welcome (node 0) }
     // Without case, and with its application inside a group.
     ensures vendor { greeting_at_front [] application_of_vendor_text ≡ greeted.Welcome (node 0) }
+    ensures vendors { greeting_at_front [] cer_of_vendors_text ≡ greeted.Welcome (node 0) }
     ensures up { greeting_at_front (node 3 ∷ node 0 ∷ []) cer_text ≡ greeted.Unwelcome }
     ensures stranger { greeting_at_front [] cer_of_client_text ≡ greeted.Unwelcome }
     ensures application { greeting_at_front [] other_application_text ≡ greeted.NothingInCommon }

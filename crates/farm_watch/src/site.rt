@@ -52,6 +52,8 @@ pub struct WatchSite {
     /// Host-IP-Address of what it writes.
     pub address: HostAddress,
     pub application: Application,
+    /// The vendors for which it advertises credit control, in the order in which it names them.
+    pub advertised: Listing<u32>,
     /// The nodes that may connect to it. Of several with one name the first counts.
     pub neighbours: Listing<Neighbour>,
     /// How long it waits for a message, and then for the answer to its own: in milliseconds.

@@ -20,6 +20,7 @@ fn site(alloc: Global, name: &[u8], application: Application) -> Result<WatchSit
         realm: Identity::read(alloc, b"ocs.example")?,
         address: HostAddress::V4([127, 0, 0, 1]),
         application,
+        advertised: Listing::empty(alloc),
         neighbours,
         interval: 30_000,
     })

@@ -1,21 +1,24 @@
 //! The messages that a node writes to a neighbour (RFC 6733, sections 5.3 to 5.5).
 
-ghost use Rattle.std.specs.Prelude.{◌≡◌, ◌≤◌, ◌++◌, length, IfOk, OnOk};
+ghost use Rattle.std.specs.Prelude.{◌≡◌, ◌≤◌, ◌++◌, flat_map, length, IfOk, OnOk};
 ghost use Rattle.dia_avp.specs.AvpList.{written, written_list};
 ghost use Rattle.dia_dict.specs.declared.value.Typed.TheVariants.{Address, Unsigned32};
 ghost use Rattle.farm_watch.specs.Numbers.{host_ip_address};
 ghost use Rattle.dia_dict.specs.Reading.{avp_of, avp_with, flags_of};
-ghost use Rattle.farm_watch.specs.PeerMessages.{address_octets, answer_header, capabilities_part, cause_part, cea, cer, dpr, dwr, origin_part, request_header, result_part, success_to};
+ghost use Rattle.farm_watch.specs.PeerMessages.{address_octets, answer_header, capabilities_part, cause_part, cea, cer, dpr, dwr, origin_part, own_part, request_header, result_part, success_to, vendor_application, vendor_part};
 
 use crate::codes::{
     CAPABILITIES_EXCHANGE, COMMON_MESSAGES, DEVICE_WATCHDOG, DISCONNECT_CAUSE, DISCONNECT_PEER,
-    HOST_IP_ADDRESS, SUCCESS, VENDOR_ID,
+    HOST_IP_ADDRESS, SUCCESS, SUPPORTED_VENDOR_ID, VENDOR_ID, VENDOR_SPECIFIC_APPLICATION_ID,
 };
 use crate::site::{HostAddress, WatchSite};
 use byteorder::{BigEndian, ByteOrder};
 use dia_avp::layout::MANDATORY;
 use dia_avp::{Octets, write_avp};
-use dia_base::codes::{AUTH_APPLICATION_ID, ORIGIN_HOST, ORIGIN_REALM, PRODUCT_NAME, RESULT_CODE};
+use dia_base::codes::{
+    AUTH_APPLICATION_ID, CREDIT_CONTROL_APPLICATION, ORIGIN_HOST, ORIGIN_REALM, PRODUCT_NAME,
+    RESULT_CODE,
+};
 use dia_message::{Header, Message};
 use std::alloc::{AllocError, Global};
 
@@ -179,13 +182,51 @@ fn push_address(alloc: Global, body: &mut Vec<u8>, address: HostAddress) -> Resu
     push(body, HOST_IP_ADDRESS, &value)
 }
 
-/// Adds what a node tells of itself.
-fn push_capabilities(alloc: Global, body: &mut Vec<u8>, site: &WatchSite) -> Result<(), AllocError>
-    ensures { OnOk result (body.new.items ≡ body.old.items ++ written_list (capabilities_part site.now)) }
+/// Adds what a node tells of itself, for whatever vendor.
+fn push_own(alloc: Global, body: &mut Vec<u8>, site: &WatchSite) -> Result<(), AllocError>
+    ensures { OnOk result (body.new.items ≡ body.old.items ++ written_list (own_part site.now)) }
 {
     push_origin(body, site)?;
     push_address(alloc, body, site.address)?;
     push_u32(body, VENDOR_ID, 0)?;
     push(body, PRODUCT_NAME, PRODUCT.as_bytes())?;
     push_u32(body, AUTH_APPLICATION_ID, site.application.number())
+}
+
+/// Credit control as an application of the vendor.
+fn vendor_application(alloc: Global, vendor: u32) -> Result<Vec<u8>, AllocError>
+    ensures group { IfOk result (λ group. group.items ≡ written_list (vendor_application vendor)) }
+    ensures short { IfOk result (λ group. length group.items ≡ 24) }
+{
+    let mut group = Vec::new(alloc);
+    push_u32(&mut group, VENDOR_ID, vendor)?;
+    push_u32(&mut group, AUTH_APPLICATION_ID, CREDIT_CONTROL_APPLICATION)?;
+    Ok(group)
+}
+
+/// Adds that a node speaks credit control for the vendor.
+fn push_vendor(alloc: Global, body: &mut Vec<u8>, vendor: u32) -> Result<(), AllocError>
+    ensures { OnOk result (body.new.items ≡ body.old.items ++ written_list (vendor_part vendor)) }
+{
+    push_u32(body, SUPPORTED_VENDOR_ID, vendor)?;
+    let group = vendor_application(alloc, vendor)?;
+    push(body, VENDOR_SPECIFIC_APPLICATION_ID, &group)
+}
+
+/// Adds that a node speaks credit control for these vendors.
+fn push_vendors(alloc: Global, body: &mut Vec<u8>, vendors: &[u32]) -> Result<(), AllocError>
+    ensures { OnOk result (body.new.items ≡ body.old.items ++ written_list (flat_map vendor_part vendors.now)) }
+{
+    for vendor in vendors {
+        push_vendor(alloc, body, *vendor)?;
+    }
+    Ok(())
+}
+
+/// Adds what a node tells of itself.
+fn push_capabilities(alloc: Global, body: &mut Vec<u8>, site: &WatchSite) -> Result<(), AllocError>
+    ensures { OnOk result (body.new.items ≡ body.old.items ++ written_list (capabilities_part site.now)) }
+{
+    push_own(alloc, body, site)?;
+    push_vendors(alloc, body, site.advertised.as_slice())
 }

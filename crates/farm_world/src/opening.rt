@@ -10,24 +10,23 @@ mod relays;
 use crate::world::World;
 use cc_book::{Account, Book, Money};
 use cc_rating::{Tariff, Tariffs};
-use dia_base::{Listing, NodeKind, NodeNo};
+use dia_base::{NodeKind, NodeNo};
 use farm_model::{FrontAt, Node, Site};
-use front_core::Front;
+use front_core::{Front, FrontSite};
 pub use relays::relays_of;
 use std::alloc::{AllocError, Global};
 
 fn fresh_front(alloc: Global, site: &Site, node: &Node) -> Result<Front, AllocError>
     ensures { IfOk result (λ front. front ≡ fresh_front site.now node.now) }
 {
-    let vendors = Vec::from_slice(alloc, site.vendors.as_slice())?;
-    Front::new(
-        alloc,
-        node.name.clone()?,
-        site.realm.clone()?,
-        Listing::from_vec(vendors),
-        site.workers,
-        site.queue,
-    )
+    let configured = FrontSite {
+        name: node.name.clone()?,
+        realm: site.realm.clone()?,
+        profile: site.front_profile()?,
+        workers: site.workers,
+        queue: site.queue,
+    };
+    Front::of_site(alloc, configured)
 }
 
 /// The fronts among the nodes of the site, each with nothing in its queue.

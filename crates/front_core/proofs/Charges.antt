@@ -11,7 +11,7 @@ use Rattle.cc_view.specs.declared.refusal.Refusal.{Refusal}
 use Rattle.cc_view.specs.declared.reply.CcReply.{CcReply}
 use Rattle.cc_view.specs.declared.request.CcRequest.{CcRequest}
 use Rattle.cc_view.specs.Refusal.{refusal_with}
-use Rattle.cc_view.specs.RequestView.{view_of}
+use Rattle.cc_view.specs.RequestView.{view_under}
 use Rattle.cc_book.specs.declared.book.Answered.{Answered}
 use Rattle.cc_book.specs.declared.book.BookRefusal.{BookRefusal}
 use Rattle.cc_book.specs.declared.book.BookRefusal.TheVariants.{Full}
@@ -34,18 +34,18 @@ abbrev ChargesBy : FrontSite → Ledger → Moment → Message → CcRequest →
 ChargesBy site ledger moment message request answered =
     IsCharge site ledger moment message (answer_by site message request answered) (cond (is_fresh answered) (with_take ledger moment request) ledger)
 
-by_room : (site : FrontSite) (ledger : Ledger) (moment : Moment) (message : Message) (request : CcRequest) (b : Bool) → view_of site.vendors message ≡ Ok request → kept_reply ledger.terms ledger.history request ≡ None
+by_room : (site : FrontSite) (ledger : Ledger) (moment : Moment) (message : Message) (request : CcRequest) (b : Bool) → view_under site.profile message ≡ Ok request → kept_reply ledger.terms ledger.history request ≡ None
     → leb ledger.limit (length ledger.history) ≡ b
     → ChargesBy site ledger moment message request (cond b (Err (Full ledger.limit)) (Ok (record { reply = reply_to ledger.terms ledger.history request; place = length ledger.history; fresh = true })))
 by_room site ledger moment message request true view new e = has_no_room request view new (leb-true _ _ e)
 by_room site ledger moment message request false view new e = takes request view new (leb-false _ _ e)
 
-by_kept : (site : FrontSite) (ledger : Ledger) (moment : Moment) (message : Message) (request : CcRequest) (place : ℕ) (kept : Option CcReply) → view_of site.vendors message ≡ Ok request
+by_kept : (site : FrontSite) (ledger : Ledger) (moment : Moment) (message : Message) (request : CcRequest) (place : ℕ) (kept : Option CcReply) → view_under site.profile message ≡ Ok request
     → kept_reply ledger.terms ledger.history request ≡ kept → ChargesBy site ledger moment message request (answer_kept ledger request place kept)
 by_kept site ledger moment message request place (Some reply) view e = repeats request reply view e
 by_kept site ledger moment message request place None view e = by_room site ledger moment message request (leb ledger.limit (length ledger.history)) view e refl
 
-by_view_of : (site : FrontSite) (ledger : Ledger) (moment : Moment) (message : Message) (view : Result CcRequest Refusal) → view_of site.vendors message ≡ view
+by_view_of : (site : FrontSite) (ledger : Ledger) (moment : Moment) (message : Message) (view : Result CcRequest Refusal) → view_under site.profile message ≡ view
     → IsCharge site ledger moment message (answer_in site ledger message (preparation_of site.name site.realm message view)) (book_after ledger moment (preparation_of site.name site.realm message view))
 by_view_of site ledger moment message (Err refusal) e = refuses refusal e
 by_view_of site ledger moment message (Ok request) e =
@@ -53,7 +53,7 @@ by_view_of site ledger moment message (Ok request) e =
 
 pub charge_case : (site : FrontSite) (ledger : Ledger) (moment : Moment) (message : Message)
     → IsCharge site ledger moment message (answer_in site ledger message (preparation_at site message)) (book_after ledger moment (preparation_at site message))
-charge_case site ledger moment message = by_view_of site ledger moment message (view_of site.vendors message) refl
+charge_case site ledger moment message = by_view_of site ledger moment message (view_under site.profile message) refl
 
 -- ---- what the answer stands on
 

@@ -5,7 +5,7 @@ use Rattle.cc_view.specs.declared.refusal.Refusal.{Refusal}
 use Rattle.cc_view.specs.declared.reply.CcReply.{CcReply}
 use Rattle.cc_view.specs.declared.request.CcRequest.{CcRequest}
 use Rattle.cc_view.specs.Answer.{answer_to, refusal_of}
-use Rattle.cc_view.specs.RequestView.{view_of}
+use Rattle.cc_view.specs.RequestView.{view_under}
 use Rattle.cc_book.specs.AccountMachine.{kept_reply}
 use Rattle.cc_book.specs.Taking.{Ledger}
 use Rattle.front_core.specs.declared.site.FrontSite.{FrontSite}
@@ -17,7 +17,7 @@ use Rattle.front_core.specs.FrontState.{FrontState}
 -- 8.2); else it is DIAMETER_UNABLE_TO_COMPLY alone.
 pub record IsBookAnswer (site : FrontSite) (ledger : Ledger) (message answer : Message) : Type 0 where
   pub request : CcRequest
-  pub view : view_of site.vendors message ≡ Ok request
+  pub view : view_under site.profile message ≡ Ok request
   pub reply : CcReply
   pub kept : kept_reply ledger.terms ledger.history request ≡ Some reply
   pub written : answer ≡ answer_to site.name site.realm message request reply

@@ -5,7 +5,7 @@ use Rattle.cc_view.specs.declared.code.ResultCode.TheVariants.{TooBusy}
 use Rattle.cc_view.specs.declared.refusal.Refusal.{Refusal}
 use Rattle.cc_view.specs.declared.request.CcRequest.{CcRequest}
 use Rattle.cc_view.specs.Refusal.{refusal_with}
-use Rattle.cc_view.specs.RequestView.{view_of}
+use Rattle.cc_view.specs.RequestView.{view_under}
 use Rattle.cc_book.specs.AccountMachine.{kept_reply}
 use Rattle.cc_book.specs.Taking.{Ledger}
 use Rattle.front_core.specs.declared.site.FrontSite.{FrontSite}
@@ -17,7 +17,7 @@ pub data ArrivalCause (front : FrontState) (message : Message) : Refusal → Typ
 
 -- At its charge a message is refused by what is read in it, or where it is a new request and the book is full.
 pub data ChargeCause (site : FrontSite) (ledger : Ledger) (message : Message) : Refusal → Type 0 where
-  by_view : (refusal : Refusal) → view_of site.vendors message ≡ Err refusal → ChargeCause site ledger message refusal
+  by_view : (refusal : Refusal) → view_under site.profile message ≡ Err refusal → ChargeCause site ledger message refusal
   book_full :
-      (request : CcRequest) → view_of site.vendors message ≡ Ok request → kept_reply ledger.terms ledger.history request ≡ None
+      (request : CcRequest) → view_under site.profile message ≡ Ok request → kept_reply ledger.terms ledger.history request ≡ None
       → ledger.limit ≤ length ledger.history → ChargeCause site ledger message (refusal_with TooBusy)

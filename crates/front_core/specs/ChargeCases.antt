@@ -8,7 +8,7 @@ use Rattle.cc_view.specs.declared.reply.CcReply.{CcReply}
 use Rattle.cc_view.specs.declared.request.CcRequest.{CcRequest}
 use Rattle.cc_view.specs.Answer.{answer_to, refusal_of}
 use Rattle.cc_view.specs.Refusal.{refusal_with}
-use Rattle.cc_view.specs.RequestView.{view_of}
+use Rattle.cc_view.specs.RequestView.{view_under}
 use Rattle.cc_book.specs.AccountMachine.{reply_to, kept_reply}
 use Rattle.cc_book.specs.Taking.{Ledger, with_take}
 use Rattle.front_core.specs.declared.site.FrontSite.{FrontSite}
@@ -17,15 +17,15 @@ use Rattle.front_core.specs.declared.site.FrontSite.{FrontSite}
 -- A new one gets the account machine's, and is taken, where the book has room; else it is refused.
 pub data IsCharge (site : FrontSite) (ledger : Ledger) (moment : Moment) (message : Message) : Message → Ledger → Type 0 where
   refuses :
-      (refusal : Refusal) → view_of site.vendors message ≡ Err refusal
+      (refusal : Refusal) → view_under site.profile message ≡ Err refusal
       → IsCharge site ledger moment message (refusal_of site.name site.realm message refusal) ledger
   repeats :
-      (request : CcRequest) (reply : CcReply) → view_of site.vendors message ≡ Ok request → kept_reply ledger.terms ledger.history request ≡ Some reply
+      (request : CcRequest) (reply : CcReply) → view_under site.profile message ≡ Ok request → kept_reply ledger.terms ledger.history request ≡ Some reply
       → IsCharge site ledger moment message (answer_to site.name site.realm message request reply) ledger
   has_no_room :
-      (request : CcRequest) → view_of site.vendors message ≡ Ok request → kept_reply ledger.terms ledger.history request ≡ None
+      (request : CcRequest) → view_under site.profile message ≡ Ok request → kept_reply ledger.terms ledger.history request ≡ None
       → ledger.limit ≤ length ledger.history → IsCharge site ledger moment message (refusal_of site.name site.realm message (refusal_with TooBusy)) ledger
   takes :
-      (request : CcRequest) → view_of site.vendors message ≡ Ok request → kept_reply ledger.terms ledger.history request ≡ None
+      (request : CcRequest) → view_under site.profile message ≡ Ok request → kept_reply ledger.terms ledger.history request ≡ None
       → length ledger.history < ledger.limit
       → IsCharge site ledger moment message (answer_to site.name site.realm message request (reply_to ledger.terms ledger.history request)) (with_take ledger moment request)

@@ -8,7 +8,7 @@ use Rattle.dia_message.specs.Traffic.{Traffic}
 use Rattle.cc_view.specs.declared.code.ResultCode.TheVariants.{TooBusy}
 use Rattle.cc_view.specs.Answer.{refusal_of}
 use Rattle.cc_view.specs.Refusal.{refusal_with}
-use Rattle.cc_view.specs.RequestView.{view_of}
+use Rattle.cc_view.specs.RequestView.{view_under}
 use Rattle.cc_book.specs.Taking.{Ledger}
 use Rattle.front_core.specs.declared.preparing.Prepared.{Prepared}
 use Rattle.front_core.specs.declared.site.FrontSite.{FrontSite}
@@ -98,7 +98,7 @@ after_emit front worker = after_emit_by front worker (slice_get front.workers wo
 
 -- what a front of this site knows of a message before the book is asked
 abbrev pub preparation_at : FrontSite → Message → Prepared
-preparation_at site message = preparation_of site.name site.realm message (view_of site.vendors message)
+preparation_at site message = preparation_of site.name site.realm message (view_under site.profile message)
 
 abbrev pub after_charge_by : FrontState → Ledger → Moment → ℕ → Option Worker → Option (FrontState × Ledger)
 after_charge_by front ledger moment worker (Some (Picked conn message)) =

@@ -8,7 +8,7 @@ use Rattle.cc_view.specs.declared.code.ResultCode.TheVariants.{TooBusy}
 use Rattle.cc_view.specs.declared.refusal.Refusal.{Refusal}
 use Rattle.cc_view.specs.Answer.{refusal_of}
 use Rattle.cc_view.specs.Refusal.{refusal_with}
-use Rattle.cc_view.specs.RequestView.{view_of}
+use Rattle.cc_view.specs.RequestView.{view_under}
 use Rattle.cc_book.specs.declared.entry.Entry.{Entry}
 use Rattle.cc_book.specs.declared.entry.Entry.TheVariants.{Take, Sweep}
 use Rattle.cc_book.specs.Taking.{Ledger}
@@ -91,7 +91,7 @@ IsRightAnswer site book events end item = AnswersRequest site events end item.0 
 
 -- an entry takes what is read in a request that came, or is the sweep of an event
 abbrev pub IsOfRequest : FrontSite → List FrontEvent → Entry → Type 0
-IsOfRequest site events (Take moment request) = (conn : ConnId) × (message : Message) × IsAsked events conn message × (view_of site.vendors message ≡ Ok request)
+IsOfRequest site events (Take moment request) = (conn : ConnId) × (message : Message) × IsAsked events conn message × (view_under site.profile message ≡ Ok request)
 IsOfRequest site events (Sweep moment) = Contains events (FrontEvent.Sweep moment)
 
 -- the book grows by requests that came and by sweeps of the list, and by nothing else

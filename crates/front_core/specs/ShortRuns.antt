@@ -4,6 +4,7 @@ use Rattle.std.specs.Prelude.{ℕ, List, [], ◌∷◌, ◌++◌, length, replic
 use Rattle.dia_base.specs.declared.number.ConnId.{ConnId}
 use Rattle.dia_message.specs.declared.message.Message.{Message}
 use Rattle.dia_message.specs.Traffic.{Traffic}
+use Rattle.dia_grammar.specs.Profile.{strict}
 use Rattle.cc_view.specs.FirstDebit.{answer_header, debit_message, front_name, realm_name}
 use Rattle.cc_book.specs.Taking.{Ledger}
 use Rattle.front_core.specs.declared.event.FrontEvent.{FrontEvent}
@@ -13,7 +14,7 @@ use Rattle.front_core.specs.FrontRun.{FrontRun, run_of}
 
 -- f1.example with so many workers, at which so many requests may wait
 abbrev pub short_site : ℕ → ℕ → FrontSite
-short_site workers queue = record { name = front_name; realm = realm_name; vendors = []; workers = workers; queue = queue }
+short_site workers queue = record { name = front_name; realm = realm_name; profile = strict []; workers = workers; queue = queue }
 
 -- a book without accounts
 abbrev pub empty_book : Ledger

@@ -28,8 +28,8 @@ pub fn charge<W: Wire>(
     ensures err { OnErr result (book.new ≡ book.old) }
     ensures memory { IsOkUnless result FrontError.OutOfMemory }
 {
-    let vendors = site.vendors.as_slice();
-    match prepare::<W>(alloc, &site.name, &site.realm, vendors, message)? {
+    let profile = site.profile.as_profile();
+    match prepare::<W>(alloc, &site.name, &site.realm, profile, message)? {
         Prepared::Refused(answer) => Ok(answer),
         Prepared::Ask(request) => take::<W>(alloc, site, message, &request, book, moment),
     }

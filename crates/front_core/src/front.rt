@@ -1,6 +1,7 @@
 //! A front, its connections, and what comes on them.
 
 ghost use Rattle.std.specs.Prelude.{◌≡◌, length, IfOk, OnOk, OnErr, IsOk, IsOkUnless, MatchBool, replicate, true, false};
+ghost use Rattle.dia_grammar.specs.Profile.{strict};
 ghost use Rattle.front_core.specs.declared.worker.Worker.TheVariants.{Idle};
 ghost use Rattle.front_core.specs.FrontState.{new_front, is_among};
 ghost use Rattle.front_core.specs.FrontStep.{with_connection, without_connection, after_restart, after_arrival, sent_at_arrival};
@@ -13,6 +14,7 @@ use crate::site::FrontSite;
 use crate::worker::{Job, Worker};
 use dia_avp::Wire;
 use dia_base::{ConnId, Identity, Listing};
+use dia_grammar::SiteProfile;
 use dia_message::{Message, Out};
 use std::alloc::{AllocError, Global};
 use std::collections::VecDeque;
@@ -61,7 +63,7 @@ fn free(workers: &mut [Worker])
 
 impl Front {
     /// A front with this many workers, all idle, and this many places in its queue. `vendors` are those
-    /// whose AVPs are known and opaque.
+    /// whose AVPs are known and opaque; it knows nothing more, and tolerates nothing.
     pub fn new(
         alloc: Global,
         name: Identity,
@@ -70,19 +72,28 @@ impl Front {
         workers: u32,
         queue: u32,
     ) -> Result<Self, AllocError>
-        ensures { IfOk result (λ front. front ≡ new_front (record { name = name; realm = realm; vendors = vendors; workers = workers; queue = queue })) }
+        ensures { IfOk result (λ front. front ≡ new_front (record { name = name; realm = realm; profile = strict vendors; workers = workers; queue = queue })) }
     {
+        let site = FrontSite {
+            name,
+            realm,
+            profile: SiteProfile::strict(alloc, vendors),
+            workers,
+            queue,
+        };
+        Front::of_site(alloc, site)
+    }
+
+    /// A front of this site, with all workers idle and nothing in its queue.
+    pub fn of_site(alloc: Global, site: FrontSite) -> Result<Self, AllocError>
+        ensures { IfOk result (λ front. front ≡ new_front site) }
+    {
+        let workers = idle_workers(alloc, site.workers)?;
         Ok(Front {
-            site: FrontSite {
-                name,
-                realm,
-                vendors,
-                workers,
-                queue,
-            },
+            site,
             connections: Vec::new(alloc),
             queue: VecDeque::new(alloc),
-            workers: idle_workers(alloc, workers)?,
+            workers,
         })
     }
 

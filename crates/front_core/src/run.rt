@@ -21,14 +21,14 @@ use std::alloc::{AllocError, Global};
 fn front_of(alloc: Global, site: &FrontSite) -> Result<Front, AllocError>
     ensures { IfOk result (λ front. front ≡ new_front site.now) }
 {
-    Front::new(
-        alloc,
-        site.name.clone()?,
-        site.realm.clone()?,
-        site.vendors.clone()?,
-        site.workers,
-        site.queue,
-    )
+    let site = FrontSite {
+        name: site.name.clone()?,
+        realm: site.realm.clone()?,
+        profile: site.profile.clone()?,
+        workers: site.workers,
+        queue: site.queue,
+    };
+    Front::of_site(alloc, site)
 }
 
 /// What is sent where a message comes. One on a connection that is not up is lost.

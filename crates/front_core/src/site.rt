@@ -1,6 +1,7 @@
 //! What a front is configured with.
 
-use dia_base::{Identity, Listing};
+use dia_base::Identity;
+use dia_grammar::SiteProfile;
 
 /// The configuration of one front.
 #[derive(Debug, Drop)]
@@ -9,8 +10,8 @@ pub struct FrontSite {
     pub name: Identity,
     /// Its Origin-Realm.
     pub realm: Identity,
-    /// Vendors whose AVPs are known and opaque.
-    pub vendors: Listing<u32>,
+    /// What it knows beside the dictionary, and what it tolerates.
+    pub profile: SiteProfile,
     /// How many workers it has.
     pub workers: u32,
     /// How many requests may wait.

@@ -8,7 +8,7 @@ use Rattle.dia_message.specs.declared.message.Message.{Message}
 use Rattle.cc_view.specs.declared.reply.CcReply.{CcReply}
 use Rattle.cc_view.specs.declared.request.CcRequest.{CcRequest}
 use Rattle.cc_view.specs.Answer.{answer_to}
-use Rattle.cc_view.specs.RequestView.{view_of}
+use Rattle.cc_view.specs.RequestView.{view_under}
 use Rattle.cc_book.specs.declared.entry.Entry.{Entry}
 use Rattle.cc_book.specs.declared.entry.Entry.TheVariants.{Take}
 use Rattle.cc_book.specs.declared.terms.Terms.{Terms}
@@ -29,7 +29,7 @@ use Rattle.front_pool.specs.Charging.{IsChargedAt, answer_with, as_of, pool_of}
 -- what is read in a message that was served is the request of its receipt
 view_at :
     (site : PoolSite) (terms : Terms) (message : Message) (answer : Option Message) (given : Option Receipt) (receipt : Receipt)
-    → Answers site terms message answer given → given ≡ Some receipt → view_of site.vendors message ≡ Ok receipt.request
+    → Answers site terms message answer given → given ≡ Some receipt → view_under site.profile message ≡ Ok receipt.request
 view_at site terms message answer given receipt (serves a r view told written) e =
     let same : r ≡ receipt = cc in view ∙ ap (λ (x : Receipt). Ok x.request) same
 view_at site terms message answer given receipt (refuses a refusal view written) e = let other : ⊥ = cc in absurd other
@@ -75,7 +75,7 @@ new_there terms before after moment request (Some reply) legal is =
 
 charged :
     (site : FrontSite) (ledger : Ledger) (message : Message) (receipt : Receipt) → IsLegal ledger.terms ledger.history
-    → length ledger.history ≤ ledger.limit → view_of site.vendors message ≡ Ok receipt.request → (fits : Fits ledger.terms ledger.history receipt)
+    → length ledger.history ≤ ledger.limit → view_under site.profile message ≡ Ok receipt.request → (fits : Fits ledger.terms ledger.history receipt)
     → fits.taken ≡ receipt.request → IsChargedAt site ledger message receipt
 charged site ledger message receipt legal within view fits same =
     let request = receipt.request in let place = receipt.place in let moment = fits.at.moment in let terms = ledger.terms in

@@ -4,7 +4,7 @@ use Rattle.dia_message.specs.declared.message.Message.{Message}
 use Rattle.cc_view.specs.declared.refusal.Refusal.{Refusal}
 use Rattle.cc_view.specs.declared.request.CcRequest.{CcRequest}
 use Rattle.cc_view.specs.Answer.{refusal_of}
-use Rattle.cc_view.specs.RequestView.{view_of}
+use Rattle.cc_view.specs.RequestView.{view_under}
 use Rattle.cc_book.specs.declared.terms.Terms.{Terms}
 use Rattle.front_core.specs.declared.preparing.Prepared.{Prepared}
 use Rattle.front_core.specs.declared.preparing.Prepared.TheVariants.{Refused}
@@ -16,7 +16,7 @@ same_refusal : (one other : Message) → Refused one ≡ Refused other → one �
 same_refusal one other e = cc
 
 refused_by :
-    (site : PoolSite) (terms : Terms) (message answer : Message) (view : Result CcRequest Refusal) → view_of site.vendors message ≡ view
+    (site : PoolSite) (terms : Terms) (message answer : Message) (view : Result CcRequest Refusal) → view_under site.profile message ≡ view
     → Refused answer ≡ preparation_of site.name site.realm message view → Answers site terms message (Some answer) None
 refused_by site terms message answer (Ok request) is e = let other : ⊥ = cc in absurd other
 refused_by site terms message answer (Err refusal) is e =
@@ -24,5 +24,5 @@ refused_by site terms message answer (Err refusal) is e =
 
 pub refused :
     (site : PoolSite) (terms : Terms) (message answer : Message) (prepared : Prepared) → prepared ≡ Refused answer
-    → prepared ≡ preparation_of site.name site.realm message (view_of site.vendors message) → Answers site terms message (Some answer) None
-refused site terms message answer prepared is e = refused_by site terms message answer (view_of site.vendors message) refl (sym is ∙ e)
+    → prepared ≡ preparation_of site.name site.realm message (view_under site.profile message) → Answers site terms message (Some answer) None
+refused site terms message answer prepared is e = refused_by site terms message answer (view_under site.profile message) refl (sym is ∙ e)

@@ -6,7 +6,7 @@ use Rattle.cc_view.specs.declared.code.ResultCode.TheVariants.{TooBusy}
 use Rattle.cc_view.specs.declared.refusal.Refusal.{Refusal}
 use Rattle.cc_view.specs.Answer.{answer_to, refusal_of}
 use Rattle.cc_view.specs.Refusal.{refusal_with}
-use Rattle.cc_view.specs.RequestView.{view_of}
+use Rattle.cc_view.specs.RequestView.{view_under}
 use Rattle.cc_book.specs.declared.terms.Terms.{Terms}
 use Rattle.cc_shared.specs.declared.receipt.Receipt.{Receipt}
 use Rattle.cc_shared.specs.Receipts.{IsTrueReceipt}
@@ -24,11 +24,11 @@ too_busy site message = refusal_of site.name site.realm message (refusal_with To
 -- the refusal of what is read in it, or DIAMETER_TOO_BUSY.
 pub data Answers (site : PoolSite) (terms : Terms) (message : Message) : Option Message → Option Receipt → Type 0 where
   serves :
-      (answer : Option Message) (receipt : Receipt) → view_of site.vendors message ≡ Ok receipt.request → IsTrueReceipt terms receipt
+      (answer : Option Message) (receipt : Receipt) → view_under site.profile message ≡ Ok receipt.request → IsTrueReceipt terms receipt
       → IfSome answer (λ written. written ≡ answer_to site.name site.realm message receipt.request receipt.reply)
       → Answers site terms message answer (Some receipt)
   refuses :
-      (answer : Option Message) (refusal : Refusal) → view_of site.vendors message ≡ Err refusal
+      (answer : Option Message) (refusal : Refusal) → view_under site.profile message ≡ Err refusal
       → IfSome answer (λ written. written ≡ refusal_of site.name site.realm message refusal)
       → Answers site terms message answer None
   is_too_busy :

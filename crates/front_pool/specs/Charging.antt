@@ -12,7 +12,7 @@ use Rattle.front_pool.specs.declared.site.PoolSite.{PoolSite}
 
 -- the pool that answers in the name of a front
 abbrev pub pool_of : FrontSite → PoolSite
-pool_of site = record { name = site.name; realm = site.realm; vendors = site.vendors }
+pool_of site = record { name = site.name; realm = site.realm; profile = site.profile }
 
 -- the answer of a front to a message, with the reply of a receipt
 abbrev pub answer_with : FrontSite → Message → Receipt → Message

@@ -2,7 +2,7 @@
 
 ghost use Rattle.std.specs.Prelude.{◌≡◌, IfSome, Ok};
 ghost use Rattle.cc_view.specs.Answer.{answer_to};
-ghost use Rattle.cc_view.specs.RequestView.{view_of};
+ghost use Rattle.cc_view.specs.RequestView.{view_under};
 ghost use Rattle.front_pool.specs.Answering.{Answers, IsAnsweredByOne, too_busy};
 ghost use Rattle.front_pool.specs.Jobs.{job_of};
 
@@ -14,18 +14,11 @@ use cc_view::{CcRequest, Refusal, ResultCode, answer_bytes, refusal_bytes};
 use dia_avp::Wire;
 use dia_base::{Moment, NodeNo};
 use dia_message::Message;
+use farm_clock::Timer;
 use front_core::{Prepared, prepare};
 use std::alloc::Global;
 use std::rt::Clock;
 use std::sync::Wait;
-use std::time::{SystemTime, UNIX_EPOCH};
-
-/// The moment of the system's clock, in milliseconds since 1970. None where it cannot be read.
-fn now<R: Clock>(rt: &R) -> Option<Moment> {
-    let since = SystemTime::now(rt).ok()?.duration_since(UNIX_EPOCH).ok()?;
-    let millis = u64::try_from(since.as_millis()).ok()?;
-    Some(Moment(millis))
-}
 
 /// DIAMETER_TOO_BUSY. None where memory is refused for it.
 fn too_busy<W: Wire>(alloc: Global, site: &PoolSite, message: &Message) -> Option<Message>
@@ -69,13 +62,14 @@ fn charge<W: Wire, L: Pooling, R: Wait + Clock>(
     shared: &SharedBook<L>,
     seat: &mut Seat<L>,
     site: &PoolSite,
+    timer: Timer,
     message: &Message,
     request: CcRequest,
 ) -> Worked
-    requires view { view_of site.now.vendors message.now ≡ Ok request }
+    requires view { view_under site.now.profile message.now ≡ Ok request }
     ensures { Answers site.now L.opened.terms message.now result.0 result.1 }
 {
-    let Some(moment) = now(rt) else {
+    let Some(moment) = timer.now(rt).ok() else {
         return (too_busy::<W>(alloc, site, message), None, None);
     };
     match shared.serve(rt, alloc, seat, moment, request) {
@@ -95,18 +89,19 @@ fn work<W: Wire, L: Pooling, R: Wait + Clock, G: Gate>(
     shared: &SharedBook<L>,
     seat: &mut Seat<L>,
     site: &PoolSite,
+    timer: Timer,
     gate: &G,
     job: &Job,
 ) -> Worked
     ensures { Answers site.now L.opened.terms job.now.request result.0 result.1 }
 {
-    let vendors = site.vendors.as_slice();
-    let prepared = prepare::<W>(alloc, &site.name, &site.realm, vendors, &job.request);
+    let profile = site.profile.as_profile();
+    let prepared = prepare::<W>(alloc, &site.name, &site.realm, profile, &job.request);
     gate.before_book(rt, job.number);
     match prepared {
         Ok(Prepared::Refused(refusal)) => (Some(refusal), None, None),
         Ok(Prepared::Ask(request)) => {
-            charge::<W, L, R>(rt, alloc, shared, seat, site, &job.request, request)
+            charge::<W, L, R>(rt, alloc, shared, seat, site, timer, &job.request, request)
         }
         Err(_) => (too_busy::<W>(alloc, site, &job.request), None, None),
     }
@@ -120,6 +115,7 @@ pub fn finish<W: Wire, L: Pooling, R: Wait + Clock, G: Gate>(
     seat: &mut Seat<L>,
     front: NodeNo,
     site: &PoolSite,
+    timer: Timer,
     gate: &G,
     job: Job,
 ) -> Finished
@@ -127,7 +123,9 @@ pub fn finish<W: Wire, L: Pooling, R: Wait + Clock, G: Gate>(
     ensures job { job_of result ≡ job }
     ensures answered { IsAnsweredByOne L.site L.opened.terms result }
 {
-    let (written, receipt, moment) = work::<W, L, R, G>(rt, alloc, shared, seat, site, gate, &job);
+    let (written, receipt, moment) = work::<W, L, R, G>(
+        rt, alloc, shared, seat, site, timer, gate, &job,
+    );
     let Job {
         number,
         conn,

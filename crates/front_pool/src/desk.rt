@@ -8,6 +8,7 @@ use crate::control::Control;
 use crate::queues::{FinishedPass, FinishedQueue, JobPass, JobQueue};
 use crate::site::{PoolQueue, PoolSite, Pooling};
 use dia_base::NodeNo;
+use farm_clock::Timer;
 use std::alloc::{AllocError, Global};
 use std::sync::Arc;
 
@@ -18,6 +19,7 @@ pub struct Desk<L: Pooling, G> {
     pub finished: Arc<FinishedQueue<L>>,
     pub front: NodeNo,
     pub site: Arc<PoolSite>,
+    pub timer: Timer,
     pub gate: Arc<G>,
     pub control: Arc<Control>,
 }
@@ -30,7 +32,7 @@ impl<L: Pooling, G: Drop> Desk<L, G> {
         queue: PoolQueue,
     ) -> Result<(Self, JobPass, FinishedPass), AllocError>
         requires jobs { 0 < queue.jobs }
-        requires site { L.site queue.front ≡ record { name = queue.name; realm = queue.realm; vendors = queue.vendors } }
+        requires site { L.site queue.front ≡ record { name = queue.name; realm = queue.realm; profile = queue.profile } }
         ensures front { IfOk result (λ made. made.0.front ≡ queue.front) }
         ensures site { IfOk result (λ made. arc_value made.0.site ≡ L.site made.0.front) }
         ensures jobs { IfOk result (λ made. IsPassOf (arc_value made.0.jobs) made.1) }
@@ -41,13 +43,14 @@ impl<L: Pooling, G: Drop> Desk<L, G> {
         let site = PoolSite {
             name: queue.name,
             realm: queue.realm,
-            vendors: queue.vendors,
+            profile: queue.profile,
         };
         let desk = Desk {
             jobs: Arc::new(alloc, jobs)?,
             finished: Arc::new(alloc, finished)?,
             front: queue.front,
             site: Arc::new(alloc, site)?,
+            timer: queue.timer,
             gate: Arc::new(alloc, gate)?,
             control: Arc::new(alloc, Control::new())?,
         };
@@ -64,6 +67,7 @@ impl<L: Pooling, G: Drop> Desk<L, G> {
             finished: Arc::try_clone(&self.finished)?,
             front: self.front,
             site: Arc::try_clone(&self.site)?,
+            timer: self.timer,
             gate: Arc::try_clone(&self.gate)?,
             control: Arc::try_clone(&self.control)?,
         })

@@ -15,7 +15,7 @@
 //! [`fresh_receipts_are_charges`], over `specs/Charging`.
 //!
 //! ```text
-//! let queue = PoolQueue { front, name, realm, vendors, jobs: 1024 };
+//! let queue = PoolQueue { front, name, realm, profile, timer, jobs: 1024 };
 //! let mut pool = Pool::start::<ViewWire, _, _>(&rt, alloc, shared.another()?, seats, Wakes { waker }, queue)?;
 //! let number = pool.submit(&rt, conn, request)?;          // a full queue hands the request back
 //! while let Some(finished) = pool.collect(&rt) {

@@ -84,6 +84,7 @@ impl<L: Pooling> Pool<L> {
             finished,
             front,
             site: _,
+            timer: _,
             gate: _,
             control,
         } = desk;

@@ -1,7 +1,9 @@
 //! What a pool is made with, and what names it.
 
 use cc_shared::Sharing;
-use dia_base::{Identity, Listing, NodeNo};
+use dia_base::{Identity, NodeNo};
+use dia_grammar::SiteProfile;
+use farm_clock::Timer;
 use std::marker::Brand;
 
 /// What a pool is made with.
@@ -13,8 +15,10 @@ pub struct PoolQueue {
     pub name: Identity,
     /// Their Origin-Realm.
     pub realm: Identity,
-    /// Vendors whose AVPs are known and opaque.
-    pub vendors: Listing<u32>,
+    /// What it knows beside the dictionary, and what it tolerates.
+    pub profile: SiteProfile,
+    /// By which requests are charged.
+    pub timer: Timer,
     /// How many jobs may wait, and how many finished answers: at least 1.
     pub jobs: usize,
 }
@@ -26,8 +30,8 @@ pub struct PoolSite {
     pub name: Identity,
     /// Its Origin-Realm.
     pub realm: Identity,
-    /// Vendors whose AVPs are known and opaque.
-    pub vendors: Listing<u32>,
+    /// What it knows beside the dictionary, and what it tolerates.
+    pub profile: SiteProfile,
 }
 
 /// Names the pools on one book: its sharing, and the fronts in whose names they answer, by their numbers. Each call of a
@@ -41,6 +45,7 @@ pub trait Pooling: Sharing {
 
 impl Pooling for Brand {
     ghost use Rattle.std.specs.Prelude.{[]};
+    ghost use Rattle.dia_grammar.specs.Profile.{strict};
 
-    ghost site = { λ front. record { name = []; realm = []; vendors = [] } };
+    ghost site = { λ front. record { name = []; realm = []; profile = strict [] } };
 }

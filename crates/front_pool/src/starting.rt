@@ -68,7 +68,7 @@ impl<L: Pooling + Send + Sync + 'static> Pool<L> {
         R: Threads + Wait + Clock + Copy + Send + 'static,
         G: Gate + Drop + Send + Sync + 'static,
         requires jobs { 0 < queue.jobs }
-        requires site { L.site queue.front ≡ record { name = queue.name; realm = queue.realm; vendors = queue.vendors } }
+        requires site { L.site queue.front ≡ record { name = queue.name; realm = queue.realm; profile = queue.profile } }
         ensures pool { IfOk result (λ pool. pool ≡ new_pool queue.front (length seats.items)) }
         ensures failed { IfErr result (λ failed. length failed.seats.items ≡ length seats.items) }
     {

@@ -115,6 +115,7 @@ impl<L: Pooling, G: Gate + Drop> Worker<L, G> {
             &mut self.seat,
             self.desk.front,
             &self.desk.site,
+            self.desk.timer,
             &*self.desk.gate,
             job,
         );

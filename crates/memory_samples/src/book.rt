@@ -4,7 +4,7 @@ ghost use Rattle.farm_base.specs.CheckedSite.{IsChecked};
 
 use anyhow::bail;
 use cc_book::{Answered, Book, BookRefusal};
-use cc_view::{CcRequest, ViewError, request_of};
+use cc_view::{CcRequest, ViewError, request_under};
 use dia_avp::ViewWire;
 use dia_base::Moment;
 use dia_message::Message;
@@ -80,7 +80,8 @@ fn print_message(
     moment: Moment,
     message: &Message,
 ) -> anyhow::Result<()> {
-    match request_of::<ViewWire>(alloc, message, site.vendors.as_slice()) {
+    let profile = site.front_profile()?;
+    match request_under::<ViewWire>(alloc, message, profile.as_profile()) {
         Ok(request) => print_taken(rt, alloc, book, moment, &request),
         Err(ViewError::Refused(_refusal)) => {
             println!(rt; "no request")?;

@@ -20,17 +20,19 @@ use Rattle.farm_node.specs.declared.error.NodeError.{NodeError}
 use Rattle.farm_node.specs.declared.error.NodeError.TheVariants as fault
 use Rattle.farm_node.specs.Nodes.{Does, Refuses}
 use Rattle.front_pool.specs.declared.job.Finished.{Finished}
+use Rattle.farm_base.specs.FrontProfile.{front_profile}
 use Rattle.front_pool.specs.declared.site.PoolSite.{PoolSite}
 use Rattle.front_pool.specs.Answering.{IsAnsweredBy, too_busy}
 use Rattle.front_pool.specs.Keeping.{Collects, PoolState, new_pool, with_job}
+use Rattle.pool_node.specs.Measure.{IsFew}
 
 abbrev pub name_of : Option Node → List ℕ
 name_of None = []
 name_of (Some node) = node.name
 
--- what the answers of a front of a site name, and the vendors that it knows
+-- what the answers of a front of a site name, and what it knows and tolerates
 abbrev pub site_of : Site → NodeNo → PoolSite
-site_of site front = record { name = name_of (slice_get site.nodes front.0); realm = site.realm; vendors = site.vendors }
+site_of site front = record { name = name_of (slice_get site.nodes front.0); realm = site.realm; profile = front_profile site }
 
 -- A front with its workers: the connections that are up, and the pool, which knows its number.
 pub record FrontState : Type 0 where
@@ -112,9 +114,9 @@ abbrev pub CollectsMore : (NodeNo → PoolSite) → Terms → List FrontState �
 CollectsMore sites terms old sent all outcome new =
     (before : List FrontState) → Collecting sites terms before sent (Ok tt) old → Collecting sites terms before all outcome new
 
--- what is told where a job more was looked for, whether there was one or not
-abbrev pub told_of_one : Result Bool NodeError → Result (Unit {0}) NodeError
-told_of_one (Ok some) = Ok tt
+-- what is told where a job more was looked for or its answer put behind what is sent, however many octets that were
+abbrev pub told_of_one : {A : Type 0} → Result A NodeError → Result (Unit {0}) NodeError
+told_of_one (Ok octets) = Ok tt
 told_of_one (Err error) = Err error
 
 -- whether a front is this node
@@ -145,7 +147,7 @@ told_of_tick (Ok done) (Ok ended) = Ok tt
 told_of_tick (Ok done) (Err (refused.Full limit)) = Err (fault.BookFull limit)
 told_of_tick (Ok done) (Err refused.OutOfMemory) = Err fault.OutOfMemory
 
--- Time has passed: what is finished is collected, and the book swept, whatever came of the collecting.
+-- Time has passed: what is finished is collected, a few octets of each front, and the book swept, whatever came of the collecting.
 pub record Ticks (sites : NodeNo → PoolSite) (opened : Ledger) (moment : Moment) (old : List FrontState) (sent : Traffic)
     (outcome : Result (Unit {0}) NodeError) (new : List FrontState) : Type 0 where
   pub collected : Result (Unit {0}) NodeError
@@ -153,6 +155,7 @@ pub record Ticks (sites : NodeNo → PoolSite) (opened : Ledger) (moment : Momen
   pub swept : Result ℕ BookRefusal
   pub sweeps : Sweeps opened moment swept
   pub told : outcome ≡ told_of_tick collected swept
+  pub few : IsFew (length old) sent
 
 -- What happens to a node that is these fronts. Each front has its own pool of workers, and all share one book, which went on from
 -- the one that was opened.
@@ -168,4 +171,4 @@ OnFrontsEvent sites opened old (lost conn) sent outcome new =
     (sent ≡ []) × (outcome ≡ Ok tt)
     × MatchOption (position (is_up conn) old) (new ≡ old) (λ place. AtOne old place (λ front after. after ≡ without_connection front conn) new)
 OnFrontsEvent sites opened old (tick moment) sent outcome new = Ticks sites opened moment old sent outcome new
-OnFrontsEvent sites opened old wake sent outcome new = Collecting sites opened.terms old sent outcome new
+OnFrontsEvent sites opened old wake sent outcome new = Collecting sites opened.terms old sent outcome new × IsFew (length old) sent

@@ -75,7 +75,11 @@ impl BookEvents {
         }
     }
 
+    /// Keeps an event. Nothing is kept behind one that there was no memory for: a record ends there.
     fn keep(&mut self, event: Result<Event, AllocError>) {
+        if self.has_failed {
+            return;
+        }
         let is_kept = match event {
             Ok(event) => self.events.push(event).is_ok(),
             Err(AllocError) => false,

@@ -3,12 +3,13 @@
 ghost use Rattle.std.specs.Prelude.{◌≡◌, [], ◌∷◌, ◌++◌, ◌<◌, length, All, IfOk, IfSome, IfNone, OnOk, OnErr, vec_len, vec_capacity};
 ghost use Rattle.front_pool.specs.Answering.{IsAnsweredBy, too_busy};
 ghost use Rattle.front_pool.specs.Keeping.{Balances};
-ghost use Rattle.pool_node.specs.Fronts.{CollectsOne, OnMessage, is_node, is_up, outcome_for, sent_for, with_connection, without_connection};
+ghost use Rattle.pool_node.specs.Fronts.{CollectsOne, OnMessage, is_node, is_up, outcome_for, sent_for, told_of_one, with_connection, without_connection};
+ghost use Rattle.pool_node.specs.Measure.{message_length, octets_in};
 
 use cc_view::{Refusal, ResultCode, refusal_bytes};
 use dia_avp::Wire;
 use dia_base::{ConnId, NodeNo};
-use dia_message::{Message, Out};
+use dia_message::{HEADER_LEN, Message, Out};
 use farm_node::NodeError;
 use front_pool::{Finished, Pool, PoolSite, Pooling, Stopped, SubmitError};
 use std::alloc::{AllocError, Global};
@@ -35,6 +36,13 @@ impl<L: Pooling> Model for PoolFront<L> {
     ghost view = { λ f. record { connections = f.connections.items; pool = f.pool } };
 
     ghost invariant = { λ f. (f.pool.front ≡ f.node) × (f.site ≡ L.site f.node) };
+}
+
+/// The octets of a message with its header.
+fn octets_of(message: &Message) -> usize
+    ensures { result ≡ message_length message.now }
+{
+    HEADER_LEN + message.body.as_slice().len()
 }
 
 /// DIAMETER_TOO_BUSY in the name of a front.
@@ -150,19 +158,20 @@ impl<L: Pooling> PoolFront<L> {
         pool.stop(rt)
     }
 
-    /// Puts the answer of a finished job behind what is sent, where its connection is up. It is a fault where it has none,
-    /// for want of memory.
+    /// Puts the answer of a finished job behind what is sent, where its connection is up: how many octets. It is a fault
+    /// where it has none, for want of memory.
     pub fn post(
         &self,
         finished: Finished,
         sent: &mut Vec<(ConnId, Message)>,
-    ) -> Result<(), NodeError>
+    ) -> Result<usize, NodeError>
         requires { vec_len sent.old < vec_capacity sent.old }
         ensures sent { sent.new.items ≡ sent.old.items ++ sent_for self.now finished }
-        ensures outcome { result ≡ outcome_for self.now finished }
+        ensures outcome { told_of_one result ≡ outcome_for self.now finished }
+        ensures octets { IfOk result (λ octets. octets ≡ octets_in (sent_for self.now finished)) }
     {
         if !self.is_up(finished.conn) {
-            return Ok(());
+            return Ok(0);
         }
         let Finished {
             job: _,
@@ -175,8 +184,9 @@ impl<L: Pooling> PoolFront<L> {
         } = finished;
         match answer {
             Some(answer) => {
+                let octets = octets_of(&answer);
                 sent.push_reserved((conn, answer));
-                Ok(())
+                Ok(octets)
             }
             None => Err(NodeError::Unanswered { conn }),
         }

@@ -2,12 +2,15 @@
 
 ghost use Rattle.std.specs.Prelude.{◌≡◌, ◌<◌, length, position, IfSome};
 ghost use Rattle.cc_book.specs.History.{IsLegal};
+ghost use Rattle.cc_shared.specs.Sharing.{Sweeps};
 ghost use Rattle.pool_node.specs.Fronts.{CollectsMore, OnFrontsEvent, is_node, is_up, told_of_one, told_of_tick};
+ghost use Rattle.pool_node.specs.Measure.{AddsFew, AddsOne};
 
 use crate::ending::stop_all;
 use crate::events::BookEvents;
 use crate::figures::BookFigures;
 use crate::front::PoolFront;
+use crate::sweeping::NextSweep;
 use cc_book::{Book, BookRefusal};
 use cc_shared::SharedBook;
 use dia_avp::Wire;
@@ -25,12 +28,16 @@ use std::thread::Threads;
 /// The most finished jobs that are collected of a front at one event.
 pub const COLLECT_LIMIT: u32 = 1_024;
 
+/// So many octets of answers end the collecting at a front, at one event: as many as a turn reads of a connection.
+pub const COLLECT_OCTETS: usize = 262_144;
+
 /// All fronts of a site in one process, on one book, each with workers of its own. `R` is what their threads run on.
 #[derive(Drop)]
 pub struct PoolFronts<L: Pooling, R> {
     rt: R,
     shared: SharedBook<L>,
     fronts: Vec<PoolFront<L>>,
+    next_sweep: NextSweep,
     figures: BookFigures,
     events: BookEvents,
 }
@@ -93,6 +100,7 @@ impl<L: Pooling, R: Wait> PoolFronts<L, R> {
             rt,
             shared,
             fronts,
+            next_sweep: NextSweep::From { moment: Moment(0) },
             figures: BookFigures::nothing(),
             events: BookEvents::off(alloc),
         }
@@ -102,8 +110,22 @@ impl<L: Pooling, R: Wait> PoolFronts<L, R> {
     fn book_swept(&mut self, moment: Moment, swept: &Result<u64, BookRefusal>)
         ensures { self.new ≡ self.old }
     {
+        self.next_sweep = NextSweep::after(moment, swept);
         self.figures.swept(swept);
         self.events.swept(moment, swept);
+    }
+
+    /// Sweeps the book, where that is due. How many sessions it has ended.
+    fn sweep(&mut self, moment: Moment) -> Result<u64, BookRefusal>
+        ensures swept { Sweeps L.opened moment result }
+        ensures fronts { self.new ≡ self.old }
+    {
+        if !self.next_sweep.is_due(moment) {
+            return Ok(0);
+        }
+        let swept = self.shared.sweep(&self.rt, moment);
+        self.book_swept(moment, &swept);
+        swept
     }
 
     /// From now on it keeps what its workers do until it is told ([`Recorded`]).
@@ -118,31 +140,35 @@ impl<L: Pooling, R: Wait> PoolFronts<L, R> {
         self.figures
     }
 
-    /// Collects a finished job of a front and puts its answer behind what is sent. Whether there was one. It is a fault where
-    /// there is no room for its answer, and nothing is collected then, or where it has none, for want of memory.
+    /// Collects a finished job of a front and puts its answer behind what is sent. How many octets were put there; none
+    /// where no job is finished. It is a fault where there is no room for its answer, and nothing is collected then, or
+    /// where it has none, for want of memory.
     fn collect_one(
         &mut self,
         place: usize,
         sent: &mut Vec<(ConnId, Message)>,
-    ) -> Result<bool, NodeError>
+    ) -> Result<Option<usize>, NodeError>
         requires { place < length self.old }
         ensures collects { CollectsMore L.site L.opened.terms self.old sent.old.items sent.new.items (told_of_one result) self.new }
         ensures places { length self.new ≡ length self.old }
+        ensures adds { AddsOne result sent.old.items sent.new.items }
     {
         if sent.reserve(1).is_err() {
             return Err(NodeError::OutOfMemory);
         }
         let front = &mut self.fronts[place];
         let Some(finished) = front.collect(&self.rt) else {
-            return Ok(false);
+            return Ok(None);
         };
         self.figures.collected(&finished);
         self.events.collected(&finished);
-        front.post(finished, sent)?;
-        Ok(true)
+        let octets = front.post(finished, sent)?;
+        Ok(Some(octets))
     }
 
-    /// Collects what is finished at a front.
+    /// Collects what is finished at a front, until that comes to [`COLLECT_OCTETS`] or more: what goes out at one event is
+    /// not to end a connection on which no more than four times as many octets may be unsent. What is left is collected
+    /// at the next event, and a tick comes with each turn, whether the node is woken or not.
     fn collect_at(
         &mut self,
         place: usize,
@@ -151,9 +177,15 @@ impl<L: Pooling, R: Wait> PoolFronts<L, R> {
         requires { place < length self.old }
         ensures collects { CollectsMore L.site L.opened.terms self.old sent.old.items sent.new.items result self.new }
         ensures places { length self.new ≡ length self.old }
+        ensures few { AddsFew 1 sent.old.items sent.new.items }
     {
+        let mut octets: usize = 0;
         for round in 0..COLLECT_LIMIT {
-            if !self.collect_one(place, sent)? {
+            let Some(more) = self.collect_one(place, sent)? else {
+                break;
+            };
+            octets = octets.saturating_add(more);
+            if octets >= COLLECT_OCTETS {
                 break;
             }
         }
@@ -163,6 +195,7 @@ impl<L: Pooling, R: Wait> PoolFronts<L, R> {
     /// Collects what is finished at all fronts.
     fn collect_all(&mut self, sent: &mut Vec<(ConnId, Message)>) -> Result<(), NodeError>
         ensures collects { CollectsMore L.site L.opened.terms self.old sent.old.items sent.new.items result self.new }
+        ensures few { AddsFew (length self.old) sent.old.items sent.new.items }
     {
         for place in 0..self.fronts.len() {
             self.collect_at(place, sent)?;
@@ -186,6 +219,7 @@ impl<L: Pooling, R: Drop> PoolFronts<L, R> {
             rt: _,
             shared,
             fronts,
+            next_sweep: _,
             figures: _,
             mut events,
         } = self;
@@ -235,8 +269,7 @@ impl<L: Pooling, R: Wait> Node for PoolFronts<L, R> {
     fn on_tick<W: Wire>(&mut self, alloc: Global, moment: Moment) -> Reaction {
         let mut sent = Vec::new(alloc);
         let collected = self.collect_all(&mut sent);
-        let swept = self.shared.sweep(&self.rt, moment);
-        self.book_swept(moment, &swept);
+        let swept = self.sweep(moment);
         reaction(sent, outcome_of_tick(collected, swept))
     }
 

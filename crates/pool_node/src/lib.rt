@@ -3,13 +3,15 @@
 //! - [`PoolFronts`]: the node. A request goes to the workers of the front that it came to; at each tick, and when a worker
 //!   has waked the node, what is finished is collected and sent on the connection that it came on, if that is still up.
 //! - [`PoolFront`]: one front: its connections, and its [`front_pool::Pool`].
-//! - [`start_fronts`]: starts the fronts of a site. [`COLLECT_LIMIT`]: how much is collected of a front at one event.
+//! - [`start_fronts`]: starts the fronts of a site. [`COLLECT_OCTETS`], [`COLLECT_LIMIT`]: how much is collected of a front
+//!   at one event.
 //!
 //! - [`BookFigures`]: what the book has come to, as far as answers were collected. [`PoolFronts::end`] ends all workers and
 //!   gives the book back.
+//! - [`NextSweep`]: when the book is swept next: once a second at most, and never again once it is full.
 //! - [`BookEvents`]: what the fronts have done that nobody else can tell of, for those who record it.
 //!
-//! What the node does at each event stands in `specs/Fronts`.
+//! What the node does at each event stands in `specs/Fronts`, and how many octets go out then in `specs/Measure`.
 #![tactic(auto)]
 
 mod ending;
@@ -18,9 +20,11 @@ mod figures;
 mod front;
 mod fronts;
 mod start;
+mod sweeping;
 
 pub use events::BookEvents;
 pub use figures::BookFigures;
 pub use front::PoolFront;
-pub use fronts::{COLLECT_LIMIT, PoolFronts};
+pub use fronts::{COLLECT_LIMIT, COLLECT_OCTETS, PoolFronts};
 pub use start::{Bell, StartFault, start_fronts};
+pub use sweeping::{NextSweep, SWEEP_INTERVAL};

@@ -8,8 +8,9 @@ use crate::front::PoolFront;
 use crate::fronts::PoolFronts;
 use cc_shared::{Seat, SharedBook};
 use dia_avp::Wire;
-use dia_base::{Listing, NodeNo};
+use dia_base::NodeNo;
 use farm_base::Site;
+use farm_clock::Timer;
 use front_pool::{Pool, PoolQueue, PoolSite, Pooling, Wake, Wakes};
 use std::alloc::{AllocError, AllocFailed, Global};
 use std::rt::Clock;
@@ -25,6 +26,8 @@ pub enum StartFault {
     /// A worker has no thread, or no memory.
     #[error("a worker cannot be started")]
     NoWorker,
+    #[error("the clock cannot be read")]
+    NoClock,
     #[error("node {} is none of the site", node.0)]
     UnknownNode { node: NodeNo },
 }
@@ -60,11 +63,10 @@ fn site_of(alloc: Global, site: &Site, node: NodeNo) -> Result<PoolSite, StartFa
     let Some(at) = site.nodes.as_slice().get(node.0 as usize) else {
         return Err(StartFault::UnknownNode { node });
     };
-    let vendors = Vec::from_slice(alloc, site.vendors.as_slice())?;
     Ok(PoolSite {
         name: at.name.clone()?,
         realm: site.realm.clone()?,
-        vendors: Listing::from_vec(vendors),
+        profile: site.front_profile()?,
     })
 }
 
@@ -85,6 +87,7 @@ fn start_front<W, L, R, K>(
     seats: Vec<Seat<L>>,
     site: &Site,
     node: NodeNo,
+    timer: Timer,
     waker: Bell<K>,
 ) -> Result<PoolFront<L>, StartFault>
 where
@@ -102,7 +105,8 @@ where
         front: node,
         name: named.name,
         realm: named.realm,
-        vendors: named.vendors,
+        profile: named.profile,
+        timer,
         jobs: site.queue as usize,
     };
     let handle = shared.another()?;
@@ -140,6 +144,7 @@ where
     ensures { IfOk result (λ fronts. fronts ≡ new_fronts nodes.now site.now.workers (length seats.items)) }
 {
     let mut seats = seats;
+    let timer = Timer::start(&rt).map_err(|_| StartFault::NoClock)?;
     let waker = Arc::new(alloc, waker)?;
     let mut fronts = Vec::with_capacity(alloc, nodes.len())?;
     for node in nodes {
@@ -147,7 +152,9 @@ where
         let bell = Bell {
             waker: Arc::try_clone(&waker)?,
         };
-        fronts.push(start_front::<W, L, R, K>(&rt, alloc, &shared, own, site, *node, bell)?)?;
+        fronts.push(start_front::<W, L, R, K>(
+            &rt, alloc, &shared, own, site, *node, timer, bell,
+        )?)?;
     }
     Ok(PoolFronts::new(rt, alloc, shared, fronts))
 }

@@ -12,7 +12,8 @@ use Rattle.cc_view.specs.Answer.{answer_to, refusal_of}
 use Rattle.cc_view.specs.Forwarding.{IsForwarded, with_hop}
 use Rattle.cc_view.specs.Readdressing as readdressing
 use Rattle.cc_view.specs.Refusal.{avps_by}
-use Rattle.cc_view.specs.RequestView.{view_of}
+use Rattle.dia_grammar.specs.Profile.{RequestProfile}
+use Rattle.cc_view.specs.RequestView.{view_under}
 use Rattle.cc_view.specs.declared.refusal.Refusal.{Refusal}
 use Rattle.cc_view.specs.declared.reply.CcReply.{CcReply}
 use Rattle.cc_view.specs.declared.request.CcRequest.{CcRequest}
@@ -41,10 +42,10 @@ abbrev pub OneMore : Type 0
 OneMore = (octets : List ℕ) (avps : List RawAvp) (avp : RawAvp) → IsSpelling octets avps → HasSpelling avp → IsSpelling (with_avp octets avp) (avps ++ avp ∷ [])
 
 abbrev pub ReadsNoIdentifier : Type 0
-ReadsNoIdentifier = (vendors : List ℕ) (message : Message) (hop end : ℕ) (resent : Bool) → view_of vendors (readdressing.sent_again hop end resent message) ≡ view_of vendors message
+ReadsNoIdentifier = (profile : RequestProfile) (message : Message) (hop end : ℕ) (resent : Bool) → view_under profile (readdressing.sent_again hop end resent message) ≡ view_under profile message
 
 abbrev pub ViewForwarded : Type 0
-ViewForwarded = (vendors : List ℕ) (request forwarded : Message) → IsForwarded request forwarded → view_of vendors forwarded ≡ view_of vendors request
+ViewForwarded = (profile : RequestProfile) (request forwarded : Message) → IsForwarded request forwarded → view_under profile forwarded ≡ view_under profile request
 
 abbrev pub AnswerForwarded : Type 0
 AnswerForwarded = (front realm : List ℕ) (request forwarded : Message) (content : CcRequest) (reply : CcReply) → IsForwarded request forwarded →
@@ -83,14 +84,14 @@ forwarded law request before avps peer spelled e d =
 
 -- ---- view, answer and refusal
 
-pub same_view : OneMore → ReadsNoIdentifier → ViewForwarded → (vendors : List ℕ) (request passed : Message) (avps : List RawAvp) → split_of request.body ≡ Ok avps → Descends request passed → view_of vendors passed ≡ view_of vendors request
-same_view more reads view vendors request passed avps e same = refl
-same_view more reads view vendors request passed avps e (renumbered {passed = before} hop d) =
-    reads vendors before hop before.header.end before.header.resent ∙ same_view more reads view vendors request before avps e d
-same_view more reads view vendors request passed avps e (sent_again {passed = before} hop d) =
-    reads vendors before hop before.header.end true ∙ same_view more reads view vendors request before avps e d
-same_view more reads view vendors request passed avps e (recorded_by {passed = before} peer spelled d) =
-    view vendors before (with_record peer before) (forwarded more request before avps peer spelled e d) ∙ same_view more reads view vendors request before avps e d
+pub same_view : OneMore → ReadsNoIdentifier → ViewForwarded → (profile : RequestProfile) (request passed : Message) (avps : List RawAvp) → split_of request.body ≡ Ok avps → Descends request passed → view_under profile passed ≡ view_under profile request
+same_view more reads view profile request passed avps e same = refl
+same_view more reads view profile request passed avps e (renumbered {passed = before} hop d) =
+    reads profile before hop before.header.end before.header.resent ∙ same_view more reads view profile request before avps e d
+same_view more reads view profile request passed avps e (sent_again {passed = before} hop d) =
+    reads profile before hop before.header.end true ∙ same_view more reads view profile request before avps e d
+same_view more reads view profile request passed avps e (recorded_by {passed = before} peer spelled d) =
+    view profile before (with_record peer before) (forwarded more request before avps peer spelled e d) ∙ same_view more reads view profile request before avps e d
 
 answer-own : (front realm : List ℕ) (message : Message) (content : CcRequest) (reply : CcReply) → answer_to front realm message content reply ≡ with_hop message.header.hop (answer_to front realm message content reply)
 unfolding answer_to

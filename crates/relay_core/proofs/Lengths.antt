@@ -1,6 +1,5 @@
 -- Worked examples: requests of c1.example with room for its Route-Record, and without it.
-use Rattle.std.proofs.Common.{◌≡◌, ◌∙◌, ℕ, ◌+◌, Bool, true, false, cond, List, [], ◌∷◌, length, length-append, nat_lt, replicate, codes, Result, Ok, Err, refl, ap}
-use Rattle.dia_base.specs.declared.number.ConnId.{ConnId}
+use Rattle.std.proofs.Common.{◌≡◌, ◌∙◌, ℕ, ◌+◌, true, false, List, [], ◌∷◌, length, length-append, nat_lt, replicate, codes, Result, Ok, Err, refl, ap}
 use Rattle.dia_avp.specs.declared.avp.RawAvp.{RawAvp}
 use Rattle.dia_avp.specs.AvpList.{padding_of, with_padding, written}
 use Rattle.cc_view.specs.Refusal.{avps_of}

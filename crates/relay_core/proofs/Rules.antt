@@ -21,7 +21,7 @@ use Rattle.relay_hops.specs.PendingTable.{is_full}
 use Rattle.relay_core.specs.declared.node.RelayNode.{RelayNode}
 use Rattle.relay_core.specs.RelayState.{RelayState}
 use Rattle.relay_core.specs.Forwarding.{recorded, is_too_long}
-use Rattle.relay_core.specs.NextHop.{host_in, realm_in, value_of, peer_for, candidates_for, outgoing, conn_for, or_later, first_conn, deliverable, hop_to_host, hop_by_realm, hop_by_host, next_hop}
+use Rattle.relay_core.specs.NextHop.{host_in, realm_in, peer_for, candidates_for, outgoing, conn_for, or_later, first_conn, deliverable, hop_to_host, hop_by_realm, hop_by_host, next_hop}
 use Rattle.relay_core.specs.Verdict.{is_for_itself, is_kind_of_client, is_client, candidates, candidates_in, conn_among, is_of_unknown_realm, lacks_application, listed_candidates, with_no_avp, verdict}
 
 -- a connection that was found, where there is room for a request more

@@ -7,7 +7,6 @@ use Rattle.dia_base.specs.Codes.{destination_realm, destination_host}
 use Rattle.dia_grammar.specs.Grammar.{is_of}
 use Rattle.cc_view.specs.declared.code.ResultCode.{ResultCode}
 use Rattle.cc_view.specs.declared.code.ResultCode.TheVariants.{UnableToDeliver, RealmNotServed}
-use Rattle.relay_peers.specs.declared.peers.Link.{Link}
 use Rattle.relay_peers.specs.declared.peers.LinkedPeer.{LinkedPeer}
 use Rattle.dia_base.specs.declared.node.NodeKind.{NodeKind}
 use Rattle.dia_base.specs.declared.node.NodeKind.TheVariants.{Relay, Front, Client}

@@ -13,7 +13,8 @@ ghost use Rattle.cc_view.specs.Answer.{answer_to, refusal_of};
 ghost use Rattle.cc_view.specs.FirstDebit.{debit_message};
 ghost use Rattle.cc_view.specs.Forwarding.{with_hop};
 ghost use Rattle.cc_view.specs.Refusal.{refusal_with};
-ghost use Rattle.cc_view.specs.RequestView.{view_of};
+ghost use Rattle.dia_grammar.specs.Profile.{RequestProfile};
+ghost use Rattle.cc_view.specs.RequestView.{view_under};
 ghost use Rattle.cc_view.specs.declared.code.ResultCode.TheVariants.{LoopDetected};
 ghost use Rattle.cc_view.specs.declared.refusal.Refusal.{Refusal};
 ghost use Rattle.cc_view.specs.declared.reply.CcReply.{CcReply};
@@ -30,7 +31,7 @@ ghost use Rattle.relay_core.specs.Verdict.{decision};
 ghost use Rattle.relay_core.specs.declared.node.RelaySite.{RelaySite};
 ghost use Rattle.relay_core.specs.declared.run.RelayEvent.{RelayEvent};
 
-use cc_view::{forwarded_requests, view_without_identifiers};
+use cc_view::{forwarded_requests, profiles_read_no_more};
 use dia_avp::one_avp_more;
 use relay_routes::{added_record_names, loops_have_a_record_of_the_node, names_with_more};
 
@@ -43,14 +44,14 @@ pub fn descending_goes_on()
 /// view, and its answers and refusals are those of the other by the Hop-by-Hop Identifier alone.
 pub fn descendants_read_alike()
     ensures end { (request passed : Message) → Descends request passed → passed.header.end ≡ request.header.end }
-    ensures view { (vendors : List ℕ) (request passed : Message) (avps : List RawAvp) → split_of request.body ≡ Ok avps → Descends request passed → view_of vendors passed ≡ view_of vendors request }
+    ensures view { (profile : RequestProfile) (request passed : Message) (avps : List RawAvp) → split_of request.body ≡ Ok avps → Descends request passed → view_under profile passed ≡ view_under profile request }
     ensures answer { (front realm : List ℕ) (request passed : Message) (content : CcRequest) (reply : CcReply) (avps : List RawAvp) → split_of request.body ≡ Ok avps → Descends request passed →
         answer_to front realm passed content reply ≡ with_hop passed.header.hop (answer_to front realm request content reply) }
     ensures refusal { (node realm : List ℕ) (request passed : Message) (refusal : Refusal) (avps : List RawAvp) → split_of request.body ≡ Ok avps → Descends request passed →
         refusal_of node realm passed refusal ≡ with_hop passed.header.hop (refusal_of node realm request refusal) }
 {
     forwarded_requests();
-    view_without_identifiers();
+    profiles_read_no_more();
     one_avp_more();
 }
 

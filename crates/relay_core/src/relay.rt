@@ -1,6 +1,6 @@
 //! A relay and its events.
 
-ghost use Rattle.std.specs.Prelude.{◌≡◌, IsSome, IsNone, IsOk, IfOk, IfSome, None, OnOk, OnErr, IsOkUnless, MatchOption, false};
+ghost use Rattle.std.specs.Prelude.{◌≡◌, IsSome, IsNone, IsOk, IfOk, IfSome, None, OnOk, OnErr, IsOkUnless, MatchOption, false, length};
 ghost use Rattle.relay_peers.specs.PeerTable.{peer_in};
 ghost use Rattle.relay_core.specs.Connecting.{new_relay, up_fault, after_up, after_restart};
 ghost use Rattle.relay_core.specs.RelayState.{peer_on};
@@ -111,6 +111,13 @@ impl Relay {
         self.node.peers.down(conn);
         self.pending.orphan(conn);
         Ok(fail_over(&mut self.pending, conn, plan, room))
+    }
+
+    /// How many requests are pending: those too whose connection is gone, which wait for their answer all the same.
+    pub fn pending(&self) -> usize
+        ensures { result ≡ length self.now.pending.rows }
+    {
+        self.pending.count()
     }
 
     /// Everything is forgotten: no peer is up, and nothing is pending. It takes no memory.

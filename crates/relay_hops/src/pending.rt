@@ -75,6 +75,13 @@ impl Pending {
         self.places.count() >= self.limit as usize
     }
 
+    /// How many requests are pending.
+    pub fn count(&self) -> usize
+        ensures { result ≡ length self.now.rows }
+    {
+        self.places.count()
+    }
+
     /// A request goes out on a connection: it is pending there under an identifier that no other
     /// one has. It takes no memory. At the limit the table is as it was and the request is handed back.
     pub fn add(&mut self, conn: ConnId, origin: Origin, request: Message) -> Result<Hop, NotAdded>

@@ -111,6 +111,7 @@ pub fn locals(alloc: Global) -> anyhow::Result<Vec<LocalNode>> {
         realm: Identity::read(alloc, b"ocs.example")?,
         address: HostAddress::V4([127, 0, 0, 1]),
         application: Application::Relay,
+        advertised: Listing::empty(alloc),
         neighbours: Listing::from_vec(vec![in alloc; neighbour]?),
         interval: 30_000,
     };

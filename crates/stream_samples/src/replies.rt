@@ -86,6 +86,7 @@ fn locals(alloc: Global) -> anyhow::Result<Vec<LocalNode>> {
         realm: Identity::read(alloc, b"ocs.example")?,
         address: HostAddress::V4([127, 0, 0, 1]),
         application: Application::CreditControl,
+        advertised: Listing::empty(alloc),
         neighbours: Listing::from_vec(vec![in alloc; neighbour]?),
         interval: 30_000,
     };

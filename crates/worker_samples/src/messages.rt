@@ -7,9 +7,12 @@ use cc_book::{Account, Book, Money};
 use cc_rating::{Tariff, Tariffs, UnitKind};
 use dia_avp::Octets;
 use dia_base::{Identity, Listing, NodeNo};
+use dia_grammar::SiteProfile;
 use dia_message::{Message, whole_message};
+use farm_clock::Timer;
 use front_pool::PoolQueue;
 use std::alloc::Global;
+use std::rt::Clock;
 
 /// A debit of 3200 octets for group 10 (RFC 8506, section 3.1), up to its CC-Request-Number.
 const BEFORE: &str =
@@ -27,7 +30,7 @@ pub fn debit(alloc: Global, number: u32) -> anyhow::Result<Message> {
 }
 
 /// The front f1, at which so many jobs may wait.
-pub fn front(alloc: Global, jobs: usize) -> anyhow::Result<PoolQueue>
+pub fn front(rt: &impl Clock, alloc: Global, jobs: usize) -> anyhow::Result<PoolQueue>
     requires { 0 < jobs }
     ensures { IfOk result (λ queue. queue.jobs ≡ jobs) }
 {
@@ -35,7 +38,8 @@ pub fn front(alloc: Global, jobs: usize) -> anyhow::Result<PoolQueue>
         front: NodeNo(0),
         name: Identity::read(alloc, b"f1.example")?,
         realm: Identity::read(alloc, b"ocs.example")?,
-        vendors: Listing::empty(alloc),
+        profile: SiteProfile::strict(alloc, Listing::empty(alloc)),
+        timer: Timer::start(rt)?,
         jobs,
     })
 }

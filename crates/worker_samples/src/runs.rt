@@ -62,7 +62,7 @@ where
     requires parts { (blank.parts ≡ L.parts) × (blank.parts ≡ workers) }
     requires book { book ≡ L.opened }
     requires jobs { 0 < queue.jobs }
-    requires site { L.site queue.front ≡ record { name = queue.name; realm = queue.realm; vendors = queue.vendors } }
+    requires site { L.site queue.front ≡ record { name = queue.name; realm = queue.realm; profile = queue.profile } }
     requires some { 0 < workers }
 {
     let Ok((shared, seats)) = SharedBook::<L>::share(alloc, blank, book, workers) else {

@@ -129,7 +129,7 @@ where
     requires parts { (blank.parts ≡ L.parts) × (blank.parts ≡ workers) }
     requires book { book ≡ L.opened }
     requires jobs { 0 < queue.jobs }
-    requires site { L.site queue.front ≡ record { name = queue.name; realm = queue.realm; vendors = queue.vendors } }
+    requires site { L.site queue.front ≡ record { name = queue.name; realm = queue.realm; profile = queue.profile } }
     requires some { 0 < workers }
 {
     let running = start::<L, R, G>(rt, alloc, blank, book, queue, workers, gate, signs)?;
@@ -153,7 +153,7 @@ where
     requires places { 0 < places }
 {
     let book = book(alloc)?;
-    let queue = front(alloc, places)?;
+    let queue = front(rt, alloc, places)?;
     run::<Brand, R, G>(
         rt,
         alloc,

@@ -5,6 +5,7 @@ use Rattle.dia_avp.specs.declared.avp.RawAvp.{RawAvp}
 use Rattle.dia_dict.specs.declared.fault.DictFault.{DictFault}
 use Rattle.dia_dict.specs.declared.fault.DictFault.TheVariants.{BadLength, BadUtf8, BadEnumerated}
 use Rattle.dia_dict.specs.Reading.{reading_fault}
+use Rattle.dia_grammar.specs.Profile.{RequestProfile}
 use Rattle.dia_grammar.specs.Grammar.{is_among, is_of, missing_of, second_of, unknown_of}
 use Rattle.cc_view.specs.declared.code.ResultCode.TheVariants.{AvpUnsupported, AvpOccursTooManyTimes, InvalidAvpLength, InvalidAvpValue}
 use Rattle.cc_view.specs.declared.refusal.Refusal.{Refusal}
@@ -54,9 +55,9 @@ group_values =
 
 -- Why the AVPs in a group are refused, which may have one AVP of each code in `single` and has to have
 -- one of each in `required`: an unknown one with M, then a second one, then a missing one, then a value.
-abbrev pub members_refusal : List ℕ → List ℕ → List ℕ → List RawAvp → Option Refusal
-members_refusal vendors single required avps =
-    option_or (option_and_then (refusal_at AvpUnsupported avps) (unknown_of vendors avps))
+abbrev pub members_refusal : RequestProfile → List ℕ → List ℕ → List RawAvp → Option Refusal
+members_refusal profile single required avps =
+    option_or (option_and_then (refusal_at AvpUnsupported avps) (unknown_of profile avps))
     (option_or (option_and_then (refusal_at AvpOccursTooManyTimes avps) (second_of single avps))
     (option_or (option_map refusal_for_missing (missing_of required avps)) (values_refusal group_values avps)))
 
@@ -69,8 +70,8 @@ tested_in test (Err refusal) = Some refusal
 abbrev pub subscription_codes : List ℕ
 subscription_codes = subscription_id_type ∷ subscription_id_data ∷ []
 
-unfoldable pub subscription_refusal : List ℕ → RawAvp → Option Refusal
-subscription_refusal vendors avp = tested_in (members_refusal vendors subscription_codes subscription_codes) (avps_of avp.value)
+unfoldable pub subscription_refusal : RequestProfile → RawAvp → Option Refusal
+subscription_refusal profile avp = tested_in (members_refusal profile subscription_codes subscription_codes) (avps_of avp.value)
 
 -- Requested-Service-Unit and Used-Service-Unit have at most one of each count (RFC 8506, sections 8.18 and 8.19)
 abbrev pub is_units : RawAvp → Bool
@@ -79,32 +80,32 @@ is_units avp = is_of requested_service_unit avp || is_of used_service_unit avp
 abbrev pub count_codes : List ℕ
 count_codes = cc_time ∷ cc_total_octets ∷ cc_service_specific_units ∷ []
 
-unfoldable pub units_refusal : List ℕ → RawAvp → Option Refusal
-units_refusal vendors avp = tested_in (members_refusal vendors count_codes []) (avps_of avp.value)
+unfoldable pub units_refusal : RequestProfile → RawAvp → Option Refusal
+units_refusal profile avp = tested_in (members_refusal profile count_codes []) (avps_of avp.value)
 
-abbrev pub inner_group_refusal : List ℕ → RawAvp → Option Refusal
-inner_group_refusal vendors avp = if is_units avp then units_refusal vendors avp else None
+abbrev pub inner_group_refusal : RequestProfile → RawAvp → Option Refusal
+inner_group_refusal profile avp = if is_units avp then units_refusal profile avp else None
 
 -- the first group of units that is refused
-abbrev pub inner_refusal : List ℕ → List RawAvp → Option Refusal
-inner_refusal vendors avps = first_refusal (inner_group_refusal vendors) avps
+abbrev pub inner_refusal : RequestProfile → List RawAvp → Option Refusal
+inner_refusal profile avps = first_refusal (inner_group_refusal profile) avps
 
 -- Multiple-Services-Credit-Control has at most one Requested-Service-Unit and one Rating-Group (RFC 8506, section 8.16)
 abbrev pub service_codes : List ℕ
 service_codes = requested_service_unit ∷ rating_group ∷ []
 
-abbrev pub service_members_refusal : List ℕ → List RawAvp → Option Refusal
-service_members_refusal vendors avps = option_or (members_refusal vendors service_codes [] avps) (inner_refusal vendors avps)
+abbrev pub service_members_refusal : RequestProfile → List RawAvp → Option Refusal
+service_members_refusal profile avps = option_or (members_refusal profile service_codes [] avps) (inner_refusal profile avps)
 
-unfoldable pub service_refusal : List ℕ → RawAvp → Option Refusal
-service_refusal vendors avp = tested_in (service_members_refusal vendors) (avps_of avp.value)
+unfoldable pub service_refusal : RequestProfile → RawAvp → Option Refusal
+service_refusal profile avp = tested_in (service_members_refusal profile) (avps_of avp.value)
 
-abbrev pub group_refusal : List ℕ → RawAvp → Option Refusal
-group_refusal vendors avp =
-    if is_of subscription_id avp then subscription_refusal vendors avp
-    else if is_units avp then units_refusal vendors avp
-    else if is_of multiple_services avp then service_refusal vendors avp else None
+abbrev pub group_refusal : RequestProfile → RawAvp → Option Refusal
+group_refusal profile avp =
+    if is_of subscription_id avp then subscription_refusal profile avp
+    else if is_units avp then units_refusal profile avp
+    else if is_of multiple_services avp then service_refusal profile avp else None
 
 -- the first group of a request that is refused
-abbrev pub groups_refusal : List ℕ → List RawAvp → Option Refusal
-groups_refusal vendors avps = first_refusal (group_refusal vendors) avps
+abbrev pub groups_refusal : RequestProfile → List RawAvp → Option Refusal
+groups_refusal profile avps = first_refusal (group_refusal profile) avps

@@ -13,6 +13,9 @@ use dia_base::codes::{ORIGIN_HOST, ORIGIN_REALM};
 use std::alloc::{AllocError, Global};
 use std::marker::Model;
 
+/// For how many octets there is room at once where AVPs are spelled: as many as most answers take.
+const ROOM: usize = 256;
+
 /// AVPs in the order in which they are written, with the flag M and vendor 0.
 #[derive(Drop)]
 pub(crate) struct Draft {
@@ -148,7 +151,7 @@ impl Draft {
     pub(crate) fn spell<W: Wire>(&self) -> Result<Octets, AllocError>
         ensures { IfOk result (λ octets. octets ≡ spelling_of self.now) }
     {
-        let mut octets = Vec::new(self.alloc);
+        let mut octets = Vec::with_capacity(self.alloc, ROOM)?;
         for avp in &self.avps {
             W::spell(&mut octets, avp).map_err(|_| AllocError)?;
         }

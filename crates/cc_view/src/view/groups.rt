@@ -2,6 +2,7 @@
 
 ghost use Rattle.std.specs.Prelude.{◌≡◌, ◌<◌, ◌≤◌, length, option_map, IfSome};
 ghost use Rattle.std.specs.Option.{option_and_then};
+ghost use Rattle.dia_grammar.specs.Profile.{profile_of};
 ghost use Rattle.cc_view.specs.Finding.{Passes};
 ghost use Rattle.cc_view.specs.Refusal.{refusal_at, refusal_for_missing};
 ghost use Rattle.cc_view.specs.RequestView.Checking.{group_refusal, groups_refusal, inner_group_refusal, inner_refusal, is_units, members_refusal, service_refusal, subscription_refusal, units_refusal};
@@ -16,7 +17,7 @@ use dia_base::codes::{
     REQUESTED_SERVICE_UNIT, SERVICE_IDENTIFIER, SUBSCRIPTION_ID, SUBSCRIPTION_ID_DATA,
     SUBSCRIPTION_ID_TYPE, USED_SERVICE_UNIT,
 };
-use dia_grammar::{first_missing, first_repeated, first_unknown, is_of};
+use dia_grammar::{Profile, first_missing, first_repeated, first_unknown, is_of};
 use std::alloc::Global;
 
 /// Whose values are looked at in a group.
@@ -67,18 +68,18 @@ fn refuse_missing(alloc: Global, code: Option<u32>) -> Result<(), ViewError>
 /// each in `required`.
 fn check_members(
     alloc: Global,
-    vendors: &[u32],
+    profile: Profile,
     single: &[u32],
     required: &[u32],
     avps: &[RawAvp],
 ) -> Result<(), ViewError>
-    ensures { Passes (members_refusal vendors.now single.now required.now avps.now) result }
+    ensures { Passes (members_refusal (profile_of profile.entry) single.now required.now avps.now) result }
 {
     refuse_place(
         alloc,
         ResultCode::AvpUnsupported,
         avps,
-        first_unknown(avps, vendors),
+        first_unknown(avps, profile),
     )?;
     refuse_place(
         alloc,
@@ -92,15 +93,15 @@ fn check_members(
 
 fn check_subscription<W: Wire>(
     alloc: Global,
-    vendors: &[u32],
+    profile: Profile,
     avp: &RawAvp,
 ) -> Result<(), ViewError>
-    ensures { Passes (subscription_refusal vendors.now avp.now) result }
+    ensures { Passes (subscription_refusal (profile_of profile.entry) avp.now) result }
 {
     let members = avps_by(alloc, avp.value.as_slice(), W::inside(alloc, avp, 1))?;
     check_members(
         alloc,
-        vendors,
+        profile,
         &SUBSCRIPTION_CODES,
         &SUBSCRIPTION_CODES,
         &members,
@@ -110,15 +111,15 @@ fn check_subscription<W: Wire>(
 /// Refuses a group of units that stands so deep.
 fn check_units<W: Wire>(
     alloc: Global,
-    vendors: &[u32],
+    profile: Profile,
     avp: &RawAvp,
     depth: u32,
 ) -> Result<(), ViewError>
     requires { depth ≤ 4 }
-    ensures { Passes (units_refusal vendors.now avp.now) result }
+    ensures { Passes (units_refusal (profile_of profile.entry) avp.now) result }
 {
     let members = avps_by(alloc, avp.value.as_slice(), W::inside(alloc, avp, depth))?;
-    check_members(alloc, vendors, &COUNT_CODES, &[], &members)
+    check_members(alloc, profile, &COUNT_CODES, &[], &members)
 }
 
 fn is_units(avp: &RawAvp) -> bool
@@ -128,42 +129,42 @@ fn is_units(avp: &RawAvp) -> bool
 }
 
 /// Refuses the first group of units in a Multiple-Services-Credit-Control that is to be refused.
-fn check_inner<W: Wire>(alloc: Global, vendors: &[u32], avps: &[RawAvp]) -> Result<(), ViewError>
-    ensures { Passes (inner_refusal vendors.now avps.now) result }
+fn check_inner<W: Wire>(alloc: Global, profile: Profile, avps: &[RawAvp]) -> Result<(), ViewError>
+    ensures { Passes (inner_refusal (profile_of profile.entry) avps.now) result }
 {
     for avp in avps {
-        check_if_units::<W>(alloc, vendors, avp)?;
+        check_if_units::<W>(alloc, profile, avp)?;
     }
     Ok(())
 }
 
-fn check_if_units<W: Wire>(alloc: Global, vendors: &[u32], avp: &RawAvp) -> Result<(), ViewError>
-    ensures { Passes (inner_group_refusal vendors.now avp.now) result }
+fn check_if_units<W: Wire>(alloc: Global, profile: Profile, avp: &RawAvp) -> Result<(), ViewError>
+    ensures { Passes (inner_group_refusal (profile_of profile.entry) avp.now) result }
 {
     if is_units(avp) {
-        check_units::<W>(alloc, vendors, avp, 2)
+        check_units::<W>(alloc, profile, avp, 2)
     } else {
         Ok(())
     }
 }
 
-fn check_service<W: Wire>(alloc: Global, vendors: &[u32], avp: &RawAvp) -> Result<(), ViewError>
-    ensures { Passes (service_refusal vendors.now avp.now) result }
+fn check_service<W: Wire>(alloc: Global, profile: Profile, avp: &RawAvp) -> Result<(), ViewError>
+    ensures { Passes (service_refusal (profile_of profile.entry) avp.now) result }
 {
     let members = avps_by(alloc, avp.value.as_slice(), W::inside(alloc, avp, 1))?;
-    check_members(alloc, vendors, &SERVICE_CODES, &[], &members)?;
-    check_inner::<W>(alloc, vendors, &members)
+    check_members(alloc, profile, &SERVICE_CODES, &[], &members)?;
+    check_inner::<W>(alloc, profile, &members)
 }
 
-fn check_group<W: Wire>(alloc: Global, vendors: &[u32], avp: &RawAvp) -> Result<(), ViewError>
-    ensures { Passes (group_refusal vendors.now avp.now) result }
+fn check_group<W: Wire>(alloc: Global, profile: Profile, avp: &RawAvp) -> Result<(), ViewError>
+    ensures { Passes (group_refusal (profile_of profile.entry) avp.now) result }
 {
     if is_of(avp, SUBSCRIPTION_ID) {
-        check_subscription::<W>(alloc, vendors, avp)
+        check_subscription::<W>(alloc, profile, avp)
     } else if is_units(avp) {
-        check_units::<W>(alloc, vendors, avp, 1)
+        check_units::<W>(alloc, profile, avp, 1)
     } else if is_of(avp, MULTIPLE_SERVICES) {
-        check_service::<W>(alloc, vendors, avp)
+        check_service::<W>(alloc, profile, avp)
     } else {
         Ok(())
     }
@@ -172,13 +173,13 @@ fn check_group<W: Wire>(alloc: Global, vendors: &[u32], avp: &RawAvp) -> Result<
 /// Refuses the first group of a request that is to be refused.
 pub(crate) fn check_groups<W: Wire>(
     alloc: Global,
-    vendors: &[u32],
+    profile: Profile,
     avps: &[RawAvp],
 ) -> Result<(), ViewError>
-    ensures { Passes (groups_refusal vendors.now avps.now) result }
+    ensures { Passes (groups_refusal (profile_of profile.entry) avps.now) result }
 {
     for avp in avps {
-        check_group::<W>(alloc, vendors, avp)?;
+        check_group::<W>(alloc, profile, avp)?;
     }
     Ok(())
 }

@@ -3,6 +3,8 @@
 ghost use Rattle.std.specs.Prelude.{◌≡◌, ◌<◌, length, Err};
 ghost use Rattle.dia_avp.specs.AvpList.{Answers, Reads};
 ghost use Rattle.dia_grammar.specs.Grammar.{IsWithin};
+ghost use Rattle.dia_grammar.specs.Profile.{profile_of};
+ghost use Rattle.cc_view.specs.RequestView.Counting.{counted};
 ghost use Rattle.cc_view.specs.Finding.{GivesAll, IsRefusal, Passes};
 ghost use Rattle.cc_view.specs.Refusal.{avps_of, grammar_refusal, refusal_at, refusal_by_fault, refusal_for, refusal_for_missing, refusal_of_octets, refusal_with};
 ghost use Rattle.cc_view.specs.declared.view.ViewError.TheVariants.{Refused};
@@ -11,10 +13,11 @@ use crate::code::ResultCode;
 use crate::refusal::Refusal;
 use crate::view::ViewError;
 use crate::view::broken::broken_avp_in;
+use crate::view::counting::counted_avps;
 use crate::view::failed_avp::{copy_or_least_form, least_form};
 use dia_avp::layout::MANDATORY;
 use dia_avp::{AvpFault, Octets, RawAvp, Wire};
-use dia_grammar::{GrammarFault, check};
+use dia_grammar::{GrammarFault, Profile, check_under};
 use std::alloc::Global;
 
 /// A refusal that names no AVP.
@@ -96,15 +99,27 @@ pub(crate) fn refusal_at(alloc: Global, code: ResultCode, avps: &[RawAvp], at: u
     refusal_for(alloc, code, &avps[at])
 }
 
-/// Refuses AVPs that break the grammar of a request, where AVPs of these vendors are known.
-pub(crate) fn check_grammar(
+/// Refuses AVPs that break the grammar of a request, as they are counted under the profile. Where it
+/// tolerates nothing they are counted as they came.
+pub(crate) fn check_grammar<W: Wire>(
     alloc: Global,
-    vendors: &[u32],
+    profile: Profile,
     avps: &[RawAvp],
 ) -> Result<(), ViewError>
-    ensures { Passes (grammar_refusal vendors.now avps.now) result }
+    ensures { Passes (grammar_refusal (profile_of profile.entry) (counted (profile_of profile.entry) avps.now)) result }
 {
-    match check(avps, vendors) {
+    if profile.tolerates_nothing() {
+        return check_counted(alloc, profile, avps);
+    }
+    let counted = counted_avps::<W>(alloc, profile, avps)?;
+    check_counted(alloc, profile, &counted)
+}
+
+/// Refuses AVPs, as they are counted, that break the grammar of a request.
+fn check_counted(alloc: Global, profile: Profile, avps: &[RawAvp]) -> Result<(), ViewError>
+    ensures { Passes (grammar_refusal (profile_of profile.entry) avps.now) result }
+{
+    match check_under(avps, profile) {
         Ok(()) => Ok(()),
         Err(fault) => Err(refusal_by_fault(alloc, avps, fault)),
     }

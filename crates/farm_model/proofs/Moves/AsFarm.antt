@@ -15,6 +15,7 @@ use Rattle.farm_law.specs.Farm.{Item, Asker, PendingRow, Refused, Farm}
 use Rattle.farm_law.specs.Moves.{Moves}
 use Rattle.farm_law.specs.Parties.{Parties}
 use Rattle.farm_base.specs.declared.site.Site.{Site}
+use Rattle.farm_base.specs.FrontProfile.{front_profile}
 use Rattle.farm_model.specs.declared.state.Direction.{Direction}
 use Rattle.farm_model.specs.declared.state.FrontAt.{FrontAt}
 use Rattle.farm_model.specs.declared.state.RelayAt.{RelayAt}
@@ -48,7 +49,7 @@ parties site ends = record {
   is_linked = is_linked site;
   name_of = name_at site;
   realm = site.realm;
-  vendors = site.vendors;
+  profile = front_profile site;
   front_site = front_site site;
   client_on = λ conn. client_in site (ends_of ends conn);
   server_on = λ conn. server_in site (ends_of ends conn);

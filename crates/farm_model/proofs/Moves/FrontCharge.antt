@@ -11,7 +11,7 @@ use Rattle.cc_view.specs.declared.refusal.Refusal.{Refusal}
 use Rattle.cc_view.specs.declared.request.CcRequest.{CcRequest}
 use Rattle.cc_view.specs.Answer.{answer_to}
 use Rattle.cc_view.specs.Refusal.{refusal_with}
-use Rattle.cc_view.specs.RequestView.{view_of}
+use Rattle.cc_view.specs.RequestView.{view_under}
 use Rattle.cc_book.specs.AccountMachine.{reply_to, kept_reply}
 use Rattle.cc_book.specs.History.{IsLegal}
 use Rattle.cc_book.specs.Taking.{Ledger, with_take}
@@ -47,14 +47,14 @@ use Rattle.farm_model.proofs.Wiring.Wired.{IsWired}
 use Rattle.farm_model.proofs.Wiring.WiredLemmas.{front_wired}
 
 -- where the message is new and the book has room, it is not refused
-not_refused : (site : FrontSite) (ledger : Ledger) (message : Message) (refusal : Refusal) (request : CcRequest) → view_of site.vendors message ≡ Ok request →
+not_refused : (site : FrontSite) (ledger : Ledger) (message : Message) (refusal : Refusal) (request : CcRequest) → view_under site.profile message ≡ Ok request →
     length ledger.history < ledger.limit → ChargeCause site ledger message refusal → ⊥
 not_refused site ledger message refusal request view room (by_view r wrong) = absurd cc
 not_refused site ledger message refusal request view room (book_full r read unknown full) = omega (arith, room, full)
 
 -- what was taken is answered by the book after it
 taken_is_answered : Premises → (site : FrontSite) (ledger : Ledger) (moment : Moment) (message : Message) (request : CcRequest) → IsLegal ledger.terms
-    ledger.history → view_of site.vendors message ≡ Ok request
+    ledger.history → view_under site.profile message ≡ Ok request
     → kept_reply ledger.terms ledger.history request ≡ None → length ledger.history < ledger.limit
     → IsBookAnswer site (with_take ledger moment request) message
     (answer_to site.name site.realm message request (reply_to ledger.terms ledger.history request))

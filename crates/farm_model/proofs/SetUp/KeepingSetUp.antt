@@ -120,7 +120,7 @@ state_set_up {site} {w = w} wired stand runs = record {
         as_said = record {
           name = ap (λ (f : FrontSite). f.name) site_is ∙ ap name_in there;
           realm = ap (λ (f : FrontSite). f.realm) site_is;
-          vendors = ap (λ (f : FrontSite). f.vendors) site_is;
+          profile = ap (λ (f : FrontSite). f.profile) site_is;
           queue = ap (λ (f : FrontSite). f.queue) site_is;
           workers = ap (λ (f : FrontSite). f.workers) site_is;
           working = s.as_said;

@@ -36,3 +36,11 @@ returns-clause-dpr c = refl
 pub returns-clause-dpa : goal.returns-clause-dpa
 unfolding decode_pairs split_of split_from octets_of cea cer dpr dwr success_to
 returns-clause-dpa c = refl
+
+pub returns-clause-cer_of_vendors : goal.returns-clause-cer_of_vendors
+unfolding decode_pairs split_of split_from octets_of cea cer dpr dwr success_to
+returns-clause-cer_of_vendors c = refl
+
+pub returns-clause-cea_of_vendor : goal.returns-clause-cea_of_vendor
+unfolding decode_pairs split_of split_from octets_of cea cer dpr dwr success_to
+returns-clause-cea_of_vendor c = refl

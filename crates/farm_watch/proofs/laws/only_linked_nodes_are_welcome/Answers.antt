@@ -28,3 +28,7 @@ returns-clause-application c = refl
 pub returns-clause-success : goal.returns-clause-success
 unfolding decode_pairs split_of split_from octets_of cea cer dpr dwr success_to
 returns-clause-success c = refl
+
+pub returns-clause-vendors : goal.returns-clause-vendors
+unfolding decode_pairs split_of split_from octets_of cea cer dpr dwr success_to
+returns-clause-vendors c = refl

@@ -1,5 +1,6 @@
-use Rattle.std.proofs.Common.{◌≡◌, ℕ, List, subst}
-use Rattle.cc_view.specs.RequestView.{view_of}
+use Rattle.std.proofs.Common.{◌≡◌, subst}
+use Rattle.dia_grammar.specs.Profile.{RequestProfile}
+use Rattle.cc_view.specs.RequestView.{view_under}
 use Rattle.front_core.specs.Charging.{preparation_of}
 use Rattle.front_pool.specs.Answering.{is_too_busy}
 use Rattle.front_pool.proofs.Refused.{refused}
@@ -8,8 +9,8 @@ use Rattle.front_pool.proofs.answering.work.Goals as goal
 pub returns-in-Ok-Refused : goal.returns-in-Ok-Refused
 returns-in-Ok-Refused g c =
     let site = c.args.site.now in let message = c.args.job.now.request in
-    let P : List ℕ → Type 0 = λ vendors. c.in-Ok-Refused.field-0 ≡ preparation_of site.name site.realm message (view_of vendors message) in
-    let is = subst P c.as_slice-vendors.ensures c.in-Ok-Refused.ensures.prepared in
+    let P : RequestProfile → Type 0 = λ profile. c.in-Ok-Refused.field-0 ≡ preparation_of site.name site.realm message (view_under profile message) in
+    let is = subst P c.as_profile-profile.ensures c.in-Ok-Refused.ensures.prepared in
     refused site _ message c.in-Ok-Refused.refusal c.in-Ok-Refused.field-0 c.in-Ok-Refused.field-0-is is
 
 pub returns-in-Err : goal.returns-in-Err

@@ -1,8 +1,6 @@
-use Rattle.std.proofs.Common.{rules, ◌≡◌, ◌&&◌, not, false, is_some, is_none, Result, Ok, Err}
+use Rattle.std.proofs.Common.{rules, ◌≡◌, ◌&&◌, not, false, is_some, is_none, Ok, Err}
 use Rattle.cc_view.specs.Refusal.{refusal_with}
 use Rattle.cc_view.specs.declared.code.ResultCode.TheVariants.{TooBusy}
-use Rattle.cc_view.specs.declared.refusal.Refusal.{Refusal}
-use Rattle.dia_base.specs.declared.number.ConnId.{ConnId}
 use Rattle.relay_routes.specs.Routing.{names_node}
 use Rattle.relay_hops.specs.PendingTable.{is_full}
 use Rattle.relay_core.specs.Forwarding.{recorded, is_too_long}

@@ -1,4 +1,4 @@
-use Rattle.std.proofs.Common.{rules, ◌≡◌, ◌<◌, ap, subst, ◌∷◌, [], length}
+use Rattle.std.proofs.Common.{rules, ◌≡◌, ◌<◌, subst, ◌∷◌, [], length}
 use Rattle.std.proofs.lemmas.Bool.{leb-false}
 use Rattle.cc_view.specs.Refusal.{avps_of}
 use Rattle.dia_message.specs.declared.message.Message.{Message}

@@ -5,7 +5,7 @@ pub returns-clause-end : goal.returns-clause-end
 returns-clause-end c = same_end
 
 pub returns-clause-view : goal.returns-clause-view
-returns-clause-view c = same_view c.one_avp_more.ensures.avp c.view_without_identifiers.ensures c.forwarded_requests.ensures.view
+returns-clause-view c = same_view c.one_avp_more.ensures.avp c.profiles_read_no_more.ensures.identifiers c.profiles_read_no_more.ensures.forwarded
 
 pub returns-clause-answer : goal.returns-clause-answer
 returns-clause-answer c = same_answer c.one_avp_more.ensures.avp c.forwarded_requests.ensures.answer

@@ -1,7 +1,7 @@
 use Rattle.worker_samples.proofs.samples.print_with.Given as goal
 
 abbrev pub ghosts-run-L-Pooling : goal.ghosts-run-L-Pooling
-ghosts-run-L-Pooling g a = record { site = λ front. record { name = a.queue.name; realm = a.queue.realm; vendors = a.queue.vendors } }
+ghosts-run-L-Pooling g a = record { site = λ front. record { name = a.queue.name; realm = a.queue.realm; profile = a.queue.profile } }
 
 abbrev pub ghosts-run-L-Sharing : goal.ghosts-run-L-Sharing
 ghosts-run-L-Sharing g a = record { opened = a.book }

@@ -1,6 +1,7 @@
 use Rattle.std.proofs.Common.{ℕ, List, Err, sym, ap, subst, ◌∙◌}
 use Rattle.std.proofs.lemmas.Result.{err_from_is_err_and}
 use Rattle.dia_avp.specs.declared.avp.RawAvp.{RawAvp}
+use Rattle.dia_grammar.specs.Profile.{profile_of}
 use Rattle.cc_view.specs.RequestView.Checking.{members_refusal, subscription_codes, subscription_refusal}
 use Rattle.cc_view.specs.Finding.{GivesAll, Passes}
 use Rattle.cc_view.specs.Refusal.{avps_of}
@@ -13,11 +14,11 @@ returns-in_err-members g c =
     let p = err_from_is_err_and c.from_residual.result c.from_residual.ensures.1 in
     let given : GivesAll (avps_of c.args.avp.now.value) (Err c.in_err-members.field-0.0) =
     subst (λ (x : List ℕ). GivesAll (avps_of x) (Err c.in_err-members.field-0.0)) c.as_slice.ensures c.in_err-members.ensures in
-    rw (p.1, p.2) (tested_in-refused (members_refusal c.args.vendors.now subscription_codes subscription_codes) _ _ given)
+    rw (p.1, p.2) (tested_in-refused (members_refusal (profile_of c.args.profile) subscription_codes subscription_codes) _ _ given)
 
 pub returns : goal.returns
 unfolding subscription_refusal
 returns g c =
     let found = ap avps_of (sym c.as_slice.ensures) ∙ c.in_ok-members.ensures in
-    tested_in-ok (members_refusal c.args.vendors.now subscription_codes subscription_codes) _ c.in_ok-members.members.items c.check_members.result found
-    (subst (λ (x : List RawAvp). Passes (members_refusal c.args.vendors.now subscription_codes subscription_codes x) c.check_members.result) c.deref.ensures.value c.check_members.ensures)
+    tested_in-ok (members_refusal (profile_of c.args.profile) subscription_codes subscription_codes) _ c.in_ok-members.members.items c.check_members.result found
+    (subst (λ (x : List RawAvp). Passes (members_refusal (profile_of c.args.profile) subscription_codes subscription_codes x) c.check_members.result) c.deref.ensures.value c.check_members.ensures)

@@ -1,6 +1,9 @@
-use Rattle.std.proofs.Common.{◌≡◌, ◌+◌, ◌<◌, ◌≤◌, List, [], ◌∷◌, ◌++◌, length, take, sym, subst, ap, ◌∙◌, arith}
-use Rattle.std.specs.Prelude.{map}
+use Rattle.std.proofs.Common.{◌≡◌, ◌+◌, ◌<◌, ◌≤◌, List, [], ◌∷◌, ◌++◌, Result, Ok, Err, length, take, sym, subst, ap, ◌∙◌, arith}
+use Rattle.std.specs.Prelude.{IsOkUnless, map}
+use Rattle.std.specs.Result.{IsErrAnd}
 use Rattle.std.proofs.lemmas.List.{take_all, take_more}
+use Rattle.front_core.specs.declared.error.FrontError.{FrontError}
+use Rattle.front_core.specs.declared.error.FrontError.TheVariants.{OutOfMemory}
 use Rattle.front_core.specs.declared.event.FrontEvent.{FrontEvent}
 use Rattle.front_core.specs.FrontRun.{FrontRun, run_of}
 use Rattle.cc_book.specs.History.{IsLegal}
@@ -9,6 +12,11 @@ use Rattle.front_core.specs.Promise.{KeepsPromise}
 use Rattle.front_core.proofs.FrontPromise.{promise_kept}
 use Rattle.front_core.proofs.FrontRuns.{items_of, run_at, run_of-first, run_of-next}
 use Rattle.front_core.proofs.front.Front.run.Goals as goal
+
+-- an error that can only be want of memory
+only_memory : {A : Type 0} (result : Result A FrontError) → IsErrAnd result (λ error. error ≡ OutOfMemory) → IsOkUnless result OutOfMemory
+only_memory (Ok done) error = tt
+only_memory (Err error) is = is
 
 pub loop-event-init : goal.loop-event-init
 loop-event-init g c = run_of-first c.args.site.now c.args.book c.in_ok-front.front c.new-outs.result.items c.in_ok-front.ensures c.new-outs.ensures.items
@@ -41,3 +49,6 @@ returns g c =
       promise = subst (λ (run : FrontRun). KeepsPromise site book events run.sent run.ledger) whole (promise_kept site book events legal);
       memory = tt;
     }
+
+pub returns-in_err-push-clause-memory : goal.returns-in_err-push-clause-memory
+returns-in_err-push-clause-memory g c = only_memory c.from_residual-in_err-push.result c.from_residual-in_err-push.ensures.1

@@ -2,8 +2,8 @@ use Rattle.std.proofs.Common.{refl, rules}
 use Rattle.pool_node.proofs.Collecting.{collects_more, no_room}
 use Rattle.pool_node.proofs.fronts.PoolFronts.collect_one.Goals as goal
 
-pub returns-in_err-post-clause-collects : goal.returns-in_err-post-clause-collects
-returns-in_err-post-clause-collects g c =
+pub returns-in_err-octets-clause-collects : goal.returns-in_err-octets-clause-collects
+returns-in_err-octets-clause-collects g c =
     let fronts = c.self.inside.fronts.items in let front = c.index_mut-front.result.now in let next = c.collect.new.self in
     rw (← c.self.view_is) (collects_more _ _ fronts c.args.place front next c.in-Some.finished c.args.sent.now.items c.reserve.new.self.items
     c.post.new.sent.items _ (search rules) c.index_mut-front.ensures.value c.in-Some.ensures.some c.reserve.ensures.items c.post.ensures.sent (search rules))

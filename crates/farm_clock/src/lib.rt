@@ -1,0 +1,48 @@
+//! The time of a serving process.
+//!
+//! - [`Timer`]: moments that begin with the system's clock, and go on with the clock that never goes back.
+//!
+//! All that a process reads the time for reads it by such a timer: its connections, the moments at which requests are
+//! charged, and the sweeps that end sessions. So whoever sets the system's clock ends no connection, and no session.
+#![tactic(auto)]
+
+use dia_base::Moment;
+use std::io;
+use std::rt::Clock;
+use std::time::{Duration, Instant, SystemTime, UNIX_EPOCH};
+
+/// Moments in milliseconds since 1970, as the system's clock had them when the timer was started. Two timers that were
+/// started one after the other tell the same moments, unless that clock was set between.
+#[derive(Clone, Copy, Debug)]
+pub struct Timer {
+    began: Instant,
+    first: u64,
+}
+
+/// Whole milliseconds, as many as fit.
+fn millis(duration: Duration) -> u64 {
+    match u64::try_from(duration.as_millis()) {
+        Ok(millis) => millis,
+        Err(_) => u64::MAX,
+    }
+}
+
+impl Timer {
+    /// From now on. A clock that stands before 1970 counts as 1970.
+    pub fn start<R: Clock>(rt: &R) -> io::Result<Timer> {
+        let since = match SystemTime::now(rt)?.duration_since(UNIX_EPOCH) {
+            Ok(since) => millis(since),
+            Err(_) => 0,
+        };
+        Ok(Timer {
+            began: Instant::now(rt)?,
+            first: since,
+        })
+    }
+
+    /// The moment that it is now.
+    pub fn now<R: Clock>(&self, rt: &R) -> io::Result<Moment> {
+        let passed = millis(self.began.elapsed(rt)?);
+        Ok(Moment(self.first.saturating_add(passed)))
+    }
+}
