@@ -664,7 +664,7 @@ class Audit:
 
     def read_ahead(self):
         """One more event of the fronts, where one that is not read yet may stand before one that is read."""
-        reader = next((it for it in self.readers if self.site.nodes[it.names[0]] == FRONT), None)
+        reader = next((it for it in self.readers if it.names and self.site.nodes[it.names[0]] == FRONT), None)
         if reader is None or reader.is_at_end or not self.may_be_told():
             return False
         reader.read()

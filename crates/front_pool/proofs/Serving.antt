@@ -1,11 +1,15 @@
 -- Jobs that a worker takes and finishes, one after the other.
-use Rattle.std.proofs.Common.{◌≡◌, List, [], ◌∷◌, ◌++◌, subst}
+use Rattle.std.proofs.Common.{◌≡◌, ℕ, ◌+◌, List, [], ◌∷◌, ◌++◌, Bool, true, false, Option, Some, None, arith, refl, subst}
+use Rattle.std.proofs.lemmas.List.Sums.{sum_by-append, sum_by-cons}
 use Rattle.dia_base.specs.declared.number.NodeNo.{NodeNo}
 use Rattle.cc_book.specs.declared.terms.Terms.{Terms}
 use Rattle.front_pool.specs.declared.job.Finished.{Finished}
 use Rattle.front_pool.specs.declared.job.Job.{Job}
 use Rattle.front_pool.specs.declared.site.PoolSite.{PoolSite}
 use Rattle.front_pool.specs.Answering.{AreServed, IsAnswered, IsAnsweredBy, IsAnsweredByOne}
+use Rattle.cc_shared.specs.declared.receipt.Receipt.{Receipt}
+use Rattle.cc_shared.specs.Serving.{count_if}
+use Rattle.front_pool.specs.Counting.{counted_with, takes_of, takes_told}
 use Rattle.front_pool.specs.Jobs.{job_of}
 
 pub served_append :
@@ -22,3 +26,23 @@ pub by_front :
     (front : NodeNo) (sites : NodeNo → PoolSite) (terms : Terms) (finished : Finished) → finished.front ≡ front → IsAnsweredByOne sites terms finished
     → IsAnsweredBy front sites terms finished
 by_front front sites terms finished is answered = (is, subst (λ (n : NodeNo). IsAnswered (sites n) terms finished) is answered)
+
+-- ---- what a seat counts
+
+counted_if : (fresh : Bool) (counted : ℕ) → count_if fresh counted ≡ counted + count_if fresh 0
+counted_if true counted = omega arith
+counted_if false counted = omega arith
+
+counted_more : (counted : ℕ) (receipt : Option Receipt) → counted_with counted receipt ≡ counted + counted_with 0 receipt
+counted_more counted None = omega arith
+counted_more counted (Some receipt) = counted_if receipt.fresh counted
+
+-- with a job more, the seat has counted what the finished jobs tell of
+pub told_append :
+    (before counted : ℕ) (done : List Finished) (finished : Finished) → counted ≡ before + takes_told done
+    → counted_with counted finished.receipt ≡ before + takes_told (done ++ finished ∷ [])
+told_append before counted done finished is =
+    let more = counted_more counted finished.receipt in
+    let both : takes_told (done ++ finished ∷ []) ≡ takes_told done + takes_told (finished ∷ []) = sum_by-append takes_of done (finished ∷ []) in
+    let one : takes_told (finished ∷ []) ≡ takes_of finished + takes_told [] = sum_by-cons takes_of finished [] in
+    omega (arith, is, more, both, one)

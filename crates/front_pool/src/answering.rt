@@ -4,6 +4,7 @@ ghost use Rattle.std.specs.Prelude.{◌≡◌, IfSome, Ok};
 ghost use Rattle.cc_view.specs.Answer.{answer_to};
 ghost use Rattle.cc_view.specs.RequestView.{view_under};
 ghost use Rattle.front_pool.specs.Answering.{Answers, IsAnsweredByOne, too_busy};
+ghost use Rattle.front_pool.specs.Counting.{counted_with};
 ghost use Rattle.front_pool.specs.Jobs.{job_of};
 
 use crate::gate::Gate;
@@ -67,7 +68,8 @@ fn charge<W: Wire, L: Pooling, R: Wait + Clock>(
     request: CcRequest,
 ) -> Worked
     requires view { view_under site.now.profile message.now ≡ Ok request }
-    ensures { Answers site.now L.opened.terms message.now result.0 result.1 }
+    ensures answers { Answers site.now L.opened.terms message.now result.0 result.1 }
+    ensures count { seat.new ≡ counted_with seat.old result.1 }
 {
     let Some(moment) = timer.now(rt).ok() else {
         return (too_busy::<W>(alloc, site, message), None, None);
@@ -93,7 +95,8 @@ fn work<W: Wire, L: Pooling, R: Wait + Clock, G: Gate>(
     gate: &G,
     job: &Job,
 ) -> Worked
-    ensures { Answers site.now L.opened.terms job.now.request result.0 result.1 }
+    ensures answers { Answers site.now L.opened.terms job.now.request result.0 result.1 }
+    ensures count { seat.new ≡ counted_with seat.old result.1 }
 {
     let profile = site.profile.as_profile();
     let prepared = prepare::<W>(alloc, &site.name, &site.realm, profile, &job.request);
@@ -122,6 +125,7 @@ pub fn finish<W: Wire, L: Pooling, R: Wait + Clock, G: Gate>(
     requires { site.now ≡ L.site front }
     ensures job { job_of result ≡ job }
     ensures answered { IsAnsweredByOne L.site L.opened.terms result }
+    ensures count { seat.new ≡ counted_with seat.old result.receipt }
 {
     let (written, receipt, moment) = work::<W, L, R, G>(
         rt, alloc, shared, seat, site, timer, gate, &job,

@@ -1,9 +1,10 @@
 //! A worker, in a thread of its own.
 
-ghost use Rattle.std.specs.Prelude.{◌≡◌, IfSome, IfNone, IfErr, OnOk};
+ghost use Rattle.std.specs.Prelude.{◌≡◌, ◌+◌, IfSome, IfNone, IfErr, OnOk};
 ghost use Rattle.std.specs.Arc.{arc_value};
 ghost use Rattle.crossbeam_queue.specs.Passes.{IsPassOf, view};
 ghost use Rattle.front_pool.specs.Answering.{AreServed, IsAnsweredByOne};
+ghost use Rattle.front_pool.specs.Counting.{takes_told};
 ghost use Rattle.front_pool.specs.Jobs.{job_of};
 ghost use Rattle.front_pool.specs.Moving.{no_moves};
 ghost use Rattle.front_pool.specs.Working.{WorksOff, no_turns, with_job_finished, with_job_taken};
@@ -26,8 +27,8 @@ use std::time::Duration;
 /// How many milliseconds a worker sleeps that finds no room for an answer, before it tries again.
 const NO_ROOM: u64 = 1;
 
-/// A worker: what it shares with the others of its pool, and what is its own. Contracts see the jobs that it has taken, and
-/// those that it has finished.
+/// A worker: what it shares with the others of its pool, and what is its own. Contracts see the jobs that it has taken,
+/// those that it has finished, and what its seat has counted.
 #[derive(Drop)]
 pub struct Worker<L: Pooling, G> {
     desk: Desk<L, G>,
@@ -45,7 +46,7 @@ impl<L: Pooling, G> Model for Worker<L, G> {
 
     ghost Value = { Turns };
 
-    ghost view = { λ w. record { taken = (known_to w.job_pass).taken; finished = (known_to w.finished_pass).put } };
+    ghost view = { λ w. record { taken = (known_to w.job_pass).taken; finished = (known_to w.finished_pass).put; counted = w.seat } };
 
     ghost invariant = { λ w. (arc_value w.desk.site ≡ L.site w.desk.front) × IsPassOf (arc_value w.desk.jobs) w.job_pass
         × IsPassOf (arc_value w.desk.finished) w.finished_pass };
@@ -55,7 +56,7 @@ impl<L: Pooling, G: Gate + Drop> Worker<L, G> {
     /// A worker that has done nothing yet.
     pub fn new(desk: Desk<L, G>, shared: SharedBook<L>, seat: Seat<L>) -> Self
         requires { arc_value desk.site ≡ L.site desk.front }
-        ensures { result ≡ no_turns }
+        ensures { result ≡ no_turns seat }
     {
         let job_pass = desk.jobs.pass();
         let finished_pass = desk.finished.pass();
@@ -123,10 +124,12 @@ impl<L: Pooling, G: Gate + Drop> Worker<L, G> {
         self.desk.gate.answered(rt, number);
     }
 
-    /// Takes jobs and finishes them, one after the other, until the pool stops.
+    /// Takes jobs and finishes them, one after the other, until the pool stops. Each take that its seat counts has its receipt
+    /// among what it has finished.
     fn work<W: Wire, R: Wait + Clock>(&mut self, rt: &R, alloc: Global)
-        requires { self.old ≡ no_turns }
-        ensures { AreServed L.site L.opened.terms self.new.taken self.new.finished }
+        requires { self.old ≡ no_turns self.old.counted }
+        ensures served { AreServed L.site L.opened.terms self.new.taken self.new.finished }
+        ensures count { self.new.counted ≡ self.old.counted + takes_told self.new.finished }
     {
         for _ in rt.forever() {
             let seen = self.desk.control.news();
@@ -142,7 +145,7 @@ impl<L: Pooling, G: Gate + Drop> Worker<L, G> {
 
     /// Works until the pool stops, and gives the seat back.
     pub fn run<W: Wire, R: Wait + Clock>(self, rt: &R, alloc: Global) -> Seat<L>
-        requires { self ≡ no_turns }
+        requires { self ≡ no_turns self.counted }
     {
         let mut worker = self;
         worker.work::<W, R>(rt, alloc);
