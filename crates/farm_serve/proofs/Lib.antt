@@ -1,3 +1,5 @@
 pub mod Placing
 pub mod Telling
 pub mod Turning
+pub mod Ordering
+pub mod Sending

@@ -8,7 +8,7 @@ use Rattle.farm_node.specs.Events.{NodeEvent, up, message, lost, tick, wake}
 use Rattle.farm_node.specs.declared.error.NodeError.{NodeError}
 use Rattle.farm_serve.specs.declared.link.Standing.{Standing}
 use Rattle.farm_serve.specs.declared.link.Standing.TheVariants.{Waiting, Up, Over}
-use Rattle.farm_serve.specs.Turns.{Mark, Kept, Told, Goes, Turn, before, during, after, broken, beginning, told_of, standing_as, IsOfNone, IsInTurn, turn_of, after_told, after_event, after_up, after_message, after_lost}
+use Rattle.farm_serve.specs.Turns.{Mark, Kept, Told, Goes, AreRising, Turn, before, during, after, broken, beginning, told_of, standing_as, IsOfNone, IsInTurn, turn_of, after_told, after_event, after_up, after_message, after_lost}
 use Rattle.farm_serve.specs.Turns.{rests, comes_up, is_refused, hears, ends, wakes, makes, lets_go}
 
 -- ---- one more thing is told
@@ -173,6 +173,14 @@ stands node _ _ (lets_go told now front back made mark goes down) =
 pub in_turn : {N : Type 0} {On : N → NodeEvent → Traffic → Result (Unit {0}) NodeError → N → Type 0} (node : N) (told : List Told) (kept : Kept N)
     → Goes On (beginning node) told kept → IsInTurn told
 in_turn node told kept goes = (stands node told kept goes).sound
+
+rising : (made : ℕ) (told : List Told) (low : ℕ) (marks : List Mark) → Agree made told low marks → AreRising low marks
+rising made told low [] a = tt
+rising made told low (mark ∷ marks) a = (a.0, rising made told mark.id.0 marks a.3)
+
+pub in_order : {N : Type 0} {On : N → NodeEvent → Traffic → Result (Unit {0}) NodeError → N → Type 0} (node : N) (told : List Told) (kept : Kept N)
+    → Goes On (beginning node) told kept → AreRising 0 kept.marks
+in_order node told kept goes = rising kept.made told 0 kept.marks (stands node told kept goes).agree
 
 -- ---- one way behind another
 

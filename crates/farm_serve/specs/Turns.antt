@@ -1,6 +1,6 @@
 -- What a process tells its node, and in which order: of each connection once that it is up, then its messages, and
 -- once, last, that it has ended (RFC 6733, sections 5.5.4 and 5.6).
-use Rattle.std.specs.Prelude.{◌≡◌, ◌≢◌, ℕ, ◌+◌, ◌==◌, Bool, true, not, List, [], ◌∷◌, ◌++◌, Result, Ok, Err, if◌then◌else◌}
+use Rattle.std.specs.Prelude.{◌≡◌, ◌≢◌, ℕ, ◌+◌, ◌<◌, ◌==◌, Bool, true, not, List, [], ◌∷◌, ◌++◌, Result, Ok, Err, if◌then◌else◌}
 use Rattle.std.specs.List.{fold, list_any}
 use Rattle.dia_base.specs.declared.number.ConnId.{ConnId}
 use Rattle.dia_base.specs.declared.number.NodeNo.{NodeNo}
@@ -32,6 +32,11 @@ pub record Kept (N : Type 0) : Type 0 where
   pub node : N
   pub marks : List Mark
   pub made : ℕ
+
+-- each number is above those before it, and above this one
+abbrev pub AreRising : ℕ → List Mark → Type 0
+AreRising above [] = Unit {0}
+AreRising above (mark ∷ marks) = (above < mark.id.0) × AreRising mark.id.0 marks
 
 -- a node without connections
 abbrev pub beginning : {N : Type 0} → N → Kept N

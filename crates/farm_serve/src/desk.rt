@@ -2,6 +2,7 @@
 
 ghost use Rattle.std.specs.Prelude.{◌≡◌, ◌<◌, ◌+◌, length, vec_capacity, IfNone, IfSome, false};
 ghost use Rattle.farm_serve.specs.Desks.{AreSettled, IsDownAt, IsPlaceOf, MayComeUpAt, NeverAsks, StandsAt, Tells, is_to_be_told, kept_by, mark_of, marks_of, ups};
+ghost use Rattle.farm_serve.specs.Sending.{AllGoOut, AreInOrder, GoesOut, HasNone, IsNumberedAt};
 
 use crate::counting::{count_failovers, count_passed, count_sent};
 use crate::end::End;
@@ -44,6 +45,8 @@ pub struct Desk<N, R, W> {
 /// The place of a connection: they stand in the order of their numbers.
 pub fn place_of<R, W>(links: &[Link<R, W>], conn: ConnId) -> Option<usize>
     ensures place { IfSome result (λ place. place < length links.now) }
+    ensures number { IfSome result (λ place. IsNumberedAt links.now place conn) }
+    ensures none { AreInOrder links.now → IfNone result (HasNone links.now conn) }
 {
     let place = links.partition_point(|link| link.id.0 < conn.0);
     let link = links.get(place)?;
@@ -169,6 +172,7 @@ fn send_one<R: Read + Device, W: Write + Device>(
 )
     ensures marks { marks_of links.new.items ≡ marks_of links.old.items }
     ensures places { length links.new.items ≡ length links.old.items }
+    ensures sent { GoesOut conn message.now links.old.items links.new.items }
 {
     if let Some(place) = place_of(links, conn) {
         post_at(&mut links[place], message, moment);
@@ -238,6 +242,7 @@ impl<N: Node, R: Read + Device, W: Write + Device> Desk<N, R, W> {
     pub fn send_all(&mut self, out: &Out, moment: Moment)
         ensures places { length self.new.links.items ≡ length self.old.links.items }
         ensures kept { kept_by self.new ≡ kept_by self.old }
+        ensures sent { AllGoOut self.old.links.items out.now.items self.new.links.items }
     {
         for (conn, message) in out.items.as_slice() {
             self.answers = count_after(self.answers, message);

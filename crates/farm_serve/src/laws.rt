@@ -3,7 +3,7 @@
 ghost use Rattle.std.specs.Prelude.{◌≡◌, List};
 ghost use Rattle.farm_serve.specs.declared.desk.Desk.{Desk};
 ghost use Rattle.farm_serve.specs.Desks.{IsRecordedOnly, kept_by};
-ghost use Rattle.farm_serve.specs.Turns.{Goes, IsInTurn, Kept, Told, beginning};
+ghost use Rattle.farm_serve.specs.Turns.{AreRising, Goes, IsInTurn, Kept, Told, beginning};
 
 use farm_node::Node;
 
@@ -12,6 +12,11 @@ use farm_node::Node;
 /// has refused. A number is never that of two connections.
 pub fn nodes_are_told_in_turn<N: Node>()
     ensures { (node : N) (told : List Told) (kept : Kept N) → Goes N.on_event (beginning node) told kept → IsInTurn told }
+{}
+
+/// Whatever a process does, its connections stand in the order of their numbers, each of which is above 0.
+pub fn connections_stand_in_order<N: Node>()
+    ensures { (node : N) (told : List Told) (kept : Kept N) → Goes N.on_event (beginning node) told kept → AreRising 0 kept.marks }
 {}
 
 /// What is recorded changes nothing of what a node was told, and of what is still to be told.

@@ -23,7 +23,7 @@ mod serving;
 pub use desk::Desk;
 pub use end::{End, Ended, NotTaken, Refusal};
 pub use fronts::{FrontAt, Fronts, ROUND_LIMIT};
-pub use laws::{nodes_are_told_in_turn, records_change_nothing};
+pub use laws::{connections_stand_in_order, nodes_are_told_in_turn, records_change_nothing};
 pub use link::{LINGER, Link, Standing};
 pub use local::LocalNode;
 pub use note::{NOTE_LIMIT, Note, Notes};

@@ -1,9 +1,11 @@
 //! One connection of a process.
 
-ghost use Rattle.std.specs.Prelude.{◌≡◌, ◌==◌, ◌<◌, IfNone, IfSome, length, true, false};
+ghost use Rattle.std.specs.Prelude.{◌≡◌, ◌==◌, ◌<◌, IfNone, IfOk, IfSome, OnOk, OnErr, length, true, false};
 ghost use Rattle.std.specs.List.{list_any};
 ghost use Rattle.farm_serve.specs.Desks.{is_to_be_told, mark_of, standing_after};
+ghost use Rattle.farm_serve.specs.Sending.{IsSentOn};
 ghost use Rattle.farm_serve.specs.Turns.{may_come_up, standing_as};
+ghost use Rattle.farm_watch.specs.Table.{after_close, after_message, after_tick};
 
 use crate::end::End;
 use dia_avp::Wire;
@@ -79,6 +81,7 @@ pub(crate) fn post_at<R: Read + Device, W: Write + Device>(
     moment: Moment,
 )
     ensures mark { mark_of link.new ≡ mark_of link.old }
+    ensures sent { IsSentOn message.now link.old link.new }
 {
     if !message.header.request {
         link.open = link.open.saturating_sub(1);
@@ -93,6 +96,7 @@ pub(crate) fn send_at<R: Read + Device, W: Write + Device>(
     moment: Moment,
 )
     ensures mark { mark_of link.new ≡ mark_of link.old }
+    ensures sent { IsSentOn message.now link.old link.new }
 {
     if link.end.is_some() {
         return;
@@ -223,6 +227,9 @@ pub(crate) fn hear_at<P: Wire, R, W>(
     moment: Moment,
 ) -> Result<Acts, End>
     ensures mark { mark_of link.new ≡ mark_of link.old }
+    ensures acts { IfOk result (λ acts. acts ≡ (after_message site.now unwelcome.now moment message link.old.watch).acts) }
+    ensures next { OnOk result (link.new ≡ record link.old { watch = (after_message site.now unwelcome.now moment message link.old.watch).next }) }
+    ensures err { OnErr result (link.new ≡ link.old) }
 {
     match link
         .watch
@@ -241,6 +248,9 @@ pub(crate) fn tick_at<R, W>(
     moment: Moment,
 ) -> Result<Acts, AllocError>
     ensures mark { mark_of link.new ≡ mark_of link.old }
+    ensures acts { IfOk result (λ acts. acts ≡ (after_tick site.now moment link.old.watch).acts) }
+    ensures next { OnOk result (link.new ≡ record link.old { watch = (after_tick site.now moment link.old.watch).next }) }
+    ensures err { OnErr result (link.new ≡ link.old) }
 {
     link.watch.on_tick(alloc, site, moment)
 }
@@ -253,6 +263,9 @@ pub(crate) fn close_at<R, W>(
     moment: Moment,
 ) -> Result<Acts, AllocError>
     ensures mark { mark_of link.new ≡ mark_of link.old }
+    ensures acts { IfOk result (λ acts. acts ≡ (after_close site.now moment link.old.watch).acts) }
+    ensures next { OnOk result (link.new ≡ record link.old { watch = (after_close site.now moment link.old.watch).next }) }
+    ensures err { OnErr result (link.new ≡ link.old) }
 {
     link.watch.close(alloc, site, moment)
 }

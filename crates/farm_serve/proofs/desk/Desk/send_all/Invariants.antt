@@ -1,5 +1,6 @@
-use Rattle.std.proofs.Common.{◌≡◌, length}
+use Rattle.std.proofs.Common.{◌≡◌, length, take}
 use Rattle.farm_serve.specs.Desks.{marks_of}
+use Rattle.farm_serve.specs.Sending.{AllGoOut}
 use Rattle.farm_serve.proofs.desk.Desk.send_all.Given as goal
 
 abbrev pub invariant-loop-conn : goal.invariant-loop-conn
@@ -8,4 +9,5 @@ invariant-loop-conn g l = record {
   marks : marks_of l.self.links.items ≡ marks_of l.fn.self.links.items;
   made : l.self.made ≡ l.fn.self.made;
   places : length l.self.links.items ≡ length l.fn.self.links.items;
+  sent : AllGoOut l.fn.self.links.items (take l.conn-index l.fn.out.items) l.self.links.items;
 }
