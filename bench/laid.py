@@ -4,6 +4,8 @@ Its files end in .rt.txt and .antt.txt here, since the gate takes a file whose n
 has forgotten. What was proved in the repository is taken along.
 """
 import shutil
+import subprocess
+import sys
 from pathlib import Path
 
 TOP = Path(__file__).resolve().parent.parent
@@ -39,3 +41,11 @@ def lay(copy, folder, deps):
         to.parent.mkdir(parents=True, exist_ok=True)
         shutil.copy(file, to)
     return bench
+
+
+def build(bench):
+    """The program that was laid there, proved and built."""
+    done = subprocess.run(["rt", "run"], cwd=bench, capture_output=True, text=True, check=False)
+    if done.returncode:
+        sys.exit(done.stdout + done.stderr)
+    return bench / "out" / bench.name

@@ -12,20 +12,12 @@ import sys
 import tempfile
 from pathlib import Path
 
-from laid import lay
+from laid import build, lay
 
 RUNS = 5
 DEPS = "dia_avp dia_base dia_message cc_book cc_rating front_core relay_core relay_peers relay_routes anyhow hex"
 PENDING = [0, 4_096]
 ENTRIES = [1_000, 100_000]
-
-
-def build(bench):
-    """The program, proved and built."""
-    done = subprocess.run(["rt", "run"], cwd=bench, capture_output=True, text=True, check=False)
-    if done.returncode:
-        sys.exit(done.stdout + done.stderr)
-    return bench / "out" / bench.name
 
 
 def printed(program, word, number):
