@@ -34,10 +34,12 @@ first_refusal-append t [] ys = refl
 first_refusal-append t (x ∷ xs) ys = ap (λ (o : Option Refusal). option_or (t x) o) (first_refusal-append t xs ys) ∙ sym (or_assoc (t x) (first_refusal t xs) (first_refusal t ys))
 
 -- one more AVP
+pub take-push : (xs : List RawAvp) (i : ℕ) (x : RawAvp) → i < length xs → x ≡ get_or xs i x → take (i + 1) xs ≡ take i xs ++ x ∷ []
+take-push xs i x h e = rw add-one (take-suc xs i x h ∙ ap (λ (y : RawAvp). take i xs ++ y ∷ []) (sym e))
+
 first_refusal-take : (t : RawAvp → Option Refusal) (xs : List RawAvp) (i : ℕ) (x : RawAvp) → i < length xs → x ≡ get_or xs i x → first_refusal t (take i xs) ≡ None → first_refusal t (take (i + 1) xs) ≡ t x
 first_refusal-take t xs i x h e none =
-    let more : take (i + 1) xs ≡ take i xs ++ x ∷ [] = rw add-one (take-suc xs i x h ∙ ap (λ (y : RawAvp). take i xs ++ y ∷ []) (sym e)) in
-    ap (first_refusal t) more ∙ first_refusal-append t (take i xs) (x ∷ []) ∙ ap (λ (o : Option Refusal). option_or o (first_refusal t (x ∷ []))) none ∙ or_none (t x)
+    ap (first_refusal t) (take-push xs i x h e) ∙ first_refusal-append t (take i xs) (x ∷ []) ∙ ap (λ (o : Option Refusal). option_or o (first_refusal t (x ∷ []))) none ∙ or_none (t x)
 
 pub first_refusal-more : (t : RawAvp → Option Refusal) (xs : List RawAvp) (i : ℕ) (x : RawAvp) → i < length xs → x ≡ get_or xs i x → first_refusal t (take i xs) ≡ None → t x ≡ None → first_refusal t (take (i + 1) xs) ≡ None
 first_refusal-more t xs i x h e none passes = first_refusal-take t xs i x h e none ∙ passes
@@ -60,5 +62,5 @@ pub tested_in-refused : (t : List RawAvp → Option Refusal) (found : Result (Li
 tested_in-refused t found (Refused given) h = ap (tested_in t) h
 tested_in-refused t found OutOfMemory h = tt
 
-pub tested_in-ok : (t : List RawAvp → Option Refusal) (found : Result (List RawAvp) Refusal) (members : List RawAvp) (r : Result (Unit {0}) ViewError) → found ≡ Ok members → Passes (t members) r → Passes (tested_in t found) r
-tested_in-ok t found members r is h = subst (λ (x : Result (List RawAvp) Refusal). Passes (tested_in t x) r) (sym is) h
+pub tested_in-listed : (t : List RawAvp → Option Refusal) (found : Result (List RawAvp) Refusal) (members : List RawAvp) (e : ViewError) → found ≡ Ok members → Passes (t members) (Err e) → Passes (tested_in t found) (Err e)
+tested_in-listed t found members e is h = subst (λ (x : Result (List RawAvp) Refusal). Passes (tested_in t x) (Err e)) (sym is) h

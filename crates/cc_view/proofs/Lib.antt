@@ -13,6 +13,7 @@ mod Messages
 mod NamedAvps
 mod Sessions
 mod Readable
+mod Reading
 mod RefusalsByCode
 mod Shortness
 mod Spelling

@@ -5,7 +5,7 @@ use Rattle.std.specs.List.{list_all}
 use Rattle.std.specs.Option.{option_and_then, option_map_or, option_or}
 use Rattle.std.specs.Result.{result_err}
 use Rattle.std.specs.Str.{is_utf8}
-use Rattle.std.proofs.lemmas.Bool.{and_parts, eqb-true, false_from_ne_true}
+use Rattle.std.proofs.lemmas.Bool.{and_parts, eqb-true}
 use Rattle.std.proofs.lemmas.List.Elements.{All-cons, All-nil}
 use Rattle.byteorder.specs.Endian.{big_number}
 use Rattle.dia_base.specs.Codes.{multiple_services, requested_service_unit, subscription_id, used_service_unit}
@@ -33,7 +33,7 @@ use Rattle.cc_view.specs.RequestView.Checking.{command_values, count_codes, faul
 use Rattle.cc_view.specs.RequestView.Counting.{counted}
 use Rattle.cc_view.specs.RequestView.Content.{are_within_limits, content_of, request_in, services_in}
 use Rattle.cc_view.specs.RequestView.Readable.{AreTyped, HasTypedMembers, HaveTypedUnits, IsReadable, IsTyped, IsTypedService}
-use Rattle.cc_view.proofs.Unread.{code_is}
+use Rattle.cc_view.proofs.Reading.{unlike}
 use Rattle.cc_view.proofs.ViewedSessions.{unrefused, viewed}
 use Rattle.cc_view.proofs.WithinLimits.{within_limits}
 
@@ -168,12 +168,9 @@ service-splits profile avp e =
 
 -- ---- which group an AVP is
 
-other : (code unlike : ℕ) (avp : RawAvp) → (code ≡ unlike → ⊥) → is_of code avp ≡ true → is_of unlike avp ≡ false
-other code unlike avp differ is = false_from_ne_true (is_of unlike avp) (λ e. differ (sym (code_is code avp is) ∙ code_is unlike avp e))
-
 units-no-subscription : (requested used : Bool) (avp : RawAvp) → is_of requested_service_unit avp ≡ requested → is_of used_service_unit avp ≡ used → (requested || used) ≡ true → is_of subscription_id avp ≡ false
-units-no-subscription true used avp p q e = other requested_service_unit subscription_id avp (λ same. omega (arith, same)) p
-units-no-subscription false true avp p q e = other used_service_unit subscription_id avp (λ same. omega (arith, same)) q
+units-no-subscription true used avp p q e = unlike requested_service_unit subscription_id avp (λ same. omega (arith, same)) p
+units-no-subscription false true avp p q e = unlike used_service_unit subscription_id avp (λ same. omega (arith, same)) q
 units-no-subscription false false avp p q e = absurd cc
 
 abbrev group_by : RequestProfile → RawAvp → Bool → Bool → Bool → Option Refusal
@@ -192,9 +189,9 @@ units-here profile avp e is =
 
 service-here : (profile : RequestProfile) (avp : RawAvp) → group_refusal profile avp ≡ None → is_of multiple_services avp ≡ true → IsTypedService avp
 service-here profile avp e is =
-    let no_subscription = other multiple_services subscription_id avp (λ same. omega (arith, same)) is in
-    let no_requested = other multiple_services requested_service_unit avp (λ same. omega (arith, same)) is in
-    let no_used = other multiple_services used_service_unit avp (λ same. omega (arith, same)) is in
+    let no_subscription = unlike multiple_services subscription_id avp (λ same. omega (arith, same)) is in
+    let no_requested = unlike multiple_services requested_service_unit avp (λ same. omega (arith, same)) is in
+    let no_used = unlike multiple_services used_service_unit avp (λ same. omega (arith, same)) is in
     let no_units : is_units avp ≡ false = ap (λ (b : Bool). b || is_of used_service_unit avp) no_requested ∙ no_used in
     service-splits profile avp (
     ap (λ (b : Bool). group_by profile avp false false b) (sym is)

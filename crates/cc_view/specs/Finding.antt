@@ -11,6 +11,11 @@ Passes refusal (Ok done) = refusal ≡ None
 Passes refusal (Err (Refused given)) = refusal ≡ Some given
 Passes refusal (Err OutOfMemory) = Unit {0}
 
+-- a test passed where there is no refusal, and what was read is so, or the refusal, unless memory ran out
+abbrev pub PassesWith : {T : Type 0} → Option Refusal → (T → Type 0) → Result T ViewError → Type 0
+PassesWith refusal P (Ok value) = (refusal ≡ None) × P value
+PassesWith refusal P (Err e) = Passes refusal (Err e)
+
 -- an error that is this refusal, unless memory ran out
 abbrev pub IsRefusal : Refusal → ViewError → Type 0
 IsRefusal refusal (Refused given) = refusal ≡ given

@@ -4,6 +4,7 @@ pub mod Content
 pub mod Counting
 pub mod Counts
 pub mod Readable
+pub mod Reading
 pub mod Splitting
 pub mod UnreadAvps
 use Rattle.std.specs.Prelude.{◌≡◌, ℕ, List, not, ◌==◌, if◌then◌else◌, Option, Result, Ok, Err}

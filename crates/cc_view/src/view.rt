@@ -1,9 +1,10 @@
 //! What is read in a request (RFC 8506, section 3.1).
 
 ghost use Rattle.std.specs.Prelude.{◌≡◌, Err};
-ghost use Rattle.cc_view.specs.Finding.{Passes};
+ghost use Rattle.cc_view.specs.Finding.{PassesWith};
 ghost use Rattle.dia_grammar.specs.Profile.{profile_of};
 ghost use Rattle.cc_view.specs.RequestView.{IsCreditControl, IsView, request_refusal, view_of, view_under};
+ghost use Rattle.cc_view.specs.RequestView.Reading.{AreGroupsOf};
 ghost use Rattle.cc_view.specs.declared.view.ViewError.TheVariants.{OutOfMemory};
 
 pub(crate) mod broken;
@@ -14,8 +15,10 @@ pub(crate) mod failed_avp;
 pub(crate) mod groups;
 pub(crate) mod limits;
 pub(crate) mod matching;
+pub(crate) mod members;
 pub(crate) mod refusals;
 pub(crate) mod splitting;
+pub(crate) mod units;
 pub(crate) mod values;
 
 use crate::answer::carried::carries_too_much;
@@ -23,7 +26,7 @@ use crate::code::ResultCode;
 use crate::refusal::Refusal;
 use crate::request::CcRequest;
 use crate::view::content::content_of;
-use crate::view::groups::check_groups;
+use crate::view::groups::{Groups, groups_of};
 use crate::view::refusals::{avps_by, check_grammar, refusal_with};
 use crate::view::values::{COMMAND_VALUES, check_values};
 use dia_avp::{RawAvp, Wire};
@@ -94,15 +97,20 @@ pub fn request_under<W: Wire>(
     if carries_too_much(&avps) {
         return Err(refusal_with(ResultCode::UnableToComply));
     }
-    check_request::<W>(alloc, profile, &avps)?;
-    content_of::<W>(alloc, &avps)
+    let groups = checked_groups::<W>(alloc, profile, &avps)?;
+    content_of(alloc, &avps, groups)
 }
 
-/// Refuses AVPs that are none of a request: for the grammar, then for a value, then for a group.
-fn check_request<W: Wire>(alloc: Global, profile: Profile, avps: &[RawAvp]) -> Result<(), ViewError>
-    ensures { Passes (request_refusal (profile_of profile.entry) avps.now) result }
+/// What the groups of a request say. Refuses AVPs that are none of a request: for the grammar, then for a value, then
+/// for a group.
+fn checked_groups<W: Wire>(
+    alloc: Global,
+    profile: Profile,
+    avps: &[RawAvp],
+) -> Result<Groups, ViewError>
+    ensures { PassesWith (request_refusal (profile_of profile.entry) avps.now) (AreGroupsOf avps.now) result }
 {
     check_grammar::<W>(alloc, profile, avps)?;
     check_values(alloc, &COMMAND_VALUES, avps)?;
-    check_groups::<W>(alloc, profile, avps)
+    groups_of::<W>(alloc, profile, avps)
 }

@@ -1,41 +1,52 @@
 //! What a request asks, once it is checked (RFC 8506, section 3.1).
 
-ghost use Rattle.std.specs.Prelude.{◌≡◌, true, filter, map, option_map, None, IfOk};
+ghost use Rattle.std.specs.Prelude.{◌≡◌, true, None, option_map, IfOk};
 ghost use Rattle.std.specs.List.{list_any};
-ghost use Rattle.dia_grammar.specs.Grammar.{is_of};
-ghost use Rattle.dia_base.specs.Codes.{requested_action, multiple_services, subscription_id};
-ghost use Rattle.cc_view.specs.RequestView.Content.{action_by, content_of, is_own, kind_by, octets_in, own_services_in, service_in, service_of, services_in, subscription_of};
+ghost use Rattle.dia_base.specs.Codes.{requested_action};
+ghost use Rattle.cc_view.specs.RequestView.Content.{action_by, content_of, is_own, kind_by, own_services_in, service_in, services_by};
 ghost use Rattle.cc_view.specs.Finding.{Gives};
 ghost use Rattle.cc_view.specs.RequestView.Counts.{u32_in};
+ghost use Rattle.cc_view.specs.RequestView.Reading.{AreGroupsOf, units_in};
 
 use crate::code::ResultCode;
-use crate::request::{CcRequest, RequestKind, RequestedAction, Service, Services, Subscription};
+use crate::request::{CcRequest, RequestKind, RequestedAction, Service, Services};
 use crate::view::ViewError;
-use crate::view::counts::{asked_in, members_of, u32_in, used_in};
+use crate::view::counts::u32_in;
+use crate::view::groups::Groups;
 use crate::view::limits::are_within_limits;
-use crate::view::matching::first_of;
+use crate::view::matching::octets_in;
 use crate::view::refusals::refusal_with;
-use dia_avp::{Octets, RawAvp, Wire};
+use crate::view::units::Units;
+use dia_avp::RawAvp;
 use dia_base::Listing;
 use dia_base::codes::{
-    CC_REQUEST_NUMBER, CC_REQUEST_TYPE, MULTIPLE_SERVICES, RATING_GROUP, REQUESTED_ACTION,
-    REQUESTED_SERVICE_UNIT, SERVICE_IDENTIFIER, SESSION_ID, SUBSCRIPTION_ID, SUBSCRIPTION_ID_DATA,
-    SUBSCRIPTION_ID_TYPE, USED_SERVICE_UNIT,
+    CC_REQUEST_NUMBER, CC_REQUEST_TYPE, REQUESTED_ACTION, REQUESTED_SERVICE_UNIT,
+    SERVICE_IDENTIFIER, SESSION_ID, USED_SERVICE_UNIT,
 };
 use dia_grammar::is_of;
 use std::alloc::{AllocError, Global};
 
-/// The content of a request whose AVPs have been checked, unless its services pass a limit.
+/// The content of a request whose AVPs have been checked, and of which these are the groups, unless its services
+/// pass a limit.
 #[tactic(auto, using(crate::proofs::WithinLimits::within_limits))]
-pub(crate) fn content_of<W: Wire>(alloc: Global, avps: &[RawAvp]) -> Result<CcRequest, ViewError>
+pub(crate) fn content_of(
+    alloc: Global,
+    avps: &[RawAvp],
+    groups: Groups,
+) -> Result<CcRequest, ViewError>
+    requires { AreGroupsOf avps.now groups }
     ensures { Gives (content_of avps.now) result }
 {
-    let services = services_in::<W>(alloc, avps)?;
+    let Groups {
+        subscriptions,
+        services,
+        units,
+    } = groups;
+    let services = services_by(alloc, avps, services, units)?;
     if !are_within_limits(&services) {
         return Err(refusal_with(ResultCode::UnableToComply));
     }
     let session = octets_in(alloc, avps, SESSION_ID)?;
-    let subscriptions = subscriptions_in::<W>(alloc, avps)?;
     Ok(CcRequest {
         session,
         number: u32_in(avps, CC_REQUEST_NUMBER).unwrap_or(0),
@@ -44,16 +55,6 @@ pub(crate) fn content_of<W: Wire>(alloc: Global, avps: &[RawAvp]) -> Result<CcRe
         subscriptions: Listing::from_vec(subscriptions),
         services: Services::from_vec(services),
     })
-}
-
-/// A copy of the octets of the first AVP of this code.
-fn octets_in(alloc: Global, avps: &[RawAvp], code: u32) -> Result<Octets, AllocError>
-    ensures { IfOk result (λ octets. octets ≡ octets_in code avps.now) }
-{
-    match first_of(avps, code) {
-        Some(avp) => Octets::copy_of(alloc, avp.value.as_slice()),
-        None => Octets::from_vec(Vec::new(alloc)),
-    }
 }
 
 fn kind_by(number: u32) -> RequestKind
@@ -87,77 +88,31 @@ fn action_by(number: u32) -> RequestedAction
     }
 }
 
-fn subscriptions_in<W: Wire>(
+/// The services that are named; where there is none, one that stands for the units of the command itself, if it
+/// has any.
+fn services_by(
     alloc: Global,
     avps: &[RawAvp],
-) -> Result<Vec<Subscription>, AllocError>
-    ensures { IfOk result (λ found. found.items ≡ map subscription_of (filter (is_of subscription_id) avps.now)) }
+    named: Vec<Service>,
+    units: Units,
+) -> Result<Vec<Service>, AllocError>
+    requires { units ≡ units_in avps.now }
+    ensures { IfOk result (λ services. services.items ≡ services_by avps.now named.items) }
 {
-    let mut found = Vec::new(alloc);
-    for avp in avps {
-        if is_of(avp, SUBSCRIPTION_ID) {
-            found.push(subscription_of::<W>(alloc, avp)?)?;
-        }
+    if !named.is_empty() {
+        return Ok(named);
     }
-    Ok(found)
+    own_services_in(alloc, avps, units)
 }
 
-fn subscription_of<W: Wire>(alloc: Global, avp: &RawAvp) -> Result<Subscription, AllocError>
-    ensures { IfOk result (λ subscription. subscription ≡ subscription_of avp.now) }
-{
-    let members = members_of::<W>(alloc, avp, 1)?;
-    let text = octets_in(alloc, &members, SUBSCRIPTION_ID_DATA)?;
-    Ok(Subscription {
-        kind: u32_in(&members, SUBSCRIPTION_ID_TYPE).unwrap_or(0),
-        text,
-    })
-}
-
-/// Each Multiple-Services-Credit-Control in order; where there is none, one service that stands for the
-/// units of the command itself, if it has any.
-fn services_in<W: Wire>(alloc: Global, avps: &[RawAvp]) -> Result<Vec<Service>, AllocError>
-    ensures { IfOk result (λ services. services.items ≡ services_in avps.now) }
-{
-    let services = named_services_in::<W>(alloc, avps)?;
-    if !services.is_empty() {
-        return Ok(services);
-    }
-    own_services_in::<W>(alloc, avps)
-}
-
-fn own_services_in<W: Wire>(alloc: Global, avps: &[RawAvp]) -> Result<Vec<Service>, AllocError>
+fn own_services_in(alloc: Global, avps: &[RawAvp], units: Units) -> Result<Vec<Service>, AllocError>
+    requires { units ≡ units_in avps.now }
     ensures { IfOk result (λ services. services.items ≡ own_services_in avps.now) }
 {
     if !has_own(avps) {
         return Ok(Vec::new(alloc));
     }
-    let service = own_service::<W>(alloc, avps)?;
-    Ok(vec![in alloc; service]?)
-}
-
-fn named_services_in<W: Wire>(alloc: Global, avps: &[RawAvp]) -> Result<Vec<Service>, AllocError>
-    ensures { IfOk result (λ found. found.items ≡ map service_of (filter (is_of multiple_services) avps.now)) }
-{
-    let mut found = Vec::new(alloc);
-    for avp in avps {
-        if is_of(avp, MULTIPLE_SERVICES) {
-            found.push(service_of::<W>(alloc, avp)?)?;
-        }
-    }
-    Ok(found)
-}
-
-fn service_of<W: Wire>(alloc: Global, avp: &RawAvp) -> Result<Service, AllocError>
-    ensures { IfOk result (λ service. service ≡ service_of avp.now) }
-{
-    let members = members_of::<W>(alloc, avp, 1)?;
-    Ok(Service {
-        group: u32_in(&members, RATING_GROUP),
-        ident: u32_in(&members, SERVICE_IDENTIFIER),
-        bare: false,
-        asked: asked_in::<W>(alloc, &members, 2)?,
-        used: used_in::<W>(alloc, &members, 2)?,
-    })
+    Ok(vec![in alloc; own_service(avps, units)]?)
 }
 
 /// Whether the command itself has units, or names a service.
@@ -176,14 +131,15 @@ fn is_own(avp: &RawAvp) -> bool
         || is_of(avp, SERVICE_IDENTIFIER)
 }
 
-fn own_service<W: Wire>(alloc: Global, avps: &[RawAvp]) -> Result<Service, AllocError>
-    ensures { IfOk result (λ service. service ≡ service_in true None avps.now) }
+fn own_service(avps: &[RawAvp], units: Units) -> Service
+    requires { units ≡ units_in avps.now }
+    ensures { result ≡ service_in true None avps.now }
 {
-    Ok(Service {
+    Service {
         group: None,
         ident: u32_in(avps, SERVICE_IDENTIFIER),
         bare: true,
-        asked: asked_in::<W>(alloc, avps, 1)?,
-        used: used_in::<W>(alloc, avps, 1)?,
-    })
+        asked: units.asked,
+        used: units.used(),
+    }
 }

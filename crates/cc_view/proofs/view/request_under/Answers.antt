@@ -34,15 +34,15 @@ returns-then-carries_too_much-clause-view g c =
     IsView-refused _ _ _ c.refusal_with-then-carries_too_much.ensures
     (list ∙ view_of_avps-much (profile_of c.args.profile) c.in_ok-avps.avps.items (ap carries_too_much (sym c.deref.ensures.value) ∙ sym c.if-carries_too_much.ensures))
 
-pub returns-in_err-check_request-clause-view : goal.returns-in_err-check_request-clause-view
-returns-in_err-check_request-clause-view g c =
+pub returns-in_err-groups-clause-view : goal.returns-in_err-groups-clause-view
+returns-in_err-groups-clause-view g c =
     let items = c.in_ok-avps.avps.items in
-    let p = err_from_is_err_and c.from_residual-in_err-check_request.result c.from_residual-in_err-check_request.ensures.1 in
+    let p = err_from_is_err_and c.from_residual-in_err-groups.result c.from_residual-in_err-groups.ensures.1 in
     let list = view_of-list (profile_of c.args.profile) c.args.message.now (Ok items) c.if-message-ne-CREDIT_CONTROL_APPLICATION.false c.if-message-ne-CREDIT_CONTROL_COMMAND.false
     (ap avps_of (sym c.as_slice.ensures) ∙ c.in_ok-avps.ensures) in
     let few = ap carries_too_much (sym c.deref.ensures.value) ∙ sym c.if-carries_too_much.ensures in
-    let given : Passes (request_refusal (profile_of c.args.profile) items) (Err c.in_err-check_request.field-0.0) =
-    subst (λ (x : List RawAvp). Passes (request_refusal (profile_of c.args.profile) x) (Err c.in_err-check_request.field-0.0)) c.deref-2.ensures.value c.in_err-check_request.ensures in
+    let given : Passes (request_refusal (profile_of c.args.profile) items) (Err c.in_err-groups.field-0.0) =
+    subst (λ (x : List RawAvp). Passes (request_refusal (profile_of c.args.profile) x) (Err c.in_err-groups.field-0.0)) c.deref-2.ensures.value c.in_err-groups.ensures in
     rw (p.1, p.2) (IsView-tested _ (request_refusal (profile_of c.args.profile) items) (content_of items) _
     (list ∙ view_of_avps-few (profile_of c.args.profile) items (request_refusal (profile_of c.args.profile) items) few refl) given)
 
@@ -52,6 +52,6 @@ returns-clause-view g c =
     let list = view_of-list (profile_of c.args.profile) c.args.message.now (Ok items) c.if-message-ne-CREDIT_CONTROL_APPLICATION.false c.if-message-ne-CREDIT_CONTROL_COMMAND.false
     (ap avps_of (sym c.as_slice.ensures) ∙ c.in_ok-avps.ensures) in
     let few = ap carries_too_much (sym c.deref.ensures.value) ∙ sym c.if-carries_too_much.ensures in
-    let passed = ap (request_refusal (profile_of c.args.profile)) (sym c.deref-2.ensures.value) ∙ c.in_ok-check_request.ensures in
+    let passed = ap (request_refusal (profile_of c.args.profile)) (sym c.deref-2.ensures.value) ∙ c.in_ok-groups.ensures.0 in
     IsView-content _ (content_of items) c.content_of.result (list ∙ view_of_avps-few (profile_of c.args.profile) items None few passed)
     (subst (λ (x : List RawAvp). Gives (content_of x) c.content_of.result) c.deref-3.ensures.value c.content_of.ensures)
