@@ -1,10 +1,11 @@
 -- What a call answers by `Answers (Reads octets)`, by the function `split_of`; and what is written, by it.
-use Rattle.std.proofs.Common.{◌≡◌, ◌≢◌, ℕ, ◌%◌, List, [], ◌∷◌, ◌++◌, length, All, Result, Ok, Err, refl, sym, subst, ap, ◌∙◌}
+use Rattle.std.proofs.Common.{◌≡◌, ◌≢◌, ℕ, ◌%◌, ◌-◌, List, [], ◌∷◌, ◌++◌, length, All, Option, Some, None, Result, Ok, Err, IsOk, refl, sym, subst, ap, ◌∙◌}
+use Rattle.std.specs.Prelude.{MatchOption}
 use Rattle.std.specs.Global.{Vec}
 use Rattle.dia_avp.specs.declared.avp.RawAvp.{RawAvp}
 use Rattle.dia_avp.specs.declared.fault.AvpFault.{AvpFault}
 use Rattle.dia_avp.specs.declared.fault.AvpFault.TheVariants.{ShortHeader, LengthTooSmall, Overrun, TooLong, TooDeep, OutOfMemory}
-use Rattle.dia_avp.specs.AvpList.{Reads, Answers, IsSpelling, HasSpelling, with_avp, written, written_list}
+use Rattle.dia_avp.specs.AvpList.{Begins, Reads, Answers, IsSpelling, HasSpelling, fault_at, with_avp, written, written_list}
 use Rattle.dia_avp.specs.AvpReading.{split_of, IsAnswer}
 use Rattle.dia_avp.proofs.Splitting.{Reads-only, split_of-reads}
 use Rattle.dia_avp.proofs.ReadBack.{BeginsWith-written, Begins-written_list}
@@ -81,3 +82,20 @@ split_of-append octets more avps others even a b =
 pub split_of-with_avp : (octets : List ℕ) (avps : List RawAvp) (avp : RawAvp) → split_of octets ≡ Ok avps → HasSpelling avp → split_of (with_avp octets avp) ≡ Ok (avps ++ avp ∷ [])
 split_of-with_avp octets avps avp e has =
     sym (Reads-only (with_avp octets avp) (Ok (avps ++ avp ∷ [])) (IsSpelling-with_avp octets avps avp (Reads-of octets (Ok avps) e) has))
+
+-- ---- walks, AVP by AVP
+
+-- nothing is left behind AVPs: they are the reading
+pub walked_all : (octets : List ℕ) (avps : List RawAvp) (rest : List ℕ) → Begins octets avps rest → rest ≡ [] → split_of octets ≡ Ok avps
+walked_all octets avps rest b none = sym (Reads-only octets (Ok avps) (subst (λ (left : List ℕ). Begins octets avps left) none b))
+
+-- the fault of what is left behind AVPs is the reading
+pub walked_to : {T : Type 0} (octets : List ℕ) (avps : List RawAvp) (rest : List ℕ) (r : Result T AvpFault) (fault : AvpFault) → Begins octets avps rest → rest ≢ [] → r ≡ Err fault
+    → MatchOption (fault_at (length octets - length rest) rest) (IsOk r) (λ f. r ≡ Err f) → split_of octets ≡ Err fault
+walked_to {T} octets avps rest r fault b some is h = go (fault_at (length octets - length rest) rest) refl h
+  where
+    go : (o : Option AvpFault) → fault_at (length octets - length rest) rest ≡ o → MatchOption o (IsOk r) (λ f. r ≡ Err f) → split_of octets ≡ Err fault
+    go None why m = let failed : IsOk {T = T} {E = AvpFault} (Err fault) = subst (λ (x : Result T AvpFault). IsOk x) is m in cc
+    go (Some f) why m =
+        let same : f ≡ fault = cc in
+        sym (Reads-only octets (Err fault) (record { front = avps; left = rest; begins = b; some = some; why = why ∙ ap (λ (x : AvpFault). Some x) same }))

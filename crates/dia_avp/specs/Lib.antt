@@ -3,3 +3,4 @@ pub mod AvpHead
 pub mod AvpList
 pub mod AvpReading
 pub mod KeptOctets
+pub mod LentAvp

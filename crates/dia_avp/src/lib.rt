@@ -3,7 +3,9 @@
 //! - [`Wire`]: reads and writes lists of AVPs. Its contract says which list or which fault octets
 //!   read as and how an AVP is written, for any body. [`ViewWire`] reads by cuts of the buffer that the
 //!   octets stand in, and copies no value; [`PlainWire`] is the plain one, with copies, for tests.
-//! - [`write_avp`]: the one writer of an AVP, for any value; [`with_avp`]: a body with one AVP more.
+//! - [`front_of`]: the AVP that octets begin with, as a [`LentAvp`], and the octets behind it: who asks a body
+//!   for a few things walks it so, and takes no memory.
+//! - [`write_avp`]: the one writer of an AVP, for any value; [`with_avp`], [`with_lent`]: a body with one AVP more.
 //! - [`RawAvp`]: an AVP whose value is not looked at. [`u32_of`], [`u64_of`], [`i32_of`] and
 //!   [`i64_of`] read a value as a number. [`Octets`] are octets that contracts see as a list: a copy, or
 //!   a cut of a buffer that lives as long as one of its cuts.
@@ -44,6 +46,7 @@ mod fault;
 mod head;
 mod laws;
 pub mod layout;
+mod lent;
 mod number;
 mod octets;
 mod plain;
@@ -59,9 +62,10 @@ pub use laws::{
     one_avp_more, one_avp_more_pads_the_last, one_list, one_reading, only_padding_differs,
     read_is_writable, values_are_numbers_in_network_order, written_is_read, written_list_is_read,
 };
+pub use lent::{LentAvp, front_of};
 pub use number::{i32_of, i64_of, u32_of, u64_of};
 pub use octets::Octets;
 pub use plain::PlainWire;
 pub use view::ViewWire;
 pub use wire::{DEPTH_LIMIT, Wire};
-pub use writer::{with_avp, write_avp};
+pub use writer::{with_avp, with_lent, write_avp};

@@ -3,10 +3,12 @@
 ghost use Rattle.std.specs.Prelude.{◌≡◌, ◌≤◌, ◌<◌, ◌^◌, ◌∷◌, ◌++◌, IfOk, OnOk, OnErr, IsOkUnless};
 ghost use Rattle.byteorder.specs.Endian.{big_bytes};
 ghost use Rattle.dia_avp.specs.AvpList.{length_of, raw_avp, with_avp, written};
+ghost use Rattle.dia_avp.specs.LentAvp.{avp_of};
 
 use crate::avp::RawAvp;
 use crate::fault::AvpFault;
 use crate::layout::{header_len, padding_of};
+use crate::lent::LentAvp;
 use crate::octets::Octets;
 use byteorder::{BigEndian, ByteOrder};
 use std::alloc::Global;
@@ -67,18 +69,26 @@ pub fn with_avp(alloc: Global, body: &Octets, avp: &RawAvp) -> Result<Octets, Av
     ensures fits { length_of avp.now < 2 ^ 24 → IsOkUnless result AvpFault.OutOfMemory }
     ensures too_long { 2 ^ 24 ≤ length_of avp.now → result ≡ Err AvpFault.TooLong }
 {
+    with_lent(alloc, body, avp.lent())
+}
+
+/// The same with an AVP that is lent.
+pub fn with_lent(alloc: Global, body: &Octets, avp: LentAvp) -> Result<Octets, AvpFault>
+    ensures ok { IfOk result (λ octets. octets ≡ with_avp body.now (avp_of avp.entry)) }
+    ensures fits { length_of (avp_of avp.entry) < 2 ^ 24 → IsOkUnless result AvpFault.OutOfMemory }
+    ensures too_long { 2 ^ 24 ≤ length_of (avp_of avp.entry) → result ≡ Err AvpFault.TooLong }
+{
     let octets = body.as_slice();
-    let value = avp.value.as_slice();
-    if value.len() >= TOO_LONG - header_len(avp.flags) {
+    if avp.value.len() >= TOO_LONG - header_len(avp.flags) {
         return Err(AvpFault::TooLong);
     }
     let room = octets
         .len()
-        .saturating_add(value.len())
+        .saturating_add(avp.value.len())
         .saturating_add(BESIDE);
     let mut out = Vec::with_capacity(alloc, room)?;
     out.extend_from_slice(octets)?;
     out.extend_from_slice(&[0; 3][..padding_of(octets.len())])?;
-    write_avp(&mut out, avp.code, avp.flags, avp.vendor, value)?;
+    write_avp(&mut out, avp.code, avp.flags, avp.vendor, avp.value)?;
     Ok(Octets::shared(out)?)
 }
