@@ -1,11 +1,12 @@
 -- AVPs that are added one after the other, and how long they get.
-use Rattle.std.proofs.Common.{◌≡◌, ℕ, ◌+◌, ◌<◌, ◌≤◌, List, [], ◌∷◌, ◌++◌, length, map, filter, take, get_or, not, Bool, true, false, cond, Option, Some, None, min, Result, refl, sym, ap, subst, ◌∙◌, length-append, add-one, arith, lit≤}
+use Rattle.std.proofs.Common.{◌≡◌, ℕ, ◌+◌, ◌<◌, ◌≤◌, List, [], ◌∷◌, ◌++◌, length, map, filter, take, get_or, not, Bool, true, false, cond, Option, Some, None, min, Result, Ok, Err, refl, sym, ap, ◌∙◌, length-append, append_assoc, add-one, arith, lit≤}
 use Rattle.std.specs.Prelude.{OnOk}
 use Rattle.std.proofs.lemmas.List.{append-nil, map-append}
 use Rattle.std.proofs.lemmas.List.Elements.{filter-append}
 use Rattle.std.proofs.Math.Seq.{take-suc}
 use Rattle.dia_base.specs.declared.number.Code.{Code}
 use Rattle.dia_avp.specs.declared.avp.RawAvp.{RawAvp}
+use Rattle.dia_avp.specs.AvpList.{written}
 use Rattle.cc_view.specs.declared.reply.ServiceReply.{ServiceReply}
 use Rattle.cc_view.specs.Answer.{optional_u32, granted_part, final_part, service_avp, services_part}
 use Rattle.dia_base.specs.Codes.{cc_time, granted_service_unit}
@@ -14,30 +15,47 @@ use Rattle.cc_view.proofs.Spelling.{spelling_of-append}
 
 -- ---- additions
 
--- the same addition by another name
-pub OnOk-onto : {E : Type 0} (r : Result (Unit {0}) E) (new old a b : List RawAvp) → OnOk r (new ≡ old ++ a) → a ≡ b → OnOk r (new ≡ old ++ b)
-OnOk-onto r new old a b h e = subst (λ (x : List RawAvp). OnOk r (new ≡ old ++ x)) e h
+-- one AVP is spelled as it is written
+pub one_written : (avp : RawAvp) → spelling_of (avp ∷ []) ≡ written avp
+one_written avp = append-nil (written avp)
 
-pub nothing_added : (old a : List RawAvp) → a ≡ [] → old ≡ old ++ a
-nothing_added old a e = sym (append-nil old) ∙ ap (λ (x : List RawAvp). old ++ x) (sym e)
+pub nothing_added : (old : List ℕ) (a : List RawAvp) → a ≡ [] → old ≡ old ++ spelling_of a
+nothing_added old a e = sym (append-nil old) ∙ ap (λ (x : List RawAvp). old ++ spelling_of x) (sym e)
 
-pub one_added : (d0 d1 a : List RawAvp) → d0 ≡ [] → d1 ≡ d0 ++ a → d1 ≡ a
-one_added d0 d1 a e0 e1 = e1 ∙ ap (λ (x : List RawAvp). x ++ a) e0
+-- what was added to nothing
+pub from_nothing : (d0 d1 : List ℕ) (a : List RawAvp) → d0 ≡ [] → d1 ≡ d0 ++ spelling_of a → d1 ≡ spelling_of a
+from_nothing d0 d1 a e0 e1 = e1 ∙ ap (λ (x : List ℕ). x ++ spelling_of a) e0
 
-pub two_added : (d0 d1 d2 a b : List RawAvp) → d0 ≡ [] → d1 ≡ d0 ++ a → d2 ≡ d1 ++ b → d2 ≡ a ++ b
-two_added d0 d1 d2 a b e0 e1 e2 = e2 ∙ ap (λ (x : List RawAvp). x ++ b) (one_added d0 d1 a e0 e1)
+-- one addition and then another
+pub two_added : (d0 d1 d2 : List ℕ) (a b : List RawAvp) → d1 ≡ d0 ++ spelling_of a → d2 ≡ d1 ++ spelling_of b → d2 ≡ d0 ++ spelling_of (a ++ b)
+two_added d0 d1 d2 a b e1 e2 =
+    e2 ∙ ap (λ (x : List ℕ). x ++ spelling_of b) e1 ∙ append_assoc d0 (spelling_of a) (spelling_of b) ∙ ap (λ (x : List ℕ). d0 ++ x) (sym (spelling_of-append a b))
 
-pub three_added : (d0 d1 d2 d3 a b c : List RawAvp) → d0 ≡ [] → d1 ≡ d0 ++ a → d2 ≡ d1 ++ b → d3 ≡ d2 ++ c → d3 ≡ (a ++ b) ++ c
-three_added d0 d1 d2 d3 a b c e0 e1 e2 e3 = e3 ∙ ap (λ (x : List RawAvp). x ++ c) (two_added d0 d1 d2 a b e0 e1 e2)
+pub three_added : (d0 d1 d2 d3 : List ℕ) (a b c : List RawAvp) → d1 ≡ d0 ++ spelling_of a → d2 ≡ d1 ++ spelling_of b → d3 ≡ d2 ++ spelling_of c → d3 ≡ d0 ++ spelling_of (a ++ b ++ c)
+three_added d0 d1 d2 d3 a b c e1 e2 e3 = two_added d0 d2 d3 (a ++ b) c (two_added d0 d1 d2 a b e1 e2) e3
 
-pub five_added : (d0 d1 d2 d3 d4 d5 a b c d e : List RawAvp) → d0 ≡ [] → d1 ≡ d0 ++ a → d2 ≡ d1 ++ b → d3 ≡ d2 ++ c → d4 ≡ d3 ++ d → d5 ≡ d4 ++ e → d5 ≡ a ++ b ++ c ++ d ++ e
-five_added d0 d1 d2 d3 d4 d5 a b c d e e0 e1 e2 e3 e4 e5 =
-    e5 ∙ ap (λ (x : List RawAvp). x ++ e) (e4 ∙ ap (λ (x : List RawAvp). x ++ d) (three_added d0 d1 d2 d3 a b c e0 e1 e2 e3))
+pub five_added : (d0 d1 d2 d3 d4 d5 : List ℕ) (a b c d e : List RawAvp) → d1 ≡ d0 ++ spelling_of a → d2 ≡ d1 ++ spelling_of b → d3 ≡ d2 ++ spelling_of c → d4 ≡ d3 ++ spelling_of d
+    → d5 ≡ d4 ++ spelling_of e → d5 ≡ d0 ++ spelling_of (a ++ b ++ c ++ d ++ e)
+five_added d0 d1 d2 d3 d4 d5 a b c d e e1 e2 e3 e4 e5 =
+    three_added d0 d3 d4 d5 (a ++ b ++ c) d e (three_added d0 d1 d2 d3 a b c e1 e2 e3) e4 e5
 
-pub six_added : (d0 d1 d2 d3 d4 d5 d6 a b c d e f : List RawAvp) → d0 ≡ [] → d1 ≡ d0 ++ a → d2 ≡ d1 ++ b → d3 ≡ d2 ++ c → d4 ≡ d3 ++ d → d5 ≡ d4 ++ e → d6 ≡ d5 ++ f
-    → d6 ≡ a ++ b ++ c ++ d ++ e ++ f
-six_added d0 d1 d2 d3 d4 d5 d6 a b c d e f e0 e1 e2 e3 e4 e5 e6 =
-    e6 ∙ ap (λ (x : List RawAvp). x ++ f) (e5 ∙ ap (λ (x : List RawAvp). x ++ e) (e4 ∙ ap (λ (x : List RawAvp). x ++ d) (three_added d0 d1 d2 d3 a b c e0 e1 e2 e3)))
+pub six_added : (d0 d1 d2 d3 d4 d5 d6 : List ℕ) (a b c d e f : List RawAvp) → d1 ≡ d0 ++ spelling_of a → d2 ≡ d1 ++ spelling_of b → d3 ≡ d2 ++ spelling_of c → d4 ≡ d3 ++ spelling_of d
+    → d5 ≡ d4 ++ spelling_of e → d6 ≡ d5 ++ spelling_of f → d6 ≡ d0 ++ spelling_of (a ++ b ++ c ++ d ++ e ++ f)
+six_added d0 d1 d2 d3 d4 d5 d6 a b c d e f e1 e2 e3 e4 e5 e6 =
+    two_added d0 d5 d6 (a ++ b ++ c ++ d ++ e) f (five_added d0 d1 d2 d3 d4 d5 a b c d e e1 e2 e3 e4 e5) e6
+
+-- the same where the second may lack memory
+pub added_behind : {E : Type 0} (r : Result (Unit {0}) E) (d0 d1 d2 : List ℕ) (a b : List RawAvp) → d1 ≡ d0 ++ spelling_of a → OnOk r (d2 ≡ d1 ++ spelling_of b) → OnOk r (d2 ≡ d0 ++ spelling_of (a ++ b))
+added_behind (Ok _) d0 d1 d2 a b e1 e2 = two_added d0 d1 d2 a b e1 e2
+added_behind (Err _) d0 d1 d2 a b e1 e2 = tt
+
+-- the same AVPs by another name
+pub added_as : (old new : List ℕ) (a b : List RawAvp) → a ≡ b → new ≡ old ++ spelling_of a → new ≡ old ++ spelling_of b
+added_as old new a b e h = h ∙ ap (λ (x : List RawAvp). old ++ spelling_of x) e
+
+pub OnOk-as : {E : Type 0} (r : Result (Unit {0}) E) (old new : List ℕ) (a b : List RawAvp) → a ≡ b → OnOk r (new ≡ old ++ spelling_of a) → OnOk r (new ≡ old ++ spelling_of b)
+OnOk-as (Ok _) old new a b e h = added_as old new a b e h
+OnOk-as (Err _) old new a b e h = tt
 
 -- ---- lengths
 

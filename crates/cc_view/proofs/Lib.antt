@@ -8,6 +8,7 @@ mod Fitting
 mod FittingMessages
 mod FittingUnits
 mod Forwarding
+mod Groups
 mod Kept
 mod Messages
 mod NamedAvps
@@ -20,6 +21,7 @@ mod Spelling
 mod Places
 mod Splits
 mod TypedAnswers
+mod Units
 mod Unread
 mod ViewedSessions
 mod Views

@@ -2,6 +2,7 @@
 
 ghost use Rattle.std.specs.Prelude.{◌≡◌, ◌++◌, IfOk, OnOk, false};
 ghost use Rattle.cc_view.specs.Answer.{answer_header, answer_to, command_part, failover_part, session_part};
+ghost use Rattle.cc_view.specs.Answer.Writing.{spelling_of};
 
 pub(crate) mod carried;
 pub(crate) mod draft;
@@ -41,13 +42,13 @@ pub fn answer_bytes<W: Wire>(
     ensures { IfOk result (λ answer. answer ≡ answer_to front.now realm.now message.now request.now reply.now) }
 {
     let carried = carriable_avps::<W>(alloc, &message.body)?;
-    let mut draft = Draft::new(alloc);
+    let mut draft = Draft::new(alloc)?;
     push_command(&mut draft, front, realm, request, reply.code)?;
-    push_units::<W>(alloc, &mut draft, reply)?;
+    push_units(&mut draft, reply)?;
     push_proxies(&mut draft, &carried)?;
     Ok(Message {
         header: answer_header(&message.header, false),
-        body: draft.spell::<W>()?,
+        body: draft.finish()?,
     })
 }
 
@@ -71,7 +72,7 @@ fn push_command(
     request: &CcRequest,
     code: ResultCode,
 ) -> Result<(), AllocError>
-    ensures { OnOk result (draft.new ≡ draft.old ++ command_part front.now realm.now request.now code) }
+    ensures { OnOk result (draft.new ≡ draft.old ++ spelling_of (command_part front.now realm.now request.now code)) }
 {
     push_session(draft, &request.session)?;
     draft.push_u32(RESULT_CODE, code.number())?;
@@ -83,7 +84,7 @@ fn push_command(
 }
 
 fn push_session(draft: &mut Draft, session: &Octets) -> Result<(), AllocError>
-    ensures { OnOk result (draft.new ≡ draft.old ++ session_part session.now) }
+    ensures { OnOk result (draft.new ≡ draft.old ++ spelling_of (session_part session.now)) }
 {
     let octets = session.as_slice();
     if octets.len() <= SESSION_LIMIT {
@@ -94,7 +95,7 @@ fn push_session(draft: &mut Draft, session: &Octets) -> Result<(), AllocError>
 }
 
 fn push_failover(draft: &mut Draft, kind: RequestKind, code: ResultCode) -> Result<(), AllocError>
-    ensures { OnOk result (draft.new ≡ draft.old ++ failover_part kind code) }
+    ensures { OnOk result (draft.new ≡ draft.old ++ spelling_of (failover_part kind code)) }
 {
     match (kind, code) {
         (RequestKind::Initial, ResultCode::Success) => {

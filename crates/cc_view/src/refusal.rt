@@ -33,14 +33,14 @@ pub fn refusal_bytes<W: Wire>(
     ensures { IfOk result (λ answer. answer ≡ refusal_of node.now realm.now message.now refusal.now) }
 {
     let carried = carriable_avps::<W>(alloc, &message.body)?;
-    let mut draft = Draft::new(alloc);
+    let mut draft = Draft::new(alloc)?;
     push_session(&mut draft, &carried)?;
     draft.push_origin(node, realm)?;
     draft.push_u32(RESULT_CODE, refusal.code.number())?;
-    push_failed::<W>(alloc, &mut draft, &refusal.failed)?;
+    push_failed(&mut draft, &refusal.failed)?;
     push_proxies(&mut draft, &carried)?;
     Ok(Message {
         header: answer_header(&message.header, true),
-        body: draft.spell::<W>()?,
+        body: draft.finish()?,
     })
 }

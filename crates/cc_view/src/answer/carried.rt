@@ -3,6 +3,7 @@
 ghost use Rattle.std.specs.Prelude.{◌≡◌, ◌≤◌, ◌<◌, ◌-◌, ◌^◌, ◌+◌, ◌++◌, false, IfOk, OnOk};
 ghost use Rattle.std.specs.Option.{SomeIff};
 ghost use Rattle.dia_avp.specs.AvpReading.{split_of};
+ghost use Rattle.cc_view.specs.Answer.Writing.{spelling_of};
 ghost use Rattle.cc_view.specs.Answer.Carried.{carriable_avps, carries_too_much, is_carried, padded_len, proxies_in, session_in};
 
 use crate::answer::draft::Draft;
@@ -38,7 +39,7 @@ pub(crate) fn carriable_avps<W: Wire>(
 /// Adds the first Session-Id of these AVPs.
 pub(crate) fn push_session(draft: &mut Draft, avps: &[RawAvp]) -> Result<(), AllocError>
     requires { carries_too_much avps.now ≡ false }
-    ensures { OnOk result (draft.new ≡ draft.old ++ session_in avps.now) }
+    ensures { OnOk result (draft.new ≡ draft.old ++ spelling_of (session_in avps.now)) }
 {
     match first_of(avps, SESSION_ID) {
         Some(session) => draft.push_octets(SESSION_ID, session.value.as_slice()),
@@ -49,7 +50,7 @@ pub(crate) fn push_session(draft: &mut Draft, avps: &[RawAvp]) -> Result<(), All
 /// Adds each Proxy-Info of these AVPs, in order.
 pub(crate) fn push_proxies(draft: &mut Draft, avps: &[RawAvp]) -> Result<(), AllocError>
     requires { carries_too_much avps.now ≡ false }
-    ensures { OnOk result (draft.new ≡ draft.old ++ proxies_in avps.now) }
+    ensures { OnOk result (draft.new ≡ draft.old ++ spelling_of (proxies_in avps.now)) }
 {
     for avp in avps {
         if is_of(avp, PROXY_INFO) {

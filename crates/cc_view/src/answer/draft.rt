@@ -1,84 +1,83 @@
-//! AVPs that are to be written.
+//! AVPs that are written one behind the other.
 
-ghost use Rattle.std.specs.Prelude.{◌≡◌, ◌≤◌, [], ◌∷◌, ◌++◌, IfOk, OnOk, length};
+ghost use Rattle.std.specs.Prelude.{◌≡◌, ◌≤◌, ◌<◌, ◌+◌, ◌^◌, [], ◌∷◌, ◌++◌, ℕ, List, IfOk, OnOk, length};
+ghost use Rattle.dia_avp.specs.AvpList.{raw_avp};
+ghost use Rattle.dia_avp.specs.declared.avp.RawAvp.{RawAvp};
 ghost use Rattle.cc_view.specs.Answer.Writing.{octets_avp, u32_avp, u64_avp, i32_avp, i64_avp, group_avp, spelling_of};
 ghost use Rattle.cc_view.specs.Answer.{optional_u32, origin_part};
 ghost use Rattle.cc_view.specs.Answer.Short.{IsShort};
 
 use byteorder::{BigEndian, ByteOrder};
 use dia_avp::layout::MANDATORY;
-use dia_avp::{Octets, RawAvp, Wire};
+use dia_avp::{Octets, RawAvp, write_avp};
 use dia_base::Identity;
 use dia_base::codes::{ORIGIN_HOST, ORIGIN_REALM};
 use std::alloc::{AllocError, Global};
 use std::marker::Model;
 
-/// For how many octets there is room at once where AVPs are spelled: as many as most answers take.
+/// For how many octets there is room at once: as many as most answers take.
 const ROOM: usize = 256;
 
-/// AVPs in the order in which they are written, with the flag M and vendor 0.
+/// Where the header of an AVP says its length: behind the code and the flags.
+const LENGTH_AT: usize = 5;
+
+/// The octets of AVPs in the order in which they were added. What is made here has the flag M and vendor 0.
 #[derive(Drop)]
 pub(crate) struct Draft {
-    alloc: Global,
-    avps: Vec<RawAvp>,
+    octets: Vec<u8>,
 }
 
 impl Model for Draft {
-    ghost use Rattle.std.specs.Prelude.{List, All};
-    ghost use Rattle.dia_avp.specs.declared.avp.RawAvp.{RawAvp};
-    ghost use Rattle.cc_view.specs.Answer.Short.{IsShort};
+    ghost use Rattle.std.specs.Prelude.{ℕ, List};
 
-    ghost Value = { List RawAvp };
+    ghost Value = { List ℕ };
 
-    ghost view = { λ d. d.avps.items };
-
-    ghost invariant = { λ d. All IsShort d.avps.items };
+    ghost view = { λ d. d.octets.items };
 }
 
 impl Draft {
-    pub(crate) fn new(alloc: Global) -> Self
-        ensures { result ≡ [] }
+    pub(crate) fn new(alloc: Global) -> Result<Self, AllocError>
+        ensures { IfOk result (λ draft. draft ≡ []) }
     {
-        Draft {
-            alloc,
-            avps: Vec::new(alloc),
-        }
+        Ok(Draft {
+            octets: Vec::with_capacity(alloc, ROOM)?,
+        })
     }
 
-    fn push(&mut self, code: u32, value: Octets) -> Result<(), AllocError>
-        requires { length value ≤ 65536 }
-        ensures { OnOk result (self.new ≡ self.old ++ octets_avp code value ∷ []) }
+    /// The octets that were written.
+    pub(crate) fn finish(self) -> Result<Octets, AllocError>
+        ensures { IfOk result (λ octets. octets ≡ self) }
     {
-        self.avps.push(RawAvp {
-            code,
-            flags: MANDATORY,
-            vendor: 0,
-            value,
-        })?;
-        Ok(())
+        Octets::from_vec(self.octets)
+    }
+
+    /// Writes an AVP behind the others. It is short, so that only memory can be wanting.
+    fn write(&mut self, code: u32, flags: u8, vendor: u32, value: &[u8]) -> Result<(), AllocError>
+        requires { IsShort (raw_avp code flags vendor value.now) }
+        ensures { OnOk result (self.new ≡ self.old ++ spelling_of (raw_avp code flags vendor value.now ∷ [])) }
+    {
+        write_avp(&mut self.octets, code, flags, vendor, value).map_err(|_| AllocError)
     }
 
     /// Adds an AVP with these octets as its value.
     pub(crate) fn push_octets(&mut self, code: u32, octets: &[u8]) -> Result<(), AllocError>
         requires { length octets.now ≤ 65536 }
-        ensures { OnOk result (self.new ≡ self.old ++ octets_avp code octets.now ∷ []) }
+        ensures { OnOk result (self.new ≡ self.old ++ spelling_of (octets_avp code octets.now ∷ [])) }
     {
-        let value = Octets::copy_of(self.alloc, octets)?;
-        self.push(code, value)
+        self.write(code, MANDATORY, 0, octets)
     }
 
     /// Adds an AVP as it was received.
     pub(crate) fn push_copy(&mut self, avp: &RawAvp) -> Result<(), AllocError>
         requires { IsShort avp.now }
-        ensures { OnOk result (self.new ≡ self.old ++ avp.now ∷ []) }
+        ensures { OnOk result (self.new ≡ self.old ++ spelling_of (avp.now ∷ [])) }
     {
-        self.avps.push(avp.clone()?)?;
-        Ok(())
+        self.write(avp.code, avp.flags, avp.vendor, avp.value.as_slice())
     }
 
     /// Adds an Unsigned32.
     pub(crate) fn push_u32(&mut self, code: u32, n: u32) -> Result<(), AllocError>
-        ensures { OnOk result (self.new ≡ self.old ++ u32_avp code n ∷ []) }
+        ensures { OnOk result (self.new ≡ self.old ++ spelling_of (u32_avp code n ∷ [])) }
     {
         let mut octets = [0u8; 4];
         BigEndian::write_u32(&mut octets, n);
@@ -87,7 +86,7 @@ impl Draft {
 
     /// Adds an Unsigned64.
     pub(crate) fn push_u64(&mut self, code: u32, n: u64) -> Result<(), AllocError>
-        ensures { OnOk result (self.new ≡ self.old ++ u64_avp code n ∷ []) }
+        ensures { OnOk result (self.new ≡ self.old ++ spelling_of (u64_avp code n ∷ [])) }
     {
         let mut octets = [0u8; 8];
         BigEndian::write_u64(&mut octets, n);
@@ -96,7 +95,7 @@ impl Draft {
 
     /// Adds an Integer32.
     pub(crate) fn push_i32(&mut self, code: u32, z: i32) -> Result<(), AllocError>
-        ensures { OnOk result (self.new ≡ self.old ++ i32_avp code z ∷ []) }
+        ensures { OnOk result (self.new ≡ self.old ++ spelling_of (i32_avp code z ∷ [])) }
     {
         let mut octets = [0u8; 4];
         BigEndian::write_i32(&mut octets, z);
@@ -105,7 +104,7 @@ impl Draft {
 
     /// Adds an Integer64.
     pub(crate) fn push_i64(&mut self, code: u32, z: i64) -> Result<(), AllocError>
-        ensures { OnOk result (self.new ≡ self.old ++ i64_avp code z ∷ []) }
+        ensures { OnOk result (self.new ≡ self.old ++ spelling_of (i64_avp code z ∷ [])) }
     {
         let mut octets = [0u8; 8];
         BigEndian::write_i64(&mut octets, z);
@@ -114,7 +113,7 @@ impl Draft {
 
     /// Adds an Unsigned32 if there is a number.
     pub(crate) fn push_optional_u32(&mut self, code: u32, n: Option<u32>) -> Result<(), AllocError>
-        ensures { OnOk result (self.new ≡ self.old ++ optional_u32 code n) }
+        ensures { OnOk result (self.new ≡ self.old ++ spelling_of (optional_u32 code n)) }
     {
         match n {
             Some(n) => self.push_u32(code, n),
@@ -128,33 +127,31 @@ impl Draft {
         host: &Identity,
         realm: &Identity,
     ) -> Result<(), AllocError>
-        ensures { OnOk result (self.new ≡ self.old ++ origin_part host.now realm.now) }
+        ensures { OnOk result (self.new ≡ self.old ++ spelling_of (origin_part host.now realm.now)) }
     {
         self.push_octets(ORIGIN_HOST, host.as_slice())?;
         self.push_octets(ORIGIN_REALM, realm.as_slice())
     }
 
-    /// Adds a group with these members.
-    pub(crate) fn push_group<W: Wire>(
-        &mut self,
-        code: u32,
-        members: &Draft,
-    ) -> Result<(), AllocError>
-        requires { length (spelling_of members.now) ≤ 65536 }
-        ensures { OnOk result (self.new ≡ self.old ++ group_avp code members.now ∷ []) }
+    /// Opens a group, whose members are to be added behind it, and tells where it begins. It is to be closed.
+    pub(crate) fn open_group(&mut self, code: u32) -> Result<usize, AllocError>
+        ensures place { IfOk result (λ start. start ≡ length self.old) }
+        ensures empty { OnOk result (self.new ≡ self.old ++ spelling_of (group_avp code [] ∷ [])) }
     {
-        let value = members.spell::<W>()?;
-        self.push(code, value)
+        let start = self.octets.len();
+        self.push_octets(code, &[])?;
+        Ok(start)
     }
 
-    /// The octets of the AVPs, one after the other.
-    pub(crate) fn spell<W: Wire>(&self) -> Result<Octets, AllocError>
-        ensures { IfOk result (λ octets. octets ≡ spelling_of self.now) }
+    /// Closes the group that begins at this place: all that was added behind its header are its members. Its
+    /// length is written over that of a group without any.
+    pub(crate) fn close_group(&mut self, start: usize)
+        requires header { start + 8 ≤ length self.old }
+        requires short { length self.old < start + 2 ^ 24 }
+        ensures { (front : List ℕ) (code : ℕ) (members : List RawAvp) → start ≡ length front →
+            self.old ≡ front ++ spelling_of (group_avp code [] ∷ members) → self.new ≡ front ++ spelling_of (group_avp code members ∷ []) }
     {
-        let mut octets = Vec::with_capacity(self.alloc, ROOM)?;
-        for avp in &self.avps {
-            W::spell(&mut octets, avp).map_err(|_| AllocError)?;
-        }
-        Octets::from_vec(octets)
+        let len = self.octets.len() - start;
+        BigEndian::write_u24(&mut self.octets[start + LENGTH_AT..], len as u32);
     }
 }

@@ -2,20 +2,17 @@
 
 ghost use Rattle.std.specs.Prelude.{◌≡◌, ◌++◌, OnOk};
 ghost use Rattle.cc_view.specs.Refusal.FailedAvp.{failed_part};
+ghost use Rattle.cc_view.specs.Answer.Writing.{spelling_of};
 
 use crate::answer::draft::Draft;
 use crate::view::failed_avp::is_copied;
-use dia_avp::{RawAvp, Wire};
+use dia_avp::RawAvp;
 use dia_base::codes::FAILED_AVP;
-use std::alloc::{AllocError, Global};
+use std::alloc::AllocError;
 
 /// Adds Failed-AVP, if an AVP is at fault.
-pub(crate) fn push_failed<W: Wire>(
-    alloc: Global,
-    draft: &mut Draft,
-    failed: &Option<RawAvp>,
-) -> Result<(), AllocError>
-    ensures { OnOk result (draft.new ≡ draft.old ++ failed_part failed.now) }
+pub(crate) fn push_failed(draft: &mut Draft, failed: &Option<RawAvp>) -> Result<(), AllocError>
+    ensures { OnOk result (draft.new ≡ draft.old ++ spelling_of (failed_part failed.now)) }
 {
     let Some(avp) = failed else {
         return Ok(());
@@ -23,7 +20,8 @@ pub(crate) fn push_failed<W: Wire>(
     if !is_copied(avp) {
         return Ok(());
     }
-    let mut members = Draft::new(alloc);
-    members.push_copy(avp)?;
-    draft.push_group::<W>(FAILED_AVP, &members)
+    let start = draft.open_group(FAILED_AVP)?;
+    draft.push_copy(avp)?;
+    draft.close_group(start);
+    Ok(())
 }

@@ -1,15 +1,20 @@
 use Rattle.std.proofs.Common.{List, ◌++◌, ap, ◌∙◌}
 use Rattle.dia_avp.specs.declared.avp.RawAvp.{RawAvp}
-use Rattle.cc_view.specs.Answer.{answer_to, command_part, units_part}
-use Rattle.cc_view.specs.Answer.Carried.{proxies_in}
-use Rattle.cc_view.specs.Answer.Writing.{spelling_of}
-use Rattle.cc_view.proofs.Drafts.{three_added}
+use Rattle.dia_avp.specs.AvpReading.{split_of}
+use Rattle.cc_view.specs.Answer.{answer_avps, answer_to, command_part, units_part}
+use Rattle.cc_view.specs.Answer.Carried.{carriable_avps, proxies_in}
+use Rattle.cc_view.proofs.Drafts.{added_as, from_nothing, three_added}
 use Rattle.cc_view.proofs.Messages.{message_of-same}
 use Rattle.cc_view.proofs.answer.answer_bytes.Goals as goal
 
 pub returns : goal.returns
 unfolding answer_to
 returns g c =
-    let avps = three_added _ _ _ _ _ _ _ c.new-draft.ensures c.in_ok-push_command.ensures c.in_ok-push_units.ensures c.in_ok-push_proxies.ensures in
-    let same = ap (λ (x : List RawAvp). command_part c.args.front.now c.args.realm.now c.args.request.now c.args.reply.now.code ++ units_part c.args.reply.now ++ proxies_in x) (c.deref.ensures.value ∙ c.in_ok-carried.ensures.value) in
-    message_of-same _ _ _ _ c.answer_header.ensures (c.in_ok-spell.ensures ∙ ap spelling_of (avps ∙ same))
+    let front = c.args.front.now in
+    let realm = c.args.realm.now in
+    let request = c.args.request.now in
+    let reply = c.args.reply.now in
+    let carried = proxies_in (carriable_avps (split_of c.args.message.now.body)) in
+    let proxies = added_as _ _ _ carried (ap (λ (x : List RawAvp). proxies_in x) (c.deref.ensures.value ∙ c.in_ok-carried.ensures.value)) c.in_ok-push_proxies.ensures in
+    let avps = three_added _ _ _ _ (command_part front realm request reply.code) (units_part reply) carried c.in_ok-push_command.ensures c.in_ok-push_units.ensures proxies in
+    message_of-same _ _ _ _ c.answer_header.ensures (c.in_ok-finish.ensures ∙ from_nothing _ _ (answer_avps front realm c.args.message.now request reply) c.in_ok-draft.ensures avps)
