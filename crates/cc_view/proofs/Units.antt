@@ -1,5 +1,5 @@
 -- The units of an answer, as they are written one behind the other.
-use Rattle.std.proofs.Common.{◌≡◌, ◌≢◌, ℕ, ◌≤◌, ℤ, List, [], ◌∷◌, ◌++◌, min, Bool, true, false, cond, eqb, Option, Some, length, refl, sym, ap, ◌∙◌, arith, lit≤}
+use Rattle.std.proofs.Common.{◌≡◌, ℕ, ◌≤◌, ℤ, List, [], ◌∷◌, ◌++◌, min, Bool, true, false, cond, eqb, Option, Some, sym, ap, ◌∙◌, arith}
 use Rattle.std.proofs.lemmas.Bool.{leb-true}
 use Rattle.dia_base.specs.declared.number.Code.{Code}
 use Rattle.dia_avp.specs.declared.avp.RawAvp.{RawAvp}

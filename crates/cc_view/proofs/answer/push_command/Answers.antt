@@ -1,4 +1,4 @@
-use Rattle.std.proofs.Common.{ℕ, List, [], ◌∷◌, ◌++◌, ap}
+use Rattle.std.proofs.Common.{ℕ, [], ◌∷◌, ◌++◌, ap}
 use Rattle.dia_base.specs.Codes.{auth_application_id, cc_request_number, cc_request_type, credit_control_application, result_code}
 use Rattle.cc_view.specs.Answer.{failover_part, origin_part, session_part}
 use Rattle.cc_view.specs.Answer.Writing.{u32_avp}

@@ -1,4 +1,4 @@
-use Rattle.std.proofs.Common.{◌≡◌, [], ◌∷◌, true, Some, sym, ap, ◌∙◌, arith, lit≤}
+use Rattle.std.proofs.Common.{◌≡◌, [], ◌∷◌, true, sym, ◌∙◌, lit≤}
 use Rattle.dia_base.specs.Codes.{failed_avp}
 use Rattle.cc_view.specs.Answer.Writing.{group_avp}
 use Rattle.cc_view.specs.Refusal.FailedAvp.{failed_part, is_copied}

@@ -1,4 +1,4 @@
-use Rattle.std.proofs.Common.{[], ◌∷◌, lit≤}
+use Rattle.std.proofs.Common.{lit≤}
 use Rattle.dia_base.specs.Codes.{cost_information}
 use Rattle.cc_view.proofs.FittingUnits.{cost_members, takes-cost_members}
 use Rattle.cc_view.proofs.Groups.{closable}

@@ -1,4 +1,4 @@
-use Rattle.std.proofs.Common.{[], ◌∷◌, sym, ap, ◌∙◌, lit≤}
+use Rattle.std.proofs.Common.{[], ◌∷◌, sym, ap, lit≤}
 use Rattle.dia_base.specs.Codes.{final_unit_action, final_unit_indication}
 use Rattle.cc_view.specs.Answer.{final_part}
 use Rattle.cc_view.specs.Answer.Writing.{group_avp, u32_avp}

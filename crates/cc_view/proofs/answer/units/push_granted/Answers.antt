@@ -1,4 +1,4 @@
-use Rattle.std.proofs.Common.{[], ◌∷◌, sym, ap, ◌∙◌, lit≤}
+use Rattle.std.proofs.Common.{[], ◌∷◌, lit≤}
 use Rattle.dia_base.specs.Codes.{granted_service_unit}
 use Rattle.cc_view.specs.Answer.{granted_part, unit_avp}
 use Rattle.cc_view.specs.Answer.Writing.{group_avp}

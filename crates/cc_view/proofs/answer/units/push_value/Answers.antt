@@ -1,4 +1,4 @@
-use Rattle.std.proofs.Common.{rules, w32, w64, [], ◌∷◌, lit≤}
+use Rattle.std.proofs.Common.{rules, w32, w64, lit≤}
 use Rattle.std.proofs.lemmas.Int.{to_z-of_z}
 use mir.Val.{SFits, of_z, to_z}
 use Rattle.dia_base.specs.Codes.{unit_value}
