@@ -14,3 +14,4 @@ pub mod Rules
 pub mod Lengths
 pub mod Running
 pub mod Unanswered
+pub mod Walking

@@ -1,6 +1,7 @@
 -- The rules on candidates, and the way in which the code finds one.
-use Rattle.std.proofs.Common.{◌≡◌, ◌∙◌, ℕ, not, ◌&&◌, Bool, true, false, cond, is_some, is_none, List, [], ◌∷◌, ◌++◌, Option, Some, None, option_map, Result, Ok, Err, refl, ap, sym}
+use Rattle.std.proofs.Common.{◌≡◌, ◌∙◌, ℕ, not, ◌&&◌, ◌||◌, Bool, true, false, cond, is_some, is_none, List, [], ◌∷◌, ◌++◌, Option, Some, None, option_map, Result, Ok, Err, refl, ap, sym}
 use Rattle.std.specs.List.{find}
+use Rattle.std.proofs.lemmas.List.Folds.{list_any-append}
 use Rattle.dia_base.specs.Codes.{destination_realm, destination_host}
 use Rattle.dia_base.specs.declared.number.ConnId.{ConnId}
 use Rattle.dia_base.specs.declared.number.NodeNo.{NodeNo}
@@ -12,16 +13,17 @@ use Rattle.cc_view.specs.declared.code.ResultCode.{ResultCode}
 use Rattle.cc_view.specs.declared.code.ResultCode.TheVariants.{CommandUnsupported, UnableToDeliver, RealmNotServed, TooBusy, LoopDetected, ApplicationUnsupported}
 use Rattle.cc_view.specs.declared.refusal.Refusal.{Refusal}
 use Rattle.relay_peers.specs.declared.peers.LinkedPeer.{LinkedPeer}
+use Rattle.relay_peers.specs.PeerTable.{conn_in, peer_numbered}
 use Rattle.dia_base.specs.declared.node.NodeKind.{NodeKind}
 use Rattle.dia_base.specs.declared.node.NodeKind.TheVariants.{Relay, Front, Client}
 use Rattle.relay_routes.specs.declared.routes.RouteFault.{RouteFault}
 use Rattle.relay_routes.specs.declared.routes.RouteFault.TheVariants.{RealmUnknown, NoApplication}
-use Rattle.relay_routes.specs.Routing.{names_node, record_of}
+use Rattle.relay_routes.specs.Routing.{is_record_of, names_node, record_of}
 use Rattle.relay_hops.specs.PendingTable.{is_full}
 use Rattle.relay_core.specs.declared.node.RelayNode.{RelayNode}
 use Rattle.relay_core.specs.RelayState.{RelayState}
 use Rattle.relay_core.specs.Forwarding.{recorded, is_too_long}
-use Rattle.relay_core.specs.NextHop.{host_in, realm_in, peer_for, candidates_for, outgoing, conn_for, or_later, first_conn, deliverable, hop_to_host, hop_by_realm, hop_by_host, next_hop}
+use Rattle.relay_core.specs.NextHop.{host_in, realm_in, peer_for, candidates_for, outgoing, names_peer, conn_for, or_later, first_conn, deliverable, hop_to_host, hop_by_realm, hop_by_host, next_hop}
 use Rattle.relay_core.specs.Verdict.{is_for_itself, is_kind_of_client, is_client, candidates, candidates_in, conn_among, is_of_unknown_realm, lacks_application, listed_candidates, with_no_avp, verdict}
 
 -- a connection that was found, where there is room for a request more
@@ -88,13 +90,63 @@ next_hop_by_host node (Some sender) avps app =
     ap (λ (host : Option (List ℕ)). hop_by_host node (going sender avps) (peer_for node host) (realm_in avps) app) (sym (host-going sender avps))
     ∙ ap (λ (realm : Option (List ℕ)). hop_by_host node (going sender avps) (peer_for node (host_in (going sender avps))) realm app) (sym (realm-going sender avps))
 
-pub hop_found : (node : RelayNode) (sender : Option (List ℕ)) (avps : List RawAvp) (app : ℕ) (host : Option LinkedPeer) (realm : Option (List ℕ)) (result : Result ConnId ResultCode)
+hop_found : (node : RelayNode) (sender : Option (List ℕ)) (avps : List RawAvp) (app : ℕ) (host : Option LinkedPeer) (realm : Option (List ℕ)) (result : Result ConnId ResultCode)
     → result ≡ hop_by_host node (outgoing sender avps) host realm app → host ≡ peer_for node (host_in avps) → realm ≡ realm_in avps → result ≡ next_hop node (outgoing sender avps) app
 hop_found node sender avps app host realm result found host_is realm_is =
     found
     ∙ ap (λ (h : Option LinkedPeer). hop_by_host node (outgoing sender avps) h realm app) host_is
     ∙ ap (λ (r : Option (List ℕ)). hop_by_host node (outgoing sender avps) (peer_for node (host_in avps)) r app) realm_is
     ∙ next_hop_by_host node sender avps app
+
+-- ---- candidates go by the nodes that Route-Records name
+
+-- AVPs that name the same nodes
+abbrev pub NamesAlike : List RawAvp → List RawAvp → Type 0
+NamesAlike avps others = (name : List ℕ) → names_node name avps ≡ names_node name others
+
+outgoing-alike : (sender : Option (List ℕ)) (avps others : List RawAvp) → NamesAlike avps others → NamesAlike (outgoing sender avps) (outgoing sender others)
+outgoing-alike None avps others alike name = alike name
+outgoing-alike (Some sender) avps others alike name =
+    list_any-append (is_record_of name) avps (record_of sender ∷ [])
+    ∙ ap (λ (b : Bool). b || names_node name (record_of sender ∷ [])) (alike name)
+    ∙ sym (list_any-append (is_record_of name) others (record_of sender ∷ []))
+
+peer-alike : (avps others : List RawAvp) → NamesAlike avps others → (peer : Option LinkedPeer) → names_peer avps peer ≡ names_peer others peer
+peer-alike avps others alike (Some peer) = let one = alike peer.name in cc
+peer-alike avps others alike None = refl
+
+conn-alike : (node : RelayNode) (avps others : List RawAvp) → NamesAlike avps others → (peer : NodeNo) → conn_for node avps peer ≡ conn_for node others peer
+conn-alike node avps others alike peer =
+    ap (λ (b : Bool). cond b None (conn_in node.peers.links peer)) (peer-alike avps others alike (peer_numbered node.peers.linked peer))
+
+first-alike : (node : RelayNode) (avps others : List RawAvp) → NamesAlike avps others → (peers : List NodeNo) → first_conn node avps peers ≡ first_conn node others peers
+first-alike node avps others alike [] = refl
+first-alike node avps others alike (peer ∷ peers) =
+    let one = conn-alike node avps others alike peer in
+    let more = first-alike node avps others alike peers in cc
+
+to_host-alike : (node : RelayNode) (avps others : List RawAvp) → NamesAlike avps others → (peer : NodeNo) (kind : NodeKind) → hop_to_host node avps peer kind ≡ hop_to_host node others peer kind
+to_host-alike node avps others alike peer Client = let one = conn-alike node avps others alike peer in cc
+to_host-alike node avps others alike peer Relay = let one = conn-alike node avps others alike peer in cc
+to_host-alike node avps others alike peer Front = let one = conn-alike node avps others alike peer in cc
+
+by_realm-alike : (node : RelayNode) (avps others : List RawAvp) → NamesAlike avps others → (found : Result (List NodeNo) RouteFault)
+    → hop_by_realm node avps found ≡ hop_by_realm node others found
+by_realm-alike node avps others alike (Err RealmUnknown) = refl
+by_realm-alike node avps others alike (Err NoApplication) = refl
+by_realm-alike node avps others alike (Ok peers) = ap deliverable (first-alike node avps others alike peers)
+
+by_host-alike : (node : RelayNode) (avps others : List RawAvp) → NamesAlike avps others → (peer : Option LinkedPeer) (realm : Option (List ℕ)) (app : ℕ)
+    → hop_by_host node avps peer realm app ≡ hop_by_host node others peer realm app
+by_host-alike node avps others alike (Some peer) realm app = to_host-alike node avps others alike peer.peer peer.kind
+by_host-alike node avps others alike None realm app = by_realm-alike node avps others alike (candidates_for node realm app)
+
+-- by AVPs that name the same nodes, and what was read of the others
+pub hop_read : (node : RelayNode) (sender : Option (List ℕ)) (part avps : List RawAvp) (app : ℕ) (host : Option LinkedPeer) (realm : Option (List ℕ)) (result : Result ConnId ResultCode)
+    → NamesAlike part avps → result ≡ hop_by_host node (outgoing sender part) host realm app → host ≡ peer_for node (host_in avps) → realm ≡ realm_in avps
+    → result ≡ next_hop node (outgoing sender avps) app
+hop_read node sender part avps app host realm result alike found host_is realm_is =
+    hop_found node sender avps app host realm result (found ∙ by_host-alike node (outgoing sender part) (outgoing sender avps) (outgoing-alike sender part avps alike) host realm app) host_is realm_is
 
 none_of : (a b c d e : Bool) (p q r s t rest : Result ConnId Refusal) → a ≡ false → b ≡ false → c ≡ false → d ≡ false → e ≡ false
     → cond a p (cond b q (cond c r (cond d s (cond e t rest)))) ≡ rest

@@ -7,6 +7,7 @@ pub mod RelayStep
 pub mod Failover
 pub mod FailoverPlan
 pub mod Connecting
+pub mod Reading
 pub mod RelayRun
 pub mod Acts
 pub mod Promise

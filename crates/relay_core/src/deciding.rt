@@ -4,25 +4,23 @@ ghost use Rattle.std.specs.Prelude.{◌≡◌, Ok};
 ghost use Rattle.std.specs.Option.{option_copied};
 ghost use Rattle.relay_peers.specs.PeerTable.{conn_in};
 ghost use Rattle.relay_core.specs.RelayState.{links_but, node_but};
-ghost use Rattle.relay_core.specs.NextHop.{candidates_for, conn_for, deliverable, first_conn, hop_by_host, hop_by_realm, hop_to_host, host_in, next_hop, peer_for};
+ghost use Rattle.relay_core.specs.NextHop.{candidates_for, conn_for, deliverable, first_conn, hop_by_host, hop_by_realm, hop_to_host, next_hop, outgoing, peer_for};
 ghost use Rattle.relay_core.specs.Outgoing.{drawn};
+ghost use Rattle.relay_core.specs.Reading.{IsReadingOf, avps_in_octets};
 ghost use Rattle.relay_core.specs.Verdict.{is_for_itself, verdict, with_no_avp};
 
 use crate::node::RelayNode;
 use crate::outgoing::Outgoing;
-use crate::reading::value_of;
+use crate::reading::{Reading, names_in};
 use crate::recording::is_too_long;
 use cc_view::ResultCode;
-use dia_avp::RawAvp;
-use dia_base::codes::{DESTINATION_HOST, DESTINATION_REALM};
 use dia_base::{ConnId, Identity, NodeKind, NodeNo};
 use dia_message::Message;
 use relay_hops::Pending;
 use relay_peers::{LinkedPeer, Peers};
 use relay_routes::RouteFault;
-use relay_routes::loop_check::names_me;
 
-/// What becomes of a request of this sender with these AVPs: the connection that it is forwarded on, or
+/// What becomes of a request of this sender in which this was read: the connection that it is forwarded on, or
 /// the code that it is refused with. The rules stand in the order in which they decide. It takes no
 /// memory.
 pub(crate) fn verdict(
@@ -30,32 +28,27 @@ pub(crate) fn verdict(
     pending: &Pending,
     sender: &Identity,
     request: &Message,
-    avps: &[RawAvp],
+    reading: Reading,
 ) -> Result<ConnId, ResultCode>
-    ensures { with_no_avp result ≡ verdict (record { node = node.now; pending = pending.now }) sender.now request.now (Ok avps.now) }
+    requires { IsReadingOf request.now.body reading }
+    ensures { with_no_avp result ≡ verdict (record { node = node.now; pending = pending.now }) sender.now request.now (Ok (avps_in_octets request.now.body)) }
 {
-    let host = value_of(avps, DESTINATION_HOST);
-    let realm = value_of(avps, DESTINATION_REALM);
-    if names_me(&node.name, avps) {
+    if names_in(reading.records, &node.name) {
         return Err(ResultCode::LoopDetected);
     }
     if !request.header.proxiable {
         return Err(ResultCode::CommandUnsupported);
     }
-    if host.is_some() && realm.is_none() {
+    if reading.host.is_some() && reading.realm.is_none() {
         return Err(ResultCode::UnableToDeliver);
     }
-    if is_for_itself(&node.name, host, realm) {
+    if is_for_itself(&node.name, reading.host, reading.realm) {
         return Err(ResultCode::ApplicationUnsupported);
     }
     if is_too_long(sender, &request.body) {
         return Err(ResultCode::UnableToDeliver);
     }
-    let going = Outgoing {
-        avps,
-        sender: Some(sender),
-    };
-    let conn = next_hop(node, None, going, request.header.application)?;
+    let conn = next_hop(node, None, request, reading, Some(sender))?;
     if pending.is_full() {
         return Err(ResultCode::TooBusy);
     }
@@ -72,26 +65,38 @@ fn is_for_itself(name: &Identity, host: Option<&[u8]>, realm: Option<&[u8]>) -> 
     }
 }
 
-/// The connection that a request goes out on, by the peers that are up, but for one on a connection that
-/// ends. A peer that one of its Route-Records names is passed over. It takes no memory.
+/// The connection that a request in which this was read goes out on, by the peers that are up, but for one on a
+/// connection that ends. A peer that one of its Route-Records names is passed over. It takes no memory.
 pub(crate) fn next_hop(
     node: &RelayNode,
     ended: Option<ConnId>,
-    going: Outgoing,
-    app: u32,
+    request: &Message,
+    reading: Reading,
+    sender: Option<&Identity>,
 ) -> Result<ConnId, ResultCode>
-    ensures { result ≡ next_hop (node_but ended node.now) (drawn going.entry) app }
+    requires { IsReadingOf request.now.body reading }
+    ensures { result ≡ next_hop (node_but ended node.now) (outgoing (option_copied sender.entry) (avps_in_octets request.now.body)) request.now.header.application }
 {
-    let host = host_of(node, going.avps);
-    let realm = value_of(going.avps, DESTINATION_REALM);
-    hop_by_host(node, ended, going, host, realm, app)
+    let going = Outgoing {
+        records: reading.records,
+        sender,
+    };
+    let host = host_of(node, reading.host);
+    hop_by_host(
+        node,
+        ended,
+        going,
+        host,
+        reading.realm,
+        request.header.application,
+    )
 }
 
 /// The linked peer that a request names as its host.
-fn host_of<'a>(node: &'a RelayNode, avps: &[RawAvp]) -> Option<&'a LinkedPeer>
-    ensures { option_copied result ≡ peer_for node.now (host_in avps.now) }
+fn host_of<'a>(node: &'a RelayNode, host: Option<&[u8]>) -> Option<&'a LinkedPeer>
+    ensures { option_copied result ≡ peer_for node.now (option_copied host.entry) }
 {
-    match value_of(avps, DESTINATION_HOST) {
+    match host {
         Some(host) => node.peers.named(host),
         None => None,
     }

@@ -11,8 +11,8 @@ ghost use Rattle.relay_core.specs.FailoverPlan.{IsFailoverPlan, choice_of};
 
 use crate::deciding::next_hop;
 use crate::node::RelayNode;
-use crate::outgoing::Outgoing;
-use cc_view::{Refusal, ResultCode, ViewError, avps_of, refusal_bytes};
+use crate::reading::read_again;
+use cc_view::{Refusal, ResultCode, refusal_bytes};
 use dia_avp::Wire;
 use dia_base::{ConnId, Listing};
 use dia_message::{Message, Out};
@@ -71,7 +71,7 @@ fn choice_of<W: Wire>(
     let Some(origin) = origin_elsewhere(held.origin, lost) else {
         return Ok(FailoverChoice::Forget);
     };
-    match next_hop_again::<W>(alloc, node, &held.request, lost)? {
+    match next_hop_again(node, &held.request, lost) {
         Ok(to) => {
             let mut request = held.request.clone()?;
             request.header.resent = true;
@@ -111,25 +111,12 @@ fn origin_elsewhere(origin: Option<Origin>, ended: ConnId) -> Option<Origin>
     }
 }
 
-/// Where a request that was sent goes once the connection has ended.
-fn next_hop_again<W: Wire>(
-    alloc: Global,
-    node: &RelayNode,
-    request: &Message,
-    lost: ConnId,
-) -> Result<Result<ConnId, ResultCode>, AllocError>
-    ensures { IfOk result (λ hop. hop ≡ next_hop_again (after_end lost node.now) request.now) }
+/// Where a request that was sent goes once the connection has ended. It takes no memory.
+fn next_hop_again(node: &RelayNode, request: &Message, lost: ConnId) -> Result<ConnId, ResultCode>
+    ensures { result ≡ next_hop_again (after_end lost node.now) request.now }
 {
-    let avps = match avps_of::<W>(alloc, &request.body) {
-        Ok(avps) => avps,
-        Err(ViewError::Refused(_refusal)) => Vec::new(alloc),
-        Err(ViewError::OutOfMemory) => return Err(AllocError),
-    };
-    let going = Outgoing {
-        avps: &avps,
-        sender: None,
-    };
-    Ok(next_hop(node, Some(lost), going, request.header.application))
+    let reading = read_again(request.body.as_slice());
+    next_hop(node, Some(lost), request, reading, None)
 }
 
 /// The plan is carried out, one request after the other; nothing is pending on the lost connection then. It takes no

@@ -1,12 +1,16 @@
 //! A request comes: it is refused or forwarded (RFC 6733, section 6.1).
 
-ghost use Rattle.std.specs.Prelude.{◌≡◌, IfOk, OnErr, IsOkUnless, Ok};
+ghost use Rattle.std.specs.Prelude.{◌≡◌, IfOk, IsErr, OnErr, IsOkUnless, Ok, Err};
+ghost use Rattle.dia_avp.specs.AvpReading.{split_of};
+ghost use Rattle.cc_view.specs.Refusal.{avps_of};
+ghost use Rattle.cc_view.specs.declared.refusal.Refusal.{Refusal as BodyRefusal};
 ghost use Rattle.relay_core.specs.RelayStep.{OnRequest, refusal_to};
 ghost use Rattle.relay_core.specs.Verdict.{decision};
 
 use crate::deciding::verdict;
 use crate::error::RelayError;
 use crate::node::RelayNode;
+use crate::reading::read_body;
 use crate::recording::recorded;
 use cc_view::{Refusal, ViewError, avps_of, refusal_bytes};
 use dia_avp::Wire;
@@ -29,14 +33,10 @@ pub(crate) fn on_request<W: Wire>(
     ensures err { OnErr result (pending.new ≡ pending.old) }
     ensures memory { IsOkUnless result RelayError.OutOfMemory }
 {
-    let avps = match avps_of::<W>(alloc, &request.body) {
-        Ok(avps) => avps,
-        Err(ViewError::Refused(refusal)) => {
-            return refuse::<W>(alloc, node, conn, &request, &refusal);
-        }
-        Err(ViewError::OutOfMemory) => return Err(RelayError::OutOfMemory),
+    let Ok(reading) = read_body(request.body.as_slice()) else {
+        return refuse_broken::<W>(alloc, node, conn, &request);
     };
-    match verdict(node, pending, sender, &request, &avps) {
+    match verdict(node, pending, sender, &request, reading) {
         Ok(to) => forward(alloc, node, pending, conn, sender, request, to),
         Err(code) => refuse::<W>(alloc, node, conn, &request, &Refusal { code, failed: None }),
     }
@@ -90,4 +90,22 @@ fn refuse<W: Wire>(
 {
     let answer = refusal_bytes::<W>(alloc, &node.name, &node.realm, request, refusal)?;
     Ok(Out::of_one(alloc, conn, answer)?)
+}
+
+/// The same to a request whose body is no list of AVPs. The body is read once more, for the AVP at fault.
+fn refuse_broken<W: Wire>(
+    alloc: Global,
+    node: &RelayNode,
+    conn: ConnId,
+    request: &Message,
+) -> Result<Out, RelayError>
+    requires { IsErr (split_of request.now.body) }
+    ensures ok { IfOk result (λ out. (refusal : BodyRefusal) × (avps_of request.now.body ≡ Err refusal) × (out.items ≡ refusal_to node.now conn request.now refusal)) }
+    ensures memory { IsOkUnless result RelayError.OutOfMemory }
+{
+    match avps_of::<W>(alloc, &request.body) {
+        Err(ViewError::Refused(refusal)) => refuse::<W>(alloc, node, conn, request, &refusal),
+        Err(ViewError::OutOfMemory) => Err(RelayError::OutOfMemory),
+        Ok(_) => unreachable!(),
+    }
 }

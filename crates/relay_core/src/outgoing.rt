@@ -1,4 +1,4 @@
-//! A request as it goes out, and the peers that it has already passed (RFC 6733, sections 6.1.3 and 6.1.9).
+//! The peers that a request has already passed as it goes out (RFC 6733, sections 6.1.3 and 6.1.9).
 
 ghost use Rattle.std.specs.Prelude.{◌≡◌};
 ghost use Rattle.relay_peers.specs.PeerTable.{peer_numbered};
@@ -7,16 +7,15 @@ ghost use Rattle.relay_routes.specs.Routing.{names_node};
 ghost use Rattle.std.specs.Option.{option_copied};
 ghost use Rattle.relay_core.specs.Outgoing.{drawn, is_from};
 
-use dia_avp::RawAvp;
+use crate::reading::names_in;
 use dia_base::{Identity, NodeNo};
 use relay_peers::{LinkedPeer, Peers};
-use relay_routes::loop_check::names_me;
 
-/// The AVPs of a request, and the peer that it has just come from, whose Route-Record goes out behind them.
-/// Of a request that goes out again there is none: its Route-Record is among the AVPs.
+/// The body of a request from its first Route-Record on, and the peer that it has just come from, whose
+/// Route-Record goes out behind it. Of a request that goes out again there is none: its Route-Record is in the body.
 #[derive(Clone, Copy)]
 pub struct Outgoing<'a> {
-    pub avps: &'a [RawAvp],
+    pub records: Option<&'a [u8]>,
     pub sender: Option<&'a Identity>,
 }
 
@@ -35,7 +34,7 @@ impl Outgoing<'_> {
     fn names(self, peer: &LinkedPeer) -> bool
         ensures { result ≡ names_node peer.now.name (drawn self.entry) }
     {
-        is_sender(self.sender, &peer.name) || names_me(&peer.name, self.avps)
+        is_sender(self.sender, &peer.name) || names_in(self.records, &peer.name)
     }
 }
 

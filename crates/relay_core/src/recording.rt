@@ -4,10 +4,10 @@ ghost use Rattle.std.specs.Prelude.{◌≡◌, IfOk};
 ghost use Rattle.relay_core.specs.Forwarding.{recorded, is_too_long};
 
 use dia_avp::layout::padding_of;
-use dia_avp::{AvpFault, Octets, with_avp};
+use dia_avp::{AvpFault, Octets, with_lent};
 use dia_base::{IDENTITY_LIMIT, Identity, MESSAGE_LIMIT};
 use dia_message::HEADER_LEN;
-use relay_routes::loop_check::route_record;
+use relay_routes::loop_check::lent_record;
 use std::alloc::{AllocError, Global};
 
 /// The octets before the value of an AVP without a vendor.
@@ -17,9 +17,8 @@ const AVP_HEADER_LEN: usize = 8;
 pub(crate) fn recorded(alloc: Global, peer: &Identity, body: &Octets) -> Result<Octets, AllocError>
     ensures { IfOk result (λ octets. octets ≡ recorded peer.now body.now) }
 {
-    let record = route_record(alloc, peer)?;
     prove!(peer.as_slice().len() <= IDENTITY_LIMIT);
-    match with_avp(alloc, body, &record) {
+    match with_lent(alloc, body, lent_record(peer)) {
         Ok(octets) => Ok(octets),
         Err(AvpFault::OutOfMemory) => Err(AllocError),
         Err(_) => unreachable!(),

@@ -1,23 +1,28 @@
-use Rattle.std.proofs.Common.{rules, ◌≡◌, ◌∙◌, ap, List, Result, Ok, Err}
+use Rattle.std.proofs.Common.{rules, ◌≡◌, ◌∙◌, ℕ, ap, subst, List, Result, Ok, Err}
 use Rattle.dia_avp.specs.declared.avp.RawAvp.{RawAvp}
+use Rattle.dia_avp.specs.declared.fault.AvpFault.{AvpFault}
+use Rattle.dia_avp.specs.AvpReading.{split_of}
 use Rattle.cc_view.specs.declared.refusal.Refusal.{Refusal}
-use Rattle.cc_view.specs.Refusal.{avps_of, refusal_with}
+use Rattle.cc_view.specs.Refusal.{avps_by, avps_of, refusal_with}
+use Rattle.relay_core.specs.Reading.{avps_in_octets}
 use Rattle.relay_core.specs.Verdict.{verdict, decision}
 use Rattle.relay_core.proofs.Cases.{if_ok, request_refused, state}
 use Rattle.relay_core.proofs.forwarding.on_request.Goals as goal
 
-pub returns-in-Err-Refused-clause-ok : goal.returns-in-Err-Refused-clause-ok
-returns-in-Err-Refused-clause-ok g c =
-    let listed : avps_of c.args.request.body ≡ Err c.in-Err-Refused.refusal = search rules in
-    let refusal : decision (state c.args.node.now c.args.pending.now) c.args.sender.now c.args.request ≡ Err c.in-Err-Refused.refusal =
-    ap (λ (r : Result (List RawAvp) Refusal). verdict (state c.args.node.now c.args.pending.now) c.args.sender.now c.args.request r) listed in
-    if_ok c.refuse.result _ _ (λ out is. request_refused c.args.node.now c.args.pending.now c.args.conn c.args.sender.now c.args.request c.in-Err-Refused.refusal out.items refusal is) c.refuse.ensures.ok
+pub returns-in_default-clause-ok : goal.returns-in_default-clause-ok
+returns-in_default-clause-ok g c =
+    if_ok c.refuse_broken.result _ _
+    (λ out is. request_refused c.args.node.now c.args.pending.now c.args.conn c.args.sender.now c.args.request is.0 out.items
+    (ap (λ (r : Result (List RawAvp) Refusal). verdict (state c.args.node.now c.args.pending.now) c.args.sender.now c.args.request r) is.1) is.2)
+    c.refuse_broken.ensures.ok
 
 pub returns-in-Err-clause-ok : goal.returns-in-Err-clause-ok
 returns-in-Err-clause-ok g c =
-    let listed : avps_of c.args.request.body ≡ Ok c.in-Ok.avps.items = search rules in
-    let code : verdict (state c.args.node.now c.args.pending.now) c.args.sender.now c.args.request (Ok c.in-Ok.avps.items) ≡ Err (refusal_with c.in-Err.code) = search rules in
+    let body = c.args.request.body in
+    let split : split_of body ≡ Ok (avps_in_octets body) = subst (λ (octets : List ℕ). split_of octets ≡ Ok (avps_in_octets octets)) c.as_slice.ensures c.in-Ok.ensures.0 in
+    let listed : avps_of body ≡ Ok (avps_in_octets body) = ap (λ (r : Result (List RawAvp) AvpFault). avps_by body r) split in
+    let code : verdict (state c.args.node.now c.args.pending.now) c.args.sender.now c.args.request (Ok (avps_in_octets body)) ≡ Err (refusal_with c.in-Err.code) = search rules in
     let refusal : decision (state c.args.node.now c.args.pending.now) c.args.sender.now c.args.request ≡ Err (refusal_with c.in-Err.code) =
     ap (λ (r : Result (List RawAvp) Refusal). verdict (state c.args.node.now c.args.pending.now) c.args.sender.now c.args.request r) listed ∙ code in
-    if_ok c.refuse-in-Err.result _ _ (λ out is. request_refused c.args.node.now c.args.pending.now c.args.conn c.args.sender.now c.args.request (refusal_with c.in-Err.code) out.items refusal is)
-    c.refuse-in-Err.ensures.ok
+    if_ok c.refuse.result _ _ (λ out is. request_refused c.args.node.now c.args.pending.now c.args.conn c.args.sender.now c.args.request (refusal_with c.in-Err.code) out.items refusal is)
+    c.refuse.ensures.ok
