@@ -15,6 +15,7 @@ mod NamedAvps
 mod Sessions
 mod Readable
 mod Reading
+mod Proxies
 mod RefusalsByCode
 mod Shortness
 mod Spelling

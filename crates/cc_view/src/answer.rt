@@ -7,10 +7,11 @@ ghost use Rattle.cc_view.specs.Answer.Writing.{spelling_of};
 pub(crate) mod carried;
 pub(crate) mod draft;
 pub(crate) mod failed_avp;
+pub(crate) mod proxies;
 pub(crate) mod units;
 
-use crate::answer::carried::{carriable_avps, push_proxies};
 use crate::answer::draft::Draft;
+use crate::answer::proxies::push_proxies_of;
 use crate::answer::units::push_units;
 use crate::code::ResultCode;
 use crate::reply::CcReply;
@@ -41,11 +42,10 @@ pub fn answer_bytes<W: Wire>(
 ) -> Result<Message, AllocError>
     ensures { IfOk result (λ answer. answer ≡ answer_to front.now realm.now message.now request.now reply.now) }
 {
-    let carried = carriable_avps::<W>(alloc, &message.body)?;
     let mut draft = Draft::new(alloc)?;
     push_command(&mut draft, front, realm, request, reply.code)?;
     push_units(&mut draft, reply)?;
-    push_proxies(&mut draft, &carried)?;
+    push_proxies_of::<W>(alloc, &mut draft, &message.body)?;
     Ok(Message {
         header: answer_header(&message.header, false),
         body: draft.finish()?,
