@@ -11,7 +11,7 @@
 //!   a request that a relay forwarded has the view, the answer and the refusal of its request.
 //!
 //! The definitions, in `specs/`: `RequestView` says the view, and below it `Checking` the values and groups
-//! that are looked at, `Counting` what a profile tolerates, `Content` what a request asks and `Readable` what a request is that is not refused;
+//! that are looked at, `Counting` what a profile tolerates, `Content` what a request asks, `Reading` what its groups say one after the other, and `Readable` what a request is that is not refused;
 //! `Refusal` and `RefusalByCode` the refusals with the AVP at fault; `Answer` what is answered, and below it
 //! `Carried` what of the request comes back and `Typed` what a receiver reads; `Forwarding` what a relay changes; `FirstDebit` is computed.
 //!
