@@ -1,8 +1,6 @@
 -- A walk over octets that looks for a Proxy-Info.
-use Rattle.std.proofs.Common.{◌≡◌, ◌≢◌, ℕ, ◌+◌, ◌-◌, ◌≤◌, List, [], ◌∷◌, length, take, drop, min, Bool, true, false, cond, eqb, ◌&&◌, Result, Ok, Err, refl, sym, ap, subst, ◌∙◌, arith}
+use Rattle.std.proofs.Common.{◌≡◌, ◌≢◌, ℕ, ◌+◌, ◌≤◌, List, [], ◌∷◌, length, drop, Bool, true, false, cond, eqb, ◌&&◌, Result, Ok, Err, refl, sym, ap, subst, ◌∙◌, arith}
 use Rattle.std.proofs.lemmas.Bool.{ne_eqb}
-use Rattle.std.proofs.lemmas.List.{drop_min}
-use Rattle.std.proofs.lemmas.Slice.{between_to_end}
 use Rattle.dia_avp.specs.declared.avp.RawAvp.{RawAvp}
 use Rattle.dia_avp.specs.declared.fault.AvpFault.{AvpFault}
 use Rattle.dia_avp.specs.AvpList.{Begins, IsSpelling, Reads, code_in, length_in, padding_of}
@@ -58,11 +56,3 @@ none_in octets keeps (Err fault) h = refl
 -- nothing is left
 pub lacks : (octets left : List ℕ) → KeepsProxies octets left → left ≡ [] → proxies_in (carriable_avps (split_of octets)) ≡ []
 lacks octets left keeps nothing = none_in octets (subst (λ (x : List ℕ). KeepsProxies octets x) nothing keeps) (split_of octets) (split_of-reads octets)
-
--- the rest of a slice from the least of two places
-pub rest_from : (xs : List ℕ) (n place : ℕ) → place ≡ min n (length xs) → take (length xs - place) (drop place xs) ≡ drop n xs
-rest_from xs n place is = between_to_end xs place (length xs) (omega arith) ∙ ap (λ (x : ℕ). drop x xs) is ∙ drop_min n xs
-
-pub nothing_long : (xs : List ℕ) → length xs ≡ 0 → xs ≡ []
-nothing_long [] e = refl
-nothing_long (x ∷ xs) e = absurd cc

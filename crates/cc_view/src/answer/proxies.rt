@@ -7,14 +7,9 @@ ghost use Rattle.cc_view.specs.Answer.Writing.{spelling_of};
 
 use crate::answer::carried::{carriable_avps, push_proxies};
 use crate::answer::draft::Draft;
-use byteorder::{BigEndian, ByteOrder};
-use dia_avp::layout::padding_of;
-use dia_avp::{Octets, Wire};
+use dia_avp::{Octets, Wire, front_of};
 use dia_base::codes::PROXY_INFO;
 use std::alloc::{AllocError, Global};
-
-/// The octets of a header without a vendor. No AVP is shorter.
-const HEADER: usize = 8;
 
 /// Adds each Proxy-Info of a body that may be carried back. The body is split only where there may be one.
 pub(crate) fn push_proxies_of<W: Wire>(
@@ -31,22 +26,17 @@ pub(crate) fn push_proxies_of<W: Wire>(
     push_proxies(draft, &carried)
 }
 
-/// Whether the codes of the AVPs alone show that there is no Proxy-Info to carry back. Octets that are no list
-/// of AVPs need not show it.
+/// Whether a walk over the AVPs that octets spell finds no Proxy-Info. Octets that are no list of AVPs need not
+/// show it. It takes no memory.
 fn lacks_proxies(octets: &[u8]) -> bool
     ensures { IsTrue result → proxies_in (carriable_avps (split_of octets.now)) ≡ [] }
 {
     let mut rest = octets;
-    while !rest.is_empty() {
-        if rest.len() < HEADER || BigEndian::read_u32(rest) == PROXY_INFO {
+    while let Ok((avp, behind)) = front_of(octets.len() - rest.len(), rest) {
+        if avp.code == PROXY_INFO {
             return false;
         }
-        let len = BigEndian::read_u24(&rest[5..]) as usize;
-        if len < HEADER {
-            return false;
-        }
-        let end = (len + padding_of(len)).min(rest.len());
-        rest = &rest[end..];
+        rest = behind;
     }
-    true
+    rest.is_empty()
 }
