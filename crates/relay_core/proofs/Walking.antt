@@ -1,7 +1,7 @@
 -- What a relay has read of a body after some of its AVPs, and after all of them.
 use Rattle.std.proofs.Common.{◌≡◌, ◌≢◌, ◌∙◌, ℕ, ◌-◌, ◌==◌, ◌&&◌, ◌||◌, Bool, true, false, cond, List, [], ◌∷◌, ◌++◌, Option, Some, None, option_map, length, Result, Ok, Err, IsOk, refl, ap, sym, subst}
 use Rattle.std.specs.Prelude.{MatchOption, MatchResult}
-use Rattle.std.specs.List.{find, list_any}
+use Rattle.std.specs.List.{find}
 use Rattle.std.specs.Option.{option_copied}
 use Rattle.std.proofs.lemmas.List.Folds.{list_any-append}
 use Rattle.dia_base.specs.Codes.{destination_host, destination_realm, route_record}

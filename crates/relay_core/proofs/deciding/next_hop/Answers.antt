@@ -1,6 +1,6 @@
-use Rattle.std.proofs.Common.{rules, ◌≡◌, ◌∙◌, ap, Option, List, ℕ}
+use Rattle.std.proofs.Common.{◌∙◌, ap, Option, List, ℕ}
 use Rattle.std.specs.Option.{option_copied}
-use Rattle.relay_core.specs.NextHop.{host_in, peer_for}
+use Rattle.relay_core.specs.NextHop.{peer_for}
 use Rattle.relay_core.specs.Reading.{avps_in_octets, avps_in_part}
 use Rattle.relay_core.specs.RelayState.{node_but}
 use Rattle.relay_core.proofs.Rules.{hop_read}
