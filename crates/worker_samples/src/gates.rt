@@ -93,6 +93,22 @@ impl Gate for Door {
     fn answered<R: Wait + Clock>(&self, _rt: &R, _job: u64) {}
 }
 
+/// How many milliseconds a slow job takes.
+const SLOW: u64 = 500;
+
+/// Has each job take a while before the book.
+#[derive(Drop)]
+pub struct Slowly(pub Arc<Signs>);
+
+impl Gate for Slowly {
+    fn before_book<R: Wait + Clock>(&self, rt: &R, _job: u64) {
+        self.0.before.fetch_add(1, Ordering::SeqCst);
+        thread::sleep(rt, Duration::from_millis(SLOW));
+    }
+
+    fn answered<R: Wait + Clock>(&self, _rt: &R, _job: u64) {}
+}
+
 /// Counts how often it wakes.
 #[derive(Drop)]
 pub struct Bell(pub Arc<Signs>);

@@ -37,6 +37,18 @@ fn print_answer<R: Print>(rt: &R, alloc: Global, job: &Finished) -> anyhow::Resu
     Ok(())
 }
 
+/// Tells of a job that the book was not asked for: whether its answer has the flag E, and its AVPs.
+pub fn print_refused<R: Print>(rt: &R, alloc: Global, finished: &[Finished]) -> anyhow::Result<()> {
+    let job = finished.first().context("no job")?;
+    let error = job.answer.as_ref().context("no answer")?.header.error;
+    let receipt = job.receipt.is_some();
+    println!(rt;
+        "job {} conn {} receipt {receipt} error {error}",
+        job.job, job.conn.0
+    )?;
+    print_answer(rt, alloc, job)
+}
+
 /// Tells how often each of the first five jobs is among these.
 pub fn print_times<R: Print>(
     rt: &R,

@@ -3,7 +3,8 @@
 //!
 //! - `messages`: requests, the front that answers them, and a book for them.
 //! - `gates`: what holds a job on its way. `runs`: a pool from its start to its end. `lines`: how finished jobs are told.
-//! - `samples`: two workers, one that wakes, no room, and a stop with jobs that wait.
+//! - `samples`: two workers, one that wakes, no room, and a stop with jobs that wait; what a repeat, a request that is
+//!   refused, and a session are answered; and a stop while one of two workers holds a job.
 //!
 //! What it must print, `stdout`, was worked out by hand. It is the same however the threads run.
 #![tactic(auto)]
@@ -20,5 +21,7 @@ fn main(rt: HostRuntime) -> anyhow::Result<()> {
     samples::print_together(&rt, alloc)?;
     samples::print_woken(&rt, alloc)?;
     samples::print_crowded(&rt, alloc)?;
-    samples::print_stopped(&rt, alloc)
+    samples::print_stopped(&rt, alloc)?;
+    samples::print_answers(&rt, alloc)?;
+    samples::print_held(&rt, alloc)
 }

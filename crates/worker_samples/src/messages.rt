@@ -14,19 +14,58 @@ use front_pool::PoolQueue;
 use std::alloc::Global;
 use std::rt::Clock;
 
-/// A debit of 3200 octets for group 10 (RFC 8506, section 3.1), up to its CC-Request-Number.
-const BEFORE: &str =
-    "010000f8c0000110000000040000000700000064000001074000000e63313b313b310000000001084000001263312e6578616d706c650000000001284000000f6578616d706c65000000011b400000136f63732e6578616d706c6500000001024000000c00000004000001cd40000016333232353140336770702e6f72670000000001a04000000c000000040000019f4000000c";
+/// What a Credit-Control-Request has behind its length, up to its CC-Request-Type (RFC 8506, section 3.1).
+const COMMAND: &str =
+    "c0000110000000040000000700000064000001074000000e63313b313b310000000001084000001263312e6578616d706c650000000001284000000f6578616d706c65000000011b400000136f63732e6578616d706c6500000001024000000c00000004000001cd40000016333232353140336770702e6f72670000";
 
-/// What stands behind the number.
-const BEHIND: &str =
+/// Subscription-Id: the account.
+const ACCOUNT: &str =
+    "000001bb40000028000001c24000000c00000000000001bc40000014343931373030303030303031";
+
+/// Requested-Action, DIRECT_DEBITING, and what stands behind it: the account, and 3200 octets that are asked for in group 10.
+const DEBITING: &str =
     "000001b44000000c00000000000001bb40000028000001c24000000c00000000000001bc40000014343931373030303030303031000001c84000002c000001b540000018000001a5400000100000000000000c80000001b04000000c0000000a";
 
-/// The debit, under this CC-Request-Number.
-pub fn debit(alloc: Global, number: u32) -> anyhow::Result<Message> {
-    let text = format!(in alloc; "{BEFORE}{number:08x}{BEHIND}")?;
-    let octets = hex::decode(alloc, text.as_str())?;
+/// Octets of group 10 that are asked for, as many as are granted.
+const ASKED: &str = "000001c84000001c000001b540000008000001b04000000c0000000a";
+
+/// 3200 octets of group 10 that were used.
+const USED: &str =
+    "000001c84000002c000001be40000018000001a5400000100000000000000c80000001b04000000c0000000a";
+
+fn message(alloc: Global, text: &str) -> anyhow::Result<Message> {
+    let octets = hex::decode(alloc, text)?;
     whole_message(alloc, &octets)?.context("no message")
+}
+
+/// A debit of 3200 octets for group 10, under this CC-Request-Number.
+pub fn debit(alloc: Global, number: u32) -> anyhow::Result<Message> {
+    let text = format!(in alloc;
+        "010000f8{COMMAND}000001a04000000c000000040000019f4000000c{number:08x}{DEBITING}"
+    )?;
+    message(alloc, text.as_str())
+}
+
+/// The debit without its CC-Request-Number.
+pub fn debit_without_number(alloc: Global) -> anyhow::Result<Message> {
+    let text = format!(in alloc; "010000ec{COMMAND}000001a04000000c00000004{DEBITING}")?;
+    message(alloc, text.as_str())
+}
+
+/// The first request of a session.
+pub fn initial(alloc: Global) -> anyhow::Result<Message> {
+    let text = format!(in alloc;
+        "010000dc{COMMAND}000001a04000000c000000010000019f4000000c00000000{ACCOUNT}{ASKED}"
+    )?;
+    message(alloc, text.as_str())
+}
+
+/// The last request of the session, which has used 3200 octets.
+pub fn termination(alloc: Global) -> anyhow::Result<Message> {
+    let text = format!(in alloc;
+        "010000ec{COMMAND}000001a04000000c000000030000019f4000000c00000001{ACCOUNT}{USED}"
+    )?;
+    message(alloc, text.as_str())
 }
 
 /// The front f1, at which so many jobs may wait.

@@ -8,8 +8,9 @@ use anyhow::{Context, bail};
 use cc_book::Book;
 use cc_shared::{Receipt, Seat, SharedBook};
 use dia_avp::ViewWire;
-use dia_base::ConnId;
+use dia_base::{ConnId, Moment};
 use dia_message::Message;
+use farm_clock::Timer;
 use front_pool::{Finished, Gate, Job, Pool, PoolQueue, Pooling, Stopped, SubmitError};
 use std::alloc::{AllocError, Global};
 use std::rt::Clock;
@@ -25,12 +26,17 @@ const LOOKS: u32 = 100_000;
 
 const PAUSE: u64 = 100;
 
+/// After how many milliseconds without a job a worker sleeps.
+const IDLE: u64 = 20;
+
 /// A pool, a handle on its book, what its gate has seen, and the jobs that were collected.
 #[derive(Drop)]
 pub struct Running<L: Pooling> {
     pub pool: Pool<L>,
     pub shared: SharedBook<L>,
     pub signs: Arc<Signs>,
+    /// By which its requests are charged.
+    pub timer: Timer,
     pub finished: Vec<Finished>,
 }
 
@@ -69,11 +75,13 @@ where
         return Err(AllocError.into());
     };
     let handle = shared.another()?;
+    let timer = queue.timer;
     match Pool::<L>::start::<ViewWire, R, G>(rt, alloc, handle, seats, gate, queue) {
         Ok(pool) => Ok(Running {
             pool,
             shared,
             signs,
+            timer,
             finished: Vec::new(alloc),
         }),
         Err(_failed) => Err(AllocError.into()),
@@ -83,11 +91,23 @@ where
 impl<L: Pooling> Running<L> {
     /// Hands over the debit of this number.
     pub fn submit<R: Wait>(&mut self, rt: &R, alloc: Global, number: u32) -> anyhow::Result<()> {
-        let request = debit(alloc, number)?;
+        self.hand_over(rt, debit(alloc, number)?)
+    }
+
+    /// Hands over a request.
+    fn hand_over<R: Wait>(&mut self, rt: &R, request: Message) -> anyhow::Result<()> {
         match self.pool.submit(rt, ConnId(7), request) {
             Ok(_number) => Ok(()),
             Err(_refused) => bail!("refused"),
         }
+    }
+
+    /// Hands over a request when all workers have been idle for a while, and takes what is finished out.
+    pub fn ask<R: Wait + Clock>(&mut self, rt: &R, request: Message) -> anyhow::Result<()> {
+        thread::sleep(rt, Duration::from_millis(IDLE));
+        self.hand_over(rt, request)?;
+        let count = self.finished.len().saturating_add(1);
+        self.collect(rt, count)
     }
 
     /// Hands over a debit for which there is no room: it comes back.
@@ -127,12 +147,24 @@ impl<L: Pooling> Running<L> {
         Ok(())
     }
 
+    /// Tells whether each request was charged from this moment on, and not after now.
+    pub fn print_moments<R: Clock + Print>(&self, rt: &R, began: Moment) -> anyhow::Result<()> {
+        let now = self.timer.now(rt)?;
+        let in_time = self.finished.iter().all(|job| match job.moment {
+            Some(moment) => began.0 <= moment.0 && moment.0 <= now.0,
+            None => false,
+        });
+        println!(rt; "charged in time {in_time}")?;
+        Ok(())
+    }
+
     /// Stops the pool.
     pub fn stop<R: Threads + Wait + Clock>(self, rt: &R) -> anyhow::Result<Ended<L>> {
         let Running {
             pool,
             shared,
             signs: _,
+            timer: _,
             finished,
         } = self;
         let Stopped {
@@ -205,6 +237,13 @@ impl<L: Pooling> Ended<L> {
             .finish(rt, alloc, seats, &receipts)
             .ok()
             .context("not finished")
+    }
+
+    /// Tells how many jobs are finished, and how many are not.
+    pub fn print_counts<R: Print>(&self, rt: &R) -> anyhow::Result<()> {
+        let (finished, unserved) = (self.finished.len(), self.unserved.len());
+        println!(rt; "finished {finished} unserved {unserved}")?;
+        Ok(())
     }
 
     /// Tells what stands in the book.

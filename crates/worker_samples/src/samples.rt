@@ -2,9 +2,9 @@
 
 ghost use Rattle.std.specs.Prelude.{◌≡◌, ◌<◌};
 
-use crate::gates::{Bell, Door, FirstLast, Signs, Together};
-use crate::lines::{print_jobs, print_times};
-use crate::messages::{book, front};
+use crate::gates::{Bell, Door, FirstLast, Signs, Slowly, Together};
+use crate::lines::{print_jobs, print_refused, print_times};
+use crate::messages::{book, debit, debit_without_number, front, initial, termination};
 use crate::runs::{Running, start};
 use cc_book::Book;
 use front_pool::{Gate, NoGate, PoolQueue, Pooling, Wakes};
@@ -23,6 +23,10 @@ pub enum Sample {
     Woken,
     Crowded,
     Stopped,
+    Repeated,
+    Refused,
+    Session,
+    Held,
 }
 
 /// Two jobs, of which each comes to an end.
@@ -41,7 +45,7 @@ fn jobs<L: Pooling, R: Threads + Wait + Clock + Print>(
     running.stop(rt)?.print_book(rt, alloc)
 }
 
-/// One worker that wakes after each answer.
+/// One worker that wakes after each answer, which waits until it is collected.
 fn woken<L: Pooling, R: Threads + Wait + Clock + Print>(
     rt: &R,
     alloc: Global,
@@ -51,7 +55,9 @@ fn woken<L: Pooling, R: Threads + Wait + Clock + Print>(
     let signs = Arc::try_clone(&running.signs)?;
     running.submit(rt, alloc, 0)?;
     running.submit(rt, alloc, 1)?;
+    running.signs.hold(rt, &running.signs.wakes, 2);
     running.collect(rt, 2)?;
+    running.print_late(rt)?;
     let ended = running.stop(rt)?;
     let wakes = signs.wakes.load(Ordering::SeqCst);
     println!(rt; "wakes {wakes} of {}", ended.finished.len())?;
@@ -73,11 +79,7 @@ fn crowded<L: Pooling, R: Threads + Wait + Clock + Print>(
     running.collect(rt, 2)?;
     running.print_late(rt)?;
     let ended = running.stop(rt)?;
-    println!(rt;
-        "finished {} unserved {}",
-        ended.finished.len(),
-        ended.unserved.len()
-    )?;
+    ended.print_counts(rt)?;
     ended.print_book(rt, alloc)
 }
 
@@ -96,6 +98,61 @@ fn stopped<L: Pooling, R: Threads + Wait + Clock + Print>(
     ended.print_charged(rt, alloc)
 }
 
+/// A debit, and the same once more: it is charged once, and answered alike. One worker, which sleeps before each.
+fn repeated<L: Pooling, R: Threads + Wait + Clock + Print>(
+    rt: &R,
+    alloc: Global,
+    running: Running<L>,
+) -> anyhow::Result<()> {
+    let mut running = running;
+    let began = running.timer.now(rt)?;
+    running.ask(rt, debit(alloc, 0)?)?;
+    running.ask(rt, debit(alloc, 0)?)?;
+    print_jobs(rt, alloc, &running.finished, true)?;
+    running.print_moments(rt, began)?;
+    running.stop(rt)?.print_book(rt, alloc)
+}
+
+/// A request that lacks an AVP: it is answered what it lacks, and the book is not asked.
+fn refused<L: Pooling, R: Threads + Wait + Clock + Print>(
+    rt: &R,
+    alloc: Global,
+    running: Running<L>,
+) -> anyhow::Result<()> {
+    let mut running = running;
+    running.ask(rt, debit_without_number(alloc)?)?;
+    print_refused(rt, alloc, &running.finished)?;
+    running.stop(rt)?.print_book(rt, alloc)
+}
+
+/// A session that begins and ends: it is open still when it says what it has used, and that is debited.
+fn session<L: Pooling, R: Threads + Wait + Clock + Print>(
+    rt: &R,
+    alloc: Global,
+    running: Running<L>,
+) -> anyhow::Result<()> {
+    let mut running = running;
+    running.ask(rt, initial(alloc)?)?;
+    running.ask(rt, termination(alloc)?)?;
+    print_jobs(rt, alloc, &running.finished, true)?;
+    running.stop(rt)?.print_book(rt, alloc)
+}
+
+/// A pool of two workers that stops while one of them holds a job, and the other one none: the job is finished.
+fn held<L: Pooling, R: Threads + Wait + Clock + Print>(
+    rt: &R,
+    alloc: Global,
+    running: Running<L>,
+) -> anyhow::Result<()> {
+    let mut running = running;
+    running.submit(rt, alloc, 0)?;
+    running.signs.hold(rt, &running.signs.before, 1);
+    running.print_late(rt)?;
+    let ended = running.stop(rt)?;
+    ended.print_counts(rt)?;
+    ended.print_book(rt, alloc)
+}
+
 fn print<L: Pooling, R: Threads + Wait + Clock + Print>(
     rt: &R,
     alloc: Global,
@@ -107,6 +164,10 @@ fn print<L: Pooling, R: Threads + Wait + Clock + Print>(
         Sample::Woken => woken(rt, alloc, running),
         Sample::Crowded => crowded(rt, alloc, running),
         Sample::Stopped => stopped(rt, alloc, running),
+        Sample::Repeated => repeated(rt, alloc, running),
+        Sample::Refused => refused(rt, alloc, running),
+        Sample::Session => session(rt, alloc, running),
+        Sample::Held => held(rt, alloc, running),
     }
 }
 
@@ -209,6 +270,33 @@ pub fn print_stopped<R>(rt: &R, alloc: Global) -> anyhow::Result<()>
 where
     R: Threads + Wait + Clock + Print + Copy + Send + 'static,
 {
+    print_alone(rt, alloc, Sample::Stopped)
+}
+
+/// One worker, which no gate holds.
+fn print_alone<R>(rt: &R, alloc: Global, sample: Sample) -> anyhow::Result<()>
+where
+    R: Threads + Wait + Clock + Print + Copy + Send + 'static,
+{
     let signs = Arc::new(alloc, Signs::new())?;
-    print_with::<R, NoGate>(rt, alloc, 1, 8, NoGate, signs, Sample::Stopped)
+    print_with::<R, NoGate>(rt, alloc, 1, 8, NoGate, signs, sample)
+}
+
+/// What a repeat, a request that is refused, and a session are answered.
+pub fn print_answers<R>(rt: &R, alloc: Global) -> anyhow::Result<()>
+where
+    R: Threads + Wait + Clock + Print + Copy + Send + 'static,
+{
+    print_alone(rt, alloc, Sample::Repeated)?;
+    print_alone(rt, alloc, Sample::Refused)?;
+    print_alone(rt, alloc, Sample::Session)
+}
+
+pub fn print_held<R>(rt: &R, alloc: Global) -> anyhow::Result<()>
+where
+    R: Threads + Wait + Clock + Print + Copy + Send + 'static,
+{
+    let signs = Arc::new(alloc, Signs::new())?;
+    let gate = Slowly(Arc::try_clone(&signs)?);
+    print_with::<R, Slowly>(rt, alloc, 2, 8, gate, signs, Sample::Held)
 }
