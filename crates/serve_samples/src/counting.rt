@@ -16,6 +16,8 @@ pub struct Counting {
     pub ups: u32,
     pub messages: u32,
     pub lost: u32,
+    pub ticks: u32,
+    pub wakes: u32,
 }
 
 impl Node for Counting {
@@ -37,10 +39,12 @@ impl Node for Counting {
     }
 
     fn on_tick<W: Wire>(&mut self, alloc: Global, _moment: Moment) -> Reaction {
+        self.ticks = self.ticks.saturating_add(1);
         Reaction::nothing(alloc)
     }
 
     fn on_wake<W: Wire>(&mut self, alloc: Global) -> Reaction {
+        self.wakes = self.wakes.saturating_add(1);
         Reaction::nothing(alloc)
     }
 }
@@ -52,6 +56,8 @@ impl Counting {
             ups: 0,
             messages: 0,
             lost: 0,
+            ticks: 0,
+            wakes: 0,
         }
     }
 }

@@ -36,16 +36,21 @@ pub fn book(alloc: Global) -> anyhow::Result<Book> {
     Ok(Book::new(alloc, accounts, tariffs, 600, money, 10)?)
 }
 
-/// The front f1.example, with one worker.
-pub fn front(alloc: Global) -> anyhow::Result<Front> {
+/// A front of this name, with one worker.
+pub fn front_called(alloc: Global, name: &[u8]) -> anyhow::Result<Front> {
     Ok(Front::new(
         alloc,
-        Identity::read(alloc, b"f1.example")?,
+        Identity::read(alloc, name)?,
         Identity::read(alloc, b"ocs.example")?,
         Listing::empty(alloc),
         1,
         1,
     )?)
+}
+
+/// The front f1.example.
+pub fn front(alloc: Global) -> anyhow::Result<Front> {
+    front_called(alloc, b"f1.example")
 }
 
 /// Prints what the front writes, how many answers it has sent, and the balance.

@@ -7,6 +7,9 @@
 //! - `losses`: a connection for each way to end.
 //! - `cuts`: a connection for each octet behind which it is cut, in what is read and in what is written.
 //! - `debit`: the first debit through all fronts of a site.
+//! - `fronts`: two fronts in one process, each with a connection of its own.
+//! - `refusing`: a node that does not do what it is told, for want of memory.
+//! - `waiting`: how many may be unknown, and how long an ended connection may write.
 //! - `elsewhere`: a node that may not come from where it is.
 //! - `places`: who may come from where, by what a site file says.
 //! - `burst`: a relay whose client sends 4 MB at once, to a front that takes less.
@@ -20,16 +23,22 @@ mod counting;
 mod cuts;
 mod debit;
 mod elsewhere;
+mod fronts;
 mod live;
 mod losses;
 mod messages;
 mod places;
+mod refusing;
 mod streams;
+mod waiting;
 
 fn main(rt: HostRuntime) -> anyhow::Result<()> {
     losses::print_all(&rt, rt.alloc())?;
     cuts::print_all(&rt, rt.alloc())?;
     debit::print(&rt, rt.alloc())?;
+    fronts::print(&rt, rt.alloc())?;
+    refusing::print_all(&rt, rt.alloc())?;
+    waiting::print_all(&rt, rt.alloc())?;
     elsewhere::print_all(&rt, rt.alloc())?;
     places::print_all(&rt, rt.alloc())?;
     burst::print(&rt)?;

@@ -35,14 +35,17 @@ pub const FRONT: NodeNo = NodeNo(2);
 /// The relay r1.example.
 pub const RELAY: NodeNo = NodeNo(0);
 
-/// What the connections of f1.example know of it.
-pub fn locals(alloc: Global) -> anyhow::Result<Vec<LocalNode>> {
+/// The front f2.example, which r1.example may connect to.
+pub const SECOND: NodeNo = NodeNo(3);
+
+/// What the connections of a front of this name know of it.
+pub fn local(alloc: Global, node: NodeNo, name: &[u8]) -> anyhow::Result<LocalNode> {
     let neighbour = Neighbour {
         name: Identity::read(alloc, b"r1.example")?,
         node: RELAY,
     };
     let site = WatchSite {
-        name: Identity::read(alloc, b"f1.example")?,
+        name: Identity::read(alloc, name)?,
         realm: Identity::read(alloc, b"ocs.example")?,
         address: HostAddress::V4([127, 0, 0, 1]),
         application: Application::CreditControl,
@@ -50,7 +53,12 @@ pub fn locals(alloc: Global) -> anyhow::Result<Vec<LocalNode>> {
         neighbours: Listing::from_vec(vec![in alloc; neighbour]?),
         interval: 30_000,
     };
-    Ok(vec![in alloc; LocalNode { node: FRONT, site }]?)
+    Ok(LocalNode { node, site })
+}
+
+/// What the connections of f1.example know of it.
+pub fn locals(alloc: Global) -> anyhow::Result<Vec<LocalNode>> {
+    Ok(vec![in alloc; local(alloc, FRONT, b"f1.example")?]?)
 }
 
 /// These texts one behind the other, as octets.
