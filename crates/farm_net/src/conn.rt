@@ -95,6 +95,7 @@ impl<R: Read + Device, W: Write + Device> Conn<R, W> {
         // Why it is lost.
         ensures end { result.outcome ≡ Err Loss.End → IsAtEnd (R.remaining self.new.reader) }
         ensures fault { result.outcome ≡ Err Loss.Read → HasFailed (R.faults self.old.reader) (R.faults self.new.reader) }
+        ensures quiet { self.old.stage ≡ Stage.Open → OnOk result.outcome (HasFailed (R.faults self.old.reader) (R.faults self.new.reader) → ⊥) }
         ensures frame { (fault : Fault) → result.outcome ≡ Err (Loss.Frame fault) → (stream_of self.new.rest).fault ≡ Some fault }
         ensures only { IfErr result.outcome IsOfStream }
     {
@@ -152,6 +153,7 @@ impl<R: Read + Device, W: Write + Device> Conn<R, W> {
         ensures told { IsTold self.old.stage result self.new.stage }
         ensures others { (self.new.reader ≡ self.old.reader) × (self.new.rest ≡ self.old.rest) }
         ensures fault { IsErr result → HasFailed (W.faults self.old.writer) (W.faults self.new.writer) }
+        ensures quiet { self.old.stage ≡ Stage.Open → OnOk result (HasFailed (W.faults self.old.writer) (W.faults self.new.writer) → ⊥) }
         ensures only { IfErr result IsOfWriter }
     {
         if self.stage == Stage::Ended {

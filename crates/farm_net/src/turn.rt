@@ -36,6 +36,7 @@ fn read_once<R: Read + Device>(
     ensures err { OnErr result (Keeps (R.remaining reader.old) (R.remaining reader.new)) }
     ensures end { result ≡ Err Loss.End → IsAtEnd (R.remaining reader.new) }
     ensures fault { result ≡ Err Loss.Read → HasFailed before (R.faults reader.new) }
+    ensures quiet { result ≡ Ok None → HasFailed before (R.faults reader.new) → ⊥ }
     ensures only { IfErr result IsOfReader }
 {
     match reader.read(piece) {
@@ -93,6 +94,7 @@ pub(crate) fn read_turn<R: Read + Device>(
     ensures receives { Receives (R.remaining reader.old) (R.remaining reader.new) frames.old messages.new.items frames.new result }
     ensures end { result ≡ Err Loss.End → IsAtEnd (R.remaining reader.new) }
     ensures fault { result ≡ Err Loss.Read → HasFailed (R.faults reader.old) (R.faults reader.new) }
+    ensures quiet { OnOk result (HasFailed (R.faults reader.old) (R.faults reader.new) → ⊥) }
     ensures frame { (fault : Fault) → result ≡ Err (Loss.Frame fault) → (stream_of frames.new).fault ≡ Some fault }
     ensures sound { OnOk result ((stream_of frames.new).fault ≡ None) }
     ensures only { IfErr result IsOfStream }
@@ -111,6 +113,9 @@ pub(crate) fn read_turn<R: Read + Device>(
             None => return Ok(()),
         }
     }
+    if has_failed(before, reader.faults()) {
+        return Err(Loss::Read);
+    }
     Ok(())
 }
 
@@ -121,24 +126,22 @@ pub(crate) fn write_turn<W: Write + Device>(
 ) -> Result<(), Loss>
     ensures writes { HasWritten (W.contents writer.old) (W.contents writer.new) outbox.old.items outbox.new.items }
     ensures fault { OnErr result (HasFailed (W.faults writer.old) (W.faults writer.new)) }
+    ensures quiet { OnOk result (HasFailed (W.faults writer.old) (W.faults writer.new) → ⊥) }
     ensures only { IfErr result IsOfWriter }
 {
     let before = writer.faults();
     for _ in 0..TURN_LIMIT {
         if outbox.is_empty() {
-            return Ok(());
+            break;
         }
         match writer.write(outbox.as_slice()) {
-            Ok(0) => return Ok(()),
+            Ok(0) | Err(_) => break,
             Ok(count) => outbox.advance(count),
-            Err(_) => {
-                return if has_failed(before, writer.faults()) {
-                    Err(Loss::Write)
-                } else {
-                    Ok(())
-                };
-            }
         }
     }
-    Ok(())
+    if has_failed(before, writer.faults()) {
+        Err(Loss::Write)
+    } else {
+        Ok(())
+    }
 }
