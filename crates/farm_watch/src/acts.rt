@@ -1,6 +1,6 @@
 //! What a connection asks of those who keep it.
 
-ghost use Rattle.std.specs.Prelude.{◌≡◌, [], ◌∷◌, ◌++◌, option_to_list};
+ghost use Rattle.std.specs.Prelude.{◌≡◌, [], ◌∷◌, ◌++◌, option_to_list, IfNone};
 
 use dia_base::NodeNo;
 use dia_message::Message;
@@ -65,7 +65,8 @@ impl Acts {
 
     /// Takes the first act that is left off, if there is one.
     pub fn take_first(&mut self) -> Option<Act>
-        ensures { self.old ≡ option_to_list result ++ self.new }
+        ensures taken { self.old ≡ option_to_list result ++ self.new }
+        ensures none { IfNone result (self.old ≡ []) }
     {
         match self.first.take() {
             Some(act) => Some(act),
