@@ -3,3 +3,4 @@ pub mod Telling
 pub mod Turning
 pub mod Ordering
 pub mod Sending
+pub mod Doing

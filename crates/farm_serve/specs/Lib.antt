@@ -1,3 +1,4 @@
 pub mod Turns
 pub mod Desks
 pub mod Sending
+pub mod Doing

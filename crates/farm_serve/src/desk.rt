@@ -1,8 +1,12 @@
 //! A node with its connections: what it is told, and in which order, and what is sent.
 
-ghost use Rattle.std.specs.Prelude.{◌≡◌, ◌<◌, ◌+◌, length, vec_capacity, IfNone, IfSome, false};
+ghost use Rattle.std.specs.Prelude.{◌≡◌, ◌<◌, ◌+◌, length, vec_capacity, IfNone, IfSome, MatchResult, OnErr, Err, true, false};
+ghost use Rattle.farm_node.specs.Events as event;
+ghost use Rattle.farm_watch.specs.Table.{after_close, after_tick};
+ghost use Rattle.farm_watch.specs.declared.acts.Act.TheVariants as life;
+ghost use Rattle.farm_serve.specs.Doing.{AtPlace, Becomes, Closes, DoesAct, EndsOne, EndsUnanswered, EndsWhereRefused, FailsWhereRefused, GoesAndEnds, Greets, HasEnded, Heard, Hears, IsStill, Lived, Performs, Reacts, Says, Ticks, unanswered_by};
 ghost use Rattle.farm_serve.specs.Desks.{AreSettled, IsDownAt, IsPlaceOf, MayComeUpAt, NeverAsks, StandsAt, Tells, is_to_be_told, kept_by, mark_of, marks_of, ups};
-ghost use Rattle.farm_serve.specs.Sending.{AllGoOut, AreInOrder, GoesOut, HasNone, IsNumberedAt};
+ghost use Rattle.farm_serve.specs.Sending.{AllGoOut, AreInOrder, GoesOut, HasNone, IsNumberedAt, IsSentOn};
 
 use crate::counting::{count_failovers, count_passed, count_sent};
 use crate::end::End;
@@ -156,7 +160,10 @@ fn count_after(answers: u64, message: &Message) -> u64 {
 }
 
 /// Whether the node could once not be told of an end.
-fn has_failed(failed: bool, outcome: &Result<(), NodeError>) -> bool {
+fn has_failed(failed: bool, outcome: &Result<(), NodeError>) -> bool
+    ensures before { failed ≡ true → result ≡ true }
+    ensures now { OnErr outcome.now (result ≡ true) }
+{
     match outcome {
         Ok(()) => failed,
         Err(_) => true,
@@ -179,19 +186,49 @@ fn send_one<R: Read + Device, W: Write + Device>(
     }
 }
 
+/// The connection of a request that has no answer.
+fn unanswered_by(error: NodeError) -> Option<ConnId>
+    ensures { result ≡ unanswered_by error }
+{
+    match error {
+        NodeError::Unanswered { conn } => Some(conn),
+        NodeError::OutOfMemory
+        | NodeError::UnknownConn { .. }
+        | NodeError::PeerUp { .. }
+        | NodeError::UnknownPeer { .. }
+        | NodeError::UnknownNode { .. }
+        | NodeError::BookFull { .. } => None,
+    }
+}
+
+/// The connection of this number ends.
+fn end_one<R: Read + Device, W: Write + Device>(
+    links: &mut Vec<Link<R, W>>,
+    conn: ConnId,
+    error: NodeError,
+    moment: Moment,
+)
+    ensures ends { EndsOne conn links.old.items links.new.items }
+    ensures marks { marks_of links.new.items ≡ marks_of links.old.items }
+    ensures places { length links.new.items ≡ length links.old.items }
+{
+    if let Some(place) = place_of(links, conn) {
+        end_at(&mut links[place], End::Refused(error), moment);
+    }
+}
+
 /// Where a request that came on a connection has no answer, that connection ends.
 fn end_unanswered<R: Read + Device, W: Write + Device>(
     links: &mut Vec<Link<R, W>>,
     error: NodeError,
     moment: Moment,
 )
+    ensures ends { EndsUnanswered (Err error) links.old.items links.new.items }
     ensures marks { marks_of links.new.items ≡ marks_of links.old.items }
     ensures places { length links.new.items ≡ length links.old.items }
 {
-    if let NodeError::Unanswered { conn } = error
-        && let Some(place) = place_of(links, conn)
-    {
-        end_at(&mut links[place], End::Refused(error), moment);
+    if let Some(conn) = unanswered_by(error) {
+        end_one(links, conn, error, moment);
     }
 }
 
@@ -243,6 +280,7 @@ impl<N: Node, R: Read + Device, W: Write + Device> Desk<N, R, W> {
         ensures places { length self.new.links.items ≡ length self.old.links.items }
         ensures kept { kept_by self.new ≡ kept_by self.old }
         ensures sent { AllGoOut self.old.links.items out.now.items self.new.links.items }
+        ensures failed { self.new.failed ≡ self.old.failed }
     {
         for (conn, message) in out.items.as_slice() {
             self.answers = count_after(self.answers, message);
@@ -254,6 +292,7 @@ impl<N: Node, R: Read + Device, W: Write + Device> Desk<N, R, W> {
     /// A message goes out on a connection.
     fn send_here(&mut self, place: usize, message: &Message, moment: Moment)
         requires { place < length self.old.links.items }
+        ensures sent { AtPlace self.old place (λ link. Becomes (IsSentOn message.now link) place self.old self.new) }
         ensures kept { kept_by self.new ≡ kept_by self.old }
         ensures places { length self.new.links.items ≡ length self.old.links.items }
     {
@@ -263,6 +302,7 @@ impl<N: Node, R: Read + Device, W: Write + Device> Desk<N, R, W> {
     /// A connection ends.
     fn end_here(&mut self, place: usize, why: End, moment: Moment)
         requires { place < length self.old.links.items }
+        ensures ended { AtPlace self.old place (λ link. Becomes (HasEnded link) place self.old self.new) }
         ensures kept { kept_by self.new ≡ kept_by self.old }
         ensures places { length self.new.links.items ≡ length self.old.links.items }
     {
@@ -275,6 +315,7 @@ impl<N: Node, R: Read + Device, W: Write + Device> Desk<N, R, W> {
         requires waits { StandsAt self.old.links.items place Standing.Waiting }
         requires may { MayComeUpAt self.old.links.items place peer }
         ensures tells { Tells N.on_event self.old self.new }
+        ensures says { AtPlace self.old place (λ link. Says N.on_event EndsWhereRefused (event.up link.local peer link.id) place link self.old self.new) }
         ensures places { length self.new.links.items ≡ length self.old.links.items }
     {
         let link = &self.links[place];
@@ -304,6 +345,7 @@ impl<N: Node, R: Read + Device, W: Write + Device> Desk<N, R, W> {
         requires within { place < length self.old.links.items }
         requires up { StandsAt self.old.links.items place (Standing.Up peer) }
         ensures tells { Tells N.on_event self.old self.new }
+        ensures says { AtPlace self.old place (λ link. Says N.on_event EndsWhereRefused (event.message link.id message) place link self.old self.new) }
         ensures places { length self.new.links.items ≡ length self.old.links.items }
     {
         let conn = self.links[place].id;
@@ -323,6 +365,7 @@ impl<N: Node, R: Read + Device, W: Write + Device> Desk<N, R, W> {
         requires within { place < length self.old.links.items }
         requires up { StandsAt self.old.links.items place (Standing.Up peer) }
         ensures tells { Tells N.on_event self.old self.new }
+        ensures says { AtPlace self.old place (λ link. Says N.on_event FailsWhereRefused (event.lost link.id) place link self.old self.new) }
         ensures places { length self.new.links.items ≡ length self.old.links.items }
         ensures fewer { ups (marks_of self.new.links.items) < ups (marks_of self.old.links.items) }
     {
@@ -344,6 +387,7 @@ impl<N: Node, R: Read + Device, W: Write + Device> Desk<N, R, W> {
         requires waits { StandsAt self.old.links.items place Standing.Waiting }
         ensures tells { Tells N.on_event self.old self.new }
         ensures places { length self.new.links.items ≡ length self.old.links.items }
+        ensures greets { AtPlace self.old place (λ link. Greets N.on_event place peer link self.old self.new) }
     {
         if may_come_up(&self.links[place], peer) {
             self.tell_up(place, peer, moment);
@@ -357,6 +401,7 @@ impl<N: Node, R: Read + Device, W: Write + Device> Desk<N, R, W> {
         requires { place < length self.old.links.items }
         ensures tells { Tells N.on_event self.old self.new }
         ensures places { length self.new.links.items ≡ length self.old.links.items }
+        ensures does { AtPlace self.old place (λ link. DoesAct N.on_event place (life.PeerUp peer) link self.old self.new) }
     {
         if is_waiting(&self.links[place]) {
             self.greet_waiting(place, peer, moment);
@@ -368,6 +413,7 @@ impl<N: Node, R: Read + Device, W: Write + Device> Desk<N, R, W> {
         requires { place < length self.old.links.items }
         ensures tells { Tells N.on_event self.old self.new }
         ensures places { length self.new.links.items ≡ length self.old.links.items }
+        ensures does { AtPlace self.old place (λ link. DoesAct N.on_event place (life.Pass message) link self.old self.new) }
     {
         if let Some(peer) = open_peer(&self.links[place]) {
             self.tell_message::<P>(place, peer, message, moment);
@@ -379,6 +425,7 @@ impl<N: Node, R: Read + Device, W: Write + Device> Desk<N, R, W> {
         requires { place < length self.old.links.items }
         ensures tells { Tells N.on_event self.old self.new }
         ensures places { length self.new.links.items ≡ length self.old.links.items }
+        ensures does { AtPlace self.old place (λ link. DoesAct N.on_event place act link self.old self.new) }
     {
         match act {
             Act::Send(message) => self.send_here(place, &message, moment),
@@ -393,6 +440,7 @@ impl<N: Node, R: Read + Device, W: Write + Device> Desk<N, R, W> {
         requires { place < length self.old.links.items }
         ensures tells { Tells N.on_event self.old self.new }
         ensures places { length self.new.links.items ≡ length self.old.links.items }
+        ensures performs { Performs N.on_event place self.old acts self.new }
     {
         let mut acts = acts;
         while let Some(act) = acts.take_first() {
@@ -411,6 +459,7 @@ impl<N: Node, R: Read + Device, W: Write + Device> Desk<N, R, W> {
         requires { place < length self.old.links.items }
         ensures kept { kept_by self.new ≡ kept_by self.old }
         ensures places { length self.new.links.items ≡ length self.old.links.items }
+        ensures heard { AtPlace self.old place (λ link. Heard moment message place link self.old self.new result) }
     {
         let link = &self.links[place];
         let Some(site) = site_of(locals, link.local) else {
@@ -441,6 +490,7 @@ impl<N: Node, R: Read + Device, W: Write + Device> Desk<N, R, W> {
         requires { place < length self.old.links.items }
         ensures tells { Tells N.on_event self.old self.new }
         ensures places { length self.new.links.items ≡ length self.old.links.items }
+        ensures hears { AtPlace self.old place (λ link. Hears N.on_event moment message place link self.old self.new) }
     {
         let link = &self.links[place];
         if link.end.is_some() {
@@ -559,6 +609,7 @@ impl<N: Node, R: Read + Device, W: Write + Device> Desk<N, R, W> {
         requires { place < length self.old.links.items }
         ensures kept { kept_by self.new ≡ kept_by self.old }
         ensures places { length self.new.links.items ≡ length self.old.links.items }
+        ensures lived { AtPlace self.old place (λ link. MatchResult result (λ acts. Lived (after_tick site.now moment link.watch) acts place link self.old self.new) (λ _. IsStill self.old self.new)) }
     {
         tick_at(self.alloc, &mut self.links[place], site, moment)
     }
@@ -573,6 +624,7 @@ impl<N: Node, R: Read + Device, W: Write + Device> Desk<N, R, W> {
         requires { place < length self.old.links.items }
         ensures kept { kept_by self.new ≡ kept_by self.old }
         ensures places { length self.new.links.items ≡ length self.old.links.items }
+        ensures lived { AtPlace self.old place (λ link. MatchResult result (λ acts. Lived (after_close site.now moment link.watch) acts place link self.old self.new) (λ _. IsStill self.old self.new)) }
     {
         close_at(self.alloc, &mut self.links[place], site, moment)
     }
@@ -582,6 +634,7 @@ impl<N: Node, R: Read + Device, W: Write + Device> Desk<N, R, W> {
         requires { place < length self.old.links.items }
         ensures tells { Tells N.on_event self.old self.new }
         ensures places { length self.new.links.items ≡ length self.old.links.items }
+        ensures ticks { AtPlace self.old place (λ link. Ticks N.on_event moment place link self.old self.new) }
     {
         let link = &self.links[place];
         if link.end.is_some() {
@@ -591,8 +644,9 @@ impl<N: Node, R: Read + Device, W: Write + Device> Desk<N, R, W> {
         let Some(site) = site_of(locals, link.local) else {
             return;
         };
-        if let Ok(acts) = self.acts_at_tick(site, place, moment) {
-            self.perform::<P>(place, acts, why, moment);
+        match self.acts_at_tick(site, place, moment) {
+            Ok(acts) => self.perform::<P>(place, acts, why, moment),
+            Err(AllocError) => {}
         }
     }
 
@@ -611,6 +665,7 @@ impl<N: Node, R: Read + Device, W: Write + Device> Desk<N, R, W> {
         requires { place < length self.old.links.items }
         ensures tells { Tells N.on_event self.old self.new }
         ensures places { length self.new.links.items ≡ length self.old.links.items }
+        ensures closes { AtPlace self.old place (λ link. Closes N.on_event moment place link self.old self.new) }
     {
         let link = &self.links[place];
         if link.end.is_some() {
@@ -637,6 +692,7 @@ impl<N: Node, R: Read + Device, W: Write + Device> Desk<N, R, W> {
 
     /// What the node does at an event that is of no connection.
     fn react(&mut self, reaction: Reaction, moment: Moment)
+        ensures goes { GoesAndEnds reaction.out.items reaction.outcome self.old.links.items self.new.links.items }
         ensures places { length self.new.links.items ≡ length self.old.links.items }
         ensures kept { kept_by self.new ≡ kept_by self.old }
     {
@@ -651,6 +707,7 @@ impl<N: Node, R: Read + Device, W: Write + Device> Desk<N, R, W> {
     pub fn tick_node<P: Wire>(&mut self, moment: Moment)
         ensures tells { Tells N.on_event self.old self.new }
         ensures places { length self.new.links.items ≡ length self.old.links.items }
+        ensures reacts { Reacts N.on_event (event.tick moment) self.old self.new }
     {
         let reaction = self.node.on_tick::<P>(self.alloc, moment);
         self.react(reaction, moment);
@@ -660,6 +717,7 @@ impl<N: Node, R: Read + Device, W: Write + Device> Desk<N, R, W> {
     pub fn wake_node<P: Wire>(&mut self, moment: Moment)
         ensures tells { Tells N.on_event self.old self.new }
         ensures places { length self.new.links.items ≡ length self.old.links.items }
+        ensures reacts { Reacts N.on_event event.wake self.old self.new }
     {
         let reaction = self.node.on_wake::<P>(self.alloc);
         self.react(reaction, moment);

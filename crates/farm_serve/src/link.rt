@@ -1,8 +1,9 @@
 //! One connection of a process.
 
-ghost use Rattle.std.specs.Prelude.{◌≡◌, ◌==◌, ◌<◌, IfNone, IfOk, IfSome, OnOk, OnErr, length, true, false};
+ghost use Rattle.std.specs.Prelude.{◌≡◌, ◌==◌, ◌<◌, IfNone, IfOk, IfSome, IsSome, OnOk, OnErr, length, false};
 ghost use Rattle.std.specs.List.{list_any};
 ghost use Rattle.farm_serve.specs.Desks.{is_to_be_told, mark_of, standing_after};
+ghost use Rattle.farm_serve.specs.Doing.{HasEnded, IsToldOnly, awaits, open_peer};
 ghost use Rattle.farm_serve.specs.Sending.{IsSentOn};
 ghost use Rattle.farm_serve.specs.Turns.{may_come_up, standing_as};
 ghost use Rattle.farm_watch.specs.Table.{after_close, after_message, after_tick};
@@ -67,6 +68,7 @@ pub(crate) fn end_at<R: Read + Device, W: Write + Device>(
     moment: Moment,
 )
     ensures mark { mark_of link.new ≡ mark_of link.old }
+    ensures ended { HasEnded link.old link.new }
 {
     if link.end.is_none() {
         link.end = Some((why, moment));
@@ -125,6 +127,8 @@ pub(crate) fn come_up<R: Read + Device, W: Write + Device>(
     moment: Moment,
 )
     ensures mark { mark_of link.new ≡ standing_as (mark_of link.old) (standing_after peer outcome) }
+    ensures only { IsToldOnly link.old link.new }
+    ensures refused { OnErr outcome (IsSome link.new.end) }
 {
     match outcome {
         Ok(()) => link.standing = Standing::Up { peer },
@@ -143,6 +147,8 @@ pub(crate) fn end_unless_told<R: Read + Device, W: Write + Device>(
     moment: Moment,
 )
     ensures mark { mark_of link.new ≡ mark_of link.old }
+    ensures only { IsToldOnly link.old link.new }
+    ensures refused { OnErr outcome (IsSome link.new.end) }
 {
     if asks {
         link.open = link.open.saturating_add(1);
@@ -155,13 +161,14 @@ pub(crate) fn end_unless_told<R: Read + Device, W: Write + Device>(
 /// The node was told of its end.
 pub(crate) fn be_over<R, W>(link: &mut Link<R, W>, peer: NodeNo)
     ensures mark { mark_of link.new ≡ standing_as (mark_of link.old) (Standing.Over peer) }
+    ensures only { IsToldOnly link.old link.new }
 {
     link.standing = Standing::Over { peer };
 }
 
 /// Whether the node may be told that its neighbour is up.
 pub(crate) fn is_waiting<R, W>(link: &Link<R, W>) -> bool
-    ensures { result ≡ true → link.now.standing ≡ Standing.Waiting }
+    ensures { result ≡ awaits link.now }
 {
     match link.standing {
         Standing::Waiting => link.end.is_none(),
@@ -185,7 +192,7 @@ pub(crate) fn may_come_up<R, W>(link: &Link<R, W>, peer: NodeNo) -> bool
 
 /// The node that is up on a connection which has not ended.
 pub(crate) fn open_peer<R, W>(link: &Link<R, W>) -> Option<NodeNo>
-    ensures { IfSome result (λ peer. link.now.standing ≡ Standing.Up peer) }
+    ensures { result ≡ open_peer link.now }
 {
     match (link.standing, link.end) {
         (Standing::Up { peer }, None) => Some(peer),

@@ -1,8 +1,9 @@
-use Rattle.std.proofs.Common.{◌<◌, length, rules}
-use Rattle.farm_serve.proofs.Placing.{same_marks}
+use Rattle.std.proofs.Common.{◌≡◌, Option, MatchOption, subst, sym, ◌∙◌}
+use Rattle.dia_base.specs.declared.number.ConnId.{ConnId}
+use Rattle.farm_serve.specs.Doing.{EndsOne}
 use Rattle.farm_serve.proofs.desk.end_unanswered.Goals as goal
 
-pub returns-in-Some-clause-marks : goal.returns-in-Some-clause-marks
-returns-in-Some-clause-marks g c =
-    let within : c.in-Some.place < length c.args.links.now.items = search rules in
-    same_marks c.args.links.now.items c.in-Some.place c.index_mut.result.now c.end_at.new.link within c.index_mut.ensures.value c.end_at.ensures.mark
+pub returns-in-Some-clause-ends : goal.returns-in-Some-clause-ends
+returns-in-Some-clause-ends g c =
+    let old = c.args.links.now.items in let new = c.end_one.new.links.items in
+    subst (λ (o : Option ConnId). MatchOption o (new ≡ old) (λ conn. EndsOne conn old new)) (sym c.in-Some.is ∙ c.unanswered_by.ensures) c.end_one.ensures.ends

@@ -1,9 +1,18 @@
-use Rattle.std.proofs.Common.{List, ap}
+use Rattle.std.proofs.Common.{List, ap, refl}
+use Rattle.farm_watch.specs.Table.{Connection, after_close}
 use Rattle.farm_serve.specs.Turns.{Mark}
-use Rattle.farm_serve.proofs.Placing.{keeping, same_marks}
+use Rattle.farm_serve.proofs.Placing.{keeping, same_marks, same_read}
+use Rattle.farm_serve.proofs.Doing.{lived_at}
 use Rattle.farm_serve.proofs.desk.Desk.acts_at_close.Goals as goal
 
 pub returns-clause-kept : goal.returns-clause-kept
 returns-clause-kept g c =
     ap (λ (marks : List Mark). keeping c.args.self.now.node marks c.args.self.now.made)
     (same_marks c.args.self.now.links.items c.args.place c.index_mut.result.now c.close_at.new.link c.requires c.index_mut.ensures.value c.close_at.ensures.mark)
+
+pub returns-clause-lived : goal.returns-clause-lived
+returns-clause-lived g c = λ link read.
+    let here = c.index_mut.result.now in
+    let same = same_read c.args.self.now.links.items c.args.place here link c.requires c.index_mut.ensures.value read in
+    lived_at c.close_at.result (λ (conn : Connection). after_close c.args.site.now c.args.moment conn) here link c.close_at.new.link c.args.place c.args.self.now _ same
+    c.index_mut.ensures.value c.close_at.ensures.acts c.close_at.ensures.next c.close_at.ensures.err refl refl

@@ -4,7 +4,7 @@ use Rattle.farm_serve.proofs.Sending.{all_gone, one_more}
 use Rattle.farm_serve.proofs.desk.Desk.send_all.Goals as goal
 
 pub loop-conn-init : goal.loop-conn-init
-loop-conn-init g c = record { node = refl; marks = refl; made = refl; places = refl; sent = nothing_goes }
+loop-conn-init g c = record { node = refl; marks = refl; made = refl; failed = refl; places = refl; sent = nothing_goes }
 
 pub loop-conn-preserved : goal.loop-conn-preserved
 loop-conn-preserved g c =
@@ -16,6 +16,7 @@ loop-conn-preserved g c =
       node = c.loop-conn.invariant.node;
       marks = c.send_one.ensures.marks ∙ c.loop-conn.invariant.marks;
       made = c.loop-conn.invariant.made;
+      failed = c.loop-conn.invariant.failed;
       places = c.send_one.ensures.places ∙ c.loop-conn.invariant.places;
       sent = one_more c.args.self.now.links.items c.loop-conn.self.links.items c.send_one.new.links.items out c.loop-conn.conn-index
           item within read c.loop-conn.invariant.sent c.send_one.ensures.sent;

@@ -8,6 +8,7 @@ invariant-loop-conn g l = record {
   node : l.self.node ≡ l.fn.self.node;
   marks : marks_of l.self.links.items ≡ marks_of l.fn.self.links.items;
   made : l.self.made ≡ l.fn.self.made;
+  failed : l.self.failed ≡ l.fn.self.failed;
   places : length l.self.links.items ≡ length l.fn.self.links.items;
   sent : AllGoOut l.fn.self.links.items (take l.conn-index l.fn.out.items) l.self.links.items;
 }
