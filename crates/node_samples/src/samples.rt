@@ -1,0 +1,210 @@
+//! Answers of two fronts, many at a time, a session that is due, a full book, and a record.
+
+ghost use Rattle.std.specs.Prelude.{◌≡◌, ◌≤◌, ◌<◌, ◌^◌};
+ghost use Rattle.dia_base.specs.declared.number.NodeNo.{NodeNo};
+ghost use Rattle.pool_node.specs.Fronts.{site_of};
+
+use crate::given::{CLIENT, FIRST, SECOND, book, debit, initial, site};
+use crate::running::{Rings, Running};
+use cc_book::Book;
+use cc_shared::SharedBook;
+use dia_avp::ViewWire;
+use dia_base::Identity;
+use farm_base::Site;
+use farm_clock::Timer;
+use farm_record::Recorder;
+use front_pool::Pooling;
+use pool_node::start_fronts;
+use std::alloc::{AllocError, Global};
+use std::marker::Brand;
+use std::rt::Clock;
+use std::sync::atomic::AtomicU64;
+use std::sync::ledger::Blank;
+use std::sync::{Arc, Wait};
+use std::thread::Threads;
+
+/// What is done with the fronts.
+#[derive(Clone, Copy)]
+pub enum Sample {
+    Answers,
+    Many,
+    Session,
+    Full,
+    Record,
+}
+
+/// How many milliseconds after its last request a session is due: twice its validity.
+const DUE: u64 = 1_200_000;
+
+/// One debit at both fronts: each answers it on its own connection, and it is charged once.
+fn answers<L: Pooling, R: Threads + Wait + Clock + Print + Copy>(
+    rt: &R,
+    alloc: Global,
+    running: Running<L, R>,
+) -> anyhow::Result<()> {
+    let mut running = running;
+    running.come_up(rt, alloc, FIRST, 1)?;
+    running.come_up(rt, alloc, SECOND, 2)?;
+    running.come_up(rt, alloc, CLIENT, 3)?;
+    running.hear(rt, alloc, 1, debit(alloc, 0)?)?;
+    running.wake(rt, alloc, 1)?;
+    running.hear(rt, alloc, 2, debit(alloc, 0)?)?;
+    running.wait(rt, 2)?;
+    running.tick(rt, alloc, 1_000)?;
+    running.lose(rt, alloc, 1)?;
+    running.hear(rt, alloc, 1, debit(alloc, 1)?)?;
+    running.print_figures(rt)?;
+    running.end(rt, alloc)
+}
+
+/// As many debits at once as may wait at a front.
+fn many<L: Pooling, R: Threads + Wait + Clock + Print + Copy>(
+    rt: &R,
+    alloc: Global,
+    running: Running<L, R>,
+) -> anyhow::Result<()> {
+    let mut running = running;
+    running.come_up(rt, alloc, FIRST, 1)?;
+    for number in 0..8 {
+        running.hear(rt, alloc, 1, debit(alloc, number)?)?;
+    }
+    running.wake(rt, alloc, 8)?;
+    running.print_figures(rt)?;
+    running.end(rt, alloc)
+}
+
+/// A session stands as long as it is not due, and then ends.
+fn session<L: Pooling, R: Threads + Wait + Clock + Print + Copy>(
+    rt: &R,
+    alloc: Global,
+    running: Running<L, R>,
+) -> anyhow::Result<()> {
+    let mut running = running;
+    running.come_up(rt, alloc, FIRST, 1)?;
+    let before = running.timer.now(rt)?.0;
+    running.hear(rt, alloc, 1, initial(alloc)?)?;
+    running.wake(rt, alloc, 1)?;
+    let behind = running.timer.now(rt)?.0;
+    running.tick(rt, alloc, before.saturating_add(DUE - 2_000))?;
+    running.print_figures(rt)?;
+    running.tick(rt, alloc, behind.saturating_add(DUE + 2_000))?;
+    running.print_figures(rt)?;
+    running.end(rt, alloc)
+}
+
+/// A session that is due in a book that has no room to end it: that is told once.
+fn full<L: Pooling, R: Threads + Wait + Clock + Print + Copy>(
+    rt: &R,
+    alloc: Global,
+    running: Running<L, R>,
+) -> anyhow::Result<()> {
+    let mut running = running;
+    running.come_up(rt, alloc, FIRST, 1)?;
+    running.hear(rt, alloc, 1, initial(alloc)?)?;
+    running.wake(rt, alloc, 1)?;
+    let behind = running.timer.now(rt)?.0;
+    running.tick(rt, alloc, behind.saturating_add(DUE + 2_000))?;
+    running.tick(rt, alloc, behind.saturating_add(DUE + 9_000))?;
+    running.end(rt, alloc)
+}
+
+/// A debit, the same again, a session, the sweep that ends it, and a debit that is finished and not collected.
+fn record<L: Pooling, R: Threads + Wait + Clock + Print + Copy>(
+    rt: &R,
+    alloc: Global,
+    running: Running<L, R>,
+) -> anyhow::Result<()> {
+    let mut running = running;
+    let (first, second) = (
+        Identity::read(alloc, b"f1.example")?,
+        Identity::read(alloc, b"f2.example")?,
+    );
+    running.begin_record(alloc, vec![in alloc; first, second]?);
+    running.come_up(rt, alloc, FIRST, 1)?;
+    running.hear(rt, alloc, 1, debit(alloc, 5)?)?;
+    running.wake(rt, alloc, 1)?;
+    running.hear(rt, alloc, 1, debit(alloc, 5)?)?;
+    running.wake(rt, alloc, 2)?;
+    running.tell(alloc);
+    running.hear(rt, alloc, 1, initial(alloc)?)?;
+    running.wake(rt, alloc, 3)?;
+    let behind = running.timer.now(rt)?.0;
+    running.tick(rt, alloc, behind.saturating_add(DUE + 2_000))?;
+    running.tell(alloc);
+    running.hear(rt, alloc, 1, debit(alloc, 6)?)?;
+    running.wait(rt, 4)?;
+    running.end(rt, alloc)
+}
+
+/// The fronts of the site, on this book.
+fn start<L, R>(
+    rt: &R,
+    alloc: Global,
+    site: &Site,
+    blank: Blank,
+    book: Book,
+) -> anyhow::Result<Running<L, R>>
+where
+    L: Pooling + Send + Sync + 'static,
+    R: Threads + Wait + Clock + Copy + Send + 'static,
+    requires queue { 0 < site.now.queue }
+    requires name { blank.name ≡ L.name }
+    requires parts { (blank.parts ≡ L.parts) × (blank.parts ≡ 2) }
+    requires book { book ≡ L.opened }
+    requires site { (front : NodeNo) → L.site front ≡ site_of site.now front }
+{
+    let Ok((shared, seats)) = SharedBook::<L>::share(alloc, blank, book, 2) else {
+        return Err(AllocError.into());
+    };
+    let rings = Arc::new(alloc, AtomicU64::new(0))?;
+    let waker = Rings(Arc::try_clone(&rings)?);
+    let nodes = [FIRST, SECOND];
+    let timer = Timer::start(rt)?;
+    let fronts = start_fronts::<ViewWire, L, R, Rings>(
+        *rt, alloc, shared, seats, site, &nodes, waker,
+    )?;
+    Ok(Running {
+        fronts,
+        rings,
+        timer,
+        recorder: Recorder::off(alloc),
+    })
+}
+
+fn print_on<L, R>(
+    rt: &R,
+    alloc: Global,
+    site: &Site,
+    blank: Blank,
+    book: Book,
+    sample: Sample,
+) -> anyhow::Result<()>
+where
+    L: Pooling + Send + Sync + 'static,
+    R: Threads + Wait + Clock + Print + Copy + Send + 'static,
+    requires queue { 0 < site.now.queue }
+    requires name { blank.name ≡ L.name }
+    requires parts { (blank.parts ≡ L.parts) × (blank.parts ≡ 2) }
+    requires book { book ≡ L.opened }
+    requires site { (front : NodeNo) → L.site front ≡ site_of site.now front }
+{
+    let running = start::<L, R>(rt, alloc, site, blank, book)?;
+    match sample {
+        Sample::Answers => answers(rt, alloc, running),
+        Sample::Many => many(rt, alloc, running),
+        Sample::Session => session(rt, alloc, running),
+        Sample::Full => full(rt, alloc, running),
+        Sample::Record => record(rt, alloc, running),
+    }
+}
+
+/// The sample with a book that has so many entries at most.
+pub fn print_sample<R>(rt: &R, alloc: Global, limit: u64, sample: Sample) -> anyhow::Result<()>
+where
+    R: Threads + Wait + Clock + Print + Copy + Send + 'static,
+    requires { limit ≤ 2 ^ 20 }
+{
+    let site = site(alloc, limit)?;
+    let book = book(alloc, limit)?;
+    print_on::<Brand, R>(rt, alloc, &site, Blank::new(2), book, sample)
+}
