@@ -51,8 +51,8 @@ pub fn is_known(avp: &RawAvp, profile: Profile) -> bool
     ensures { result ≡ is_known (profile_of profile.entry) avp.now }
 {
     is_among(avp, profile.known)
-        || has_row(avp)
         || is_standard(avp)
+        || has_row(avp)
         || profile.vendors.contains(&avp.vendor)
 }
 
