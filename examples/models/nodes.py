@@ -226,10 +226,13 @@ class Relay:
         return self.routes[realm, application]
 
     def forward(self, conn, origin, request, old=None):
-        hop = self.choose({hop for known, hop in self.pending if known == conn}, old)
+        hop = self.identifier(conn, old)
         request = replace(request, hop=hop)
         self.pending[conn, hop] = Pending(origin, request)
         return conn, request
+
+    def identifier(self, conn, old):
+        return self.choose({hop for known, hop in self.pending if known == conn}, old)
 
     def conn_lost(self, conn):
         """Requests that came on the connection lose their origin; those sent on it go out again, or are answered."""
@@ -259,7 +262,7 @@ class SlabRelay(Relay):
     """
 
     def __init__(self, name, site):
-        super().__init__(name, site, self.chosen)
+        super().__init__(name, site, choose=None)
 
     def restart(self):
         super().restart()
@@ -270,7 +273,7 @@ class SlabRelay(Relay):
         self.free += [hop] if pending else []
         return pending
 
-    def chosen(self, _used, old):
+    def identifier(self, _conn, old):
         if old is not None:
             self.free.remove(old)
             return old
