@@ -4,6 +4,7 @@ A relay sends the requests of a lost connection again in the order of Hop-by-Hop
 may choose them as it likes. So that no output depends on that choice, a connection is cut or dropped, or a node at its
 end restarted, only while each relay there has at most one request on it for which somebody still waits.
 """
+from collections.abc import Sequence
 from dataclasses import dataclass, field, replace
 
 from credit_control import (CC_REQUEST_NUMBER, CC_REQUEST_TYPE, CC_TIME, EVENT, INITIAL, MULTIPLE_SERVICES,
@@ -56,6 +57,24 @@ class Dice:
 
     def one_in(self, bound):
         return self.below(bound) == 0
+
+
+class InFlight(Sequence):
+    """The messages in flight in these directions: from whom, to whom and at which place. They are counted, not listed, since
+    there may be very many."""
+
+    def __init__(self, flights):
+        self.flights = [(a, b, len(flight)) for a, b, flight in flights]
+
+    def __len__(self):
+        return sum(count for _, _, count in self.flights)
+
+    def __getitem__(self, at):
+        for a, b, count in self.flights:
+            if at < count:
+                return a, b, at
+            at -= count
+        raise IndexError
 
 
 @dataclass(frozen=True)
@@ -219,9 +238,9 @@ class Player:
                 clients = [(a, b) for a, b in self.ends() if self.site.nodes[a] == CLIENT and self.world.knows(a, b)]
                 return clients if self.busy() < self.under_way else []
             case "deliver":
-                return [(a, b, place) for a, b, place in self.in_flight() if self.world.knows(b, a)]
+                return InFlight([(a, b, flight) for a, b, flight in self.flights() if self.world.knows(b, a)])
             case "lose":
-                return self.in_flight()
+                return InFlight(self.flights())
             case "cut":
                 return [(a, b) for a, b in self.ends() if self.world.knows(a, b) or self.world.knows(b, a)]
             case "accept":
@@ -240,9 +259,6 @@ class Player:
                 return self.workers("can_emit")
             case "sweep":
                 return [()]
-
-    def in_flight(self):
-        return [(a, b, place) for a, b, flight in self.flights() for place in range(len(flight))]
 
     def busy(self):
         """How many messages are in flight, in queues, or with workers that have no answer yet."""
