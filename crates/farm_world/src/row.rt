@@ -1,6 +1,6 @@
 //! The site that a schedule runs over where no site file is given.
 
-ghost use Rattle.std.specs.Prelude.{◌≡◌, None, IfOk};
+ghost use Rattle.std.specs.Prelude.{◌≡◌, ◌++◌, ◌∷◌, [], None, IfOk, OnOk};
 ghost use Rattle.dia_base.specs.Identity.{fault_of};
 ghost use Rattle.farm_base.specs.RowSite.{the_row_site, row_nodes, row_links, row_routes, row_tariffs, row_accounts, account, node, route};
 
@@ -67,17 +67,29 @@ fn node(alloc: Global, name: &[u8], kind: NodeKind) -> Result<Node, AllocError>
     })
 }
 
+fn push_node(
+    alloc: Global,
+    nodes: &mut Vec<Node>,
+    name: &[u8],
+    kind: NodeKind,
+) -> Result<(), AllocError>
+    requires { fault_of name.now ≡ None }
+    ensures { OnOk result (nodes.new.items ≡ nodes.old.items ++ node name.now kind ∷ []) }
+{
+    nodes.push(node(alloc, name, kind)?)?;
+    Ok(())
+}
+
 fn nodes(alloc: Global) -> Result<Listing<Node>, AllocError>
     ensures { IfOk result (λ nodes. nodes ≡ row_nodes) }
 {
-    let nodes = vec![in alloc;
-        node(alloc, b"r1.example", NodeKind::Relay)?,
-        node(alloc, b"r2.example", NodeKind::Relay)?,
-        node(alloc, b"f1.example", NodeKind::Front)?,
-        node(alloc, b"f2.example", NodeKind::Front)?,
-        node(alloc, b"c1.example", NodeKind::Client)?,
-        node(alloc, b"c2.example", NodeKind::Client)?,
-    ]?;
+    let mut nodes = Vec::new(alloc);
+    push_node(alloc, &mut nodes, b"r1.example", NodeKind::Relay)?;
+    push_node(alloc, &mut nodes, b"r2.example", NodeKind::Relay)?;
+    push_node(alloc, &mut nodes, b"f1.example", NodeKind::Front)?;
+    push_node(alloc, &mut nodes, b"f2.example", NodeKind::Front)?;
+    push_node(alloc, &mut nodes, b"c1.example", NodeKind::Client)?;
+    push_node(alloc, &mut nodes, b"c2.example", NodeKind::Client)?;
     Ok(Listing::from_vec(nodes))
 }
 
@@ -109,15 +121,28 @@ fn route(alloc: Global, at: NodeNo, realm: &[u8], peers: &[NodeNo]) -> Result<Ro
     })
 }
 
+fn push_route(
+    alloc: Global,
+    routes: &mut Vec<Route>,
+    at: NodeNo,
+    realm: &[u8],
+    peers: &[NodeNo],
+) -> Result<(), AllocError>
+    requires { fault_of realm.now ≡ None }
+    ensures { OnOk result (routes.new.items ≡ routes.old.items ++ route «at» realm.now peers.now ∷ []) }
+{
+    routes.push(route(alloc, at, realm, peers)?)?;
+    Ok(())
+}
+
 fn routes(alloc: Global) -> Result<Listing<Route>, AllocError>
     ensures { IfOk result (λ routes. routes ≡ row_routes) }
 {
-    let routes = vec![in alloc;
-        route(alloc, R1, b"ocs.example", &[F1, F2, R2])?,
-        route(alloc, R2, b"ocs.example", &[F1, F2])?,
-        route(alloc, R1, b"loop.example", &[R2])?,
-        route(alloc, R2, b"loop.example", &[R1])?,
-    ]?;
+    let mut routes = Vec::new(alloc);
+    push_route(alloc, &mut routes, R1, b"ocs.example", &[F1, F2, R2])?;
+    push_route(alloc, &mut routes, R2, b"ocs.example", &[F1, F2])?;
+    push_route(alloc, &mut routes, R1, b"loop.example", &[R2])?;
+    push_route(alloc, &mut routes, R2, b"loop.example", &[R1])?;
     Ok(Listing::from_vec(routes))
 }
 
@@ -150,15 +175,26 @@ fn account(alloc: Global, id: &[u8], opening: i64) -> Result<Account, AllocError
     })
 }
 
+fn push_account(
+    alloc: Global,
+    accounts: &mut Vec<Account>,
+    id: &[u8],
+    opening: i64,
+) -> Result<(), AllocError>
+    ensures { OnOk result (accounts.new.items ≡ accounts.old.items ++ account id.now opening ∷ []) }
+{
+    accounts.push(account(alloc, id, opening)?)?;
+    Ok(())
+}
+
 fn accounts(alloc: Global) -> Result<Listing<Account>, AllocError>
     ensures { IfOk result (λ accounts. accounts ≡ row_accounts) }
 {
-    let accounts = vec![in alloc;
-        account(alloc, b"491700000001", 1_000)?,
-        account(alloc, b"491700000002", 12)?,
-        account(alloc, b"491700000003", 4)?,
-        account(alloc, b"491700000004", 27)?,
-        account(alloc, b"491700000005", 25)?,
-    ]?;
+    let mut accounts = Vec::new(alloc);
+    push_account(alloc, &mut accounts, b"491700000001", 1_000)?;
+    push_account(alloc, &mut accounts, b"491700000002", 12)?;
+    push_account(alloc, &mut accounts, b"491700000003", 4)?;
+    push_account(alloc, &mut accounts, b"491700000004", 27)?;
+    push_account(alloc, &mut accounts, b"491700000005", 25)?;
     Ok(Listing::from_vec(accounts))
 }
