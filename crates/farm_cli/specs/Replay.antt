@@ -16,6 +16,12 @@ use Rattle.farm_model.specs.Promise.{IsPromised}
 use Rattle.farm_cli.specs.Output.{output_of}
 use Rattle.farm_command.specs.declared.command.Action.{Action}
 
+-- this is what the action prints of a run of the steps, which keeps what is promised
+pub record Prints (action : Action) (site : Site) (steps : List Step) (printed : List ℕ) : Type 0 where
+  pub trace : Trace
+  pub promised : IsPromised site steps trace
+  pub output : printed ≡ output_of action site (length steps) trace
+
 -- the octets are a schedule, and this is what the action prints of a run of its steps, which keeps what is promised
 pub record Replays (action : Action) (site : Site) (octets printed : List ℕ) : Type 0 where
   pub steps : List Step

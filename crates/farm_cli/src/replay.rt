@@ -6,7 +6,7 @@ ghost use Rattle.farm_script.specs.declared.fault.ScriptFault.{ScriptFault};
 ghost use Rattle.farm_base.specs.CheckedSite.{IsChecked};
 ghost use Rattle.farm_text.specs.Reading.{ReadsText};
 ghost use Rattle.farm_text.specs.Writing.{BeginsWriting};
-ghost use Rattle.farm_cli.specs.Replay.{Replays, IsRefused, IsOfText, WasRead, of_reading};
+ghost use Rattle.farm_cli.specs.Replay.{Prints, Replays, IsRefused, IsOfText, WasRead, of_reading};
 ghost use Rattle.farm_cli.specs.Skipped.{Names};
 
 use crate::output::output;
@@ -15,7 +15,7 @@ use dia_avp::Wire;
 use farm_command::Action;
 use farm_script::{ScriptFault, steps_of};
 use farm_text::{ReadFault, read_text, write_text};
-use farm_world::{Site, run};
+use farm_world::{Site, Step, run};
 use std::alloc::Global;
 use std::io::{Read, Write};
 use thiserror::Error;
@@ -56,6 +56,26 @@ fn write_output<W: Write>(writer: &mut W, text: &[u8]) -> Result<(), ReplayFault
     }
 }
 
+/// What the action prints of a run of the steps over the site, from an empty history.
+fn print_steps<V: Wire>(
+    alloc: Global,
+    action: Action,
+    site: &Site,
+    steps: &[Step],
+) -> Result<Vec<u8>, ReplayFault>
+    requires { IsChecked site.now }
+    ensures ok { IfOk result (λ printed. Prints action site.now steps.now printed.items) }
+    ensures memory { IsOkUnless result ReplayFault.OutOfMemory }
+{
+    let Ok(trace) = run::<V>(alloc, site, steps) else {
+        return Err(ReplayFault::OutOfMemory);
+    };
+    match output(alloc, action, site, steps.len(), &trace) {
+        Ok(printed) => Ok(printed),
+        Err(_) => Err(ReplayFault::OutOfMemory),
+    }
+}
+
 /// What the action prints of a schedule's text, run over the site from an empty history. Where it is asked for, the steps
 /// that did not apply are named behind what `named` has.
 pub fn replay_text<V: Wire>(
@@ -78,16 +98,10 @@ pub fn replay_text<V: Wire>(
         Ok(steps) => steps,
         Err(fault) => return Err(ReplayFault::Script(fault)),
     };
-    let Ok(trace) = run::<V>(alloc, site, &steps) else {
-        return Err(ReplayFault::OutOfMemory);
-    };
     let Ok(()) = name_skipped::<V>(alloc, skipped, site, text, &steps, named) else {
         return Err(ReplayFault::OutOfMemory);
     };
-    match output(alloc, action, site, steps.len(), &trace) {
-        Ok(printed) => Ok(printed),
-        Err(_) => Err(ReplayFault::OutOfMemory),
-    }
+    print_steps::<V>(alloc, action, site, &steps)
 }
 
 /// Reads a schedule, runs its steps over the site from an empty history, and writes what the
