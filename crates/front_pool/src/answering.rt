@@ -1,6 +1,6 @@
 //! What a worker does with a message: it reads the request, has it served, and spells the answer.
 
-ghost use Rattle.std.specs.Prelude.{◌≡◌, IfSome, Ok};
+ghost use Rattle.std.specs.Prelude.{◌≡◌, IfSome, IsSome, Ok};
 ghost use Rattle.cc_view.specs.Answer.{answer_to};
 ghost use Rattle.cc_view.specs.RequestView.{view_under};
 ghost use Rattle.front_pool.specs.Answering.{Answers, IsAnsweredByOne, too_busy};
@@ -70,6 +70,7 @@ fn charge<W: Wire, L: Pooling, R: Wait + Clock>(
     requires view { view_under site.now.profile message.now ≡ Ok request }
     ensures answers { Answers site.now L.opened.terms message.now result.0 result.1 }
     ensures count { seat.new ≡ counted_with seat.old result.1 }
+    ensures moment { IsSome result.1 → IsSome result.2 }
 {
     let Some(moment) = timer.now(rt).ok() else {
         return (too_busy::<W>(alloc, site, message), None, None);
@@ -97,6 +98,7 @@ fn work<W: Wire, L: Pooling, R: Wait + Clock, G: Gate>(
 ) -> Worked
     ensures answers { Answers site.now L.opened.terms job.now.request result.0 result.1 }
     ensures count { seat.new ≡ counted_with seat.old result.1 }
+    ensures moment { IsSome result.1 → IsSome result.2 }
 {
     let profile = site.profile.as_profile();
     let prepared = prepare::<W>(alloc, &site.name, &site.realm, profile, &job.request);
@@ -126,6 +128,7 @@ pub fn finish<W: Wire, L: Pooling, R: Wait + Clock, G: Gate>(
     ensures job { job_of result ≡ job }
     ensures answered { IsAnsweredByOne L.site L.opened.terms result }
     ensures count { seat.new ≡ counted_with seat.old result.receipt }
+    ensures moment { IsSome result.receipt → IsSome result.moment }
 {
     let (written, receipt, moment) = work::<W, L, R, G>(
         rt, alloc, shared, seat, site, timer, gate, &job,
