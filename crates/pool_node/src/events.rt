@@ -1,5 +1,8 @@
 //! What fronts have done that nobody else can tell of.
 
+ghost use Rattle.std.specs.Prelude.{◌≡◌, ◌<◌, ◌∷◌, ◌++◌, [], ℕ, IfOk, IsErr, Ok, false, true};
+ghost use Rattle.pool_node.specs.Events.{event_of};
+
 use cc_book::BookRefusal;
 use dia_base::Moment;
 use dia_message::Message;
@@ -17,7 +20,9 @@ pub struct BookEvents {
 }
 
 /// A copy of an answer, if there is one.
-fn copy_of(answer: &Option<Message>) -> Result<Option<Message>, AllocError> {
+fn copy_of(answer: &Option<Message>) -> Result<Option<Message>, AllocError>
+    ensures { IfOk result (λ copy. copy ≡ answer.now) }
+{
     match answer {
         Some(answer) => Ok(Some(answer.clone()?)),
         None => Ok(None),
@@ -26,7 +31,9 @@ fn copy_of(answer: &Option<Message>) -> Result<Option<Message>, AllocError> {
 
 /// A job that a worker has finished: it was charged, or answered without the book. Jobs of a front are numbered from 1, in
 /// the order in which they were handed over.
-fn event_of(finished: &Finished) -> Result<Event, AllocError> {
+fn event_of(finished: &Finished) -> Result<Event, AllocError>
+    ensures { IfOk result (λ event. event ≡ event_of finished.now) }
+{
     let (front, job) = (finished.front, finished.job);
     let answer = copy_of(&finished.answer)?;
     match (&finished.receipt, finished.moment) {
@@ -58,7 +65,9 @@ impl BookEvents {
     }
 
     /// A job was collected.
-    pub fn collected(&mut self, finished: &Finished) {
+    pub fn collected(&mut self, finished: &Finished)
+        ensures { self.old.is_on ≡ true → self.new.has_failed ≡ false → self.new.events.items ≡ self.old.events.items ++ event_of finished.now ∷ [] }
+    {
         if self.is_on {
             let event = event_of(finished);
             self.keep(event);
@@ -66,7 +75,10 @@ impl BookEvents {
     }
 
     /// A sweep came to this. One that ends no session is not told.
-    pub fn swept(&mut self, moment: Moment, swept: &Result<u64, BookRefusal>) {
+    pub fn swept(&mut self, moment: Moment, swept: &Result<u64, BookRefusal>)
+        ensures { (sessions : ℕ) → swept.now ≡ Ok sessions → 0 < sessions → self.old.is_on ≡ true → self.new.has_failed ≡ false →
+            self.new.events.items ≡ self.old.events.items ++ Event.Sweep moment sessions ∷ [] }
+    {
         if let Ok(sessions) = swept {
             if self.is_on && *sessions > 0 {
                 let sessions = *sessions;
@@ -76,7 +88,10 @@ impl BookEvents {
     }
 
     /// Keeps an event. Nothing is kept behind one that there was no memory for: a record ends there.
-    fn keep(&mut self, event: Result<Event, AllocError>) {
+    fn keep(&mut self, event: Result<Event, AllocError>)
+        ensures kept { self.new.has_failed ≡ false → IfOk event (λ kept. self.new.events.items ≡ self.old.events.items ++ kept ∷ []) }
+        ensures failed { IsErr event → self.new.has_failed ≡ true }
+    {
         if self.has_failed {
             return;
         }
@@ -90,7 +105,9 @@ impl BookEvents {
     }
 
     /// Tells all that was done since it told last.
-    pub fn tell(&mut self, alloc: Global, recorder: &mut Recorder) {
+    pub fn tell(&mut self, alloc: Global, recorder: &mut Recorder)
+        ensures { self.new.events.items ≡ [] }
+    {
         for event in &self.events {
             recorder.tell(alloc, event);
         }

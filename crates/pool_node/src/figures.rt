@@ -1,5 +1,7 @@
 //! What a book has come to, as far as the answers of its fronts were collected.
 
+ghost use Rattle.pool_node.specs.Figures.{HasCollected, HasTaken};
+
 use cc_book::BookRefusal;
 use cc_shared::Receipt;
 use cc_view::{RequestKind, ResultCode};
@@ -34,14 +36,18 @@ impl BookFigures {
     }
 
     /// A job was collected.
-    pub fn collected(&mut self, finished: &Finished) {
+    pub fn collected(&mut self, finished: &Finished)
+        ensures { HasCollected finished.now.receipt self.old self.new }
+    {
         if let Some(receipt) = &finished.receipt {
             self.taken(receipt);
         }
     }
 
     /// A request was served.
-    fn taken(&mut self, receipt: &Receipt) {
+    fn taken(&mut self, receipt: &Receipt)
+        ensures { HasTaken receipt.now self.old self.new }
+    {
         if !receipt.fresh {
             return;
         }
