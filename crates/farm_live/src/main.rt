@@ -1,6 +1,8 @@
 //! Nodes of a Diameter farm over TCP, and a client that sends requests to them.
 //!
-//! - `program`: words, site file, and what is asked for: to serve as a relay or as all fronts, or to send.
+//! - `program`: words, site file, and what is asked for. `setting`: what a process is started with.
+//! - `relay`, `fronts`, `sending`: to serve as a relay or as all fronts, or to send. `serving`, `turns`: what these have in
+//!   common.
 //! - `waker`: how the workers of fronts end the wait of the loop.
 //! - `watching`, `view`, `token`: what it says of itself on its status port, and who may end it there.
 //! - `recording`: the record of what happens, which is written before anything goes to the sockets.
@@ -8,9 +10,15 @@
 #![tactic(auto)]
 
 mod fault;
+mod fronts;
 mod program;
 mod recording;
+mod relay;
+mod sending;
+mod serving;
+mod setting;
 mod token;
+mod turns;
 mod view;
 mod waker;
 mod watching;

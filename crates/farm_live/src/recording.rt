@@ -2,14 +2,13 @@
 
 use crate::Logger;
 use crate::fault::Fault;
+use crate::setting::Setting;
 use cc_book::Book;
 use dia_base::NodeNo;
-use farm_base::Site;
 use farm_loop::Live;
 use farm_node::Node;
 use farm_record::{Event, Recorder};
 use farm_report::report;
-use live_command::LiveCommand;
 use log::warn;
 use std::alloc::{AllocError, Global};
 use std::fs::{File, OpenOptions};
@@ -45,23 +44,31 @@ fn tell_report(alloc: Global, book: &Book, recorder: &mut Recorder) -> Result<()
     Ok(())
 }
 
+/// What happens to these nodes is recorded from now on.
+fn begin_in<O: Clock, N: Node + Drop>(
+    setting: &Setting<'_, O>,
+    nodes: &[NodeNo],
+    is_client: bool,
+    live: &mut Live<N>,
+) -> Result<(), Fault> {
+    let nodes = Vec::from_slice(setting.rt.alloc(), nodes)?;
+    live.begin_record(setting.os, setting.site, nodes, is_client)?;
+    Ok(())
+}
+
 impl Record {
     /// Begins the record that the command asks for, if it does, of a process that is these nodes.
     pub fn begin<O: Clock, N: Node + Drop>(
-        os: &O,
-        rt: &HostRuntime,
-        command: &LiveCommand,
-        site: &Site,
+        setting: &Setting<'_, O>,
         nodes: &[NodeNo],
         is_client: bool,
         live: &mut Live<N>,
     ) -> Result<Record, Fault> {
-        let Some(path) = &command.record_path else {
+        let Some(path) = &setting.command.record_path else {
             return Ok(Record { file: None });
         };
-        let file = file_at(rt, path)?;
-        let nodes = Vec::from_slice(rt.alloc(), nodes)?;
-        live.begin_record(os, site, nodes, is_client)?;
+        let file = file_at(setting.rt, path)?;
+        begin_in(setting, nodes, is_client, live)?;
         Ok(Record { file: Some(file) })
     }
 

@@ -1,10 +1,12 @@
 //! What a serving process says of itself.
 
+use cc_book::Book;
 use dia_base::{NodeNo, PENDING_LIMIT};
 use farm_base::Site;
 use farm_client::Sender;
 use farm_loop::{Live, Served};
 use farm_node::Node;
+use farm_record::Recorder;
 use farm_serve::Standing;
 use farm_status::{BookStatus, Connections, FrontStatus, Peer, PeerState, Source, Status, Work};
 use farm_text::read_text;
@@ -13,7 +15,9 @@ use pool_node::{BookFigures, PoolFronts};
 use relay_core::Relay;
 use std::alloc::{AllocError, Global};
 use std::fs::File;
+use std::rt::Clock;
 use std::sync::Wait;
+use std::thread::Threads;
 
 /// A node that says what its book has come to, if it has one, and how many requests it has passed on and awaits answers for.
 pub trait Booked: Node + Drop {
@@ -23,6 +27,14 @@ pub trait Booked: Node + Drop {
 
     /// What only the node can tell of is recorded.
     fn tell(live: &mut Live<Self>);
+
+    /// The node ends in good order. What its book has come to, if it has one; none where memory was missing.
+    fn end<O: Threads + Wait + Clock>(
+        self,
+        os: &O,
+        alloc: Global,
+        recorder: &mut Recorder,
+    ) -> Option<Book>;
 }
 
 impl Booked for Relay {
@@ -35,6 +47,15 @@ impl Booked for Relay {
     }
 
     fn tell(_live: &mut Live<Relay>) {}
+
+    fn end<O: Threads + Wait + Clock>(
+        self,
+        _os: &O,
+        _alloc: Global,
+        _recorder: &mut Recorder,
+    ) -> Option<Book> {
+        None
+    }
 }
 
 impl Booked for Sender {
@@ -47,6 +68,15 @@ impl Booked for Sender {
     }
 
     fn tell(_live: &mut Live<Sender>) {}
+
+    fn end<O: Threads + Wait + Clock>(
+        self,
+        _os: &O,
+        _alloc: Global,
+        _recorder: &mut Recorder,
+    ) -> Option<Book> {
+        None
+    }
 }
 
 impl<L: Pooling, R: Wait + Drop> Booked for PoolFronts<L, R> {
@@ -60,6 +90,15 @@ impl<L: Pooling, R: Wait + Drop> Booked for PoolFronts<L, R> {
 
     fn tell(live: &mut Live<PoolFronts<L, R>>) {
         live.serving.record_node();
+    }
+
+    fn end<O: Threads + Wait + Clock>(
+        self,
+        os: &O,
+        alloc: Global,
+        recorder: &mut Recorder,
+    ) -> Option<Book> {
+        PoolFronts::end(self, os, alloc, recorder)
     }
 }
 
@@ -96,8 +135,12 @@ fn resident(rt: &HostRuntime) -> Option<u64> {
     let Ok(octets) = read_text(rt.alloc(), &mut file) else {
         return None;
     };
-    let text = std::str::from_utf8(&octets).ok()?;
-    for line in text.lines() {
+    resident_in(std::str::from_utf8(&octets).ok()?)
+}
+
+/// The same, as the lines of a process's status say it.
+fn resident_in(status: &str) -> Option<u64> {
+    for line in status.lines() {
         if let Some(rest) = line.strip_prefix("VmRSS:") {
             let (number, _) = rest.trim().split_once(' ')?;
             let kilobytes = number.parse::<u64>().ok()?;

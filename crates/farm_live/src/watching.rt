@@ -2,12 +2,14 @@
 
 use crate::Logger;
 use crate::fault::Fault;
+use crate::setting::Setting;
 use crate::token::token_at;
 use crate::view::{Booked, View, open_in};
 use dia_base::NodeNo;
 use farm_base::Site;
 use farm_loop::{Live, StatusPort};
 use farm_node::Node;
+use farm_status::Token;
 use live_command::LiveCommand;
 use log::warn;
 use std::net::{IpAddr, Ipv4Addr, Net, SocketAddr};
@@ -49,28 +51,37 @@ fn filling(entries: u64, limit: u64) -> u64 {
     }
 }
 
+/// The token by which whoever may end the process is known, if the command names its file.
+fn token_of(rt: &HostRuntime, command: &LiveCommand) -> Result<Option<Token>, Fault> {
+    match &command.token {
+        Some(path) => Ok(Some(token_at(rt, path)?)),
+        None => Ok(None),
+    }
+}
+
+/// The status port, if the command asks for one.
+fn port_of<O: Net + Clock + RandomSource>(
+    setting: &Setting<'_, O>,
+) -> Result<Option<StatusPort>, Fault> {
+    let token = token_of(setting.rt, setting.command)?;
+    let Some(text) = &setting.command.status else {
+        return Ok(None);
+    };
+    let address = address_of(text)?;
+    match StatusPort::open(setting.os, setting.rt.alloc(), address, token) {
+        Ok(port) => Ok(Some(port)),
+        Err(error) => Err(Fault::Status(error)),
+    }
+}
+
 impl Watching {
     /// What the command asks for beside serving as these nodes.
     pub fn begin<O: Net + Clock + RandomSource>(
-        os: &O,
-        rt: &HostRuntime,
-        command: &LiveCommand,
-        nodes: Vec<NodeNo>,
+        setting: &Setting<'_, O>,
+        nodes: &[NodeNo],
     ) -> Result<Watching, Fault> {
-        let token = match &command.token {
-            Some(path) => Some(token_at(rt, path)?),
-            None => None,
-        };
-        let port = match &command.status {
-            Some(text) => {
-                let address = address_of(text)?;
-                match StatusPort::open(os, rt.alloc(), address, token) {
-                    Ok(port) => Some(port),
-                    Err(error) => return Err(Fault::Status(error)),
-                }
-            }
-            None => None,
-        };
+        let nodes = Vec::from_slice(setting.rt.alloc(), nodes)?;
+        let port = port_of(setting)?;
         Ok(Watching {
             port,
             nodes,
@@ -82,22 +93,19 @@ impl Watching {
     /// asked [`GRACE`] ago.
     pub fn look<O: Clock, N: Node + Drop + Booked>(
         &mut self,
-        os: &O,
-        rt: &HostRuntime,
-        log: &Logger,
-        site: &Site,
+        setting: &Setting<'_, O>,
         live: &Live<N>,
     ) -> Result<bool, Fault> {
-        self.tell_filling(log, site, live);
+        self.tell_filling(setting.log, setting.site, live);
         let Some(port) = &mut self.port else {
             return Ok(false);
         };
-        let Some(uptime) = port.due(os)? else {
+        let Some(uptime) = port.due(setting.os)? else {
             return Ok(false);
         };
         let view = View {
-            rt,
-            site,
+            rt: setting.rt,
+            site: setting.site,
             nodes: &self.nodes,
             live,
             uptime,

@@ -1,8 +1,8 @@
 use Rattle.pool_node.specs.Fronts.{site_of}
-use Rattle.farm_live.proofs.program.serve_fronts.Given as goal
+use Rattle.farm_live.proofs.fronts.serve_fronts.Given as goal
 
 abbrev pub ghosts-serve_on-L-Pooling : goal.ghosts-serve_on-L-Pooling
-ghosts-serve_on-L-Pooling g a = record { site = site_of a.site.now }
+ghosts-serve_on-L-Pooling g a = record { site = site_of a.setting.now.site.now }
 
 abbrev pub ghosts-serve_on-L-Sharing : goal.ghosts-serve_on-L-Sharing
 ghosts-serve_on-L-Sharing g a = record { opened = a.book }

@@ -1,0 +1,153 @@
+//! A process that serves as all fronts of the site.
+
+ghost use Rattle.std.specs.Prelude.{◌≡◌, ◌<◌};
+ghost use Rattle.dia_base.specs.declared.number.NodeNo.{NodeNo};
+ghost use Rattle.farm_base.specs.CheckedSite.{IsChecked};
+ghost use Rattle.pool_node.specs.Fronts.{site_of};
+
+use crate::fault::Fault;
+use crate::serving::serve_over;
+use crate::setting::Setting;
+use crate::waker::LoopWaker;
+use cc_book::Book;
+use cc_shared::SharedBook;
+use dia_avp::ViewWire;
+use dia_base::NodeNo;
+use farm_loop::Sockets;
+use farm_place::{Place, fronts_of, place_of};
+use farm_world::empty_book;
+use front_pool::Pooling;
+use pool_node::{PoolFronts, start_fronts};
+use std::marker::Brand;
+use std::net::Net;
+use std::random::RandomSource;
+use std::rt::Clock;
+use std::sync::Wait;
+use std::sync::ledger::Blank;
+use std::thread::Threads;
+
+/// What fronts are started over.
+#[derive(Drop)]
+struct Ground {
+    places: Vec<Place>,
+    sockets: Sockets,
+    waker: LoopWaker,
+}
+
+/// Serves as all fronts of the site, each with as many workers as the site says, until so many answers were sent, 0 for
+/// ever, or until it is asked to end.
+pub fn serve_fronts<O>(setting: &Setting<'_, O>, answers: u64) -> Result<(), Fault>
+where
+    O: Threads + Wait + Net + Clock + RandomSource + Copy + Send + 'static,
+    requires { IsChecked setting.now.site.now }
+{
+    let (alloc, site) = (setting.rt.alloc(), setting.site);
+    let nodes = fronts_of(alloc, site)?;
+    let ground = ground_of(setting, &nodes)?;
+    let book = empty_book(alloc, site)?;
+    let workers = (nodes.len() as u64)
+        .saturating_mul(u64::from(site.workers))
+        .max(1);
+    let blank = Blank::new(workers);
+    serve_on::<Brand, O>(setting, nodes, ground, blank, book, workers, answers)
+}
+
+/// Where these fronts listen, and sockets of which the workers have the waker.
+fn ground_of<O: Net>(setting: &Setting<'_, O>, nodes: &[NodeNo]) -> Result<Ground, Fault>
+    requires { IsChecked setting.now.site.now }
+{
+    let places = places_of(setting, nodes)?;
+    let sockets = Sockets::new(setting.os, setting.rt.alloc())?;
+    let waker = LoopWaker(sockets.waker()?);
+    Ok(Ground {
+        places,
+        sockets,
+        waker,
+    })
+}
+
+/// The places of these fronts.
+fn places_of<O>(setting: &Setting<'_, O>, nodes: &[NodeNo]) -> Result<Vec<Place>, Fault>
+    requires { IsChecked setting.now.site.now }
+{
+    let mut places = Vec::with_capacity(setting.rt.alloc(), nodes.len())?;
+    for node in nodes {
+        places.push(place_at(setting, *node)?)?;
+    }
+    Ok(places)
+}
+
+/// The place of a front.
+fn place_at<O>(setting: &Setting<'_, O>, node: NodeNo) -> Result<Place, Fault>
+    requires { IsChecked setting.now.site.now }
+{
+    place_of(setting.rt.alloc(), setting.site, node).map_err(Fault::Place)
+}
+
+/// Serves as these fronts, on this book, with so many workers.
+fn serve_on<L, O>(
+    setting: &Setting<'_, O>,
+    nodes: Vec<NodeNo>,
+    ground: Ground,
+    blank: Blank,
+    book: Book,
+    workers: u64,
+    answers: u64,
+) -> Result<(), Fault>
+where
+    L: Pooling + Send + Sync + 'static,
+    O: Threads + Wait + Net + Clock + RandomSource + Copy + Send + 'static,
+    requires checked { IsChecked setting.now.site.now }
+    requires name { blank.name ≡ L.name }
+    requires parts { (blank.parts ≡ L.parts) × (blank.parts ≡ workers) }
+    requires book { book ≡ L.opened }
+    requires some { 0 < workers }
+    requires site { (front : NodeNo) → L.site front ≡ site_of setting.now.site.now front }
+{
+    let Ground {
+        places,
+        sockets,
+        waker,
+    } = ground;
+    let fronts = start_on::<L, O>(setting, &nodes, waker, blank, book, workers)?;
+    serve_over(setting, &nodes, fronts, places, sockets, answers)
+}
+
+/// Starts these fronts on this book. Their workers wake the loop of the process.
+fn start_on<L, O>(
+    setting: &Setting<'_, O>,
+    nodes: &[NodeNo],
+    waker: LoopWaker,
+    blank: Blank,
+    book: Book,
+    workers: u64,
+) -> Result<PoolFronts<L, O>, Fault>
+where
+    L: Pooling + Send + Sync + 'static,
+    O: Threads + Wait + Clock + Copy + Send + 'static,
+    requires checked { IsChecked setting.now.site.now }
+    requires name { blank.name ≡ L.name }
+    requires parts { (blank.parts ≡ L.parts) × (blank.parts ≡ workers) }
+    requires book { book ≡ L.opened }
+    requires some { 0 < workers }
+    requires site { (front : NodeNo) → L.site front ≡ site_of setting.now.site.now front }
+{
+    let (alloc, site) = (setting.rt.alloc(), setting.site);
+    let Ok((shared, seats)) = SharedBook::<L>::share(alloc, blank, book, workers) else {
+        return Err(Fault::OutOfMemory);
+    };
+    let fronts = start_fronts::<ViewWire, L, O, LoopWaker>(
+        *setting.os,
+        alloc,
+        shared,
+        seats,
+        site,
+        nodes,
+        waker,
+    );
+    let mut fronts = fronts?;
+    if setting.command.record_path.is_some() {
+        fronts.begin_record();
+    }
+    Ok(fronts)
+}

@@ -1,0 +1,20 @@
+//! What a process is started with.
+
+use crate::Logger;
+use farm_access::Access;
+use farm_base::Site;
+use live_command::LiveCommand;
+
+/// What a process is started with.
+#[derive(Drop)]
+pub struct Setting<'a, O> {
+    /// Of it come the sockets, the threads, and the leave to wait.
+    pub os: &'a O,
+    /// Of it come files, standard streams and memory.
+    pub rt: &'a HostRuntime,
+    pub log: &'a Logger,
+    pub command: &'a LiveCommand,
+    pub site: &'a Site,
+    /// Who may connect from where.
+    pub access: &'a Access,
+}
