@@ -1,17 +1,17 @@
-//! A node that counts what it is told, at a connection over streams in memory.
+//! A node that counts what it is told.
 
 use crate::messages::{FRONT, locals};
-use crate::streams::Failing;
+use crate::served::{MOMENT, Served, accept, read};
+use crate::streams::Limits;
 use dia_avp::{ViewWire, Wire};
 use dia_base::{ConnId, Moment, NodeNo};
 use dia_message::Message;
-use farm_net::Counted;
 use farm_node::{Node, Reaction};
 use farm_serve::Serving;
 use std::alloc::Global;
 
 /// A node that counts what it is told.
-#[derive(Drop)]
+#[derive(Clone, Copy)]
 pub struct Counting {
     pub ups: u32,
     pub messages: u32,
@@ -51,7 +51,7 @@ impl Node for Counting {
 
 impl Counting {
     /// A node that was told nothing.
-    pub fn new() -> Self {
+    fn new() -> Self {
         Counting {
             ups: 0,
             messages: 0,
@@ -62,23 +62,24 @@ impl Counting {
     }
 }
 
-pub type Reader<'a> = Counted<Failing<&'a [u8]>>;
+/// The front f1.example as such a node, without connections.
+pub fn serving<'a>(alloc: Global) -> anyhow::Result<Served<'a, Counting>> {
+    Ok(Serving::new(alloc, Counting::new(), locals(alloc)?))
+}
 
-pub type Writer = Counted<Failing<Vec<u8>>>;
-
-/// What serves one connection.
-pub type Served<'a> = Serving<Counting, Reader<'a>, Writer>;
-
-/// Serves a connection for three turns and an interval.
-pub fn serve<'a>(alloc: Global, reader: Reader<'a>, writer: Writer) -> anyhow::Result<Served<'a>> {
-    let mut serving = Serving::new(alloc, Counting::new(), locals(alloc)?);
-    if let Ok(conn) = serving.accept(FRONT, Vec::new(alloc), reader, writer, Moment(1_000)) {
-        let mut piece = [0u8; 4_096];
+/// Serves one connection for three turns and an interval.
+pub fn serve<'a>(
+    alloc: Global,
+    serving: &mut Served<'a, Counting>,
+    octets: &'a [u8],
+    reads: Limits,
+    writes: Limits,
+) {
+    if let Ok(conn) = accept(alloc, serving, FRONT, octets, reads, writes) {
         for _ in 0..3 {
-            serving.readable::<ViewWire>(conn, &mut piece, Moment(1_000));
-            serving.write_all::<ViewWire>(Moment(1_000));
+            read(serving, conn, MOMENT);
+            serving.write_all::<ViewWire>(MOMENT);
         }
         serving.tick::<ViewWire>(Moment(31_000));
     }
-    Ok(serving)
 }

@@ -1,14 +1,15 @@
 //! A connection that is cut behind each octet of a message.
 
-use crate::counting::{Reader, Writer, serve};
+use crate::counting::{Counting, serve, serving};
 use crate::messages::{CEA, CER, octets};
-use crate::streams::{cut_behind, failing_from, sound};
+use crate::served::Served;
+use crate::streams::Limits;
 use dia_base::Moment;
 use std::alloc::Global;
 use std::io::ErrorKind;
 
 /// What connections came to: how many were up, lost, and wrote a beginning of the answer to their end.
-#[derive(Drop)]
+#[derive(Clone, Copy)]
 struct Sum {
     up: u32,
     lost: u32,
@@ -24,15 +25,8 @@ impl Sum {
         }
     }
 
-    /// Serves one connection more, on which `answer` is what may be written.
-    fn add(
-        &mut self,
-        alloc: Global,
-        reader: Reader<'_>,
-        writer: Writer,
-        answer: &[u8],
-    ) -> anyhow::Result<()> {
-        let mut serving = serve(alloc, reader, writer)?;
+    /// One connection more, which was served, and on which `answer` is what may be written.
+    fn count(&mut self, serving: &mut Served<'_, Counting>, answer: &[u8]) {
         let node = serving.node();
         self.up = self.up.saturating_add(node.ups);
         self.lost = self.lost.saturating_add(node.lost);
@@ -42,6 +36,20 @@ impl Sum {
                 self.octets = self.octets.saturating_add(written.len());
             }
         }
+    }
+
+    /// Serves one connection more.
+    fn add(
+        &mut self,
+        alloc: Global,
+        octets: &[u8],
+        reads: Limits,
+        writes: Limits,
+        answer: &[u8],
+    ) -> anyhow::Result<()> {
+        let mut serving = serving(alloc)?;
+        serve(alloc, &mut serving, octets, reads, writes);
+        self.count(&mut serving, answer);
         Ok(())
     }
 }
@@ -50,8 +58,8 @@ impl Sum {
 fn print_of_request(rt: &impl Print, alloc: Global, cer: &[u8], cea: &[u8]) -> anyhow::Result<()> {
     let mut sum = Sum::none();
     for behind in 0..=cer.len() {
-        let writer = sound(Vec::new(alloc));
-        sum.add(alloc, cut_behind(cer, behind), writer, cea)?;
+        let cut = Limits::fails_behind(behind, ErrorKind::ConnectionReset);
+        sum.add(alloc, cer, cut, Limits::none(), cea)?;
     }
     println!(rt;
         "cut behind 0 to 128 octets of a request: {} up, {} lost, {} octets written",
@@ -62,10 +70,11 @@ fn print_of_request(rt: &impl Print, alloc: Global, cer: &[u8], cea: &[u8]) -> a
 
 /// Cut while its answer is written: behind 0 to 139 of its 140 octets.
 fn print_of_answer(rt: &impl Print, alloc: Global, cer: &[u8], cea: &[u8]) -> anyhow::Result<()> {
+    let waits = Limits::fails_from(1, ErrorKind::WouldBlock);
     let mut sum = Sum::none();
     for behind in 0..cea.len() {
-        let reader = failing_from(cer, 1, ErrorKind::WouldBlock);
-        sum.add(alloc, reader, cut_behind(Vec::new(alloc), behind), cea)?;
+        let cut = Limits::fails_behind(behind, ErrorKind::ConnectionReset);
+        sum.add(alloc, cer, waits, cut, cea)?;
     }
     println!(rt;
         "cut behind 0 to 139 octets of an answer: {} up, {} lost, {} octets written",
@@ -74,9 +83,15 @@ fn print_of_answer(rt: &impl Print, alloc: Global, cer: &[u8], cea: &[u8]) -> an
     Ok(())
 }
 
+/// A connection for each octet of a request and of its answer.
+fn print_both(rt: &impl Print, alloc: Global, cer: &[u8], cea: &[u8]) -> anyhow::Result<()> {
+    print_of_request(rt, alloc, cer, cea)?;
+    print_of_answer(rt, alloc, cer, cea)
+}
+
 /// A connection for each octet.
 pub fn print_all(rt: &impl Print, alloc: Global) -> anyhow::Result<()> {
-    let (cer, cea) = (octets(alloc, &[CER])?, octets(alloc, &[CEA])?);
-    print_of_request(rt, alloc, cer.as_slice(), cea.as_slice())?;
-    print_of_answer(rt, alloc, cer.as_slice(), cea.as_slice())
+    let cer = octets(alloc, &[CER])?;
+    let cea = octets(alloc, &[CEA])?;
+    print_both(rt, alloc, &cer, &cea)
 }

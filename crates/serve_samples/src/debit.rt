@@ -1,82 +1,91 @@
 //! The first debit, through all fronts of a site.
 
-use crate::messages::{CER, DEBIT, FRONT, locals, octets};
-use crate::streams::{failing_from, sound};
-use cc_book::{Account, Book, Money};
-use cc_rating::{Tariff, Tariffs, UnitKind};
-use dia_avp::{Octets, ViewWire};
-use dia_base::{Identity, Listing, Moment};
-use farm_serve::{FrontAt, Fronts, Serving};
-use front_core::Front;
+use crate::fronts::serving;
+use crate::messages::{CER, DEBIT, octets};
+use crate::served::{MOMENT, Served, accept, read, written};
+use crate::streams::Limits;
+use dia_avp::ViewWire;
+use dia_base::{ConnId, NodeNo};
+use farm_serve::{Fronts, Refusal};
 use std::alloc::Global;
 use std::io::ErrorKind;
 
-/// A book of one account of 1000, and 5 for each 1000 octets of group 10.
-pub fn book(alloc: Global) -> anyhow::Result<Book> {
-    let account = Account {
-        id_kind: 0,
-        id: Octets::copy_of(alloc, b"491700000001")?,
-        opening: 1_000,
-    };
-    let tariff = Tariff {
-        group: Some(10),
-        ident: None,
-        kind: UnitKind::Octets,
-        block: 1_000,
-        price: 5,
-        quantum: 5_000,
-        greatest: 10_000,
-    };
-    let money = Money {
-        currency: 978,
-        exponent: -2,
-    };
-    let tariffs = Tariffs::new(alloc, vec![in alloc; tariff]?)?;
-    let accounts = vec![in alloc; account]?;
-    Ok(Book::new(alloc, accounts, tariffs, 600, money, 10)?)
+/// A connection of the relay with this front, on which it asks.
+fn connect<'a>(
+    alloc: Global,
+    serving: &mut Served<'a, Fronts>,
+    front: NodeNo,
+    asked: &'a [u8],
+) -> Result<ConnId, Refusal> {
+    let reads = Limits::fails_from(1, ErrorKind::WouldBlock);
+    accept(alloc, serving, front, asked, reads, Limits::none())
 }
 
-/// A front of this name, with one worker.
-pub fn front_called(alloc: Global, name: &[u8]) -> anyhow::Result<Front> {
-    Ok(Front::new(
-        alloc,
-        Identity::read(alloc, name)?,
-        Identity::read(alloc, b"ocs.example")?,
-        Listing::empty(alloc),
-        1,
-        1,
-    )?)
+/// A connection with each of these fronts.
+fn connect_all<'a>(
+    alloc: Global,
+    serving: &mut Served<'a, Fronts>,
+    names: &[(NodeNo, &str)],
+    asked: &'a [u8],
+) -> anyhow::Result<Vec<ConnId>> {
+    let mut conns = Vec::new(alloc);
+    for (front, _) in names {
+        conns.push(connect(alloc, serving, *front, asked)?)?;
+    }
+    Ok(conns)
 }
 
-/// The front f1.example.
-pub fn front(alloc: Global) -> anyhow::Result<Front> {
-    front_called(alloc, b"f1.example")
+/// What has come is read, on the last connection first, and the answers are written.
+fn hear_all(serving: &mut Served<'_, Fronts>, conns: &[ConnId]) {
+    serving.tick::<ViewWire>(MOMENT);
+    for conn in conns.iter().rev() {
+        read(serving, *conn, MOMENT);
+    }
+    serving.write_all::<ViewWire>(MOMENT);
 }
 
-/// Prints what the front writes, how many answers it has sent, and the balance.
-pub fn print(rt: &impl Print, alloc: Global) -> anyhow::Result<()> {
-    let asked = octets(alloc, &[CER, DEBIT])?;
-    let front = front(alloc)?;
-    let fronts = vec![in alloc; FrontAt { node: FRONT, front }]?;
-    let mut serving = Serving::new(alloc, Fronts::new(fronts, book(alloc)?), locals(alloc)?);
-    let reader = failing_from(asked.as_slice(), 1, ErrorKind::WouldBlock);
-    if let Ok(conn) = serving.accept(
-        FRONT,
-        Vec::new(alloc),
-        reader,
-        sound(Vec::new(alloc)),
-        Moment(1_000),
-    ) {
-        serving.tick::<ViewWire>(Moment(1_000));
-        let mut piece = [0u8; 4_096];
-        serving.readable::<ViewWire>(conn, &mut piece, Moment(1_000));
-        serving.write_all::<ViewWire>(Moment(1_000));
-        if let Some(link) = serving.link(conn) {
-            let written = link.conn.writer().device().stream.as_slice();
-            println!(rt; "{}", hex::encode(alloc, written)?)?;
-        }
+/// Prints what is written on a connection.
+fn print_written(
+    rt: &impl Print,
+    alloc: Global,
+    serving: &Served<'_, Fronts>,
+    conn: ConnId,
+) -> anyhow::Result<()> {
+    println!(rt; "{}", hex::encode(alloc, written(serving, conn))?)?;
+    Ok(())
+}
+
+/// Prints what is written on each connection, how many answers the fronts have sent, and the balance.
+fn print_charged(
+    rt: &impl Print,
+    alloc: Global,
+    serving: &Served<'_, Fronts>,
+    conns: &[ConnId],
+) -> anyhow::Result<()> {
+    for conn in conns {
+        print_written(rt, alloc, serving, *conn)?;
     }
     let balance = serving.node().book().balance(0).unwrap_or(0);
     println!(rt; "answers {} balance {balance}", serving.answers())?;
     Ok(())
+}
+
+/// Asks each of these fronts.
+fn ask<'a>(
+    rt: &impl Print,
+    alloc: Global,
+    serving: &mut Served<'a, Fronts>,
+    names: &[(NodeNo, &str)],
+    asked: &'a [u8],
+) -> anyhow::Result<()> {
+    let conns = connect_all(alloc, serving, names, asked)?;
+    hear_all(serving, &conns);
+    print_charged(rt, alloc, serving, &conns)
+}
+
+/// Asks each of these fronts, which are one process, for the same debit on a connection of its own.
+pub fn print(rt: &impl Print, alloc: Global, names: &[(NodeNo, &str)]) -> anyhow::Result<()> {
+    let asked = octets(alloc, &[CER, DEBIT])?;
+    let mut serving = serving(alloc, names)?;
+    ask(rt, alloc, &mut serving, names, &asked)
 }

@@ -1,92 +1,92 @@
-//! Two fronts in one process, each with a connection of the relay.
+//! Fronts of a site, on one book.
 
-use crate::debit::{book, front_called};
-use crate::messages::{CER, DEBIT, FRONT, SECOND, local, octets};
-use crate::streams::{Failing, failing_from, sound};
-use dia_avp::ViewWire;
-use dia_base::{ConnId, Moment, NodeNo};
-use farm_net::Counted;
+use crate::messages::{FRONT, SECOND, local};
+use crate::served::Served;
+use cc_book::{Account, Book, Money};
+use cc_rating::{Tariff, Tariffs, UnitKind};
+use dia_avp::Octets;
+use dia_base::{Identity, Listing, NodeNo};
 use farm_serve::{FrontAt, Fronts, LocalNode, Serving};
+use front_core::Front;
 use std::alloc::Global;
-use std::io::ErrorKind;
 
-const MOMENT: Moment = Moment(1_001);
+/// The front f1.example.
+pub const FIRST: (NodeNo, &str) = (FRONT, "f1.example");
 
-type Served<'a> = Serving<Fronts, Counted<Failing<&'a [u8]>>, Counted<Failing<Vec<u8>>>>;
+/// Both fronts.
+pub const BOTH: [(NodeNo, &str); 2] = [FIRST, (SECOND, "f2.example")];
 
-/// The fronts f1.example and f2.example, on one book.
-fn fronts(alloc: Global) -> anyhow::Result<Fronts> {
-    let (first, second) = (
-        front_called(alloc, b"f1.example")?,
-        front_called(alloc, b"f2.example")?,
-    );
-    let first = FrontAt {
-        node: FRONT,
-        front: first,
+/// One account of 1000.
+fn accounts(alloc: Global) -> anyhow::Result<Vec<Account>> {
+    let account = Account {
+        id_kind: 0,
+        id: Octets::copy_of(alloc, b"491700000001")?,
+        opening: 1_000,
     };
-    let second = FrontAt {
-        node: SECOND,
-        front: second,
+    Ok(vec![in alloc; account]?)
+}
+
+/// 5 for each 1000 octets of group 10.
+fn tariffs(alloc: Global) -> anyhow::Result<Tariffs> {
+    let tariff = Tariff {
+        group: Some(10),
+        ident: None,
+        kind: UnitKind::Octets,
+        block: 1_000,
+        price: 5,
+        quantum: 5_000,
+        greatest: 10_000,
     };
-    let fronts = vec![in alloc; first, second]?;
+    Ok(Tariffs::new(alloc, vec![in alloc; tariff]?)?)
+}
+
+/// A book of one account of 1000, and 5 for each 1000 octets of group 10.
+fn book(alloc: Global) -> anyhow::Result<Book> {
+    let accounts = accounts(alloc)?;
+    let tariffs = tariffs(alloc)?;
+    let money = Money {
+        currency: 978,
+        exponent: -2,
+    };
+    Ok(Book::new(alloc, accounts, tariffs, 600, money, 10)?)
+}
+
+/// A front of this name, with one worker.
+fn front(alloc: Global, name: &[u8]) -> anyhow::Result<Front> {
+    let name = Identity::read(alloc, name)?;
+    let realm = Identity::read(alloc, b"ocs.example")?;
+    Ok(Front::new(alloc, name, realm, Listing::empty(alloc), 1, 1)?)
+}
+
+/// The fronts at these nodes, by their names.
+fn fronts_at(alloc: Global, names: &[(NodeNo, &str)]) -> anyhow::Result<Vec<FrontAt>> {
+    let mut fronts = Vec::new(alloc);
+    for (node, name) in names {
+        fronts.push(FrontAt {
+            node: *node,
+            front: front(alloc, name.as_bytes())?,
+        })?;
+    }
+    Ok(fronts)
+}
+
+/// These fronts on one book.
+pub fn fronts(alloc: Global, names: &[(NodeNo, &str)]) -> anyhow::Result<Fronts> {
+    let fronts = fronts_at(alloc, names)?;
     Ok(Fronts::new(fronts, book(alloc)?))
 }
 
-/// What their connections know of each.
-fn locals(alloc: Global) -> anyhow::Result<Vec<LocalNode>> {
-    let (first, second) = (
-        local(alloc, FRONT, b"f1.example")?,
-        local(alloc, SECOND, b"f2.example")?,
-    );
-    Ok(vec![in alloc; first, second]?)
-}
-
-/// A connection with the front that is this node, on which this has come.
-fn accept<'a>(
-    alloc: Global,
-    serving: &mut Served<'a>,
-    node: NodeNo,
-    asked: &'a [u8],
-) -> Option<ConnId> {
-    let reader = failing_from(asked, 1, ErrorKind::WouldBlock);
-    let writer = sound(Vec::new(alloc));
-    serving
-        .accept(node, Vec::new(alloc), reader, writer, MOMENT)
-        .ok()
-}
-
-/// Prints what is written on a connection.
-fn print_written(
-    rt: &impl Print,
-    alloc: Global,
-    serving: &Served<'_>,
-    conn: ConnId,
-) -> anyhow::Result<()> {
-    if let Some(link) = serving.link(conn) {
-        let written = link.conn.writer().device().stream.as_slice();
-        println!(rt; "{}", hex::encode(alloc, written)?)?;
+/// What the connections of these fronts know of them.
+fn locals(alloc: Global, names: &[(NodeNo, &str)]) -> anyhow::Result<Vec<LocalNode>> {
+    let mut locals = Vec::new(alloc);
+    for (node, name) in names {
+        locals.push(local(alloc, *node, name.as_bytes())?)?;
     }
-    Ok(())
+    Ok(locals)
 }
 
-/// Asks each of both fronts for the same debit, the second one first. Prints what each writes, and the balance.
-pub fn print(rt: &impl Print, alloc: Global) -> anyhow::Result<()> {
-    let asked = octets(alloc, &[CER, DEBIT])?;
-    let mut serving = Serving::new(alloc, fronts(alloc)?, locals(alloc)?);
-    let (Some(first), Some(second)) = (
-        accept(alloc, &mut serving, FRONT, &asked),
-        accept(alloc, &mut serving, SECOND, &asked),
-    ) else {
-        return Ok(());
-    };
-    let mut piece = [0u8; 4_096];
-    serving.tick::<ViewWire>(MOMENT);
-    serving.readable::<ViewWire>(second, &mut piece, MOMENT);
-    serving.readable::<ViewWire>(first, &mut piece, MOMENT);
-    serving.write_all::<ViewWire>(MOMENT);
-    print_written(rt, alloc, &serving, first)?;
-    print_written(rt, alloc, &serving, second)?;
-    let balance = serving.node().book().balance(0).unwrap_or(0);
-    println!(rt; "answers {} balance {balance}", serving.answers())?;
-    Ok(())
+/// These fronts, without connections.
+pub fn serving<'a>(alloc: Global, names: &[(NodeNo, &str)]) -> anyhow::Result<Served<'a, Fronts>> {
+    let locals = locals(alloc, names)?;
+    Ok(Serving::new(alloc, fronts(alloc, names)?, locals))
 }

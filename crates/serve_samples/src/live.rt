@@ -3,8 +3,9 @@
 
 ghost use Rattle.farm_base.specs.CheckedSite.{IsChecked};
 
-use crate::debit::{book, front};
+use crate::fronts::{FIRST, fronts};
 use crate::messages::{DEBIT, FRONT, RELAY};
+use crate::site::{relay, site_of, site_text};
 use dia_base::NodeNo;
 use farm_access::Access;
 use farm_base::Site;
@@ -12,13 +13,11 @@ use farm_client::{Sender, line_of, messages_of};
 use farm_loop::Live;
 use farm_node::Node;
 use farm_place::{Place, place_of, place_of_client, place_of_relay};
-use farm_serve::{FrontAt, Fronts};
-use farm_site::site_of_octets;
-use farm_world::relays_of;
+use farm_serve::Fronts;
 use log::sink::Console;
 use log::{LevelFilter, Logged};
 use relay_core::Relay;
-use std::time::{SystemTime, UNIX_EPOCH};
+use std::alloc::Global;
 
 /// The client c1.example.
 const CLIENT: NodeNo = NodeNo(1);
@@ -26,35 +25,12 @@ const CLIENT: NodeNo = NodeNo(1);
 /// How many turns each of them has at most, of 100 milliseconds where nothing happens.
 const TURNS: u32 = 100;
 
-/// The site but for the addresses. The front f1.example is the node that `FRONT` is.
-const SITE: &str = r#"
-realm = "ocs.example"
-validity = 600
-currency = 978
-exponent = -2
-watchdog = 10000
-link = [{ from = "c1.example", to = "r1.example" }, { from = "r1.example", to = "f1.example" }]
-route = [{ at = "r1.example", realm = "ocs.example", app = 4, peers = ["f1.example"] }]
-"#;
-
-/// The site, with addresses on this machine which another run of this program has not at the same time.
-pub fn site_text(rt: &HostRuntime) -> anyhow::Result<String> {
-    let nanos = match SystemTime::now(rt)?.duration_since(UNIX_EPOCH) {
-        Ok(since) => since.subsec_nanos(),
-        Err(_) => 0,
-    };
-    let (high, middle, low) = (
-        1 + nanos / 65_536 % 254,
-        1 + nanos / 256 % 254,
-        1 + nanos % 254,
-    );
-    let host = format!(in rt.alloc(); "127.{high}.{middle}.{low}")?;
-    Ok(format!(in rt.alloc();
-        "{SITE}node = [\n\
-        {{ name = \"r1.example\", kind = \"relay\", address = \"{host}:3868\" }},\n\
-        {{ name = \"c1.example\", kind = \"client\" }},\n\
-        {{ name = \"f1.example\", kind = \"front\", address = \"{host}:3869\" }},\n]\n"
-    )?)
+/// A front, a relay and a client, each as a process would be.
+#[derive(Drop)]
+struct Farm<'a> {
+    front: &'a mut Live<Fronts>,
+    relay: &'a mut Live<Relay>,
+    client: &'a mut Live<Sender>,
 }
 
 /// A process of one node.
@@ -80,6 +56,17 @@ fn record<N: Node + Drop>(
     Ok(live.begin_record(rt, site, nodes, is_client)?)
 }
 
+/// A turn of a process, of which nothing is told.
+fn turn<N: Node + Drop>(
+    rt: &HostRuntime,
+    site: &Site,
+    access: &Access,
+    live: &mut Live<N>,
+) -> anyhow::Result<()> {
+    let log = Logged::new(*rt, LevelFilter::Off, Console(*rt));
+    Ok(live.turn(rt, &log, site, access)?)
+}
+
 /// Prints what a process has recorded: of each line the first word, but for moments.
 fn print_record(rt: &HostRuntime, name: &str, lines: &[u8]) -> anyhow::Result<()> {
     print!(rt; "{name}:")?;
@@ -97,86 +84,123 @@ fn print_record(rt: &HostRuntime, name: &str, lines: &[u8]) -> anyhow::Result<()
 fn front_of(rt: &HostRuntime, site: &Site) -> anyhow::Result<Live<Fronts>>
     requires { IsChecked site.now }
 {
-    let front = front(rt.alloc())?;
-    let at = vec![in rt.alloc(); FrontAt { node: FRONT, front }]?;
     let place = place_of(rt.alloc(), site, FRONT)?;
-    live(rt, site, Fronts::new(at, book(rt.alloc())?), place)
+    live(rt, site, fronts(rt.alloc(), &[FIRST])?, place)
 }
 
-fn relay_of(rt: &HostRuntime, site: &Site) -> anyhow::Result<Option<Live<Relay>>>
+fn relay_of(rt: &HostRuntime, site: &Site) -> anyhow::Result<Live<Relay>>
     requires { IsChecked site.now }
 {
     let place = place_of_relay(rt.alloc(), site, b"r1.example")?;
-    match relays_of(rt.alloc(), site)?.pop() {
-        Some(at) => Ok(Some(live(rt, site, at.relay, place)?)),
-        None => Ok(None),
-    }
+    live(rt, site, relay(rt.alloc(), site)?, place)
+}
+
+/// The client, which has the debit to send.
+fn sender(alloc: Global) -> anyhow::Result<Sender> {
+    Ok(Sender::new(alloc, messages_of(alloc, DEBIT.as_bytes())?))
 }
 
 fn client_of(rt: &HostRuntime, site: &Site) -> anyhow::Result<Live<Sender>>
     requires { IsChecked site.now }
 {
     let place = place_of_client(rt.alloc(), site, b"c1.example", b"r1.example")?;
-    let sender = Sender::new(rt.alloc(), messages_of(rt.alloc(), DEBIT.as_bytes())?);
-    let mut client = live(rt, site, sender, place)?;
-    client.listens_nowhere();
-    Ok(client)
+    live(rt, site, sender(rt.alloc())?, place)
 }
 
-/// What tells nothing.
-type Logger = Logged<HostRuntime, Console<HostRuntime>>;
+impl Farm<'_> {
+    /// Turns of the front and the relay until they are connected, and one more, in which the relay listens.
+    fn connect(&mut self, rt: &HostRuntime, site: &Site, access: &Access) -> anyhow::Result<()> {
+        for _ in 0..TURNS {
+            turn(rt, site, access, self.front)?;
+            let links = self.relay.serving.links();
+            let is_up = links.iter().any(|link| link.standing.peer().is_some());
+            turn(rt, site, access, self.relay)?;
+            if is_up {
+                break;
+            }
+        }
+        Ok(())
+    }
 
-/// Turns of the front and the relay until they are connected, and one more, in which the relay listens.
-fn connect(
+    /// Turns of all three until the client is answered.
+    fn ask(&mut self, rt: &HostRuntime, site: &Site, access: &Access) -> anyhow::Result<()> {
+        for _ in 0..TURNS {
+            turn(rt, site, access, self.client)?;
+            turn(rt, site, access, self.relay)?;
+            turn(rt, site, access, self.front)?;
+            if self.client.serving.node().is_done() {
+                break;
+            }
+        }
+        Ok(())
+    }
+
+    /// The client begins once the relay listens. All three are recorded. Prints what has come of it.
+    fn run(&mut self, rt: &HostRuntime, site: &Site, access: &Access) -> anyhow::Result<()> {
+        record(rt, site, self.front, FRONT, false)?;
+        record(rt, site, self.relay, RELAY, false)?;
+        self.connect(rt, site, access)?;
+        self.client.listens_nowhere();
+        record(rt, site, self.client, CLIENT, true)?;
+        self.ask(rt, site, access)?;
+        self.print(rt)
+    }
+
+    /// Prints what the client is answered, and what each of the three has recorded.
+    fn print(&self, rt: &HostRuntime) -> anyhow::Result<()> {
+        for answer in self.client.serving.node().answers() {
+            rt.print(&line_of(rt.alloc(), answer)?)?;
+        }
+        print_record(rt, "client", self.client.serving.recorder().lines())?;
+        print_record(rt, "relay", self.relay.serving.recorder().lines())?;
+        print_record(rt, "front", self.front.serving.recorder().lines())
+    }
+}
+
+/// Runs the farm of a site with this front and this relay.
+fn run_client(
     rt: &HostRuntime,
-    log: &Logger,
     site: &Site,
     access: &Access,
     front: &mut Live<Fronts>,
     relay: &mut Live<Relay>,
-) -> anyhow::Result<()> {
-    for _ in 0..TURNS {
-        front.turn(rt, log, site, access)?;
-        let is_up = relay
-            .serving
-            .links()
-            .iter()
-            .any(|link| link.standing.peer().is_some());
-        relay.turn(rt, log, site, access)?;
-        if is_up {
-            break;
-        }
-    }
-    Ok(())
+) -> anyhow::Result<()>
+    requires { IsChecked site.now }
+{
+    let mut client = client_of(rt, site)?;
+    let mut farm = Farm {
+        front,
+        relay,
+        client: &mut client,
+    };
+    farm.run(rt, site, access)
+}
+
+/// The same with this front.
+fn run_relay(
+    rt: &HostRuntime,
+    site: &Site,
+    access: &Access,
+    front: &mut Live<Fronts>,
+) -> anyhow::Result<()>
+    requires { IsChecked site.now }
+{
+    let mut relay = relay_of(rt, site)?;
+    run_client(rt, site, access, front, &mut relay)
+}
+
+/// Runs the farm of a site.
+fn run(rt: &HostRuntime, site: &Site, access: &Access) -> anyhow::Result<()>
+    requires { IsChecked site.now }
+{
+    let mut front = front_of(rt, site)?;
+    run_relay(rt, site, access, &mut front)
 }
 
 /// Prints what the client is answered, and what each of the three has recorded.
 pub fn print(rt: &HostRuntime) -> anyhow::Result<()> {
-    let log = Logged::new(*rt, LevelFilter::Off, Console(*rt));
     let text = site_text(rt)?;
-    let site = site_of_octets(rt.alloc(), text.as_bytes())?;
     let access = Access::read(rt.alloc(), text.as_bytes())?;
-    let mut front = front_of(rt, &site)?;
-    let Some(mut relay) = relay_of(rt, &site)? else {
-        return Ok(());
-    };
-    record(rt, &site, &mut front, FRONT, false)?;
-    record(rt, &site, &mut relay, RELAY, false)?;
-    connect(rt, &log, &site, &access, &mut front, &mut relay)?;
-    let mut client = client_of(rt, &site)?;
-    record(rt, &site, &mut client, CLIENT, true)?;
-    for _ in 0..TURNS {
-        client.turn(rt, &log, &site, &access)?;
-        relay.turn(rt, &log, &site, &access)?;
-        front.turn(rt, &log, &site, &access)?;
-        if client.serving.node().is_done() {
-            break;
-        }
-    }
-    for answer in client.serving.node().answers() {
-        rt.print(&line_of(rt.alloc(), answer)?)?;
-    }
-    print_record(rt, "client", client.serving.recorder().lines())?;
-    print_record(rt, "relay", relay.serving.recorder().lines())?;
-    print_record(rt, "front", front.serving.recorder().lines())
+    let site = site_of(rt.alloc(), &text)?;
+    run(rt, &site, &access)
 }

@@ -1,69 +1,58 @@
 //! A connection for each way to end.
 
-use crate::counting::{Reader, Writer, serve};
+use crate::counting::{Counting, serve, serving};
 use crate::messages::{CER, DPR, DWR, octets};
-use crate::streams::{failing_from, sound};
+use crate::served::{Served, let_go};
+use crate::streams::Limits;
 use dia_base::Moment;
 use std::alloc::Global;
 use std::io::ErrorKind;
 
-/// Serves a connection, and prints what the node was told and why it has ended.
-fn print(
+/// Prints what the node was told, and why connections have ended: of one connection that is once.
+fn print_ends(
     rt: &impl Print,
-    alloc: Global,
     name: &str,
-    reader: Reader<'_>,
-    writer: Writer,
+    serving: &mut Served<'_, Counting>,
 ) -> anyhow::Result<()> {
-    let mut serving = serve(alloc, reader, writer)?;
-    let node = serving.node();
-    let told = format!(in alloc;
-        "up {} message {} lost {}",
-        node.ups, node.messages, node.lost
-    )?;
+    let node = *serving.node();
     for _ in 0..2 {
-        if let Some(ended) = serving.take_ended(Moment(31_000)) {
-            println!(rt; "{name}: {told}: {}", ended.why)?;
+        if let Some((_, why)) = let_go(serving, Moment(31_000)) {
+            println!(rt;
+                "{name}: up {} message {} lost {}: {why}",
+                node.ups, node.messages, node.lost
+            )?;
         }
     }
     Ok(())
 }
 
+/// Serves a connection on which these messages come, and prints what the node was told and why it has ended.
+fn print(
+    rt: &impl Print,
+    alloc: Global,
+    name: &str,
+    texts: &[&str],
+    reads: Limits,
+    writes: Limits,
+) -> anyhow::Result<()> {
+    let octets = octets(alloc, texts)?;
+    let mut serving = serving(alloc)?;
+    serve(alloc, &mut serving, &octets, reads, writes);
+    print_ends(rt, name, &mut serving)
+}
+
 /// A connection for each way to end.
 pub fn print_all(rt: &impl Print, alloc: Global) -> anyhow::Result<()> {
-    let cer = octets(alloc, &[CER])?;
-    let reset = ErrorKind::ConnectionReset;
-    let later = ErrorKind::WouldBlock;
-    let out = || sound(Vec::new(alloc));
-
-    print(
-        rt,
-        alloc,
-        "read",
-        failing_from(cer.as_slice(), 1, reset),
-        out(),
-    )?;
-    let refusing = failing_from(Vec::new(alloc), 0, reset);
-    print(
-        rt,
-        alloc,
-        "write",
-        failing_from(cer.as_slice(), 1, later),
-        refusing,
-    )?;
-    print(rt, alloc, "end", sound(cer.as_slice()), out())?;
-    let mut torn = octets(alloc, &[CER])?;
-    torn.push(2)?;
-    print(rt, alloc, "frame", sound(torn.as_slice()), out())?;
-    let parting = octets(alloc, &[CER, DPR])?;
-    print(rt, alloc, "disconnect", sound(parting.as_slice()), out())?;
-    let early = octets(alloc, &[DWR])?;
-    print(rt, alloc, "no capabilities", sound(early.as_slice()), out())?;
-    print(
-        rt,
-        alloc,
-        "nothing",
-        failing_from([].as_slice(), 0, later),
-        out(),
-    )
+    let none = Limits::none();
+    let reset = Limits::fails_from(1, ErrorKind::ConnectionReset);
+    let refused = Limits::fails_from(0, ErrorKind::ConnectionReset);
+    let waits = Limits::fails_from(1, ErrorKind::WouldBlock);
+    let silent = Limits::fails_from(0, ErrorKind::WouldBlock);
+    print(rt, alloc, "read", &[CER], reset, none)?;
+    print(rt, alloc, "write", &[CER], waits, refused)?;
+    print(rt, alloc, "end", &[CER], none, none)?;
+    print(rt, alloc, "frame", &[CER, "02"], none, none)?;
+    print(rt, alloc, "disconnect", &[CER, DPR], none, none)?;
+    print(rt, alloc, "no capabilities", &[DWR], none, none)?;
+    print(rt, alloc, "nothing", &[], silent, none)
 }

@@ -61,11 +61,17 @@ pub fn locals(alloc: Global) -> anyhow::Result<Vec<LocalNode>> {
     Ok(vec![in alloc; local(alloc, FRONT, b"f1.example")?]?)
 }
 
+/// Puts the octets of a text behind others.
+fn append(alloc: Global, octets: &mut Vec<u8>, text: &str) -> anyhow::Result<()> {
+    let more = hex::decode(alloc, text)?;
+    Ok(octets.extend_from_slice(&more)?)
+}
+
 /// These texts one behind the other, as octets.
 pub fn octets(alloc: Global, texts: &[&str]) -> anyhow::Result<Vec<u8>> {
     let mut octets = Vec::new(alloc);
     for text in texts {
-        octets.extend_from_slice(&hex::decode(alloc, text)?)?;
+        append(alloc, &mut octets, text)?;
     }
     Ok(octets)
 }

@@ -54,19 +54,29 @@ const REFUSED: [&str; 14] = [
     "node = [",
 ];
 
-/// Prints the nodes that may not come from each address, and whether some node may.
+/// Prints whether some node may come from an address, and those that may not.
+fn print_address(
+    rt: &impl Print,
+    text: &str,
+    admitted: bool,
+    barred: &[NodeNo],
+) -> anyhow::Result<()> {
+    print!(rt; "{text}: admitted {admitted}, not")?;
+    for node in barred {
+        print!(rt; " {}", node.0)?;
+    }
+    println!(rt; "")?;
+    Ok(())
+}
+
+/// The same of each address.
 fn print_addresses(rt: &impl Print, alloc: Global, access: &Access) -> anyhow::Result<()> {
     for text in ADDRESSES {
-        let Ok(address) = text.parse::<IpAddr>() else {
-            continue;
-        };
-        let address = canonical(address);
-        let admitted = access.admits(address);
-        print!(rt; "{text}: admitted {admitted}, not")?;
-        for node in &access.barred(alloc, address)? {
-            print!(rt; " {}", node.0)?;
+        if let Ok(address) = text.parse::<IpAddr>() {
+            let address = canonical(address);
+            let barred = access.barred(alloc, address)?;
+            print_address(rt, text, access.admits(address), &barred)?;
         }
-        println!(rt; "")?;
     }
     Ok(())
 }
@@ -82,19 +92,25 @@ fn print_refused(rt: &impl Print, alloc: Global) -> anyhow::Result<()> {
     Ok(())
 }
 
-/// Prints who may come from where by a file, and whether its ninth node may come from an address.
-fn print_file(rt: &impl Print, alloc: Global, text: &str) -> anyhow::Result<()> {
-    match Access::read(alloc, text.as_bytes()) {
-        Ok(access) => {
-            print_addresses(rt, alloc, &access)?;
-            if let Ok(address) = "192.0.2.128".parse::<IpAddr>() {
-                let ninth = access.may_come_from(NodeNo(8), address);
-                println!(rt; "the ninth node: {ninth}")?;
-            }
-        }
-        Err(fault) => println!(rt; "{fault}")?,
+/// Prints whether the ninth node may come from an address.
+fn print_ninth(rt: &impl Print, access: &Access) -> anyhow::Result<()> {
+    if let Ok(address) = "192.0.2.128".parse::<IpAddr>() {
+        let ninth = access.may_come_from(NodeNo(8), address);
+        println!(rt; "the ninth node: {ninth}")?;
     }
     Ok(())
+}
+
+/// Prints who may come from where, and whether the ninth node may come from an address.
+fn print_access(rt: &impl Print, alloc: Global, access: &Access) -> anyhow::Result<()> {
+    print_addresses(rt, alloc, access)?;
+    print_ninth(rt, access)
+}
+
+/// The same by a file.
+fn print_file(rt: &impl Print, alloc: Global, text: &str) -> anyhow::Result<()> {
+    let access = Access::read(alloc, text.as_bytes())?;
+    print_access(rt, alloc, &access)
 }
 
 /// Who may come from where.

@@ -2,7 +2,8 @@
 //! with the end of a connection.
 
 use crate::messages::{CER, DEBIT, FRONT, locals, octets};
-use crate::streams::{failing_from, sound};
+use crate::served::{MOMENT, Served, accept, end_of, read};
+use crate::streams::Limits;
 use dia_avp::{ViewWire, Wire};
 use dia_base::{ConnId, Moment, NodeNo};
 use dia_message::Message;
@@ -61,6 +62,26 @@ impl Node for Refusing {
 
 /// Has the node told of a connection, of a request on it and of the time, and of its end where it ends by itself. Prints why it
 /// has ended, if it has, and whether the node can go on.
+fn tell<'a>(
+    rt: &impl Print,
+    alloc: Global,
+    name: &str,
+    serving: &mut Served<'a, Refusing>,
+    asked: &'a [u8],
+    then: ErrorKind,
+) -> anyhow::Result<()> {
+    let reads = Limits::fails_from(1, then);
+    let conn = accept(alloc, serving, FRONT, asked, reads, Limits::none())?;
+    read(serving, conn, MOMENT);
+    serving.tick::<ViewWire>(MOMENT);
+    let failed = serving.has_failed();
+    match end_of(serving, conn) {
+        Some(why) => println!(rt; "refuses {name}: {why}, failed {failed}")?,
+        None => println!(rt; "refuses {name}: it stands, failed {failed}")?,
+    }
+    Ok(())
+}
+
 fn print(
     rt: &impl Print,
     alloc: Global,
@@ -70,22 +91,7 @@ fn print(
 ) -> anyhow::Result<()> {
     let asked = octets(alloc, &[CER, DEBIT])?;
     let mut serving = Serving::new(alloc, Refusing(refused), locals(alloc)?);
-    let reader = failing_from(asked.as_slice(), 1, then);
-    let writer = sound(Vec::new(alloc));
-    let Ok(conn) = serving.accept(FRONT, Vec::new(alloc), reader, writer, Moment(1_000)) else {
-        return Ok(());
-    };
-    let mut piece = [0u8; 4_096];
-    serving.readable::<ViewWire>(conn, &mut piece, Moment(1_000));
-    serving.tick::<ViewWire>(Moment(1_000));
-    if let Some(link) = serving.link(conn) {
-        match link.end {
-            Some((why, _)) => print!(rt; "refuses {name}: {why}")?,
-            None => print!(rt; "refuses {name}: it stands")?,
-        }
-    }
-    println!(rt; ", failed {}", serving.has_failed())?;
-    Ok(())
+    tell(rt, alloc, name, &mut serving, &asked, then)
 }
 
 /// What becomes of a connection and of the process where the node does not do what it is told.

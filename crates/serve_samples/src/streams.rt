@@ -1,43 +1,94 @@
-//! Readers and writers in memory that fail.
+//! Readers and writers in memory that fail, or move few octets a call.
 
 use farm_net::Counted;
 use std::io;
 use std::io::{ErrorKind, Read, Write};
 
-/// A stream whose calls fail from one on, or once it has moved so many octets.
-#[derive(Drop)]
-pub struct Failing<S> {
-    pub stream: S,
+/// How many octets a stream in memory moves, and when it fails.
+#[derive(Clone, Copy)]
+pub struct Limits {
+    /// The most octets of a call.
+    most: usize,
+    /// Behind how many octets all calls fail.
     left: usize,
-    calls: u32,
+    /// The call from which on all fail, counted from 0.
     from: u32,
+    /// How they fail.
     kind: ErrorKind,
 }
 
-impl<S> Failing<S> {
-    fn call(&mut self) -> io::Result<()> {
-        let fails = self.calls >= self.from || self.left == 0;
-        self.calls = self.calls.saturating_add(1);
-        if fails { Err(self.kind.into()) } else { Ok(()) }
+impl Limits {
+    /// It moves what it can, and does not fail.
+    pub fn none() -> Limits {
+        Limits {
+            most: usize::MAX,
+            left: usize::MAX,
+            from: u32::MAX,
+            kind: ErrorKind::ConnectionReset,
+        }
+    }
+
+    /// Failures of this kind from this call on.
+    pub fn fails_from(from: u32, kind: ErrorKind) -> Limits {
+        Limits {
+            from,
+            kind,
+            ..Limits::none()
+        }
+    }
+
+    /// Failures of this kind behind so many octets.
+    pub fn fails_behind(octets: usize, kind: ErrorKind) -> Limits {
+        Limits {
+            left: octets,
+            kind,
+            ..Limits::none()
+        }
+    }
+
+    /// So many octets a call at most.
+    pub fn few(most: usize) -> Limits {
+        Limits {
+            most,
+            ..Limits::none()
+        }
     }
 }
 
-impl<S: Read> Read for Failing<S> {
+/// A stream with these limits.
+#[derive(Drop)]
+pub struct Limited<S> {
+    pub stream: S,
+    limits: Limits,
+    calls: u32,
+}
+
+impl<S> Limited<S> {
+    /// How many octets the next call may move.
+    fn room(&mut self) -> io::Result<usize> {
+        let fails = self.calls >= self.limits.from || self.limits.left == 0;
+        self.calls = self.calls.saturating_add(1);
+        if fails {
+            return Err(self.limits.kind.into());
+        }
+        Ok(self.limits.most.min(self.limits.left))
+    }
+}
+
+impl<S: Read> Read for Limited<S> {
     fn read(&mut self, buf: &mut [u8]) -> io::Result<usize> {
-        self.call()?;
-        let some = buf.len().min(self.left);
+        let some = self.room()?.min(buf.len());
         let count = self.stream.read(&mut buf[..some])?;
-        self.left = self.left.saturating_sub(count);
+        self.limits.left = self.limits.left.saturating_sub(count);
         Ok(count)
     }
 }
 
-impl<S: Write> Write for Failing<S> {
+impl<S: Write> Write for Limited<S> {
     fn write(&mut self, buf: &[u8]) -> io::Result<usize> {
-        self.call()?;
-        let some = buf.len().min(self.left);
+        let some = self.room()?.min(buf.len());
         let count = self.stream.write(&buf[..some])?;
-        self.left = self.left.saturating_sub(count);
+        self.limits.left = self.limits.left.saturating_sub(count);
         Ok(count)
     }
 
@@ -46,29 +97,11 @@ impl<S: Write> Write for Failing<S> {
     }
 }
 
-/// Counted, with failures of this kind from this call on.
-pub fn failing_from<S>(stream: S, from: u32, kind: ErrorKind) -> Counted<Failing<S>> {
-    Counted::new(Failing {
+/// Counted, and with these limits.
+pub fn stream_of<S>(stream: S, limits: Limits) -> Counted<Limited<S>> {
+    Counted::new(Limited {
         stream,
-        left: usize::MAX,
+        limits,
         calls: 0,
-        from,
-        kind,
-    })
-}
-
-/// Counted, without a failure.
-pub fn sound<S>(stream: S) -> Counted<Failing<S>> {
-    failing_from(stream, u32::MAX, ErrorKind::BrokenPipe)
-}
-
-/// Counted, and reset behind so many octets.
-pub fn cut_behind<S>(stream: S, octets: usize) -> Counted<Failing<S>> {
-    Counted::new(Failing {
-        stream,
-        left: octets,
-        calls: 0,
-        from: u32::MAX,
-        kind: ErrorKind::ConnectionReset,
     })
 }

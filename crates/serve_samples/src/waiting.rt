@@ -1,86 +1,95 @@
 //! Connections that wait: for somebody to say who it is, and for what is to be written still.
 
-use crate::counting::Counting;
-use crate::messages::{CER, DPR, FRONT, locals, octets};
-use crate::streams::{Failing, failing_from, sound};
+use crate::counting::{Counting, serving};
+use crate::messages::{CER, DPR, FRONT, octets};
+use crate::served::{MOMENT, Served, accept, let_go, read};
+use crate::streams::Limits;
 use dia_avp::ViewWire;
 use dia_base::{ConnId, Moment};
-use farm_net::Counted;
-use farm_serve::{Refusal, Serving, UNKNOWN_LIMIT};
+use farm_serve::{Refusal, UNKNOWN_LIMIT};
 use std::alloc::Global;
 use std::io::ErrorKind;
 
-type Served<'a> = Serving<Counting, Counted<Failing<&'a [u8]>>, Counted<Failing<Vec<u8>>>>;
-
 /// Someone connects, and has said this.
-fn accept<'a>(alloc: Global, serving: &mut Served<'a>, said: &'a [u8]) -> Result<ConnId, Refusal> {
-    let reader = failing_from(said, 1, ErrorKind::WouldBlock);
-    let writer = sound(Vec::new(alloc));
-    serving
-        .accept(FRONT, Vec::new(alloc), reader, writer, Moment(1_000))
-        .map_err(|refused| refused.why)
+fn connect<'a>(
+    alloc: Global,
+    serving: &mut Served<'a, Counting>,
+    said: &'a [u8],
+    writes: Limits,
+) -> Result<ConnId, Refusal> {
+    let reads = Limits::fails_from(1, ErrorKind::WouldBlock);
+    accept(alloc, serving, FRONT, said, reads, writes)
 }
 
 /// As many connect as may be unknown, of whom the first has said who it is, and one more; and one more once that was heard.
-fn print_unknown(rt: &impl Print, alloc: Global) -> anyhow::Result<()> {
-    let cer = octets(alloc, &[CER])?;
-    let mut serving = Serving::new(alloc, Counting::new(), locals(alloc)?);
+fn fill<'a>(
+    rt: &impl Print,
+    alloc: Global,
+    serving: &mut Served<'a, Counting>,
+    cer: &'a [u8],
+) -> anyhow::Result<()> {
     for place in 0..UNKNOWN_LIMIT {
-        let said = if place == 0 { cer.as_slice() } else { &[] };
-        if let Err(why) = accept(alloc, &mut serving, said) {
+        let said: &[u8] = if place == 0 { cer } else { &[] };
+        if let Err(why) = connect(alloc, serving, said, Limits::none()) {
             println!(rt; "connection {place}: {why}")?;
         }
     }
-    if let Err(why) = accept(alloc, &mut serving, &[]) {
+    if let Err(why) = connect(alloc, serving, &[], Limits::none()) {
         println!(rt; "{why}")?;
     }
-    let mut piece = [0u8; 4_096];
-    serving.readable::<ViewWire>(ConnId(1), &mut piece, Moment(1_000));
-    let one_more = accept(alloc, &mut serving, &[]).is_ok();
+    read(serving, ConnId(1), MOMENT);
+    let one_more = connect(alloc, serving, &[], Limits::none()).is_ok();
     println!(rt; "one more {one_more}, {} in all", serving.count())?;
     Ok(())
 }
 
+fn print_unknown(rt: &impl Print, alloc: Global) -> anyhow::Result<()> {
+    let cer = octets(alloc, &[CER])?;
+    let mut serving = serving(alloc)?;
+    fill(rt, alloc, &mut serving, &cer)
+}
+
 /// Behind a connection that stands, one that its other end ends: on its writer no call works from this one on. Prints from which
 /// of these moments on it may be let go.
-fn print_let_go(rt: &impl Print, alloc: Global, name: &str, writes: u32) -> anyhow::Result<()> {
-    let parting = octets(alloc, &[CER, DPR])?;
-    let mut serving = Serving::new(alloc, Counting::new(), locals(alloc)?);
-    let reader = failing_from([].as_slice(), 0, ErrorKind::WouldBlock);
-    let silent = serving.accept(
-        FRONT,
-        Vec::new(alloc),
-        reader,
-        sound(Vec::new(alloc)),
-        Moment(1_000),
-    );
-    let reader = failing_from(parting.as_slice(), 1, ErrorKind::WouldBlock);
-    let writer = failing_from(Vec::new(alloc), writes, ErrorKind::WouldBlock);
-    let parted = serving.accept(FRONT, Vec::new(alloc), reader, writer, Moment(1_000));
-    let (Ok(_silent), Ok(conn)) = (silent, parted) else {
-        return Ok(());
-    };
-    let mut piece = [0u8; 4_096];
-    serving.readable::<ViewWire>(conn, &mut piece, Moment(1_000));
-    serving.write_all::<ViewWire>(Moment(1_000));
+fn part<'a>(
+    rt: &impl Print,
+    alloc: Global,
+    name: &str,
+    serving: &mut Served<'a, Counting>,
+    parting: &'a [u8],
+    writes: u32,
+) -> anyhow::Result<()> {
+    let says_nothing = Limits::fails_from(0, ErrorKind::WouldBlock);
+    accept(alloc, serving, FRONT, &[], says_nothing, Limits::none())?;
+    let writes = Limits::fails_from(writes, ErrorKind::WouldBlock);
+    let conn = connect(alloc, serving, parting, writes)?;
+    read(serving, conn, MOMENT);
+    serving.write_all::<ViewWire>(MOMENT);
     for moment in [1_000, 5_999, 6_000] {
-        if let Some(ended) = serving.take_ended(Moment(moment)) {
-            println!(rt;
-                "{name}: {} let go at {moment}: {}",
-                ended.conn.0, ended.why
-            )?;
+        if let Some((conn, why)) = let_go(serving, Moment(moment)) {
+            println!(rt; "{name}: {} let go at {moment}: {why}", conn.0)?;
         }
     }
     Ok(())
 }
 
-/// Time passes twice, and the node is woken once.
-fn print_told(rt: &impl Print, alloc: Global) -> anyhow::Result<()> {
-    let mut serving: Served<'_> = Serving::new(alloc, Counting::new(), locals(alloc)?);
-    serving.tick::<ViewWire>(Moment(1_000));
+fn print_let_go(rt: &impl Print, alloc: Global, name: &str, writes: u32) -> anyhow::Result<()> {
+    let parting = octets(alloc, &[CER, DPR])?;
+    let mut serving = serving(alloc)?;
+    part(rt, alloc, name, &mut serving, &parting, writes)
+}
+
+/// A node without connections for which time has passed twice, and which was woken once.
+fn woken(alloc: Global) -> anyhow::Result<Counting> {
+    let mut serving = serving(alloc)?;
+    serving.tick::<ViewWire>(MOMENT);
     serving.tick::<ViewWire>(Moment(2_000));
     serving.wake::<ViewWire>(Moment(2_000));
-    let node = serving.node();
+    Ok(*serving.node())
+}
+
+fn print_told(rt: &impl Print, alloc: Global) -> anyhow::Result<()> {
+    let node = woken(alloc)?;
     println!(rt; "ticks {} wakes {}", node.ticks, node.wakes)?;
     Ok(())
 }
