@@ -1,5 +1,5 @@
 -- Counts: how they rise.
-use Rattle.std.specs.Prelude.{◌≡◌, ◌==◌, ◌+◌, ◌-◌, ◌∷◌, ◌++◌, ◌⊎◌, [], ℕ, Bool, List, Option, Some, None, map, min, sum_by, set, get_or, nat_le, Contains, if◌then◌else◌}
+use Rattle.std.specs.Prelude.{◌≡◌, ◌==◌, ◌+◌, ◌-◌, ◌∷◌, ◌++◌, ◌⊎◌, ◌≢◌, ◌*◌, ◌%◌, ◌^◌, [], ℕ, Bool, List, Option, Some, None, map, min, sum_by, set, get_or, length, nat_le, Contains, if◌then◌else◌}
 use Rattle.std.specs.List.{position}
 use Rattle.dia_base.specs.declared.number.ConnId.{ConnId}
 use Rattle.dia_base.specs.declared.number.Moment.{Moment}
@@ -7,7 +7,9 @@ use Rattle.farm_tally.specs.declared.times.TimeRow.{TimeRow}
 use Rattle.farm_tally.specs.declared.times.Times.{Times}
 use Rattle.farm_tally.specs.declared.answers.Answers.{Answers}
 use Rattle.farm_tally.specs.declared.answers.CodeCount.{CodeCount}
+use Rattle.farm_tally.specs.declared.clocks.Clocked.{Clocked}
 use Rattle.farm_tally.specs.declared.clocks.Clocks.{Clocks}
+use Rattle.farm_tally.specs.declared.tally.Tally.{Tally}
 
 -- the greatest count
 abbrev pub most : ℕ
@@ -69,3 +71,43 @@ IsCounted code old new = CountsBy (place_of code old.codes.items) code old new
 abbrev pub IsClocked : Clocks → ConnId → ℕ → Moment → ℕ → Type 0
 IsClocked clocks conn hop moment millis =
     (since : Moment) × Contains clocks.places.items (Some (record { conn = conn; hop = hop; since = since })) × (millis ≡ moment.0 - since.0)
+
+-- the number of the place of a request, of so many
+abbrev pub place_for : ConnId → ℕ → ℕ → ℕ
+place_for conn hop count = ((conn.0 * 1021 % 2 ^ 64 + hop) % 2 ^ 64) % count
+
+abbrev pub place_of_request : Clocks → ConnId → ℕ → ℕ
+place_of_request clocks conn hop = place_for conn hop (length clocks.places.items)
+
+-- what stands at the place of a request
+abbrev pub clocked_at : Clocks → ConnId → ℕ → Option Clocked
+clocked_at clocks conn hop = get_or clocks.places.items (place_of_request clocks conn hop) None
+
+-- from now on a request is timed, in place of what stood at its place; without places nothing is
+abbrev pub IsBegun : Clocks → ConnId → ℕ → Moment → Clocks → Type 0
+IsBegun old conn hop since new =
+    new.places.items ≡ set old.places.items (place_of_request old conn hop) (Some (record { conn = conn; hop = hop; since = since }))
+
+-- nothing stands at its place, or another request
+abbrev pub IsUntimed : Clocks → ConnId → ℕ → Type 0
+IsUntimed clocks conn hop = (since : Moment) → clocked_at clocks conn hop ≢ Some (record { conn = conn; hop = hop; since = since })
+
+-- ---- all counts of a node
+
+abbrev pub HasNoAnswers : Answers → Type 0
+HasNoAnswers answers = (answers.codes.items ≡ []) × (answers.others ≡ 0)
+
+-- nothing is counted yet
+pub record IsNothing (tally : Tally) : Type 0 where
+  pub requests : tally.requests ≡ 0
+  pub sent : tally.sent ≡ 0
+  pub answers : HasNoAnswers tally.answers
+  pub failovers : tally.failovers ≡ 0
+  pub given_up : tally.given_up ≡ 0
+  pub times : tally.times ≡ record { rows = new_rows; count = 0; sum = 0 }
+
+-- the time of an answer is counted where its request was timed, and nothing is where it was not
+abbrev pub IsTimed : Tally → ConnId → ℕ → Moment → Tally → Type 0
+IsTimed old conn hop moment new =
+    ((millis : ℕ) × IsClocked old.clocks conn hop moment millis × (new.times ≡ times_after millis old.times))
+    ⊎ (IsUntimed old.clocks conn hop × (new.times ≡ old.times))

@@ -1,7 +1,7 @@
 //! Answers by their Result-Code.
 
 ghost use Rattle.std.specs.Prelude.{◌≡◌, ◌+◌, ◌<◌, ◌^◌, min, length, IfSome};
-ghost use Rattle.farm_tally.specs.Counting.{IsCounted, most, place_of, total_of};
+ghost use Rattle.farm_tally.specs.Counting.{IsCounted, HasNoAnswers, most, place_of, total_of};
 
 use std::alloc::Global;
 
@@ -40,7 +40,9 @@ fn plus(one: u64, other: u64) -> u64
 
 impl Answers {
     /// None yet.
-    pub fn none(alloc: Global) -> Self {
+    pub fn none(alloc: Global) -> Self
+        ensures { HasNoAnswers result }
+    {
         Answers {
             codes: Vec::new(alloc),
             others: 0,

@@ -1,7 +1,7 @@
 //! Since when requests are waiting for their answers.
 
-ghost use Rattle.std.specs.Prelude.{◌≡◌, ◌<◌, ◌-◌, Some, Contains, IfSome};
-ghost use Rattle.farm_tally.specs.Counting.{IsClocked};
+ghost use Rattle.std.specs.Prelude.{◌≡◌, ◌<◌, IfNone, IfSome};
+ghost use Rattle.farm_tally.specs.Counting.{IsBegun, IsClocked, IsUntimed, place_for};
 
 use dia_base::{ConnId, Moment};
 use std::alloc::Global;
@@ -26,7 +26,8 @@ pub struct Clocks {
 /// The number of a place, of `count` places, which are some.
 fn place_for(conn: ConnId, hop: u32, count: usize) -> usize
     requires { 0 < count }
-    ensures { result < count }
+    ensures place { result ≡ place_for conn hop count }
+    ensures within { result < count }
 {
     let mixed = conn.0.wrapping_mul(1_021).wrapping_add(u64::from(hop));
     mixed as usize % count
@@ -44,7 +45,9 @@ impl Clocks {
     }
 
     /// A request came.
-    pub fn begin(&mut self, conn: ConnId, hop: u32, since: Moment) {
+    pub fn begin(&mut self, conn: ConnId, hop: u32, since: Moment)
+        ensures { IsBegun self.old conn hop since self.new }
+    {
         let count = self.places.len();
         if count > 0 {
             let place = place_for(conn, hop, count);
@@ -54,7 +57,9 @@ impl Clocks {
 
     /// It is answered: how many milliseconds it took, if it was timed. It is not timed any more.
     pub fn end(&mut self, conn: ConnId, hop: u32, moment: Moment) -> Option<u64>
-        ensures { IfSome result (IsClocked self.old conn hop moment) }
+        ensures timed { IfSome result (IsClocked self.old conn hop moment) }
+        ensures untimed { IfNone result ((IsUntimed self.old conn hop) × (self.new ≡ self.old)) }
+        ensures once { IsUntimed self.new conn hop }
     {
         let count = self.places.len();
         if count == 0 {

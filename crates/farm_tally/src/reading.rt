@@ -1,5 +1,8 @@
 //! The Result-Code of an answer, read without memory.
 
+ghost use Rattle.std.specs.Prelude.{◌≡◌};
+ghost use Rattle.farm_tally.specs.Reading.{code_in, room_of};
+
 use byteorder::{BigEndian, ByteOrder};
 use dia_base::codes::RESULT_CODE;
 
@@ -10,7 +13,9 @@ const HEADER: usize = 8;
 const VENDOR: u8 = 0x80;
 
 /// The octets that an AVP takes, with those behind it up to a multiple of four; 0 where its length is below 8.
-fn room_of(avp: &[u8]) -> usize {
+fn room_of(avp: &[u8]) -> usize
+    ensures { result ≡ room_of avp.now }
+{
     if avp.len() < HEADER {
         return 0;
     }
@@ -22,7 +27,9 @@ fn room_of(avp: &[u8]) -> usize {
 }
 
 /// The value of an AVP that is a Result-Code (RFC 6733, section 7.1).
-fn code_in(avp: &[u8]) -> Option<u32> {
+fn code_in(avp: &[u8]) -> Option<u32>
+    ensures { result ≡ code_in avp.now }
+{
     if avp.len() < HEADER + 4 {
         return None;
     }

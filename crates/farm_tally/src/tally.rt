@@ -1,7 +1,7 @@
 //! What a node counts.
 
 ghost use Rattle.std.specs.Prelude.{◌≡◌};
-ghost use Rattle.farm_tally.specs.Counting.{plus};
+ghost use Rattle.farm_tally.specs.Counting.{IsBegun, IsCounted, IsNothing, IsTimed, plus};
 
 use crate::answers::Answers;
 use crate::clocks::Clocks;
@@ -29,7 +29,9 @@ pub struct Tally {
 
 impl Tally {
     /// Nothing yet.
-    pub fn nothing(alloc: Global) -> Self {
+    pub fn nothing(alloc: Global) -> Self
+        ensures { IsNothing result }
+    {
         Tally {
             requests: 0,
             sent: 0,
@@ -43,7 +45,8 @@ impl Tally {
 
     /// A request came on a connection, under this Hop-by-Hop Identifier.
     pub fn request_came(&mut self, conn: ConnId, hop: u32, moment: Moment)
-        ensures { self.new ≡ record self.old { requests = plus self.old.requests 1; clocks = self.new.clocks } }
+        ensures counted { self.new ≡ record self.old { requests = plus self.old.requests 1; clocks = self.new.clocks } }
+        ensures timed { IsBegun self.old.clocks conn hop moment self.new.clocks }
     {
         self.requests = self.requests.saturating_add(1);
         self.clocks.begin(conn, hop, moment);
@@ -57,7 +60,11 @@ impl Tally {
     }
 
     /// The node has sent an answer on a connection, under this Hop-by-Hop Identifier and with this Result-Code.
-    pub fn answer_sent(&mut self, conn: ConnId, hop: u32, code: u32, moment: Moment) {
+    pub fn answer_sent(&mut self, conn: ConnId, hop: u32, code: u32, moment: Moment)
+        ensures counted { IsCounted code self.old.answers self.new.answers }
+        ensures timed { IsTimed self.old conn hop moment self.new }
+        ensures others { self.new ≡ record self.old { answers = self.new.answers; times = self.new.times; clocks = self.new.clocks } }
+    {
         self.answers.add(code);
         if let Some(millis) = self.clocks.end(conn, hop, moment) {
             self.times.add(millis);
