@@ -26,9 +26,9 @@ use std::sync::Wait;
 use std::sync::ledger::Blank;
 use std::thread::Threads;
 
-/// What fronts are started over.
+/// Where fronts listen, and the sockets of their process, of which their workers have the waker.
 #[derive(Drop)]
-struct Ground {
+struct FrontSockets {
     places: Vec<Place>,
     sockets: Sockets,
     waker: LoopWaker,
@@ -43,23 +43,23 @@ where
 {
     let (alloc, site) = (setting.rt.alloc(), setting.site);
     let nodes = fronts_of(alloc, site)?;
-    let ground = ground_of(setting, &nodes)?;
+    let listening = sockets_of(setting, &nodes)?;
     let book = empty_book(alloc, site)?;
     let workers = (nodes.len() as u64)
         .saturating_mul(u64::from(site.workers))
         .max(1);
     let blank = Blank::new(workers);
-    serve_on::<Brand, O>(setting, nodes, ground, blank, book, workers, answers)
+    serve_on::<Brand, O>(setting, nodes, listening, blank, book, workers, answers)
 }
 
-/// Where these fronts listen, and sockets of which the workers have the waker.
-fn ground_of<O: Net>(setting: &Setting<'_, O>, nodes: &[NodeNo]) -> Result<Ground, Fault>
+/// The sockets of these fronts.
+fn sockets_of<O: Net>(setting: &Setting<'_, O>, nodes: &[NodeNo]) -> Result<FrontSockets, Fault>
     requires { IsChecked setting.now.site.now }
 {
     let places = places_of(setting, nodes)?;
     let sockets = Sockets::new(setting.os, setting.rt.alloc())?;
     let waker = LoopWaker(sockets.waker()?);
-    Ok(Ground {
+    Ok(FrontSockets {
         places,
         sockets,
         waker,
@@ -88,7 +88,7 @@ fn place_at<O>(setting: &Setting<'_, O>, node: NodeNo) -> Result<Place, Fault>
 fn serve_on<L, O>(
     setting: &Setting<'_, O>,
     nodes: Vec<NodeNo>,
-    ground: Ground,
+    listening: FrontSockets,
     blank: Blank,
     book: Book,
     workers: u64,
@@ -104,11 +104,11 @@ where
     requires some { 0 < workers }
     requires site { (front : NodeNo) → L.site front ≡ site_of setting.now.site.now front }
 {
-    let Ground {
+    let FrontSockets {
         places,
         sockets,
         waker,
-    } = ground;
+    } = listening;
     let fronts = start_on::<L, O>(setting, &nodes, waker, blank, book, workers)?;
     serve_over(setting, &nodes, fronts, places, sockets, answers)
 }
