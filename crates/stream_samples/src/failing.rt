@@ -1,8 +1,8 @@
 //! Connections whose devices fail at a call or behind an octet.
 
-use crate::devices::{Ways, device_of};
+use crate::devices::Ways;
 use crate::messages::{ANSWER, CEA, CER, REQUEST, octets};
-use crate::replies::{Outcome, serve};
+use crate::replies::{Exchange, Outcome, serve};
 use std::alloc::Global;
 use std::io::ErrorKind;
 
@@ -12,7 +12,7 @@ const PIECE: usize = 4_096;
 const TURNS: usize = 2;
 
 /// What several connections came to.
-#[derive(Drop)]
+#[derive(Clone, Copy)]
 struct Sum {
     connections: u32,
     ups: u32,
@@ -38,8 +38,8 @@ impl Sum {
         }
     }
 
-    /// One connection more, on which `whole` is what may be written.
-    fn add(&mut self, outcome: &Outcome, whole: &[u8]) {
+    /// One connection more.
+    fn add(&mut self, outcome: Outcome) {
         self.connections = self.connections.saturating_add(1);
         self.ups = self.ups.saturating_add(outcome.ups);
         self.messages = self.messages.saturating_add(outcome.messages);
@@ -50,9 +50,8 @@ impl Sum {
         if outcome.why.is_some() {
             self.ended = self.ended.saturating_add(1);
         }
-        let written = outcome.written.as_slice();
-        if whole.starts_with(written) {
-            self.octets = self.octets.saturating_add(written.len());
+        if outcome.begins {
+            self.octets = self.octets.saturating_add(outcome.written);
         }
     }
 
@@ -71,28 +70,41 @@ impl Sum {
     }
 }
 
+/// Which of both devices of a connection fails.
+#[derive(Clone, Copy)]
+enum Half {
+    Reader,
+    Writer,
+}
+
+/// The exchange where one half goes so, and the other one is sound.
+fn with_half<'a>(exchange: &Exchange<'a>, half: Half, ways: Ways) -> Exchange<'a> {
+    match half {
+        Half::Reader => Exchange {
+            reads: ways,
+            ..*exchange
+        },
+        Half::Writer => Exchange {
+            writes: ways,
+            ..*exchange
+        },
+    }
+}
+
 /// One call of each connection fails as this: from the first on to the last that there is, and one behind that.
 fn print_calls(
     rt: &impl Print,
     alloc: Global,
     name: &str,
-    asked: &[u8],
-    whole: &[u8],
+    exchange: &Exchange<'_>,
+    half: Half,
     kind: ErrorKind,
     calls: u32,
-    reads: bool,
 ) -> anyhow::Result<()> {
     let mut sum = Sum::none();
     for call in 0..calls {
-        let failing = Ways::failing(call, kind);
-        let (reading, writing) = if reads {
-            (failing, Ways::sound())
-        } else {
-            (Ways::sound(), failing)
-        };
-        let reader = device_of(asked, reading);
-        let writer = device_of(Vec::new(alloc), writing);
-        sum.add(&serve(alloc, reader, writer, PIECE, TURNS)?, whole);
+        let failing = with_half(exchange, half, Ways::failing(call, kind));
+        sum.add(serve(alloc, &failing)?);
     }
     sum.print(rt, name)
 }
@@ -102,55 +114,59 @@ fn print_cuts(
     rt: &impl Print,
     alloc: Global,
     name: &str,
-    asked: &[u8],
-    whole: &[u8],
+    exchange: &Exchange<'_>,
+    half: Half,
     cuts: usize,
-    reads: bool,
 ) -> anyhow::Result<()> {
     let mut sum = Sum::none();
     for octets in 0..cuts {
-        let cut = Ways::cut_behind(octets);
-        let (reading, writing) = if reads {
-            (cut, Ways::sound())
-        } else {
-            (Ways::sound(), cut)
-        };
-        let reader = device_of(asked, reading);
-        let writer = device_of(Vec::new(alloc), writing);
-        sum.add(&serve(alloc, reader, writer, PIECE, TURNS)?, whole);
+        let cut = with_half(exchange, half, Ways::cut_behind(octets));
+        sum.add(serve(alloc, &cut)?);
     }
     sum.print(rt, name)
+}
+
+/// Each call, and each octet.
+fn print_of(rt: &impl Print, alloc: Global, asked: &[u8], answers: &[u8]) -> anyhow::Result<()> {
+    let exchange = Exchange {
+        asked,
+        answers,
+        reads: Ways::sound(),
+        writes: Ways::sound(),
+        piece: PIECE,
+        turns: TURNS,
+    };
+    let (reader, writer) = (Half::Reader, Half::Writer);
+    let (reset, later) = (ErrorKind::ConnectionReset, ErrorKind::WouldBlock);
+    let pipe = ErrorKind::BrokenPipe;
+    let (reads, writes) = (58, 47);
+    print_calls(rt, alloc, "a read fails", &exchange, reader, reset, reads)?;
+    print_calls(
+        rt,
+        alloc,
+        "a read would block",
+        &exchange,
+        reader,
+        later,
+        reads,
+    )?;
+    print_calls(rt, alloc, "a write fails", &exchange, writer, pipe, writes)?;
+    print_calls(
+        rt,
+        alloc,
+        "a write would block",
+        &exchange,
+        writer,
+        later,
+        writes,
+    )?;
+    print_cuts(rt, alloc, "a read is cut", &exchange, reader, 397)?;
+    print_cuts(rt, alloc, "a write is cut", &exchange, writer, 321)
 }
 
 /// Capabilities and a debit of 128 and 268 octets, read seven at a time, and their answers of 140 and 180 octets, written so.
 pub fn print_all(rt: &impl Print, alloc: Global) -> anyhow::Result<()> {
     let asked = octets(alloc, &[CER, REQUEST])?;
-    let whole = octets(alloc, &[CEA, ANSWER])?;
-    let (asked, whole) = (asked.as_slice(), whole.as_slice());
-    let (reset, later) = (ErrorKind::ConnectionReset, ErrorKind::WouldBlock);
-    let pipe = ErrorKind::BrokenPipe;
-    print_calls(rt, alloc, "a read fails", asked, whole, reset, 58, true)?;
-    print_calls(
-        rt,
-        alloc,
-        "a read would block",
-        asked,
-        whole,
-        later,
-        58,
-        true,
-    )?;
-    print_calls(rt, alloc, "a write fails", asked, whole, pipe, 47, false)?;
-    print_calls(
-        rt,
-        alloc,
-        "a write would block",
-        asked,
-        whole,
-        later,
-        47,
-        false,
-    )?;
-    print_cuts(rt, alloc, "a read is cut", asked, whole, 397, true)?;
-    print_cuts(rt, alloc, "a write is cut", asked, whole, 321, false)
+    let answers = octets(alloc, &[CEA, ANSWER])?;
+    print_of(rt, alloc, &asked, &answers)
 }

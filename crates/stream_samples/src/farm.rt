@@ -2,7 +2,7 @@
 
 use cc_book::{Account, Book, Money};
 use cc_rating::{Tariff, Tariffs, UnitKind};
-use dia_avp::{Octets, Wire};
+use dia_avp::{Octets, ViewWire, Wire};
 use dia_base::{ConnId, Identity, Listing, Moment, NodeKind, NodeNo};
 use dia_message::{Message, Out};
 use farm_node::{Node, NodeError, Reaction};
@@ -41,15 +41,23 @@ fn account(alloc: Global, id: &[u8], opening: i64) -> Result<Account, AllocError
     })
 }
 
-/// A book of five accounts, and 5 for each 1000 octets of group 10.
-fn book(alloc: Global) -> anyhow::Result<Book> {
-    let accounts = vec![in alloc;
-        account(alloc, b"491700000001", 1_000)?,
-        account(alloc, b"491700000002", 12)?,
-        account(alloc, b"491700000003", 4)?,
-        account(alloc, b"491700000004", 27)?,
-        account(alloc, b"491700000005", 25)?,
-    ]?;
+/// Five accounts.
+fn accounts(alloc: Global) -> anyhow::Result<Vec<Account>> {
+    let mut accounts = Vec::new(alloc);
+    for (id, opening) in [
+        ("491700000001", 1_000),
+        ("491700000002", 12),
+        ("491700000003", 4),
+        ("491700000004", 27),
+        ("491700000005", 25),
+    ] {
+        accounts.push(account(alloc, id.as_bytes(), opening)?)?;
+    }
+    Ok(accounts)
+}
+
+/// 5 for each 1000 octets of group 10.
+fn tariffs(alloc: Global) -> anyhow::Result<Tariffs> {
     let tariff = Tariff {
         group: Some(10),
         ident: None,
@@ -59,11 +67,17 @@ fn book(alloc: Global) -> anyhow::Result<Book> {
         quantum: 5_000,
         greatest: 10_000,
     };
+    Ok(Tariffs::new(alloc, vec![in alloc; tariff]?)?)
+}
+
+/// A book of the five accounts.
+fn book(alloc: Global) -> anyhow::Result<Book> {
+    let accounts = accounts(alloc)?;
+    let tariffs = tariffs(alloc)?;
     let money = Money {
         currency: 978,
         exponent: -2,
     };
-    let tariffs = Tariffs::new(alloc, vec![in alloc; tariff]?)?;
     Ok(Book::new(alloc, accounts, tariffs, 600, money, 100_000)?)
 }
 
@@ -75,29 +89,60 @@ fn front(alloc: Global) -> anyhow::Result<Front> {
     Ok(Front::new(alloc, name, realm, vendors, 1, 1)?)
 }
 
+/// The front is told that the relay is up, and what time it is.
+fn tell(alloc: Global, fronts: &mut Fronts, moment: Moment) -> Result<(), NodeError> {
+    fronts.on_up(alloc, FRONT, RELAY, BETWEEN).outcome?;
+    fronts.on_tick::<ViewWire>(alloc, moment).outcome
+}
+
+/// The front with the book, for which the relay is up.
+fn fronts(alloc: Global, moment: Moment) -> anyhow::Result<Fronts> {
+    let front = front(alloc)?;
+    let at = vec![in alloc; FrontAt { node: FRONT, front }]?;
+    let mut fronts = Fronts::new(at, book(alloc)?);
+    tell(alloc, &mut fronts, moment)?;
+    Ok(fronts)
+}
+
 fn peer(alloc: Global, peer: NodeNo, name: &[u8], kind: NodeKind) -> anyhow::Result<LinkedPeer> {
     let name = Identity::read(alloc, name)?;
     Ok(LinkedPeer { peer, name, kind })
 }
 
-/// The relay between the client and the front.
-fn relay(alloc: Global) -> anyhow::Result<Relay> {
-    let peers = vec![in alloc;
-        peer(alloc, CLIENT, b"c1.example", NodeKind::Client)?,
-        peer(alloc, FRONT, b"f1.example", NodeKind::Front)?,
-    ]?;
+/// The client and the front.
+fn peers(alloc: Global) -> anyhow::Result<Vec<LinkedPeer>> {
+    let client = peer(alloc, CLIENT, b"c1.example", NodeKind::Client)?;
+    let front = peer(alloc, FRONT, b"f1.example", NodeKind::Front)?;
+    Ok(vec![in alloc; client, front]?)
+}
+
+/// The realm's requests go to the front.
+fn routes(alloc: Global) -> anyhow::Result<Vec<Route>> {
+    let realm = Identity::read(alloc, b"ocs.example")?;
+    let peers = Listing::from_vec(vec![in alloc; FRONT]?);
     let route = Route {
-        realm: Identity::read(alloc, b"ocs.example")?,
+        realm,
         app: 4,
-        peers: Listing::from_vec(vec![in alloc; FRONT]?),
+        peers,
     };
+    Ok(vec![in alloc; route]?)
+}
+
+/// The relay between the client and the front, which is up for it.
+fn relay(alloc: Global) -> anyhow::Result<Relay> {
+    let name = Identity::read(alloc, b"r1.example")?;
+    let realm = Identity::read(alloc, b"ocs.example")?;
+    let peers = Listing::from_vec(peers(alloc)?);
+    let routes = Listing::from_vec(routes(alloc)?);
     let site = RelaySite {
-        name: Identity::read(alloc, b"r1.example")?,
-        realm: Identity::read(alloc, b"ocs.example")?,
-        peers: Listing::from_vec(peers),
-        routes: Listing::from_vec(vec![in alloc; route]?),
+        name,
+        realm,
+        peers,
+        routes,
     };
-    Ok(Relay::new(alloc, site)?)
+    let mut relay = Relay::new(alloc, site)?;
+    relay.conn_up(FRONT, BETWEEN)?;
+    Ok(relay)
 }
 
 /// What the connections of r1.example know of it.
@@ -132,38 +177,40 @@ fn send(
 
 /// All of this is sent.
 fn send_all(out: Out, sent: &mut Vec<(ConnId, Message)>) -> Result<(), NodeError> {
-    for (conn, message) in out.items.into_vec() {
-        send(conn, message, sent)?;
+    match sent.extend(out.items.into_vec()) {
+        Ok(()) => Ok(()),
+        Err(AllocError) => Err(NodeError::OutOfMemory),
     }
-    Ok(())
 }
 
 impl Farm {
     /// The two, connected.
     pub fn new(alloc: Global, moment: Moment) -> anyhow::Result<Farm> {
-        let at = FrontAt {
-            node: FRONT,
-            front: front(alloc)?,
-        };
-        let mut fronts = Fronts::new(vec![in alloc; at]?, book(alloc)?);
-        let mut relay = relay(alloc)?;
-        relay.conn_up(FRONT, BETWEEN)?;
-        fronts.on_up(alloc, FRONT, RELAY, BETWEEN).outcome?;
-        let mut farm = Farm {
+        let relay = relay(alloc)?;
+        let fronts = fronts(alloc, moment)?;
+        Ok(Farm {
             relay,
             fronts,
             ups: 0,
             lost: 0,
-        };
-        farm.fronts
-            .on_tick::<dia_avp::ViewWire>(alloc, moment)
-            .outcome?;
-        Ok(farm)
+        })
     }
 
     /// The book.
     pub fn book(&self) -> &Book {
         self.fronts.book()
+    }
+
+    /// The relay gets an answer.
+    fn answer<W: Wire>(
+        &mut self,
+        alloc: Global,
+        answer: Message,
+        sent: &mut Vec<(ConnId, Message)>,
+    ) -> Result<(), NodeError> {
+        let back = Node::on_message::<W>(&mut self.relay, alloc, BETWEEN, answer);
+        back.outcome?;
+        send_all(back.out, sent)
     }
 
     /// The front gets a request, and the relay its answer.
@@ -176,14 +223,27 @@ impl Farm {
         let answers = self.fronts.on_message::<W>(alloc, BETWEEN, request);
         answers.outcome?;
         for (_, answer) in answers.out.items.into_vec() {
-            let back = Node::on_message::<W>(&mut self.relay, alloc, BETWEEN, answer);
-            back.outcome?;
-            send_all(back.out, sent)?;
+            self.answer::<W>(alloc, answer, sent)?;
         }
         Ok(())
     }
 
-    /// What the relay sends: to the front, which answers, or to the client.
+    /// What the relay sends goes to the front, or to the client.
+    fn pass<W: Wire>(
+        &mut self,
+        alloc: Global,
+        conn: ConnId,
+        message: Message,
+        sent: &mut Vec<(ConnId, Message)>,
+    ) -> Result<(), NodeError> {
+        if conn == BETWEEN {
+            self.ask::<W>(alloc, message, sent)
+        } else {
+            send(conn, message, sent)
+        }
+    }
+
+    /// All that the relay sends: to the front, which answers, or to the client.
     fn forward<W: Wire>(
         &mut self,
         alloc: Global,
@@ -192,11 +252,7 @@ impl Farm {
     ) -> Result<(), NodeError> {
         reaction.outcome?;
         for (conn, message) in reaction.out.items.into_vec() {
-            if conn == BETWEEN {
-                self.ask::<W>(alloc, message, sent)?;
-            } else {
-                send(conn, message, sent)?;
-            }
+            self.pass::<W>(alloc, conn, message, sent)?;
         }
         Ok(())
     }

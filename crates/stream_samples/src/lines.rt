@@ -4,8 +4,8 @@
 use crate::devices::{Reader, Ways, Writer, device_of};
 use crate::farm::{Farm, RELAY, locals};
 use dia_avp::ViewWire;
-use dia_base::Moment;
-use farm_serve::Serving;
+use dia_base::{ConnId, Moment};
+use farm_serve::{Ended, Refusal, Serving};
 use hex::FromHexError;
 use std::alloc::{AllocError, Global};
 
@@ -17,23 +17,23 @@ const LATER: Moment = Moment(61_000);
 
 type Served<'a> = Serving<Farm, Reader<'a>, Writer>;
 
-/// Serves a connection on which this comes, `piece` at a time, until all is read or it ends. Prints how often a node was
-/// up and lost, what is written, and why it has ended.
-fn serve<'a>(
-    rt: &impl Print,
+/// A connection on which this comes.
+fn accept<'a>(
     alloc: Global,
     serving: &mut Served<'a>,
     octets: &'a [u8],
-    piece: &mut [u8],
-) -> anyhow::Result<()> {
-    let (ups, lost) = (serving.node().ups, serving.node().lost);
+) -> Result<ConnId, Refusal> {
     let reader = device_of(octets, Ways::ending());
     let writer = device_of(Vec::new(alloc), Ways::sound());
-    let Ok(conn) = serving.accept(RELAY, Vec::new(alloc), reader, writer, MOMENT) else {
-        println!(rt; "not taken")?;
-        return Ok(());
-    };
-    for _ in 0..octets.len().saturating_add(2) {
+    match serving.accept(RELAY, Vec::new(alloc), reader, writer, MOMENT) {
+        Ok(conn) => Ok(conn),
+        Err(refused) => Err(refused.why),
+    }
+}
+
+/// Serves a connection on which so many octets come, `piece` at a time, until all is read or it ends.
+fn serve(serving: &mut Served<'_>, conn: ConnId, octets: usize, piece: &mut [u8]) {
+    for _ in 0..octets.saturating_add(2) {
         if !piece.is_empty() {
             serving.readable::<ViewWire>(conn, piece, MOMENT);
         }
@@ -42,42 +42,84 @@ fn serve<'a>(
             break;
         }
     }
-    let ups = serving.node().ups.saturating_sub(ups);
-    let lost = serving.node().lost.saturating_sub(lost);
-    if let Some(ended) = serving.take_ended(LATER) {
-        let written = ended.streams.writer().device().stream.as_slice();
-        println!(rt;
-            "{ups} {lost} {} {}",
-            hex::encode(alloc, written)?,
-            ended.why
-        )?;
-    }
+}
+
+/// Prints how often a node was up and lost on a connection, what is written, and why it has ended.
+fn print_end(
+    rt: &impl Print,
+    alloc: Global,
+    ups: u64,
+    lost: u64,
+    ended: &Ended<Reader<'_>, Writer>,
+) -> anyhow::Result<()> {
+    let written = ended.streams.writer().device().stream.as_slice();
+    println!(rt;
+        "{ups} {lost} {} {}",
+        hex::encode(alloc, written)?,
+        ended.why
+    )?;
     Ok(())
 }
 
-/// The streams of a text, one on a line. A line that is empty or no hexadecimal is none.
+/// Serves a connection on which this comes, and prints what has come of it.
+fn print<'a>(
+    rt: &impl Print,
+    alloc: Global,
+    serving: &mut Served<'a>,
+    octets: &'a [u8],
+    piece: &mut [u8],
+) -> anyhow::Result<()> {
+    let (ups, lost) = (serving.node().ups, serving.node().lost);
+    let Ok(conn) = accept(alloc, serving, octets) else {
+        println!(rt; "not taken")?;
+        return Ok(());
+    };
+    serve(serving, conn, octets.len(), piece);
+    let ups = serving.node().ups.saturating_sub(ups);
+    let lost = serving.node().lost.saturating_sub(lost);
+    match serving.take_ended(LATER) {
+        Some(ended) => print_end(rt, alloc, ups, lost, &ended),
+        None => Ok(()),
+    }
+}
+
+/// Puts the octets of a line behind other streams. A line that is empty or no hexadecimal is none.
+fn push_line(alloc: Global, line: &[u8], streams: &mut Vec<Vec<u8>>) -> anyhow::Result<()> {
+    if line.is_empty() {
+        return Ok(());
+    }
+    match hex::decode(alloc, line) {
+        Ok(octets) => Ok(streams.push(octets)?),
+        Err(FromHexError::OutOfMemory) => Err(AllocError.into()),
+        Err(_) => Ok(()),
+    }
+}
+
+/// The streams of a text, one on a line.
 fn streams_of(alloc: Global, text: &[u8]) -> anyhow::Result<Vec<Vec<u8>>> {
     let mut streams = Vec::new(alloc);
     for line in text.split(|octet| *octet == b'\n') {
-        if line.is_empty() {
-            continue;
-        }
-        match hex::decode(alloc, line) {
-            Ok(octets) => streams.push(octets)?,
-            Err(FromHexError::OutOfMemory) => return Err(AllocError.into()),
-            Err(_) => continue,
-        }
+        push_line(alloc, line, &mut streams)?;
     }
     Ok(streams)
 }
 
-/// Serves the streams of standard input, one after the other, and prints how many entries the book has then.
-pub fn print_all(rt: &impl Print, alloc: Global, text: &[u8], piece: usize) -> anyhow::Result<()> {
-    let streams = streams_of(alloc, text)?;
-    let mut piece = Vec::from_elem(alloc, 0u8, piece)?;
-    let mut serving = Serving::new(alloc, Farm::new(alloc, MOMENT)?, locals(alloc)?);
-    for octets in &streams {
-        serve(rt, alloc, &mut serving, octets, piece.as_mut_slice())?;
+/// The farm, without connections.
+fn serving<'a>(alloc: Global) -> anyhow::Result<Served<'a>> {
+    let locals = locals(alloc)?;
+    Ok(Serving::new(alloc, Farm::new(alloc, MOMENT)?, locals))
+}
+
+/// Serves streams one after the other, and prints how many entries the book has then.
+fn print_streams<'a>(
+    rt: &impl Print,
+    alloc: Global,
+    serving: &mut Served<'a>,
+    streams: &'a [Vec<u8>],
+    piece: &mut [u8],
+) -> anyhow::Result<()> {
+    for octets in streams {
+        print(rt, alloc, serving, octets.as_slice(), piece)?;
     }
     let book = serving.node().book();
     println!(rt;
@@ -87,4 +129,12 @@ pub fn print_all(rt: &impl Print, alloc: Global, text: &[u8], piece: usize) -> a
         book.balance(0).unwrap_or(0)
     )?;
     Ok(())
+}
+
+/// Serves the streams of standard input.
+pub fn print_all(rt: &impl Print, alloc: Global, text: &[u8], piece: usize) -> anyhow::Result<()> {
+    let streams = streams_of(alloc, text)?;
+    let mut piece = Vec::from_elem(alloc, 0u8, piece)?;
+    let mut serving = serving(alloc)?;
+    print_streams(rt, alloc, &mut serving, &streams, piece.as_mut_slice())
 }

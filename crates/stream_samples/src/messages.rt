@@ -21,11 +21,17 @@ pub const REQUEST: &str =
 pub const ANSWER: &str =
     "010000b440000110000000040000000700000064000001074000000e63313b313b3100000000010c4000000c000007d1000001084000001266322e6578616d706c65000000000128400000136f63732e6578616d706c6500000001024000000c00000004000001a04000000c000000040000019f4000000c00000000000001c840000038000001af40000018000001a5400000100000000000000c80000001b04000000c0000000a0000010c4000000c000007d1";
 
+/// Puts the octets of a text behind others.
+fn append(alloc: Global, octets: &mut Vec<u8>, text: &str) -> anyhow::Result<()> {
+    let more = hex::decode(alloc, text)?;
+    Ok(octets.extend_from_slice(&more)?)
+}
+
 /// These texts one behind the other, as octets.
 pub fn octets(alloc: Global, texts: &[&str]) -> anyhow::Result<Vec<u8>> {
     let mut octets = Vec::new(alloc);
     for text in texts {
-        octets.extend_from_slice(&hex::decode(alloc, text)?)?;
+        append(alloc, &mut octets, text)?;
     }
     Ok(octets)
 }

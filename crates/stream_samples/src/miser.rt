@@ -1,8 +1,8 @@
 //! A writer that takes nothing: octets wait until more would than may, and the connection is lost once.
 
-use crate::devices::{Ways, device_of};
+use crate::devices::Ways;
 use crate::messages::{CER, REQUEST, octets};
-use crate::replies::serve;
+use crate::replies::{Exchange, serve};
 use std::alloc::Global;
 use std::io::ErrorKind;
 
@@ -14,23 +14,26 @@ const PIECE: usize = 4_096;
 
 const TURNS: usize = 8;
 
+/// Prints what becomes of a connection on which this comes, and whose writer goes so.
 fn print(
     rt: &impl Print,
     alloc: Global,
     name: &str,
     asked: &[u8],
-    ways: Ways,
+    writes: Ways,
 ) -> anyhow::Result<()> {
-    let reader = device_of(asked, Ways::sound());
-    let writer = device_of(Vec::new(alloc), ways);
-    let outcome = serve(alloc, reader, writer, PIECE, TURNS)?;
+    let exchange = Exchange {
+        asked,
+        answers: &[],
+        reads: Ways::sound(),
+        writes,
+        piece: PIECE,
+        turns: TURNS,
+    };
+    let outcome = serve(alloc, &exchange)?;
     println!(rt;
         "{name}: {} up, {} messages, {} lost, {} octets written, {} unsent",
-        outcome.ups,
-        outcome.messages,
-        outcome.lost,
-        outcome.written.len(),
-        outcome.unsent
+        outcome.ups, outcome.messages, outcome.lost, outcome.written, outcome.unsent
     )?;
     if let Some(why) = outcome.why {
         println!(rt; "{name}: {why}")?;
@@ -39,13 +42,7 @@ fn print(
 }
 
 /// Writers that take nothing, would block, are interrupted, and one that takes all.
-pub fn print_all(rt: &impl Print, alloc: Global) -> anyhow::Result<()> {
-    let mut asked = octets(alloc, &[CER])?;
-    let debit = octets(alloc, &[REQUEST])?;
-    for _ in 0..DEBITS {
-        asked.extend_from_slice(&debit)?;
-    }
-    let asked = asked.as_slice();
+fn print_of(rt: &impl Print, alloc: Global, asked: &[u8]) -> anyhow::Result<()> {
     let blocks = Ways {
         cut: ErrorKind::WouldBlock,
         ..Ways::cut_behind(0)
@@ -58,4 +55,20 @@ pub fn print_all(rt: &impl Print, alloc: Global) -> anyhow::Result<()> {
     print(rt, alloc, "would block", asked, blocks)?;
     print(rt, alloc, "is interrupted", asked, interrupted)?;
     print(rt, alloc, "takes all", asked, Ways::sound())
+}
+
+/// Capabilities, and this request again and again.
+fn asked(alloc: Global, request: &[u8]) -> anyhow::Result<Vec<u8>> {
+    let mut asked = octets(alloc, &[CER])?;
+    for _ in 0..DEBITS {
+        asked.extend_from_slice(request)?;
+    }
+    Ok(asked)
+}
+
+/// Capabilities and debits, whose answers wait.
+pub fn print_all(rt: &impl Print, alloc: Global) -> anyhow::Result<()> {
+    let debit = octets(alloc, &[REQUEST])?;
+    let asked = asked(alloc, &debit)?;
+    print_of(rt, alloc, &asked)
 }

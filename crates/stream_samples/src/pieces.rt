@@ -1,24 +1,30 @@
 //! One stream in pieces of any length, and streams that begin with no message.
 
-use crate::devices::{Ways, device_of};
+use crate::devices::Ways;
 use crate::messages::{ANSWER, CEA, CER, REQUEST, octets};
-use crate::replies::serve;
+use crate::replies::{Exchange, Outcome, serve};
 use std::alloc::Global;
 
 /// The longest piece, which is longer than the stream.
 const LONGEST: usize = 400;
 
 /// Prints how often the answers are the same, whatever the length of a read.
-fn print_lengths(rt: &impl Print, alloc: Global) -> anyhow::Result<()> {
-    let asked = octets(alloc, &[CER, REQUEST])?;
-    let whole = octets(alloc, &[CEA, ANSWER])?;
+fn print_same(rt: &impl Print, alloc: Global, asked: &[u8], answers: &[u8]) -> anyhow::Result<()> {
     let mut same: u32 = 0;
     for length in 1..=LONGEST {
-        let reader = device_of(asked.as_slice(), Ways::sound());
-        let writer = device_of(Vec::new(alloc), Ways::sound());
-        // Seven turns of 64 reads, of an octet at least, read the 396 octets.
-        let outcome = serve(alloc, reader, writer, length, 7)?;
-        if outcome.written.as_slice() == whole.as_slice() && outcome.why.is_none() {
+        let outcome = serve(
+            alloc,
+            &Exchange {
+                asked,
+                answers,
+                reads: Ways::sound(),
+                writes: Ways::sound(),
+                piece: length,
+                // Seven turns of 64 reads, of an octet at least, read the 396 octets.
+                turns: 7,
+            },
+        )?;
+        if outcome.begins && outcome.written == answers.len() && outcome.why.is_none() {
             same = same.saturating_add(1);
         }
     }
@@ -26,12 +32,31 @@ fn print_lengths(rt: &impl Print, alloc: Global) -> anyhow::Result<()> {
     Ok(())
 }
 
-/// Prints what becomes of a connection behind the exchange of capabilities where this comes, an octet a read.
-fn print_beginning(rt: &impl Print, alloc: Global, text: &str) -> anyhow::Result<()> {
+fn print_lengths(rt: &impl Print, alloc: Global) -> anyhow::Result<()> {
+    let asked = octets(alloc, &[CER, REQUEST])?;
+    let answers = octets(alloc, &[CEA, ANSWER])?;
+    print_same(rt, alloc, &asked, &answers)
+}
+
+/// What becomes of a connection behind the exchange of capabilities where this comes, an octet a read.
+fn beginning(alloc: Global, text: &str) -> anyhow::Result<Outcome> {
     let asked = octets(alloc, &[CER, text])?;
-    let reader = device_of(asked.as_slice(), Ways::few(1));
-    let writer = device_of(Vec::new(alloc), Ways::sound());
-    let outcome = serve(alloc, reader, writer, 1, 4)?;
+    serve(
+        alloc,
+        &Exchange {
+            asked: &asked,
+            answers: &[],
+            reads: Ways::few(1),
+            writes: Ways::sound(),
+            piece: 1,
+            turns: 4,
+        },
+    )
+}
+
+/// Prints what becomes of it.
+fn print_beginning(rt: &impl Print, alloc: Global, text: &str) -> anyhow::Result<()> {
+    let outcome = beginning(alloc, text)?;
     let (ups, lost) = (outcome.ups, outcome.lost);
     match outcome.why {
         Some(why) => println!(rt; "{text}: {ups} up, {lost} lost: {why}")?,

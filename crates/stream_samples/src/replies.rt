@@ -1,6 +1,8 @@
 //! A node that answers each request alike and counts what it is told, at a connection over streams in memory.
 
-use crate::devices::{Reader, Writer};
+ghost use Rattle.std.specs.Prelude.{◌<◌, length};
+
+use crate::devices::{Reader, Ways, Writer, device_of};
 use crate::messages::{ANSWER, message};
 use dia_avp::{ViewWire, Wire};
 use dia_base::{ConnId, Identity, Listing, Moment, NodeNo};
@@ -26,6 +28,8 @@ pub struct Replies {
     pub messages: u32,
     pub lost: u32,
 }
+
+type Served<'a> = Serving<Replies, Reader<'a>, Writer>;
 
 /// The answer, on a connection.
 fn reply(alloc: Global, conn: ConnId, answer: &Message) -> Result<Out, AllocError> {
@@ -62,17 +66,47 @@ impl Node for Replies {
     }
 }
 
+/// What comes on a connection, and how it is served.
+#[derive(Clone, Copy)]
+pub struct Exchange<'a> {
+    pub asked: &'a [u8],
+    /// What is to be written.
+    pub answers: &'a [u8],
+    pub reads: Ways,
+    pub writes: Ways,
+    /// How many octets are read at a time.
+    pub piece: usize,
+    /// How often is read, up to 64 times, and then written.
+    pub turns: usize,
+}
+
 /// What came of a connection.
-#[derive(Drop)]
+#[derive(Clone, Copy)]
 pub struct Outcome {
     pub ups: u32,
     pub messages: u32,
     pub lost: u32,
-    /// What was written, and how many octets waited in the end.
-    pub written: Vec<u8>,
+    /// How many octets were written, and whether they are a beginning of what is to be written.
+    pub written: usize,
+    pub begins: bool,
+    /// How many octets waited in the end.
     pub unsent: usize,
     /// Why it has ended, if it has.
     pub why: Option<End>,
+}
+
+impl Outcome {
+    fn none() -> Outcome {
+        Outcome {
+            ups: 0,
+            messages: 0,
+            lost: 0,
+            written: 0,
+            begins: true,
+            unsent: 0,
+            why: None,
+        }
+    }
 }
 
 /// What the connections of f2.example know of it.
@@ -93,46 +127,64 @@ fn locals(alloc: Global) -> anyhow::Result<Vec<LocalNode>> {
     Ok(vec![in alloc; LocalNode { node: FRONT, site }]?)
 }
 
-/// Serves a connection for so many turns, of which each reads `piece` at a time and then writes.
-pub fn serve(
-    alloc: Global,
-    reader: Reader<'_>,
-    writer: Writer,
-    piece: usize,
-    turns: usize,
-) -> anyhow::Result<Outcome> {
+/// The node, without connections.
+fn serving<'a>(alloc: Global) -> anyhow::Result<Served<'a>> {
+    let locals = locals(alloc)?;
     let node = Replies {
         answer: message(alloc, ANSWER)?,
         ups: 0,
         messages: 0,
         lost: 0,
     };
-    let mut piece = Vec::from_elem(alloc, 0u8, piece.max(1))?;
-    let mut serving = Serving::new(alloc, node, locals(alloc)?);
-    let mut outcome = Outcome {
-        ups: 0,
-        messages: 0,
-        lost: 0,
-        written: Vec::new(alloc),
-        unsent: 0,
-        why: None,
+    Ok(Serving::new(alloc, node, locals))
+}
+
+/// What came of this connection.
+fn outcome_of(serving: &Served<'_>, conn: ConnId, answers: &[u8]) -> Outcome {
+    let Some(link) = serving.link(conn) else {
+        return Outcome::none();
     };
+    let node = serving.node();
+    let written = link.conn.writer().device().stream.as_slice();
+    let why = match link.end {
+        Some((why, _)) => Some(why),
+        None => None,
+    };
+    Outcome {
+        ups: node.ups,
+        messages: node.messages,
+        lost: node.lost,
+        written: written.len(),
+        begins: answers.starts_with(written),
+        unsent: link.conn.unsent(),
+        why,
+    }
+}
+
+/// Serves a connection of the node.
+fn serve_on<'a>(
+    alloc: Global,
+    serving: &mut Served<'a>,
+    exchange: &Exchange<'a>,
+    piece: &mut [u8],
+) -> Outcome
+    requires { 0 < length piece.old }
+{
+    let reader = device_of(exchange.asked, exchange.reads);
+    let writer = device_of(Vec::new(alloc), exchange.writes);
     let Ok(conn) = serving.accept(FRONT, Vec::new(alloc), reader, writer, MOMENT) else {
-        return Ok(outcome);
+        return Outcome::none();
     };
-    for _ in 0..turns {
-        serving.readable::<ViewWire>(conn, piece.as_mut_slice(), MOMENT);
+    for _ in 0..exchange.turns {
+        serving.readable::<ViewWire>(conn, piece, MOMENT);
         serving.write_all::<ViewWire>(MOMENT);
     }
-    if let Some(link) = serving.link(conn) {
-        let written = link.conn.writer().device().stream.as_slice();
-        outcome.written.extend_from_slice(written)?;
-        outcome.unsent = link.conn.unsent();
-        outcome.why = link.end.map(|(why, _)| why);
-    }
-    let node = serving.node();
-    outcome.ups = node.ups;
-    outcome.messages = node.messages;
-    outcome.lost = node.lost;
-    Ok(outcome)
+    outcome_of(serving, conn, exchange.answers)
+}
+
+/// Serves a connection.
+pub fn serve(alloc: Global, exchange: &Exchange<'_>) -> anyhow::Result<Outcome> {
+    let mut piece = Vec::from_elem(alloc, 0u8, exchange.piece.max(1))?;
+    let mut serving = serving(alloc)?;
+    Ok(serve_on(alloc, &mut serving, exchange, piece.as_mut_slice()))
 }
