@@ -1,5 +1,5 @@
 -- Where the nodes of a site listen, and who connects to whom.
-use Rattle.std.specs.Prelude.{◌≡◌, ◌≢◌, ◌==◌, ◌⊎◌, ◌+◌, ◌&&◌, ℕ, Bool, true, false, List, [], ◌∷◌, ◌++◌, Option, Some, None, map, filter, position, slice_get}
+use Rattle.std.specs.Prelude.{◌≡◌, ◌≢◌, ◌==◌, ◌⊎◌, ◌+◌, ◌&&◌, ℕ, Bool, true, false, List, [], ◌∷◌, ◌++◌, Option, Some, None, IfSome, map, filter, position, slice_get}
 use Rattle.std.specs.Net.Addr.{ipv4_octets, ipv6_octets}
 use Rattle.std.specs.Net.Grammar.{IsSocketText}
 use Rattle.std.specs.Net.Socket.{v4_ip, v6_ip}
@@ -20,6 +20,8 @@ use Rattle.farm_watch.specs.declared.site.HostAddress.{HostAddress}
 use Rattle.farm_watch.specs.declared.site.HostAddress.TheVariants as host
 use Rattle.farm_watch.specs.declared.site.Neighbour.{Neighbour}
 use Rattle.farm_watch.specs.declared.site.WatchSite.{WatchSite}
+use Rattle.farm_place.specs.declared.fault.Role.{Role}
+use Rattle.farm_place.specs.declared.fault.Role.TheVariants as role
 use Rattle.farm_place.specs.declared.place.Place.{Place}
 
 -- ---- who it is
@@ -127,6 +129,19 @@ connects site from to = list_any (λ node. node.0 == to) (called_by site from)
 -- the place of the first node of this name, of any kind
 abbrev pub place_of_name : Site → List ℕ → Option ℕ
 place_of_name site name = position (λ node. same_folded node.name name) site.nodes
+
+-- there is such a node, and its entry writes an address
+abbrev pub IsReached : Site → Option ℕ → Type 0
+IsReached site None = ⊥
+IsReached site (Some to) = (address : SocketAddr) × HasAddress site (record { 0 = to }) address
+
+-- which of the names of a client and its peer is wrong: no client has the one, or the client connects to no node of the other
+abbrev pub IsUnknown : Site → List ℕ → List ℕ → Role → Type 0
+IsUnknown site client peer role.Name = ⊥
+IsUnknown site client peer role.Client = IsNobody site kind.Client client
+IsUnknown site client peer role.Peer =
+    (fault_of peer ≢ None)
+    ⊎ IfSome (place_named site kind.Client client) (λ at. IfSome (place_of_name site peer) (λ to. connects site (record { 0 = at }) to ≡ false))
 
 -- ---- the fronts of a site
 

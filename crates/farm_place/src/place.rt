@@ -4,7 +4,7 @@ ghost use Rattle.std.specs.Prelude.{◌≡◌, ◌≢◌, ◌≤◌, ◌<◌, �
 ghost use Rattle.dia_base.specs.Identity.{fault_of};
 ghost use Rattle.farm_base.specs.CheckedSite.{IsChecked};
 ghost use Rattle.farm_place.specs.declared.fault.Role.{Role};
-ghost use Rattle.farm_place.specs.Places.{HasNone, IsPlace, host_of, place_named, place_of_name, watch_site, IsNobody, Serves, connects, fronts_from};
+ghost use Rattle.farm_place.specs.Places.{HasNone, IsPlace, IsReached, IsUnknown, host_of, place_named, place_of_name, watch_site, IsNobody, Serves, connects, fronts_from};
 
 use crate::fault::{PlaceFault, Role};
 use crate::names::{
@@ -181,6 +181,9 @@ pub fn place_of_client(
     requires { IsChecked site.now }
     ensures client { IfOk result (λ place. place_named site.now NodeKind.Client client.now ≡ Some place.node.0) }
     ensures peer { IfOk result (λ place. IfSome (place_of_name site.now peer.now) (λ to. IsPlace site.now place.node.0 (record { 0 = to } ∷ []) place × (connects site.now place.node to ≡ true))) }
+    ensures reached { IfOk result (λ _. IsReached site.now (place_of_name site.now peer.now)) }
+    ensures unknown { (role : Role) → result ≡ Err (PlaceFault.UnknownName role) → IsUnknown site.now client.now peer.now role }
+    ensures silent { result ≡ Err PlaceFault.NoAddress → IfSome (place_of_name site.now peer.now) (λ to. HasNone site.now (record { 0 = to })) }
 {
     let place = place_named(alloc, site, NodeKind::Client, client, Role::Client)?;
     let name = identity_of(alloc, peer, Role::Peer)?;
@@ -191,9 +194,9 @@ pub fn place_of_client(
     if !connects(alloc, site, NodeNo(place as u32), to)? {
         return Err(PlaceFault::UnknownName { role: Role::Peer });
     }
-    if socket_of(site, to).is_none() {
+    let Some(_address) = socket_of(site, to) else {
         return Err(PlaceFault::NoAddress);
-    }
+    };
     let mut calls = Vec::new(alloc);
     calls.push(to)?;
     place_at(alloc, site, place, calls)
