@@ -10,11 +10,12 @@ use Rattle.front_pool.specs.declared.job.Finished.{Finished}
 use Rattle.front_pool.specs.declared.job.Job.{Job}
 use Rattle.front_pool.specs.Jobs.{job_of, jobs_of}
 
--- A pool, as contracts see it: the front in whose name it answers, how many workers it has, the last number that it has given, and
--- the jobs that were handed over and not yet collected, the first to come first.
+-- A pool, as contracts see it: the front in whose name it answers, how many workers it has, how many jobs may wait for them, the last
+-- number that it has given, and the jobs that were handed over and not yet collected, the first to come first.
 pub record PoolState : Type 0 where
   pub front : NodeNo
   pub workers : ℕ
+  pub room : ℕ
   pub last : ℕ
   pub unanswered : List Job
 
@@ -24,8 +25,8 @@ IsRising above [] = Unit {0}
 IsRising above (job ∷ jobs) = (above < job.number) × IsRising job.number jobs
 
 -- a pool before its first job
-abbrev pub new_pool : NodeNo → ℕ → PoolState
-new_pool front workers = record { front = front; workers = workers; last = 0; unanswered = [] }
+abbrev pub new_pool : NodeNo → ℕ → ℕ → PoolState
+new_pool front workers room = record { front = front; workers = workers; room = room; last = 0; unanswered = [] }
 
 abbrev pub with_job : PoolState → ConnId → Message → PoolState
 with_job pool conn request =
@@ -56,7 +57,8 @@ pub record IsTakenOff (job : Job) (old new : List Job) : Type 0 where
 abbrev pub Collects : PoolState → Option Finished → PoolState → Type 0
 Collects old None new = new ≡ old
 Collects old (Some finished) new =
-    (new.front ≡ old.front) × (new.workers ≡ old.workers) × (new.last ≡ old.last) × IsTakenOff (job_of finished) old.unanswered new.unanswered
+    (new.front ≡ old.front) × (new.workers ≡ old.workers) × (new.room ≡ old.room) × (new.last ≡ old.last)
+    × IsTakenOff (job_of finished) old.unanswered new.unanswered
 
 -- No two jobs have one number, and none has a number that was not given.
 pub record IsNumbered (jobs : List Job) (last : ℕ) : Type 0 where

@@ -2,7 +2,7 @@
 
 ghost use Rattle.std.specs.Prelude.{◌≡◌, ◌<◌, IfOk};
 ghost use Rattle.std.specs.Arc.{arc_value};
-ghost use Rattle.crossbeam_queue.specs.Passes.{IsPassOf};
+ghost use Rattle.crossbeam_queue.specs.Passes.{IsPassOf, ruled_capacity};
 
 use crate::control::Control;
 use crate::queues::{FinishedPass, FinishedQueue, JobPass, JobQueue};
@@ -24,8 +24,43 @@ pub struct Desk<L: Pooling, G> {
     pub control: Arc<Control>,
 }
 
+/// A queue with room for so many jobs, and a pass of it.
+fn job_queue(alloc: Global, room: usize) -> Result<(Arc<JobQueue>, JobPass), AllocError>
+    requires { 0 < room }
+    ensures pass { IfOk result (λ made. IsPassOf (arc_value made.0) made.1) }
+    ensures room { IfOk result (λ made. ruled_capacity (arc_value made.0) ≡ room) }
+{
+    let (queue, pass) = JobQueue::ruled(alloc, room)?;
+    Ok((Arc::new(alloc, queue)?, pass))
+}
+
+/// A queue with room for so many finished jobs, and a pass of it.
+fn finished_queue<L: Pooling>(
+    alloc: Global,
+    room: usize,
+) -> Result<(Arc<FinishedQueue<L>>, FinishedPass), AllocError>
+    requires { 0 < room }
+    ensures pass { IfOk result (λ made. IsPassOf (arc_value made.0) made.1) }
+    ensures room { IfOk result (λ made. ruled_capacity (arc_value made.0) ≡ room) }
+{
+    let (queue, pass) = FinishedQueue::<L>::ruled(alloc, room)?;
+    Ok((Arc::new(alloc, queue)?, pass))
+}
+
+/// What the answers of a front name.
+fn site_of(alloc: Global, queue: PoolQueue) -> Result<Arc<PoolSite>, AllocError>
+    ensures { IfOk result (λ site. arc_value site ≡ record { name = queue.name; realm = queue.realm; profile = queue.profile }) }
+{
+    let site = PoolSite {
+        name: queue.name,
+        realm: queue.realm,
+        profile: queue.profile,
+    };
+    Ok(Arc::new(alloc, site)?)
+}
+
 impl<L: Pooling, G: Drop> Desk<L, G> {
-    /// A desk with two empty queues, and a pass of each.
+    /// A desk with two empty queues, each with room for as many jobs as the front may have waiting, and a pass of each.
     pub fn new(
         alloc: Global,
         gate: G,
@@ -37,22 +72,22 @@ impl<L: Pooling, G: Drop> Desk<L, G> {
         ensures site { IfOk result (λ made. arc_value made.0.site ≡ L.site made.0.front) }
         ensures jobs { IfOk result (λ made. IsPassOf (arc_value made.0.jobs) made.1) }
         ensures finished { IfOk result (λ made. IsPassOf (arc_value made.0.finished) made.2) }
+        ensures room { IfOk result (λ made. (ruled_capacity (arc_value made.0.jobs) ≡ queue.jobs) × (ruled_capacity (arc_value made.0.finished) ≡ queue.jobs)) }
     {
-        let (jobs, job_pass) = JobQueue::ruled(alloc, queue.jobs)?;
-        let (finished, finished_pass) = FinishedQueue::<L>::ruled(alloc, queue.jobs)?;
-        let site = PoolSite {
-            name: queue.name,
-            realm: queue.realm,
-            profile: queue.profile,
-        };
+        let (front, timer, room) = (queue.front, queue.timer, queue.jobs);
+        let site = site_of(alloc, queue)?;
+        let gate = Arc::new(alloc, gate)?;
+        let control = Arc::new(alloc, Control::new())?;
+        let (jobs, job_pass) = job_queue(alloc, room)?;
+        let (finished, finished_pass) = finished_queue::<L>(alloc, room)?;
         let desk = Desk {
-            jobs: Arc::new(alloc, jobs)?,
-            finished: Arc::new(alloc, finished)?,
-            front: queue.front,
-            site: Arc::new(alloc, site)?,
-            timer: queue.timer,
-            gate: Arc::new(alloc, gate)?,
-            control: Arc::new(alloc, Control::new())?,
+            jobs,
+            finished,
+            front,
+            site,
+            timer,
+            gate,
+            control,
         };
         Ok((desk, job_pass, finished_pass))
     }

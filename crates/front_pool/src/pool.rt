@@ -3,7 +3,7 @@
 ghost use Rattle.std.specs.Prelude.{◌≡◌, ◌+◌, ◌≤◌, [], ◌++◌, length, All, IfSome, MatchBool, true, vec_len, vec_capacity};
 ghost use Rattle.std.specs.List.Sorted.{IsPermutation};
 ghost use Rattle.std.specs.Arc.{arc_value};
-ghost use Rattle.crossbeam_queue.specs.Passes.{IsPassOf};
+ghost use Rattle.crossbeam_queue.specs.Passes.{IsPassOf, ruled_capacity};
 ghost use Rattle.front_pool.specs.Answering.{IsAnsweredBy, IsAnsweredByOne};
 ghost use Rattle.front_pool.specs.Jobs.{job_of, jobs_of};
 ghost use Rattle.front_pool.specs.Keeping.{Balances, Collects, HandsBack, IsAt, IsTakenOff, new_pool};
@@ -28,8 +28,8 @@ use std::time::Duration;
 /// How many milliseconds a pool that stops sleeps, while its workers end, before it looks again.
 const NOT_YET: u64 = 1;
 
-/// Worker threads on one shared book. Contracts see how many there are, the last number given, and the jobs that were handed
-/// over and not collected.
+/// Worker threads on one shared book. Contracts see how many there are, how many jobs may wait for them, the last number given,
+/// and the jobs that were handed over and not collected.
 #[derive(Drop)]
 pub struct Pool<L: Pooling> {
     front: NodeNo,
@@ -51,12 +51,12 @@ pub struct Pool<L: Pooling> {
 impl<L: Pooling> Model for Pool<L> {
     ghost use Rattle.std.specs.Prelude.{◌≡◌, ◌≤◌, [], vec_len, vec_capacity};
     ghost use Rattle.std.specs.Arc.{arc_value};
-    ghost use Rattle.crossbeam_queue.specs.Passes.{IsPassOf};
+    ghost use Rattle.crossbeam_queue.specs.Passes.{IsPassOf, ruled_capacity};
     ghost use Rattle.front_pool.specs.Keeping.{IsNumbered, PoolState};
 
     ghost Value = { PoolState };
 
-    ghost view = { λ p. record { front = p.front; workers = vec_len p.workers; last = p.last; unanswered = p.unanswered.items } };
+    ghost view = { λ p. record { front = p.front; workers = vec_len p.workers; room = ruled_capacity (arc_value p.jobs); last = p.last; unanswered = p.unanswered.items } };
 
     ghost invariant = { λ p. IsPassOf (arc_value p.jobs) p.job_pass × IsPassOf (arc_value p.finished) p.finished_pass
         × (p.seats.items ≡ []) × (vec_len p.workers ≤ vec_capacity p.seats)
@@ -77,7 +77,7 @@ impl<L: Pooling> Pool<L> {
         requires jobs { IsPassOf (arc_value desk.jobs) job_pass }
         requires finished { IsPassOf (arc_value desk.finished) finished_pass }
         requires seats { (seats.items ≡ []) × (vec_len workers ≤ vec_capacity seats) }
-        ensures { result ≡ new_pool desk.front (vec_len workers) }
+        ensures { result ≡ new_pool desk.front (vec_len workers) (ruled_capacity (arc_value desk.jobs)) }
     {
         let Desk {
             jobs,

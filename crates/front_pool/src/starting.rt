@@ -69,7 +69,7 @@ impl<L: Pooling + Send + Sync + 'static> Pool<L> {
         G: Gate + Drop + Send + Sync + 'static,
         requires jobs { 0 < queue.jobs }
         requires site { L.site queue.front ≡ record { name = queue.name; realm = queue.realm; profile = queue.profile } }
-        ensures pool { IfOk result (λ pool. pool ≡ new_pool queue.front (length seats.items)) }
+        ensures pool { IfOk result (λ pool. pool ≡ new_pool queue.front (length seats.items) queue.jobs) }
         ensures failed { IfErr result (λ failed. length failed.seats.items ≡ length seats.items) }
     {
         let Ok(mut workers) = Vec::with_capacity(alloc, seats.len()) else {

@@ -40,13 +40,13 @@ pub record FrontState : Type 0 where
   pub pool : PoolState
 
 -- a front with so many workers, before anything has happened to it
-abbrev pub new_front : NodeNo → ℕ → FrontState
-new_front node workers = record { connections = []; pool = new_pool node workers }
+abbrev pub new_front : NodeNo → ℕ → ℕ → FrontState
+new_front node workers room = record { connections = []; pool = new_pool node workers room }
 
 -- These fronts, each with so many workers, for which there are so many seats: the first to come have as many as there are left.
-abbrev pub new_fronts : List NodeNo → ℕ → ℕ → List FrontState
-new_fronts [] workers seats = []
-new_fronts (node ∷ nodes) workers seats = new_front node (min workers seats) ∷ new_fronts nodes workers (seats - workers)
+abbrev pub new_fronts : List NodeNo → ℕ → ℕ → ℕ → List FrontState
+new_fronts [] workers room seats = []
+new_fronts (node ∷ nodes) workers room seats = new_front node (min workers seats) room ∷ new_fronts nodes workers room (seats - workers)
 
 abbrev pub with_connection : FrontState → ConnId → FrontState
 with_connection front conn = if is_among front.connections conn then front else record front { connections = front.connections ++ conn ∷ [] }

@@ -97,7 +97,7 @@ where
     K: Wake + Drop + Send + Sync + 'static,
     requires site { (front : NodeNo) → L.site front ≡ site_of site.now front }
     requires queue { 0 < site.now.queue }
-    ensures { IfOk result (λ front. front ≡ new_front node (length seats.items)) }
+    ensures { IfOk result (λ front. front ≡ new_front node (length seats.items) site.now.queue) }
 {
     let own = site_of(alloc, site, node)?;
     let named = site_of(alloc, site, node)?;
@@ -123,6 +123,61 @@ where
     }
 }
 
+/// Starts the next front, with as many workers as the site says for which there is a seat.
+fn start_next<W, L, R, K>(
+    rt: &R,
+    alloc: Global,
+    shared: &SharedBook<L>,
+    seats: &mut Vec<Seat<L>>,
+    site: &Site,
+    node: NodeNo,
+    timer: Timer,
+    waker: &Arc<K>,
+) -> Result<PoolFront<L>, StartFault>
+where
+    W: Wire + Send + 'static,
+    L: Pooling + Send + Sync + 'static,
+    R: Threads + Wait + Clock + Copy + Send + 'static,
+    K: Wake + Drop + Send + Sync + 'static,
+    requires site { (front : NodeNo) → L.site front ≡ site_of site.now front }
+    requires queue { 0 < site.now.queue }
+    ensures front { IfOk result (λ front. front ≡ new_front node (min site.now.workers (length seats.old.items)) site.now.queue) }
+    ensures left { IfOk result (λ front. length seats.new.items ≡ length seats.old.items - site.now.workers) }
+{
+    let own = take_seats(seats, site.workers)?;
+    let waker = Arc::try_clone(waker)?;
+    start_front::<W, L, R, K>(rt, alloc, shared, own, site, node, timer, Bell { waker })
+}
+
+/// Starts these fronts, one after the other.
+fn start_each<W, L, R, K>(
+    rt: &R,
+    alloc: Global,
+    shared: &SharedBook<L>,
+    seats: &mut Vec<Seat<L>>,
+    site: &Site,
+    nodes: &[NodeNo],
+    timer: Timer,
+    waker: &Arc<K>,
+) -> Result<Vec<PoolFront<L>>, StartFault>
+where
+    W: Wire + Send + 'static,
+    L: Pooling + Send + Sync + 'static,
+    R: Threads + Wait + Clock + Copy + Send + 'static,
+    K: Wake + Drop + Send + Sync + 'static,
+    requires site { (front : NodeNo) → L.site front ≡ site_of site.now front }
+    requires queue { 0 < site.now.queue }
+    ensures { IfOk result (λ fronts. fronts.items ≡ new_fronts nodes.now site.now.workers site.now.queue (length seats.old.items)) }
+{
+    let mut fronts = Vec::with_capacity(alloc, nodes.len())?;
+    for node in nodes {
+        let front =
+            start_next::<W, L, R, K>(rt, alloc, shared, seats, site, *node, timer, waker)?;
+        fronts.push(front)?;
+    }
+    Ok(fronts)
+}
+
 /// Starts these fronts of a site, on one book, each with as many workers as the site says, for which there is a seat. The
 /// workers wake by `waker` when they have an answer. Where that fails, the process has no use for those that were started.
 pub fn start_fronts<W, L, R, K>(
@@ -141,20 +196,13 @@ where
     K: Wake + Drop + Send + Sync + 'static,
     requires site { (front : NodeNo) → L.site front ≡ site_of site.now front }
     requires queue { 0 < site.now.queue }
-    ensures { IfOk result (λ fronts. fronts ≡ new_fronts nodes.now site.now.workers (length seats.items)) }
+    ensures { IfOk result (λ fronts. fronts ≡ new_fronts nodes.now site.now.workers site.now.queue (length seats.items)) }
 {
     let mut seats = seats;
     let timer = Timer::start(&rt).map_err(|_| StartFault::NoClock)?;
     let waker = Arc::new(alloc, waker)?;
-    let mut fronts = Vec::with_capacity(alloc, nodes.len())?;
-    for node in nodes {
-        let own = take_seats(&mut seats, site.workers)?;
-        let bell = Bell {
-            waker: Arc::try_clone(&waker)?,
-        };
-        fronts.push(start_front::<W, L, R, K>(
-            &rt, alloc, &shared, own, site, *node, timer, bell,
-        )?)?;
-    }
+    let fronts = start_each::<W, L, R, K>(
+        &rt, alloc, &shared, &mut seats, site, nodes, timer, &waker,
+    )?;
     Ok(PoolFronts::new(rt, alloc, shared, fronts))
 }

@@ -1,7 +1,0 @@
-use Rattle.std.proofs.Common.{◌≡◌, ◌++◌, drop, length}
-use Rattle.pool_node.specs.Fronts.{new_fronts}
-use Rattle.pool_node.proofs.start.start_fronts.Given as goal
-
-abbrev pub invariant-loop-node : goal.invariant-loop-node
-invariant-loop-node g l =
-    l.fronts.items ++ new_fronts (drop l.node-index l.nodes) l.site.workers (length l.seats.items) ≡ new_fronts l.nodes l.site.workers (length l.fn.seats.items)
