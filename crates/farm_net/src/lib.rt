@@ -37,6 +37,3 @@ pub use conn::{Conn, Received, Stage, UNSENT_LIMIT};
 pub use device::{Counted, Device};
 pub use loss::Loss;
 pub use turn::TURN_LIMIT;
-
-#[cfg(test)]
-mod tests;

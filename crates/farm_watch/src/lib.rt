@@ -55,6 +55,3 @@ pub use laws::{
 };
 pub use site::{Application, HostAddress, Neighbour, Side, WatchSite};
 pub use watch::{Waits, Watch};
-
-#[cfg(test)]
-mod tests;

@@ -5,7 +5,9 @@
 //! - `devices`: readers and writers in memory, and what they do.
 //! - `replies`: a node that answers each request alike. `messages`: what the other ends write.
 //! - `failing`, `miser`, `pieces`: what becomes of its connections.
-//! - `lists`: lists of AVPs that end too early, and groups that are too deep.
+//! - `lists`: lists of AVPs that end too early, and groups that are too deep. `long`: a long stream in pieces. `texts`: those of
+//!   faults.
+//! - `lives`: the life of a connection from both of its ends.
 //! - `farm`: a relay and a front as one node. `lines`: a client's streams through both.
 //!
 //! With a number behind its name it reads so many octets at a time of each line, and prints nothing else: `bench/fuzz.py` runs
@@ -17,10 +19,13 @@ mod failing;
 mod farm;
 mod lines;
 mod lists;
+mod lives;
+mod long;
 mod messages;
 mod miser;
 mod pieces;
 mod replies;
+mod texts;
 
 use farm_text::read_text;
 use std::env;
@@ -42,7 +47,10 @@ fn print_samples(rt: &HostRuntime) -> anyhow::Result<()> {
     failing::print_all(rt, alloc)?;
     miser::print_all(rt, alloc)?;
     pieces::print_all(rt, alloc)?;
-    lists::print_all(rt, alloc)
+    lists::print_all(rt, alloc)?;
+    long::print_all(rt, alloc)?;
+    texts::print_all(rt)?;
+    lives::print_all(rt, alloc)
 }
 
 fn main(rt: HostRuntime) -> anyhow::Result<()> {
