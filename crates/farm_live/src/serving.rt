@@ -31,22 +31,8 @@ pub fn serve_alone<N: Booked, O: Threads + Wait + Net + Clock + RandomSource>(
     places: Vec<Place>,
     answers: u64,
 ) -> Result<(), Fault> {
-    let watching = Watching::begin(setting, &[number])?;
-    let live = Live::new(setting.os, setting.rt.alloc(), setting.site, node, places)?;
-    serve_watched(setting, number, live, watching, answers)
-}
-
-/// Serves as one node that nobody is connected with yet.
-fn serve_watched<N: Booked, O: Threads + Wait + Net + Clock>(
-    setting: &Setting<'_, O>,
-    number: NodeNo,
-    live: Live<N>,
-    watching: Watching,
-    answers: u64,
-) -> Result<(), Fault> {
-    let mut live = live;
-    let recording = Record::begin(setting, &[number], false, &mut live)?;
-    serve_to_end(setting, live, recording, watching, answers)
+    let sockets = Sockets::new(setting.os, setting.rt.alloc())?;
+    serve_over(setting, &[number], node, places, sockets, answers)
 }
 
 /// Serves as these nodes, which stand at these places, over these sockets.
