@@ -79,6 +79,23 @@ fn dials_of(alloc: Global, site: &Site, places: &[Place]) -> Result<Vec<Dial>, L
     Ok(dials)
 }
 
+/// Where the nodes at these places listen, and what they know of their neighbours.
+fn ends_of(alloc: Global, places: Vec<Place>) -> Result<(Vec<Address>, Vec<LocalNode>), LoopFault> {
+    let mut addresses = Vec::with_capacity(alloc, places.len())?;
+    let mut locals = Vec::with_capacity(alloc, places.len())?;
+    for place in places {
+        let node = place.node;
+        if let Some(socket) = place.address {
+            addresses.push(Address { node, socket })?;
+        }
+        locals.push(LocalNode {
+            node,
+            site: place.watch,
+        })?;
+    }
+    Ok((addresses, locals))
+}
+
 /// The names of the nodes of a site, by their numbers.
 fn names_of(alloc: Global, site: &Site) -> Result<Vec<Identity>, LoopFault> {
     let mut names = Vec::new(alloc);
@@ -122,23 +139,10 @@ impl<N: Node + Drop> Live<N> {
         node: N,
         places: Vec<Place>,
     ) -> Result<Self, LoopFault> {
-        let dials = dials_of(alloc, site, &places)?;
-        let mut addresses = Vec::with_capacity(alloc, places.len())?;
-        let mut locals = Vec::with_capacity(alloc, places.len())?;
-        for place in places {
-            if let Some(socket) = place.address {
-                addresses.push(Address {
-                    node: place.node,
-                    socket,
-                })?;
-            }
-            locals.push(LocalNode {
-                node: place.node,
-                site: place.watch,
-            })?;
-        }
         let timer = Timer::start(os)?;
         let moment = timer.now(os)?;
+        let dials = dials_of(alloc, site, &places)?;
+        let (addresses, locals) = ends_of(alloc, places)?;
         Ok(Live {
             alloc,
             serving: Serving::new(alloc, node, locals),
