@@ -2,7 +2,7 @@
 
 use dia_base::{ConnId, NodeNo};
 use farm_base::Site;
-use farm_serve::{Note, Refusal};
+use farm_serve::{End, Note, Refusal};
 use log::{Log, info, warn};
 use std::net::{IpAddr, SocketAddr};
 use std::{fmt, io};
@@ -57,31 +57,47 @@ pub fn failed<L: Log>(log: &L, what: &str, error: &io::Error) {
     warn!(log; target: "farm", "{what}: {error}");
 }
 
+/// The node at the other end of a connection is up.
+fn up<L: Log>(log: &L, site: &Site, conn: ConnId, local: NodeNo, peer: NodeNo) {
+    let (local, peer) = (Named { site, node: local }, Named { site, node: peer });
+    info!(log; target: "farm", "connection {}: {local} and {peer} are up", conn.0);
+}
+
+/// A connection has ended on which a node was up.
+fn lost<L: Log>(log: &L, site: &Site, conn: ConnId, peer: NodeNo, why: End) {
+    let peer = Named { site, node: peer };
+    info!(log; target: "farm", "connection {}: {peer} is lost: {why}", conn.0);
+}
+
+/// A connection has ended on which no node was up.
+fn refused<L: Log>(log: &L, conn: ConnId, why: End) {
+    info!(log; target: "farm", "connection {}: ended with nobody up: {why}", conn.0);
+}
+
+/// A request that was not answered on a lost connection was sent again.
+fn failed_over<L: Log>(log: &L, lost: ConnId, to: ConnId) {
+    info!(log; target: "farm", "failover: a request of connection {} is sent again on connection {}", lost.0, to.0);
+}
+
+/// A request that was not answered on a lost connection was answered with this Result-Code.
+fn given_up<L: Log>(log: &L, lost: ConnId, to: ConnId, code: u32) {
+    info!(log; target: "farm", "a request of connection {} cannot be sent again: {code} to connection {}", lost.0, to.0);
+}
+
+/// A request was refused with this Result-Code.
+fn refusal<L: Log>(log: &L, conn: ConnId, code: u32) {
+    info!(log; target: "farm", "connection {}: a request is refused: {code}", conn.0);
+}
+
 /// Something that has happened to connections.
 pub fn note<L: Log>(log: &L, site: &Site, note: Note) {
     match note {
-        Note::Up { conn, local, peer } => {
-            let (local, peer) = (Named { site, node: local }, Named { site, node: peer });
-            info!(log; target: "farm", "connection {}: {local} and {peer} are up", conn.0);
-        }
-        Note::Lost { conn, peer, why } => {
-            let peer = Named { site, node: peer };
-            info!(log; target: "farm", "connection {}: {peer} is lost: {why}", conn.0);
-        }
-        Note::Refused { conn, why } => {
-            info!(log; target: "farm", "connection {}: ended with nobody up: {why}", conn.0);
-        }
-        Note::FailedOver { lost, to } => {
-            info!(log; target: "farm", "failover: a request of connection {} is sent again on connection {}", lost.0, to.0);
-        }
-        Note::GivenUp { lost, to, code } => {
-            info!(log; target: "farm", "a request of connection {} cannot be sent again: {code} to connection {}", lost.0, to.0);
-        }
-        Note::Refusal { conn, code } => {
-            info!(log; target: "farm", "connection {}: a request is refused: {code}", conn.0);
-        }
-        Note::Failed { error } => {
-            warn!(log; target: "farm", "{error}");
-        }
+        Note::Up { conn, local, peer } => up(log, site, conn, local, peer),
+        Note::Lost { conn, peer, why } => lost(log, site, conn, peer, why),
+        Note::Refused { conn, why } => refused(log, conn, why),
+        Note::FailedOver { lost, to } => failed_over(log, lost, to),
+        Note::GivenUp { lost, to, code } => given_up(log, lost, to, code),
+        Note::Refusal { conn, code } => refusal(log, conn, code),
+        Note::Failed { error } => warn!(log; target: "farm", "{error}"),
     }
 }
