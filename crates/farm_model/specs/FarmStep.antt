@@ -18,13 +18,14 @@ use Rattle.farm_model.specs.declared.state.Direction.{Direction}
 use Rattle.farm_model.specs.declared.state.FrontAt.{FrontAt}
 use Rattle.farm_model.specs.declared.state.RelayAt.{RelayAt}
 use Rattle.farm_base.specs.declared.step.Step.{Step}
-use Rattle.farm_base.specs.declared.step.Step.TheVariants.{Up, Accept, Opened, Send, Deliver, Lose, Cut, Drop, Restart, Crash, Pick, Charge, Refuse, Emit, Sweep}
+use Rattle.farm_base.specs.declared.step.Step.TheVariants.{Up, Accept, Opened, Send, Deliver, Lose, Cut, Drop}
+use Rattle.farm_base.specs.declared.step.Step.TheVariants.{Restart, Crash, Pick, Charge, Refuse, Emit, Sweep}
 use Rattle.farm_model.specs.Arrival.{Arrives}
 use Rattle.farm_base.specs.Lists.{replace_first}
 use Rattle.farm_model.specs.Loss.{LossAt, EndGoes, end_with, CutsBoth, after_crash, peers_of, DropAll}
 use Rattle.farm_base.specs.Nodes.{is_client, is_front, is_relay, is_linked}
-use Rattle.farm_model.specs.World.{WorldState, is_between, is_heard, is_unheard, is_connected, knows, conn_known, with_message_from, with_traffic_from, with_front, front_at, with_relay}
-use Rattle.farm_model.specs.World.{relay_at}
+use Rattle.farm_model.specs.World.{WorldState, is_between, is_heard, is_unheard, is_connected, knows, conn_known}
+use Rattle.farm_model.specs.World.{with_message_from, with_traffic_from, with_front, front_at, with_relay, relay_at}
 
 -- ---- accept, opened, up: a new connection, which first the one node learns and then the other
 

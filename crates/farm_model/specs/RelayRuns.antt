@@ -50,7 +50,8 @@ opened_events a b directions = map (λ direction. Rattle.relay_core.specs.declar
 -- the connections that the node knows, and drops or hears the end of
 abbrev pub lost_events : Site → Step → NodeNo → List Direction → List RelayEvent
 lost_events site step node directions =
-    map (λ direction. Lost direction.conn) (filter (λ direction. ends_at site step directions direction && is_node direction.to node && direction.known) directions)
+    map (λ direction. Lost direction.conn)
+    (filter (λ direction. ends_at site step directions direction && is_node direction.to node && direction.known) directions)
 
 -- What happens to the node: one thing or nothing.
 abbrev pub events_at : Site → NodeNo → Step → WorldState → List RelayEvent

@@ -19,7 +19,8 @@ use Rattle.farm_law.specs.Lists.{Has, here, there}
 use Rattle.farm_base.specs.declared.site.Site.{Site}
 use Rattle.farm_model.specs.declared.state.Direction.{Direction}
 use Rattle.farm_base.specs.declared.step.Step.{Step}
-use Rattle.farm_base.specs.declared.step.Step.TheVariants.{Up, Accept, Opened, Send, Deliver, Lose, Cut, Drop, Restart, Crash, Pick, Charge, Refuse, Emit, Sweep}
+use Rattle.farm_base.specs.declared.step.Step.TheVariants.{Up, Accept, Opened, Send, Deliver, Lose, Cut, Drop}
+use Rattle.farm_base.specs.declared.step.Step.TheVariants.{Restart, Crash, Pick, Charge, Refuse, Emit, Sweep}
 use Rattle.farm_model.specs.Applying.{has_place, is_idle, has_picked, is_done, is_waiting, front_can, can_apply}
 use Rattle.farm_model.specs.Applying.{AppliesWhereItCan, could_not_apply}
 use Rattle.farm_model.specs.FarmStep.{FarmStep, Outcome, Flight, Delivers, can_cut, flight_of, flight_in, flight_where, flight_at, loss_at, can_connect}
@@ -233,7 +234,8 @@ module _ (site : Site) (old new : WorldState) (applied : Bool) (losses : List Lo
 
   pub step_told : (step : Step) → FarmStep site old step applied losses new → applied ≡ can_apply site old step
   step_told (Up a b) made = outcome_told (after_up site old a b) made.0 ∙ ups a b (can_connect site old a b)
-  step_told (Accept at from) made = outcome_told (after_accept site old at from) made.0 ∙ some_if (can_connect site old from at) (with_new_connection old from at)
+  step_told (Accept at from) made = outcome_told (after_accept site old at from) made.0
+      ∙ some_if (can_connect site old from at) (with_new_connection old from at)
   step_told (Opened a b) made = outcome_told (after_opened old a b) made.0 ∙ opens old a b
   step_told (Send client to message) made = outcome_told (after_send site old client to message) made.0 ∙ sends_if client to message (is_client site client)
   step_told (Deliver from to place) made = delivery_told to (flight_at old.directions from to place) made.0

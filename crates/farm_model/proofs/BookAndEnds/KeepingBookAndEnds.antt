@@ -1,5 +1,6 @@
 -- At each step the book changes by charges and sweeps alone, and a connection that is made is told and stands both ways.
-use Rattle.std.proofs.Common.{◌≡◌, ℕ, Bool, true, false, cond, not, List, [], ◌∷◌, ◌++◌, Option, Some, None, inl, inr, refl, sym, subst, ap, ◌∙◌, append-nil, true≢false}
+use Rattle.std.proofs.Common.{◌≡◌, ℕ, Bool, true, false, cond, not, List, [], ◌∷◌, ◌++◌, Option}
+use Rattle.std.proofs.Common.{Some, None, inl, inr, refl, sym, subst, ap, ◌∙◌, append-nil, true≢false}
 use Rattle.std.specs.Prelude.{MatchBool, IfSome, unwrap_or, ◌&&◌}
 use Rattle.std.proofs.lemmas.Bool.{and_parts, and_from, both_ways, not-true}
 use Rattle.std.specs.List.{find}
@@ -17,7 +18,8 @@ use Rattle.farm_law.specs.Lists.{Has, here, there}
 use Rattle.farm_base.specs.declared.site.Site.{Site}
 use Rattle.farm_model.specs.declared.state.Direction.{Direction}
 use Rattle.farm_base.specs.declared.step.Step.{Step}
-use Rattle.farm_base.specs.declared.step.Step.TheVariants.{Up, Accept, Opened, Send, Deliver, Lose, Cut, Drop, Restart, Crash, Pick, Charge, Refuse, Emit, Sweep}
+use Rattle.farm_base.specs.declared.step.Step.TheVariants.{Up, Accept, Opened, Send, Deliver, Lose, Cut, Drop}
+use Rattle.farm_base.specs.declared.step.Step.TheVariants.{Restart, Crash, Pick, Charge, Refuse, Emit, Sweep}
 use Rattle.farm_model.specs.Arrival.{after_arrival_at_client, after_arrival_at_front, ArrivesAtServer}
 use Rattle.farm_model.specs.BookAndEnds.{charged_by, book_at, ends_made, next_way, KeepsBookAndEnds}
 use Rattle.farm_model.specs.FarmStep.{FarmStep, Outcome, Flight, flight_at, loss_at, Delivers, after_lost_message, can_connect, with_new_connection}
@@ -150,7 +152,8 @@ both_known {site} old apart checked a b can first f =
     let passes = and_parts (is_between b a first) (not first.known) (found_passes (is_unheard b a) both first f) in
     let back : Has (next_way old b a false) both = Has-right old.directions (there here) in
     let goes_back : goes b a (next_way old b a false) ≡ true = and_from (is_node b b) (is_node a a) (node_itself b) (node_itself a) in
-    let same : first ≡ next_way old b a false = same_one (goes b a) both (goes_once both both_apart b a) (Has-found (is_unheard b a) both f) back passes.0 goes_back in (
+    let same : first ≡ next_way old b a false =
+    same_one (goes b a) both (goes_once both both_apart b a) (Has-found (is_unheard b a) both f) back passes.0 goes_back in (
       elim (Has-beside (is_unheard b a) first (record first { known = true }) both f (Has-right old.directions here)) [
         | inl is ↦ absurd (true≢false (ap (λ (d : Direction). d.known) (is ∙ same)))
         | inr kept ↦ kept
@@ -238,7 +241,8 @@ module _ (site : Site) (old new : WorldState) (applied : Bool) (losses : List Lo
       (lose_same old (loss_at old.directions from to place)) made.0)
   step_makes (Cut a b) made = same_made old new (cut_same a b (can_cut old a b) made)
   step_makes (Drop a b) made = same_made old new (end_same old new a (end_with old.directions a b) losses made.1)
-  step_makes (Crash node) made = same_made old new (outcome_same old (after_crash_at site old node) applied new (crash_same old node (can_restart site node)) made.0)
+  step_makes (Crash node) made = same_made old new (outcome_same old (after_crash_at site old node) applied new
+      (crash_same old node (can_restart site node)) made.0)
   step_makes (Restart node) made = same_made old new (restart_same node (can_restart site node) made)
   step_makes (Pick node worker) made = same_made old new (outcome_same old (after_pick_at old node worker (front_at node old.fronts)) applied new
       (pick_same old node worker (front_at node old.fronts)) made.0)
@@ -260,8 +264,9 @@ module _ (site : Site) (old new : WorldState) (applied : Bool) (losses : List Lo
   )
 
   -- of which the node that opens it learns at once
-  connection_made : AreApart (sides old.directions) → IsChecked site → (a b : NodeNo) → can_connect site old a b ≡ true → Outcome (after_up site old a b) applied
-      old new → Has (next_way old a b true) new.directions × Has (next_way old b a true) new.directions
+  connection_made : AreApart (sides old.directions) → IsChecked site → (a b : NodeNo) → can_connect site old a b ≡ true
+      → Outcome (after_up site old a b) applied old new
+      → Has (next_way old a b true) new.directions × Has (next_way old b a true) new.directions
   connection_made apart checked a b can out = go (can_connect site old a b) can out
     where
       both : WorldState

@@ -12,15 +12,18 @@ use Rattle.farm_base.specs.declared.site.Site.{Site}
 use Rattle.farm_base.specs.CheckedSite.{IsChecked}
 use Rattle.farm_model.specs.declared.state.Direction.{Direction}
 use Rattle.farm_base.specs.declared.step.Step.{Step}
-use Rattle.farm_base.specs.declared.step.Step.TheVariants.{Up, Accept, Opened, Send, Deliver, Lose, Cut, Drop, Restart, Crash, Pick, Charge, Refuse, Emit, Sweep}
+use Rattle.farm_base.specs.declared.step.Step.TheVariants.{Up, Accept, Opened, Send, Deliver, Lose, Cut, Drop}
+use Rattle.farm_base.specs.declared.step.Step.TheVariants.{Restart, Crash, Pick, Charge, Refuse, Emit, Sweep}
 use Rattle.farm_base.specs.Lists.{replace_first}
 use Rattle.farm_model.specs.Arrival.{after_arrival_at_client, ArrivesAtServer}
 use Rattle.farm_model.specs.BookAndEnds.{next_way, StandsAfter, stood, first_made, second_made, first_accepted, second_accepted}
 use Rattle.farm_model.specs.FarmStep.{FarmStep, Outcome, Flight, flight_at, loss_at, Delivers, after_lost_message, can_connect, with_new_connection}
-use Rattle.farm_model.specs.FarmStep.{next_conn, empty_direction, after_accept, after_opened_on, after_opened, opened_if, after_up, can_cut, Cuts, Restarts, after_crash_at}
+use Rattle.farm_model.specs.FarmStep.{next_conn, empty_direction, after_accept, after_opened_on, after_opened}
+use Rattle.farm_model.specs.FarmStep.{opened_if, after_up, can_cut, Cuts, Restarts, after_crash_at}
 use Rattle.farm_model.specs.FarmStep.{after_send, after_send_on, after_pick_at, after_refusal_at, after_emit_at, after_charge_at, after_sweep_at, can_restart}
 use Rattle.farm_model.specs.InFlight.{goes}
-use Rattle.farm_model.specs.Loss.{LossAt, LearnLosses, EndGoes, Drops, end_with, CutsBoth, after_end, after_losing_all, after_crash, peers_of, DropAll, all_dropped, drops_too}
+use Rattle.farm_model.specs.Loss.{LossAt, LearnLosses, EndGoes, Drops, end_with, CutsBoth, after_end}
+use Rattle.farm_model.specs.Loss.{after_losing_all, after_crash, peers_of, DropAll, all_dropped, drops_too}
 use Rattle.farm_base.specs.Nodes.{is_node, is_client, is_linked}
 use Rattle.farm_model.specs.Run.{Transition}
 use Rattle.farm_model.specs.World.{WorldState, is_between, is_heard, is_unheard, is_inward, is_connected, without_end, emptied, conn_known, front_at}
@@ -174,8 +177,8 @@ module _ (site : Site) (old new : WorldState) (applied : Bool) (losses : List Lo
 
   -- ---- a connection is made
 
-  opened_quiet : (a b : NodeNo) (found : Option Direction) → find (is_unheard b a) old.directions ≡ found → Outcome (after_opened_on old a b found) applied old new
-      → Quiet
+  opened_quiet : (a b : NodeNo) (found : Option Direction) → find (is_unheard b a) old.directions ≡ found
+      → Outcome (after_opened_on old a b found) applied old new → Quiet
   opened_quiet a b None f made = same_state made.1
   opened_quiet a b (Some first) f made = none_then old.directions (replace_first (is_unheard b a) (record first { known = true }) old.directions) new.directions
       (one_known (is_unheard b a) first old.directions f)
@@ -218,7 +221,8 @@ module _ (site : Site) (old new : WorldState) (applied : Bool) (losses : List Lo
     then_apart =
         let parts = and_parts (is_linked site a b) (not (is_connected old.directions a b)) can in
         apart_known (is_unheard b a) first middle found
-        (apart_after_up old.directions (next_conn old) a b (linked_are_two checked a b parts.0).apart (not-true (is_connected old.directions a b) parts.1) apart)
+        (apart_after_up old.directions (next_conn old) a b (linked_are_two checked a b parts.0).apart
+        (not-true (is_connected old.directions a b) parts.1) apart)
 
     none_unknown : (direction : Direction) → Has direction then → direction ≡ next_way old b a false → ⊥
     none_unknown direction h is =

@@ -14,7 +14,8 @@ use Rattle.farm_law.proofs.Lists.{all-end}
 use Rattle.farm_base.specs.declared.site.Site.{Site}
 use Rattle.farm_model.specs.declared.state.Direction.{Direction}
 use Rattle.farm_base.specs.declared.step.Step.{Step}
-use Rattle.farm_base.specs.declared.step.Step.TheVariants.{Up, Accept, Opened, Send, Deliver, Lose, Cut, Drop, Restart, Crash, Pick, Charge, Refuse, Emit, Sweep}
+use Rattle.farm_base.specs.declared.step.Step.TheVariants.{Up, Accept, Opened, Send, Deliver, Lose, Cut, Drop}
+use Rattle.farm_base.specs.declared.step.Step.TheVariants.{Restart, Crash, Pick, Charge, Refuse, Emit, Sweep}
 use Rattle.farm_model.specs.Arrival.{ArrivesAtServer, after_arrival_at_front}
 use Rattle.farm_base.specs.CheckedSite.{IsChecked}
 use Rattle.farm_model.specs.FarmStep.{FarmStep, Outcome, Flight, flight_at, Delivers, after_lost_message, after_up, with_new_connection, can_connect}
@@ -26,7 +27,8 @@ use Rattle.farm_base.specs.Nodes.{is_client}
 use Rattle.farm_model.specs.Promise.{HasOneClient}
 use Rattle.farm_model.specs.Run.{TellsSame}
 use Rattle.farm_model.specs.World.{Ends, WorldState, is_unheard, conn_known, front_at, relay_at}
-use Rattle.farm_model.proofs.Clients.Hearing.{HeardIn, tells_heard, at_relay_tells, end_tells, cut_tells, all_drop_tell, up_heard, accept_heard, opened_heard, crash_heard, send_heard, lose_heard, pick_at_heard}
+use Rattle.farm_model.proofs.Clients.Hearing.{HeardIn, tells_heard, at_relay_tells, end_tells, cut_tells, all_drop_tell, up_heard}
+use Rattle.farm_model.proofs.Clients.Hearing.{accept_heard, opened_heard, crash_heard, send_heard, lose_heard, pick_at_heard}
 use Rattle.farm_model.proofs.Clients.Hearing.{refusal_at_heard, emit_at_heard, charge_at_heard, sweep_heard}
 use Rattle.farm_model.proofs.Wiring.Joined.{Joins-turned, one_client}
 use Rattle.farm_model.proofs.Wiring.Linked.{client_beside}

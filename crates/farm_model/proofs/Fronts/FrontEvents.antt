@@ -69,22 +69,25 @@ front_turned_more node book xs ys one two three first second front at =
     }
 
 -- so it is where its directions of these sides stand on
-pub record FrontReachesOn (Stands : Side → Type 0) (node : NodeNo) (front : FrontState) (book : Ledger) (events : List FrontEvent) (old new : WorldState) : Type 0
+pub record FrontReachesOn (Stands : Side → Type 0) (node : NodeNo) (front : FrontState) (book : Ledger) (events : List FrontEvent)
+    (old new : WorldState) : Type 0
   where
     pub at : front_at node new.fronts ≡ Some (front_after front book events)
     pub behind : BehindOn Stands node (front_outs front book events) old.directions new.directions
 
 abbrev pub FrontTurnedOn : (Side → Type 0) → NodeNo → Ledger → List FrontEvent → WorldState → WorldState → Type 0
-FrontTurnedOn Stands node book events old new = (front : FrontState) → front_at node old.fronts ≡ Some front → FrontReachesOn Stands node front book events old new
+FrontTurnedOn Stands node book events old new =
+    (front : FrontState) → front_at node old.fronts ≡ Some front → FrontReachesOn Stands node front book events old new
 
-pub front_turned_on : (Stands : Side → Type 0) (node : NodeNo) (book : Ledger) (events : List FrontEvent) (old new : WorldState) → FrontTurned node book events old
-    new → FrontTurnedOn Stands node book events old new
+pub front_turned_on : (Stands : Side → Type 0) (node : NodeNo) (book : Ledger) (events : List FrontEvent) (old new : WorldState)
+    → FrontTurned node book events old new → FrontTurnedOn Stands node book events old new
 front_turned_on Stands node book events old new turned front at =
     let r = turned front at in
     record { at = r.at; behind = λ direction h from stands. r.behind direction h from }
 
-front_on_more : (Stands : Side → Type 0) (node : NodeNo) (book : Ledger) (xs ys : List FrontEvent) (one two three : WorldState) → FrontTurnedOn Stands node book xs
-    one two → FrontTurnedOn Stands node book ys two three → FrontTurnedOn Stands node book (xs ++ ys) one three
+front_on_more : (Stands : Side → Type 0) (node : NodeNo) (book : Ledger) (xs ys : List FrontEvent) (one two three : WorldState)
+    → FrontTurnedOn Stands node book xs one two → FrontTurnedOn Stands node book ys two three
+    → FrontTurnedOn Stands node book (xs ++ ys) one three
 front_on_more Stands node book xs ys one two three first second front at =
     let f = first front at in
     let s = second (front_after front book xs) f.at in
@@ -279,9 +282,9 @@ both_at_front k book xs ys one two three first second =
     subst (λ (es : List FrontEvent). FrontTurned k book es one three) (map_both xs ys)
     (front_turned_more k book (map as_front_event xs) (map as_front_event ys) one two three first second)
 
-pub both_on_front : (Stands : Side → Type 0) (k : NodeNo) (book : Ledger) (xs ys : List RelayEvent) (one two three : WorldState) → FrontTurnedOn Stands k book
-    (map as_front_event xs) one two → FrontTurnedOn Stands k book (map as_front_event ys) two three → FrontTurnedOn Stands k book (map as_front_event (xs ++ ys))
-    one three
+pub both_on_front : (Stands : Side → Type 0) (k : NodeNo) (book : Ledger) (xs ys : List RelayEvent) (one two three : WorldState)
+    → FrontTurnedOn Stands k book (map as_front_event xs) one two → FrontTurnedOn Stands k book (map as_front_event ys) two three
+    → FrontTurnedOn Stands k book (map as_front_event (xs ++ ys)) one three
 both_on_front Stands k book xs ys one two three first second =
     subst (λ (es : List FrontEvent). FrontTurnedOn Stands k book es one three) (map_both xs ys)
     (front_on_more Stands k book (map as_front_event xs) (map as_front_event ys) one two three first second)

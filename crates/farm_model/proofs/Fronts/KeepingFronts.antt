@@ -21,9 +21,11 @@ use Rattle.farm_base.specs.CheckedSite.{IsChecked}
 use Rattle.farm_base.specs.declared.site.Site.{Site}
 use Rattle.farm_model.specs.declared.state.Direction.{Direction}
 use Rattle.farm_base.specs.declared.step.Step.{Step}
-use Rattle.farm_base.specs.declared.step.Step.TheVariants.{Up, Accept, Opened, Send, Deliver, Lose, Cut, Drop, Restart, Crash, Pick, Charge, Refuse, Emit, Sweep}
+use Rattle.farm_base.specs.declared.step.Step.TheVariants.{Up, Accept, Opened, Send, Deliver, Lose, Cut, Drop}
+use Rattle.farm_base.specs.declared.step.Step.TheVariants.{Restart, Crash, Pick, Charge, Refuse, Emit, Sweep}
 use Rattle.farm_model.specs.FarmStep.{FarmStep, Outcome, Flight, flight_at, loss_at, Delivers, after_lost_message, can_connect, next_conn, with_connection_at}
-use Rattle.farm_model.specs.FarmStep.{with_new_connection, after_accept, after_opened_on, opened_if, after_up, after_send, after_send_on, with_pick, after_pick_at}
+use Rattle.farm_model.specs.FarmStep.{with_new_connection, after_accept, after_opened_on, opened_if}
+use Rattle.farm_model.specs.FarmStep.{after_up, after_send, after_send_on, with_pick, after_pick_at}
 use Rattle.farm_model.specs.FarmStep.{after_refusal_at, with_emit, after_emit_at, with_charge, after_charge_at, can_cut, DropsIt, can_restart}
 use Rattle.farm_model.specs.FrontTurns.{as_front_event, front_events_at, front_after, front_outs, KeepsFronts}
 use Rattle.farm_model.specs.InFlight.{goes, ends_at, known_after, left_by}
@@ -31,7 +33,8 @@ use Rattle.farm_model.specs.Loss.{LossAt, end_with, after_losing_all, CutsBoth, 
 use Rattle.farm_base.specs.Nodes.{is_node, is_client, is_front, is_relay, is_linked, kind_at}
 use Rattle.farm_model.specs.RelayRuns.{event_if, up_events, lost_events, events_at, sent_on}
 use Rattle.farm_model.specs.Run.{Transition}
-use Rattle.farm_model.specs.World.{Ends, WorldState, is_between, is_heard, is_unheard, is_inward, is_connected, conn_known, with_traffic_from, with_front, front_at}
+use Rattle.farm_model.specs.World.{Ends, WorldState, is_between, is_heard, is_unheard, is_inward}
+use Rattle.farm_model.specs.World.{is_connected, conn_known, with_traffic_from, with_front, front_at}
 use Rattle.farm_model.proofs.Lists.Among.{Has-kept, Contains-has, Has-contained}
 use Rattle.farm_model.proofs.Wiring.Apart.{is_way, AreApart, goes_once, heard_once}
 use Rattle.farm_model.proofs.Relays.EndsInTurn.{Standing, TakesTurns, drop_turns, cut_turns, drop_all_turns, cut_two, opens_next, emptied_leaves}
@@ -39,7 +42,8 @@ use Rattle.farm_model.proofs.Relays.EventsAtEnds.{drop_events, cut_events, no_cu
 use Rattle.farm_model.proofs.Traffic.FlightLemmas.{directions_after, item_of, flight_leaves, flight_item}
 use Rattle.farm_model.proofs.Traffic.TrafficOfSteps.{accept_carries, up_carries, opened_carries}
 use Rattle.farm_model.proofs.Fronts.FrontEvents.{FrontTurned, same_front, event_at_front, changed_to, stays_so, Changes, arrival_at_front}
-use Rattle.farm_model.proofs.Fronts.FrontEvents.{FrontTurnedOn, front_turned_on, both_at_front, both_on_front, losses_at_front, anew, crash_at_front, link_at_front}
+use Rattle.farm_model.proofs.Fronts.FrontEvents.{FrontTurnedOn, front_turned_on, both_at_front, both_on_front}
+use Rattle.farm_model.proofs.Fronts.FrontEvents.{losses_at_front, anew, crash_at_front, link_at_front}
 use Rattle.farm_model.proofs.Wiring.KindsAgree.{wired_kinds, front_kind}
 use Rattle.farm_model.proofs.Lists.Numbering.{same_node, nodes_turned}
 use Rattle.farm_model.proofs.Wiring.OneKind.{server_no_client}
@@ -54,13 +58,16 @@ use Rattle.farm_model.proofs.Wiring.Wired.{IsWired}
 -- the front at the node does what happens to it at the step, and what it sends comes behind what the step leaves in flight
 pub record FrontStepped (site : Site) (step : Step) (node : NodeNo) (front : FrontState) (old new : WorldState) : Type 0 where
   pub at : front_at node new.fronts ≡ Some (front_after front old.book (front_events_at site node step old))
-  pub puts : (direction : Direction) → Has direction old.directions → is_node direction.from node ≡ true → ends_at site step old.directions direction
-      ≡ false → Has (record direction
-      { known = known_after step direction; messages = left_by step direction ++ sent_on direction.conn (front_outs front old.book (front_events_at site node step old)) })
-      new.directions
+  pub puts : (direction : Direction) → Has direction old.directions → is_node direction.from node ≡ true
+      → ends_at site step old.directions direction ≡ false
+      → Has (record direction {
+        known = known_after step direction;
+        messages = left_by step direction ++ sent_on direction.conn (front_outs front old.book (front_events_at site node step old));
+      }) new.directions
 
 -- the front has become by these events what it is where more stands
-front_kept : (node : NodeNo) (book : Ledger) (events : List FrontEvent) (old mid new : WorldState) → FrontTurned node book events old mid → new.fronts ≡ mid.fronts
+front_kept : (node : NodeNo) (book : Ledger) (events : List FrontEvent) (old mid new : WorldState)
+    → FrontTurned node book events old mid → new.fronts ≡ mid.fronts
     → ((direction : Direction) → Has direction mid.directions → Has direction new.directions) → FrontTurned node book events old new
 front_kept node book events old mid new turned same kept front at =
     let r = turned front at in
@@ -104,9 +111,11 @@ module _ (site : Site) (ends : Ends) (checked : IsChecked site) (old new : World
       }
 
   -- first messages go, and then ends, of which nodes learn
-  stepped_on : (Stands : Side → Type 0) (step : Step) (mid : WorldState) → mid.fronts ≡ old.fronts → Leaves site step old.directions mid.directions →
-      ((direction : Direction) → ends_at site step old.directions direction ≡ false → Stands
-      (direction.conn, direction.from, direction.to, known_after step direction)) → FrontTurnedOn Stands k book (front_events_at site k step old) mid new → Stepped step
+  stepped_on : (Stands : Side → Type 0) (step : Step) (mid : WorldState) → mid.fronts ≡ old.fronts
+      → Leaves site step old.directions mid.directions
+      → ((direction : Direction) → ends_at site step old.directions direction ≡ false
+      → Stands (direction.conn, direction.from, direction.to, known_after step direction))
+      → FrontTurnedOn Stands k book (front_events_at site k step old) mid new → Stepped step
   stepped_on Stands step mid same leaves stands_on turned front at =
       let r = turned front (ap (front_at k) same ∙ at) in
       record {
@@ -115,9 +124,11 @@ module _ (site : Site) (ends : Ends) (checked : IsChecked site) (old new : World
             (leaves direction h stands) from (stands_on direction stands);
       }
 
-  nodes_on : (Stands : Side → Type 0) (events : List RelayEvent) (mid : WorldState) → FrontTurnedOn Stands k book (map as_front_event events) mid new → FrontTurnedOn
-      Stands k book (map as_front_event events ++ []) mid new
-  nodes_on Stands events mid turned = subst (λ (es : List FrontEvent). FrontTurnedOn Stands k book es mid new) (sym (append-nil (map as_front_event events))) turned
+  nodes_on : (Stands : Side → Type 0) (events : List RelayEvent) (mid : WorldState)
+      → FrontTurnedOn Stands k book (map as_front_event events) mid new
+      → FrontTurnedOn Stands k book (map as_front_event events ++ []) mid new
+  nodes_on Stands events mid turned =
+      subst (λ (es : List FrontEvent). FrontTurnedOn Stands k book es mid new) (sym (append-nil (map as_front_event events))) turned
 
   -- no worker does anything
   by_others : (events : List RelayEvent) (mid : WorldState) → FrontTurned k book (map as_front_event events) mid new → FrontTurned k book
@@ -267,20 +278,21 @@ module _ (site : Site) (ends : Ends) (checked : IsChecked site) (old new : World
           (map as_front_event (up_events k a b conn)) old new
       opens can out =
           let free = not-true (is_connected old.directions a b) (and_parts (is_linked site a b) (not (is_connected old.directions a b)) can).1 in
-          let is_next = subst (λ (o : Option Direction). Outcome (after_opened_on (with_new_connection old a b) a b o) applied old new) (opens_next old a b free)
-          out in
+          let is_next = subst (λ (o : Option Direction). Outcome (after_opened_on (with_new_connection old a b) a b o) applied old new)
+          (opens_next old a b free) out in
           subst (λ (es : List RelayEvent). FrontTurned k book (map as_front_event es) old new) (either_first k a b conn)
-          (front_kept k book (map as_front_event (event_if (is_node b k) (comes_up a conn) ++ event_if (is_node a k) (comes_up b conn))) old both_know new both_learn
-          (ap (λ (w : WorldState). w.fronts) is_next.1)
+          (front_kept k book (map as_front_event (event_if (is_node b k) (comes_up a conn) ++ event_if (is_node a k) (comes_up b conn)))
+          old both_know new both_learn (ap (λ (w : WorldState). w.fronts) is_next.1)
           (λ direction h. leaves_of (Up a b) old new (up_carries site checked old new applied apart a b made) (λ d. refl) direction h refl))
 
-      go : (c : Bool) → can_connect site old a b ≡ c → Outcome (opened_if a b (cond c (Some (with_new_connection old a b)) None)) applied old new → FrontTurned k
-          book (map as_front_event (cond c (up_events k a b conn) [])) old new
+      go : (c : Bool) → can_connect site old a b ≡ c
+          → Outcome (opened_if a b (cond c (Some (with_new_connection old a b)) None)) applied old new
+          → FrontTurned k book (map as_front_event (cond c (up_events k a b conn) [])) old new
       go true can out = opens can out
       go false can out = unchanged out.1
 
-  opened_stepped : (a b : NodeNo) (found : Option Direction) → find (is_unheard b a) old.directions ≡ found → Outcome (after_opened_on old a b found) applied old new
-      → Stepped (Opened a b)
+  opened_stepped : (a b : NodeNo) (found : Option Direction) → find (is_unheard b a) old.directions ≡ found
+      → Outcome (after_opened_on old a b found) applied old new → Stepped (Opened a b)
   opened_stepped a b found f made =
       stepped (Opened a b) known refl (leaves_of (Opened a b) old new (opened_carries site old new applied apart a b found f made) (λ d. refl))
       (by_others (events_at site k (Opened a b) old) known
@@ -401,7 +413,8 @@ module _ (site : Site) (ends : Ends) (checked : IsChecked site) (old new : World
       (both_on_front Stays k book (event_if (is_node node k) anew) (cond (is_node node k) [] learned) (directions_left old node) (after_crash old node) new
       (front_turned_on Stays k book (map as_front_event (event_if (is_node node k) anew)) (directions_left old node) (after_crash old node)
       (crash_at_front k node book old (crash_single node)))
-      (drop_all_turns ends k Stays (λ events. FrontTurnedOn Stays k book (map as_front_event events)) (front_takes site k book Stays) old apart well node new losses
+      (drop_all_turns ends k Stays (λ events. FrontTurnedOn Stays k book (map as_front_event events)) (front_takes site k book Stays)
+      old apart well node new losses
       (cond (is_node node k) [] learned) (λ side stands. stands) (λ is. ap (λ (c : Bool). cond c [] learned) is)
       (λ other. ap (λ (c : Bool). cond c [] learned) other ∙ restart_events site k old.directions apart node can (nodes_turned node k other)) made.1))))
     where
@@ -454,8 +467,9 @@ module _ (site : Site) (ends : Ends) (checked : IsChecked site) (old new : World
       (all_untouched k old.directions new.directions (ap (λ (w : WorldState). w.directions) made.0.1)))
 
 -- what is promised of fronts at the step
-pub step_keeps_fronts : {site : Site} {ends : Ends} (t : Transition) → IsChecked site → IsWired site ends t.before → AreApart (sides t.before.directions) → FarmStep site
-    t.before t.step t.applied t.losses t.after → KeepsFronts site t
+pub step_keeps_fronts : {site : Site} {ends : Ends} (t : Transition) → IsChecked site → IsWired site ends t.before
+    → AreApart (sides t.before.directions) → FarmStep site t.before t.step t.applied t.losses t.after → KeepsFronts site t
 step_keeps_fronts {site} {ends} t checked wired apart made node front at =
-    let s = front_steps site ends checked t.before t.after t.applied t.losses wired apart node (front_kind (wired_kinds wired) node front at) t.step made front at in
+    let s = front_steps site ends checked t.before t.after t.applied t.losses wired apart node (front_kind (wired_kinds wired) node front at)
+    t.step made front at in
     record { stands = s.at; sends = λ direction h from stands. Contains-has (s.puts direction (Has-contained h) from stands) }

@@ -47,8 +47,9 @@ use Rattle.farm_model.proofs.Wiring.Wired.{IsWired}
 use Rattle.farm_model.proofs.Wiring.WiredLemmas.{front_wired}
 
 -- where the message is new and the book has room, it is not refused
-not_refused : (site : FrontSite) (ledger : Ledger) (message : Message) (refusal : Refusal) (request : CcRequest) → view_under site.profile message ≡ Ok request →
-    length ledger.history < ledger.limit → ChargeCause site ledger message refusal → ⊥
+not_refused : (site : FrontSite) (ledger : Ledger) (message : Message) (refusal : Refusal) (request : CcRequest)
+    → view_under site.profile message ≡ Ok request → length ledger.history < ledger.limit
+    → ChargeCause site ledger message refusal → ⊥
 not_refused site ledger message refusal request view room (by_view r wrong) = absurd cc
 not_refused site ledger message refusal request view room (book_full r read unknown full) = omega (arith, room, full)
 

@@ -18,8 +18,10 @@ use Rattle.farm_base.specs.declared.site.Site.{Site}
 use Rattle.farm_model.specs.declared.state.Direction.{Direction}
 use Rattle.farm_model.specs.Cause.{HasCause, at_front, at_charge, by_order, at_relay, at_lost_link}
 use Rattle.farm_base.specs.CheckedSite.{IsChecked}
-use Rattle.farm_model.specs.FarmStep.{Outcome, after_accept, after_opened_on, after_opened, opened_if, after_up, can_connect, with_new_connection, next_conn, DropsIt, Cuts, can_restart, after_crash_at}
-use Rattle.farm_model.specs.Loss.{LossAt, LearnLosses, after_end as without_its_end, EndGoes, end_with, after_losing_all, CutsBoth, after_crash, peers_of, DropAll, all_dropped, drops_too}
+use Rattle.farm_model.specs.FarmStep.{Outcome, after_accept, after_opened_on, after_opened, opened_if, after_up, can_connect}
+use Rattle.farm_model.specs.FarmStep.{with_new_connection, next_conn, DropsIt, Cuts, can_restart, after_crash_at}
+use Rattle.farm_model.specs.Loss.{LossAt, LearnLosses, after_end as without_its_end, EndGoes, end_with}
+use Rattle.farm_model.specs.Loss.{after_losing_all, CutsBoth, after_crash, peers_of, DropAll, all_dropped, drops_too}
 use Rattle.farm_model.specs.InFlight.{goes}
 use Rattle.farm_base.specs.Nodes.{is_node, is_linked}
 use Rattle.farm_model.specs.Run.{Transition}
@@ -236,7 +238,10 @@ module _ (site : Site) (all : Ends) (checked : IsChecked site) (relay_loses : Re
       let g = end_goes site all relay_loses moves_keep (IsShown site t) refused t.before a found t.after t.losses
       (end_found site all relay_loses moves_keep (IsShown site t) t.before a b) kept wired d.1 reasons in
       record {
-        leads = seldom g.0 (λ node. let c = end_once site all relay_loses moves_keep (IsShown site t) a found node in let e = once_or_not a node in omega (arith, c, e));
+        leads = seldom g.0 (λ node.
+            let c = end_once site all relay_loses moves_keep (IsShown site t) a found node in
+            let e = once_or_not a node in
+            omega (arith, c, e));
         wired = g.1;
         requests = end_holds t.before t.after a found t.losses d.1 requests;
       }

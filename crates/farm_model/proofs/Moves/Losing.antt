@@ -1,5 +1,6 @@
 -- A cut and a restart as moves: connections end, what was in flight is gone, and one node after the other learns it.
-use Rattle.std.proofs.Common.{◌≡◌, ℕ, ◌+◌, ◌≤◌, Bool, true, false, cond, not, List, [], ◌∷◌, ◌++◌, map, arith, Option, Some, None, inl, inr, refl, sym, subst, ap, ◌∙◌}
+use Rattle.std.proofs.Common.{◌≡◌, ℕ, ◌+◌, ◌≤◌, Bool, true, false, cond, not, List, [], ◌∷◌, ◌++◌}
+use Rattle.std.proofs.Common.{map, arith, Option, Some, None, inl, inr, refl, sym, subst, ap, ◌∙◌}
 use Rattle.std.specs.Prelude.{◌||◌, MatchBool, count_by, flat_map, Err, if◌then◌else◌}
 use Rattle.dia_base.specs.declared.number.ConnId.{ConnId}
 use Rattle.dia_base.specs.declared.number.NodeNo.{NodeNo}
@@ -21,7 +22,8 @@ use Rattle.farm_base.specs.declared.site.Site.{Site}
 use Rattle.farm_model.specs.declared.state.Direction.{Direction}
 use Rattle.farm_model.specs.Arrival.{RelayTurn, AtRelay}
 use Rattle.farm_model.specs.Cause.{IsStranded}
-use Rattle.farm_model.specs.Loss.{Loss, LearnsLoss, LossAt, LearnLosses, all_know, learns, after_end as without_its_end, EndGoes, DropAll, all_dropped, drops_too, end_with, after_losing_all, CutsBoth}
+use Rattle.farm_model.specs.Loss.{Loss, LearnsLoss, LossAt, LearnLosses, all_know, learns, after_end as without_its_end}
+use Rattle.farm_model.specs.Loss.{EndGoes, DropAll, all_dropped, drops_too, end_with, after_losing_all, CutsBoth}
 use Rattle.farm_base.specs.Nodes.{is_node, is_relay}
 use Rattle.farm_model.specs.World.{Ends, WorldState, is_between, is_inward, without_end, emptied, with_front, front_at, relay_at}
 use Rattle.farm_model.proofs.Lists.Among.{Has-filter, Has-unmap, Has-right}
@@ -186,9 +188,10 @@ module _ (site : Site) (all : Ends) (relay_loses : RelayLoses site all) (moves_k
       is_ended loss here = ended_by_drop w.directions direction node (wired.directions direction (among direction refl))
       is_ended loss (there h) = elim h [ ]
 
-      by_end : (b : Bool) → MatchBool b (LearnLosses (record { node = node; conn = direction.conn } ∷ []) (without_its_end w node direction.conn) later after)
-          ((later ≡ []) × (after ≡ without_its_end w node direction.conn)) → Leads (learned (cond b (record { node = node; conn = direction.conn } ∷ []) [])) refused
-          w after
+      by_end : (b : Bool)
+          → MatchBool b (LearnLosses (record { node = node; conn = direction.conn } ∷ []) (without_its_end w node direction.conn) later after)
+          ((later ≡ []) × (after ≡ without_its_end w node direction.conn))
+          → Leads (learned (cond b (record { node = node; conn = direction.conn } ∷ []) [])) refused w after
       by_end true learn =
           let rest = all_learn refused learn (moves_keep _ _ moves kept) still_wired is_ended reasons in
           (record { refused = (rest.0).refused; moves = join moves (rest.0).moves; caused = (rest.0).caused }, rest.1)
@@ -271,14 +274,18 @@ module _ (site : Site) (all : Ends) (relay_loses : RelayLoses site all) (moves_k
       let kept_then = moves_keep _ _ moves kept in
       let first_goes = end_goes refused (after_losing_all w a b) a (end_with (after_losing_all w a b).directions a b) cut.middle cut.first
       (end_found (after_losing_all w a b) a b) kept_then (emptied_wired w a b wired) cut.one
-      (λ v loss relay message code h. reasons v loss relay message code (subst (λ (ls : List LossAt). Has (record { loss = loss; before = v }) ls) (sym cut.both) (Has-append cut.second h))) in
+      (λ v loss relay message code h. reasons v loss relay message code
+      (subst (λ (ls : List LossAt). Has (record { loss = loss; before = v }) ls) (sym cut.both) (Has-append cut.second h))) in
       let kept_later = moves_keep _ _ (first_goes.0).moves kept_then in
       let second_goes = end_goes (first_goes.0).refused cut.middle b (end_with cut.middle.directions b a) after cut.second (end_found cut.middle b a) kept_later
       first_goes.1 cut.other
-      (λ v loss relay message code h. reasons v loss relay message code (subst (λ (ls : List LossAt). Has (record { loss = loss; before = v }) ls) (sym cut.both) (Has-right cut.first h))) in
+      (λ v loss relay message code h. reasons v loss relay message code
+      (subst (λ (ls : List LossAt). Has (record { loss = loss; before = v }) ls) (sym cut.both) (Has-right cut.first h))) in
       let both = leads_on (λ node. once_at a node + once_at b node) refused (after_losing_all w a b) cut.middle after
-      (λ node. let c = end_once a (end_with (after_losing_all w a b).directions a b) node in let d = end_once b (end_with cut.middle.directions b a) node in omega
-      (arith, c, d)) first_goes second_goes in
+      (λ node.
+      let c = end_once a (end_with (after_losing_all w a b).directions a b) node in
+      let d = end_once b (end_with cut.middle.directions b a) node in
+      omega (arith, c, d)) first_goes second_goes in
       (record { refused = (both.0).refused; moves = join moves (both.0).moves; caused = (both.0).caused }, both.1)
 
   -- ---- one peer after the other drops its connection with a node
@@ -286,13 +293,19 @@ module _ (site : Site) (all : Ends) (relay_loses : RelayLoses site all) (moves_k
   abbrev pub among_peers : List NodeNo → NodeNo → ℕ
   among_peers peers n = count_by (λ peer. is_node peer n) peers
 
-  pub all_drop : {node : NodeNo} {peers : List NodeNo} {w after : WorldState} {later : List LossAt} (refused : List Refused) → DropAll node peers w later after →
-      IsKept (parties site all) (farm_of all refused w) → IsWired site all w → GivesReasons site HasReason later → Leads (among_peers peers) refused w after
+  pub all_drop : {node : NodeNo} {peers : List NodeNo} {w after : WorldState} {later : List LossAt} (refused : List Refused)
+      → DropAll node peers w later after → IsKept (parties site all) (farm_of all refused w) → IsWired site all w
+      → GivesReasons site HasReason later → Leads (among_peers peers) refused w after
   all_drop refused all_dropped kept wired reasons = nothing_moves (among_peers []) refused _ wired
   all_drop {node = node} refused (drops_too {peer = peer} {peers = peers} {w = w} {next = mid} {last = last} now later is one more) kept wired reasons =
       let first_goes = end_goes refused w peer (end_with w.directions peer node) mid now (end_found w peer node) kept wired one
-      (λ v loss relay message code h. reasons v loss relay message code (subst (λ (ls : List LossAt). Has (record { loss = loss; before = v }) ls) (sym is) (Has-append later h))) in
+      (λ v loss relay message code h. reasons v loss relay message code
+      (subst (λ (ls : List LossAt). Has (record { loss = loss; before = v }) ls) (sym is) (Has-append later h))) in
       let others = all_drop (first_goes.0).refused more (moves_keep _ _ (first_goes.0).moves kept) first_goes.1
-      (λ v loss relay message code h. reasons v loss relay message code (subst (λ (ls : List LossAt). Has (record { loss = loss; before = v }) ls) (sym is) (Has-right now h))) in
+      (λ v loss relay message code h. reasons v loss relay message code
+      (subst (λ (ls : List LossAt). Has (record { loss = loss; before = v }) ls) (sym is) (Has-right now h))) in
       leads_on (among_peers (peer ∷ peers)) refused w mid last
-      (λ n. let c = end_once peer (end_with w.directions peer node) n in let d = count-cons (λ p. is_node p n) peer peers in omega (arith, c, d)) first_goes others
+      (λ n.
+      let c = end_once peer (end_with w.directions peer node) n in
+      let d = count-cons (λ p. is_node p n) peer peers in
+      omega (arith, c, d)) first_goes others

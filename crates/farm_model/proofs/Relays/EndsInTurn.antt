@@ -18,7 +18,8 @@ use Rattle.farm_model.specs.declared.state.Direction.{Direction}
 use Rattle.farm_base.specs.declared.step.Step.TheVariants.{Cut}
 use Rattle.farm_model.specs.FarmStep.{next_conn, empty_direction, with_new_connection, can_cut}
 use Rattle.farm_model.specs.InFlight.{goes, ends_at}
-use Rattle.farm_model.specs.Loss.{Loss, LossAt, LearnLosses, after_end, EndGoes, end_with, after_losing_all, CutsBoth, after_crash, peers_of, DropAll, all_dropped, drops_too}
+use Rattle.farm_model.specs.Loss.{Loss, LossAt, LearnLosses, after_end, EndGoes, end_with, after_losing_all}
+use Rattle.farm_model.specs.Loss.{CutsBoth, after_crash, peers_of, DropAll, all_dropped, drops_too}
 use Rattle.farm_base.specs.Nodes.{is_node}
 use Rattle.farm_model.specs.RelayRuns.{event_if}
 use Rattle.farm_model.specs.World.{Ends, WorldState, is_between, is_heard, is_unheard, is_on, is_inward, is_connected, knows, emptied}
@@ -44,8 +45,8 @@ find_left : {A : Type 0} (test keep : A → Bool) (xs : List A) → ((x : A) →
 find_left test keep [] left = refl
 find_left {A} test keep (x ∷ xs) left = go (test x) refl (keep x) refl (find_left test keep xs left)
   where
-    go : (b : Bool) → test x ≡ b → (c : Bool) → keep x ≡ c → find test (filter keep xs) ≡ find test xs → find test (cond c (x ∷ filter keep xs) (filter keep xs)) ≡ cond
-        b (Some x) (find test xs)
+    go : (b : Bool) → test x ≡ b → (c : Bool) → keep x ≡ c → find test (filter keep xs) ≡ find test xs
+        → find test (cond c (x ∷ filter keep xs) (filter keep xs)) ≡ cond b (Some x) (find test xs)
     go true t true k more = ap (λ (d : Bool). cond d (Some x) (find test (filter keep xs))) t
     go true t false k more = absurd (both_ways (keep x) k (left x t))
     go false t true k more = ap (λ (d : Bool). cond d (Some x) (find test (filter keep xs))) t ∙ more
@@ -62,7 +63,8 @@ count_both {A} p q both (x ∷ xs) same = go (p x) refl (count_both p q both xs 
         omega (arith, more, is, count-cons both x xs, count-cons q x (filter p xs))
     go false e more = omega (arith, more, count-cons both x xs)
 
-sides_left : (keep : Side → Bool) (directions : List Direction) → sides (filter (λ direction. keep (side_of direction)) directions) ≡ filter keep (sides directions)
+sides_left : (keep : Side → Bool) (directions : List Direction)
+    → sides (filter (λ direction. keep (side_of direction)) directions) ≡ filter keep (sides directions)
 sides_left keep [] = refl
 sides_left keep (direction ∷ directions) = go (keep (side_of direction)) (sides_left keep directions)
   where
@@ -101,8 +103,8 @@ inward_from {ends} directions joined d other h k e =
     let parts = and_parts (is_node other.to d.to) (is_on d.conn other) e in
     let theirs : Joins ends d.conn other.from other.to = subst (λ (c : ConnId). Joins ends c other.from other.to) (same_conn other.conn d.conn parts.1)
     (joined other k) in
-    let here : Joins ends d.conn d.to other.from = Joins-turned (subst (λ (n : NodeNo). Joins ends d.conn other.from n) (same_node other.to d.to parts.0) theirs)
-    in
+    let here : Joins ends d.conn d.to other.from =
+    Joins-turned (subst (λ (n : NodeNo). Joins ends d.conn other.from n) (same_node other.to d.to parts.0) theirs) in
     Joins-same here (Joins-turned (joined d h))
 
 -- the sides once an end has gone
@@ -111,8 +113,8 @@ sides_without node None all = all
 sides_without node (Some gone) all = filter (λ side. not (is_node side.2 node && (side.0.0 == gone.0.0))) all
 
 -- a way to another node is found as before
-find_without : (from to node : NodeNo) (found : Option Side) (all : List Side) → is_node to node ≡ false → find (is_way from to) (sides_without node found all) ≡
-    find (is_way from to) all
+find_without : (from to node : NodeNo) (found : Option Side) (all : List Side) → is_node to node ≡ false
+    → find (is_way from to) (sides_without node found all) ≡ find (is_way from to) all
 find_without from to node None all other = refl
 find_without from to node (Some gone) all other = find_left (is_way from to) (λ side. not (is_node side.2 node && (side.0.0 == gone.0.0))) all
     (λ side e. ap (λ (b : Bool). not (b && (side.0.0 == gone.0.0)))
@@ -193,8 +195,8 @@ told_first k node peer peers all after is most = go (is_node peer k) refl
         ∙ ap (λ (c : Bool). end_events k k (find (is_way node k) all) ++ cond c (end_events k k (find (is_way node k) after)) []) no_other
         ∙ append-nil (end_events k k (find (is_way node k) all))
     go false e =
-        let same : find (is_way node k) after ≡ find (is_way node k) all = ap (find (is_way node k)) is ∙ find_without node k peer (find (is_way node peer) all) all
-        (nodes_turned peer k e) in
+        let same : find (is_way node k) after ≡ find (is_way node k) all = ap (find (is_way node k)) is
+        ∙ find_without node k peer (find (is_way node peer) all) all (nodes_turned peer k e) in
         ap (λ (es : List RelayEvent). es ++ told_by k node peers after) (no_end_events k peer (find (is_way node peer) all) e)
         ∙ ap (λ (o : Option Side). cond (list_any (λ (p : NodeNo). is_node p k) peers) (end_events k k o) []) same
 
@@ -202,9 +204,9 @@ module _ {site : Site} (ends : Ends) (k : NodeNo) (Stands : Side → Type 0) (Tu
     (turns : TakesTurns site k Stands Turned) where
   -- ---- one end
 
-  end_turns : (w next : WorldState) (node : NodeNo) (found : Option Direction) (losses : List LossAt) →
-      ((d : Direction) → found ≡ Some d → (other : Direction) → Has other w.directions → Stands (side_of other) → is_inward node d.conn other ≡ false) → EndGoes w
-      node found losses next → Standing site ends w
+  end_turns : (w next : WorldState) (node : NodeNo) (found : Option Direction) (losses : List LossAt)
+      → ((d : Direction) → found ≡ Some d → (other : Direction) → Has other w.directions → Stands (side_of other)
+      → is_inward node d.conn other ≡ false) → EndGoes w node found losses next → Standing site ends w
       → Turned (end_events k node (option_map side_of found)) w next × Standing site ends next ×
       (sides next.directions ≡ sides_without node (option_map side_of found) (sides w.directions))
   end_turns w next node None losses away made well = (
@@ -274,7 +276,8 @@ module _ {site : Site} (ends : Ends) (k : NodeNo) (Stands : Side → Type 0) (Tu
 
   pub cut_turns : (w next : WorldState) (a b : NodeNo) (losses : List LossAt) → is_node a b ≡ false → ((side : Side) → Stands side → is_way b a side ≡ false) →
       ((side : Side) → Stands side → is_way a b side ≡ false) → CutsBoth w a b losses next → Standing site ends w
-      → Turned (end_events k a (find (is_way b a) (sides w.directions)) ++ end_events k b (find (is_way a b) (sides w.directions))) (after_losing_all w a b) next
+      → Turned (end_events k a (find (is_way b a) (sides w.directions)) ++ end_events k b (find (is_way a b) (sides w.directions)))
+      (after_losing_all w a b) next
   cut_turns w next a b losses two away_back away_forth cut well =
       let none = after_losing_all w a b in
       let same = sides_emptied a b w.directions in
@@ -283,8 +286,10 @@ module _ {site : Site} (ends : Ends) (k : NodeNo) (Stands : Side → Type 0) (Tu
       let still : find (is_way a b) (sides cut.middle.directions) ≡ find (is_way a b) (sides w.directions) = ap (find (is_way a b)) one.2
       ∙ find_without a b a (find (is_way b a) (sides none.directions)) (sides none.directions) (nodes_turned a b two) ∙ ap (find (is_way a b)) same in
       subst (λ (o : Option Side). Turned (end_events k a (find (is_way b a) (sides w.directions)) ++ end_events k b o) none next) still
-      (subst (λ (ss : List Side). Turned (end_events k a (find (is_way b a) ss) ++ end_events k b (find (is_way a b) (sides cut.middle.directions))) none next) same
-      (turns.more (end_events k a (find (is_way b a) (sides none.directions))) (end_events k b (find (is_way a b) (sides cut.middle.directions))) none cut.middle
+      (subst (λ (ss : List Side). Turned (end_events k a (find (is_way b a) ss) ++ end_events k b (find (is_way a b) (sides cut.middle.directions)))
+      none next) same
+      (turns.more (end_events k a (find (is_way b a) (sides none.directions)))
+      (end_events k b (find (is_way a b) (sides cut.middle.directions))) none cut.middle
       next one.0 other.0))
 
   -- ---- the peers of a node drop their connections with it
@@ -315,13 +320,15 @@ module _ {site : Site} (ends : Ends) (k : NodeNo) (Stands : Side → Type 0) (Tu
         let mapped = count-map (λ (p : NodeNo). is_node p k) (λ (direction : Direction). direction.to) (filter from_it w.directions) in
         omega (arith, most, both, mapped)
 
-    peer_is : (direction : Direction) → Has direction w.directions → from_it direction ≡ true → list_any (λ p. is_node p direction.to) (peers_of node w.directions)
-        ≡ true
-    peer_is direction h e = any_has (λ (p : NodeNo). is_node p direction.to) (Has-map (λ (d : Direction). d.to) (Has-kept from_it h e)) (node_itself direction.to)
+    peer_is : (direction : Direction) → Has direction w.directions → from_it direction ≡ true
+        → list_any (λ p. is_node p direction.to) (peers_of node w.directions) ≡ true
+    peer_is direction h e = any_has (λ (p : NodeNo). is_node p direction.to)
+        (Has-map (λ (d : Direction). d.to) (Has-kept from_it h e)) (node_itself direction.to)
 
     -- itself it is told nothing
     itself : is_node node k ≡ true → told_by k node (peers_of node w.directions) left_sides ≡ []
-    itself is = ap (λ (c : Bool). cond c (end_events k k (find (is_way node k) left_sides)) []) (any_none (λ (p : NodeNo). is_node p k) (peers_of node w.directions) (λ p h.
+    itself is = ap (λ (c : Bool). cond c (end_events k k (find (is_way node k) left_sides)) [])
+        (any_none (λ (p : NodeNo). is_node p k) (peers_of node w.directions) (λ p h.
         let un = Has-unmap (λ (d : Direction). d.to) (filter from_it w.directions) h in
         let was = Has-filter from_it w.directions un.1 in
         false_from_ne_true (is_node p k) (λ e. both_ways (is_node un.0.from un.0.to) (well.joined un.0 was.0).apart

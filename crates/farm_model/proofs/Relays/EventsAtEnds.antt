@@ -153,7 +153,8 @@ module _ (site : Site) (k : NodeNo) (directions : List Direction) (apart : AreAp
       of_none true g2 false kn one other = refl
       of_none false true false kn one other = refl
 
-      when_cut : (direction : Direction) → comes_to direction ≡ ((true && (goes a b direction || goes b a direction)) && is_node direction.to k && direction.known)
+      when_cut : (direction : Direction)
+          → comes_to direction ≡ ((true && (goes a b direction || goes b a direction)) && is_node direction.to k && direction.known)
       when_cut direction = ap (λ (c : Bool). c && (goes a b direction || goes b a direction) && is_node direction.to k && direction.known) cuts
 
       abbrev at_first : List RelayEvent
@@ -194,7 +195,8 @@ module _ (site : Site) (k : NodeNo) (directions : List Direction) (apart : AreAp
   module _ (node : NodeNo) where
     -- a client has no restart
     pub no_restart_events : can_restart site node ≡ false → lost_events site (Restart node) k directions ≡ []
-    no_restart_events cannot = ap (map lost_on) (nothing_left (λ direction. ends_at site (Restart node) directions direction && is_node direction.to k && direction.known) directions
+    no_restart_events cannot = ap (map lost_on)
+        (nothing_left (λ direction. ends_at site (Restart node) directions direction && is_node direction.to k && direction.known) directions
         (λ direction h. ap (λ (c : Bool). c && (is_node direction.from node || is_node direction.to node) && is_node direction.to k && direction.known) cannot))
 
     -- another node learns of its own connection

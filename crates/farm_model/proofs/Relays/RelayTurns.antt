@@ -117,14 +117,14 @@ pub record ReachesOn (Stands : Side → Type 0) (node : NodeNo) (relay : RelaySt
 abbrev pub TurnedOn : (Side → Type 0) → NodeNo → List RelayEvent → WorldState → WorldState → Type 0
 TurnedOn Stands node events old new = (relay : RelayState) → relay_at node old.relays ≡ Some relay → ReachesOn Stands node relay events old new
 
-pub turned_on : (Stands : Side → Type 0) (node : NodeNo) {events : List RelayEvent} (old new : WorldState) → Turned node events old new → TurnedOn Stands node events
-    old new
+pub turned_on : (Stands : Side → Type 0) (node : NodeNo) {events : List RelayEvent} (old new : WorldState)
+    → Turned node events old new → TurnedOn Stands node events old new
 turned_on Stands node old new turned relay at =
     let r = turned relay at in
     record { outs = r.outs; last = r.last; turns = r.turns; at = r.at; behind = λ direction h from stands. r.behind direction h from }
 
-pub turned_on_more : (Stands : Side → Type 0) (node : NodeNo) (xs ys : List RelayEvent) (one two three : WorldState) → TurnedOn Stands node xs one two → TurnedOn
-    Stands node ys two three → TurnedOn Stands node (xs ++ ys) one three
+pub turned_on_more : (Stands : Side → Type 0) (node : NodeNo) (xs ys : List RelayEvent) (one two three : WorldState)
+    → TurnedOn Stands node xs one two → TurnedOn Stands node ys two three → TurnedOn Stands node (xs ++ ys) one three
 turned_on_more Stands node xs ys one two three first second relay at =
     let f = first relay at in
     let s = second f.last f.at in

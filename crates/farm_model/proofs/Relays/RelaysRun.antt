@@ -1,7 +1,7 @@
 -- What happens to a relay at each step of the farm, and that over a run of the farm it does one thing after another and
 -- puts in flight what it sends.
-use Rattle.std.proofs.Common.{◌≡◌, ◌≤◌, ℕ, Bool, true, false, cond, List, [], ◌∷◌, ◌++◌, map, length, not, Option, Some, None, inl, inr, refl, sym, subst, ap, ◌∙◌}
-use Rattle.std.proofs.Common.{append_assoc, append-nil, arith}
+use Rattle.std.proofs.Common.{◌≡◌, ◌≤◌, ℕ, Bool, true, false, cond, List, [], ◌∷◌, ◌++◌, map, length, not, Option}
+use Rattle.std.proofs.Common.{Some, None, inl, inr, refl, sym, subst, ap, ◌∙◌, append_assoc, append-nil, arith}
 use Rattle.std.specs.Prelude.{MatchBool, IfSome, ◌&&◌, ◌||◌, ◌==◌, count_by, filter}
 use Rattle.std.specs.List.{find}
 use Rattle.std.proofs.lemmas.Bool.{and_parts, both_ways, or_left, or_parts, not-true, false_from_ne_true}
@@ -26,9 +26,11 @@ use Rattle.farm_base.specs.Lists.{replace_first}
 use Rattle.farm_base.specs.declared.site.Site.{Site}
 use Rattle.farm_model.specs.declared.state.Direction.{Direction}
 use Rattle.farm_base.specs.declared.step.Step.{Step}
-use Rattle.farm_base.specs.declared.step.Step.TheVariants.{Up, Accept, Opened, Send, Deliver, Lose, Cut, Drop, Restart, Crash, Pick, Charge, Refuse, Emit, Sweep}
+use Rattle.farm_base.specs.declared.step.Step.TheVariants.{Up, Accept, Opened, Send, Deliver, Lose, Cut, Drop}
+use Rattle.farm_base.specs.declared.step.Step.TheVariants.{Restart, Crash, Pick, Charge, Refuse, Emit, Sweep}
 use Rattle.farm_model.specs.FarmStep.{FarmStep, Outcome, Flight, flight_where, flight_at, loss_at, Delivers, after_lost_message, can_connect, next_conn}
-use Rattle.farm_model.specs.FarmStep.{with_link_at, with_new_connection, after_accept, after_opened_on, opened_if, after_up, after_send, after_send_on, with_pick}
+use Rattle.farm_model.specs.FarmStep.{with_link_at, with_new_connection, after_accept, after_opened_on}
+use Rattle.farm_model.specs.FarmStep.{opened_if, after_up, after_send, after_send_on, with_pick}
 use Rattle.farm_model.specs.FarmStep.{after_pick_at, after_refusal_at, with_emit, after_emit_at, with_charge, after_charge_at, can_cut, DropsIt, can_restart}
 use Rattle.farm_model.specs.FarmStep.{after_crash_at}
 use Rattle.farm_model.specs.InFlight.{goes, ends_at, known_after, grows_at, left_by}
@@ -49,7 +51,8 @@ use Rattle.farm_model.proofs.Wiring.KnowsAtStart.{knows_at_start}
 use Rattle.farm_model.proofs.Lists.Numbering.{same_node, nodes_turned}
 use Rattle.farm_model.proofs.Wiring.OneKind.{relay_no_client, relay_no_front}
 use Rattle.farm_model.proofs.Wiring.RelayPlaces.{relay_there}
-use Rattle.farm_model.proofs.Relays.RelayTurns.{Turns, stays, Turns-length, run_on, Turned, same_relay, turned_more, TurnedOn, turned_on, turned_on_more, all_untouched}
+use Rattle.farm_model.proofs.Relays.RelayTurns.{Turns, stays, Turns-length, run_on, Turned, same_relay}
+use Rattle.farm_model.proofs.Relays.RelayTurns.{turned_more, TurnedOn, turned_on, turned_on_more, all_untouched}
 use Rattle.farm_model.proofs.Relays.RelayTurns.{arrival_turns, losses_turn, directions_left, crash_turns, link_turns}
 use Rattle.farm_model.proofs.Relays.SentBehind.{OneOut, one_out, one_out_by_sides, left_one_out, as_it_was, Untouched, others_traffic}
 use Rattle.farm_model.proofs.Wiring.Sides.{Side, side_of, sides}
@@ -99,9 +102,10 @@ step_turned site step node old mid new same leaves turned relay at =
     }
 
 -- first messages go, and then ends, of which nodes learn
-step_turned_on : (Stands : Side → Type 0) (site : Site) (step : Step) (node : NodeNo) (old mid new : WorldState) → mid.relays ≡ old.relays → Leaves site step
-    old.directions mid.directions
-    → ((direction : Direction) → ends_at site step old.directions direction ≡ false → Stands (direction.conn, direction.from, direction.to, known_after step direction))
+step_turned_on : (Stands : Side → Type 0) (site : Site) (step : Step) (node : NodeNo) (old mid new : WorldState)
+    → mid.relays ≡ old.relays → Leaves site step old.directions mid.directions
+    → ((direction : Direction) → ends_at site step old.directions direction ≡ false
+    → Stands (direction.conn, direction.from, direction.to, known_after step direction))
     → TurnedOn Stands node (events_at site node step old) mid new → StepTurned site step node old new
 step_turned_on Stands site step node old mid new same leaves stands_on turned relay at =
     let r = turned relay (ap (relay_at node) same ∙ at) in
@@ -232,7 +236,8 @@ abbrev pub comes_up : NodeNo → ConnId → RelayEvent
 comes_up peer conn = Rattle.relay_core.specs.declared.run.RelayEvent.TheVariants.Up peer conn
 
 -- whichever of the two learns of it first
-pub either_first : (k a b : NodeNo) (conn : ConnId) → event_if (is_node b k) (comes_up a conn) ++ event_if (is_node a k) (comes_up b conn) ≡ up_events k a b conn
+pub either_first : (k a b : NodeNo) (conn : ConnId)
+    → event_if (is_node b k) (comes_up a conn) ++ event_if (is_node a k) (comes_up b conn) ≡ up_events k a b conn
 either_first k a b conn = go (is_node a k) refl (is_node b k) refl
   where
     go : (x : Bool) → is_node a k ≡ x → (y : Bool) → is_node b k ≡ y → event_if y (comes_up a conn) ++ event_if x (comes_up b conn) ≡ event_if x
@@ -249,9 +254,8 @@ opened_event k a b None = []
 opened_event k a b (Some direction) = event_if (is_node a k) (comes_up b direction.conn)
 
 -- the node that has opened a connection learns that it is made, if there is one
-pub opened_is : (site : Site) (k : NodeNo) (old : WorldState) → AreApart (sides old.directions) → (a b : NodeNo) (found : Option Direction) → find (is_unheard b a)
-    old.directions ≡ found
-    → events_at site k (Opened a b) old ≡ opened_event k a b found
+pub opened_is : (site : Site) (k : NodeNo) (old : WorldState) → AreApart (sides old.directions) → (a b : NodeNo) (found : Option Direction)
+    → find (is_unheard b a) old.directions ≡ found → events_at site k (Opened a b) old ≡ opened_event k a b found
 opened_is site k old apart a b found f = go found f
   where
     nobody : (c : Bool) → cond c (map (λ (d : Direction). comes_up b d.conn) []) [] ≡ []
@@ -260,7 +264,8 @@ opened_is site k old apart a b found f = go found f
 
     go : (o : Option Direction) → find (is_unheard b a) old.directions ≡ o → cond (is_node a k) (map (λ (d : Direction). comes_up b d.conn)
         (filter (is_unheard b a) old.directions)) [] ≡ opened_event k a b o
-    go None e = ap (λ (ds : List Direction). cond (is_node a k) (map (λ (d : Direction). comes_up b d.conn) ds) []) (none_passes (is_unheard b a) old.directions e)
+    go None e = ap (λ (ds : List Direction). cond (is_node a k) (map (λ (d : Direction). comes_up b d.conn) ds) [])
+        (none_passes (is_unheard b a) old.directions e)
         ∙ nobody (is_node a k)
     go (Some first) e = ap (λ (ds : List Direction). cond (is_node a k) (map (λ (d : Direction). comes_up b d.conn) ds) [])
         (one_left (is_unheard b a) first old.directions (unheard_once old.directions apart b a) e)
@@ -320,8 +325,8 @@ module _ (site : Site) (ends : Ends) (checked : IsChecked site) (old new : World
           old new
       opens can out =
           let free = not-true (is_connected old.directions a b) (and_parts (is_linked site a b) (not (is_connected old.directions a b)) can).1 in
-          let is_next = subst (λ (o : Option Direction). Outcome (after_opened_on (with_new_connection old a b) a b o) applied old new) (opens_next old a b free)
-          out in
+          let is_next = subst (λ (o : Option Direction). Outcome (after_opened_on (with_new_connection old a b) a b o) applied old new)
+          (opens_next old a b free) out in
           subst (λ (es : List RelayEvent). Turned k es old new) (either_first k a b conn)
           (turned_kept k (event_if (is_node b k) (comes_up a conn) ++ event_if (is_node a k) (comes_up b conn)) old both_know new both_learn
           (ap (λ (w : WorldState). w.relays) is_next.1)
@@ -332,8 +337,8 @@ module _ (site : Site) (ends : Ends) (checked : IsChecked site) (old new : World
       go true can out = opens can out
       go false can out = unchanged_turns out.1
 
-  opened_turned : (a b : NodeNo) (found : Option Direction) → find (is_unheard b a) old.directions ≡ found → Outcome (after_opened_on old a b found) applied old new
-      → StepTurned site (Opened a b) k old new
+  opened_turned : (a b : NodeNo) (found : Option Direction) → find (is_unheard b a) old.directions ≡ found
+      → Outcome (after_opened_on old a b found) applied old new → StepTurned site (Opened a b) k old new
   opened_turned a b found f made =
       step_turned site (Opened a b) k old known new refl
       (leaves_of (Opened a b) old new (opened_carries site old new applied apart a b found f made) (λ d. refl))
@@ -342,8 +347,8 @@ module _ (site : Site) (ends : Ends) (checked : IsChecked site) (old new : World
       known : WorldState
       known = record old { directions = new.directions }
 
-      go : (o : Option Direction) → find (is_unheard b a) old.directions ≡ o → Outcome (after_opened_on old a b o) applied old new → Turned k (opened_event k a b o)
-          known new
+      go : (o : Option Direction) → find (is_unheard b a) old.directions ≡ o → Outcome (after_opened_on old a b o) applied old new
+          → Turned k (opened_event k a b o) known new
       go None e out = same_relay k known new (ap (λ (w : WorldState). relay_at k w.relays) out.1) (all_untouched k new.directions new.directions refl)
       go (Some first) e out = link_turns k a b first.conn known new
           (subst (λ (w : WorldState). OneOut w.directions) (sym out.1) (known_one_out (is_unheard b a) first old.directions e single))
@@ -396,7 +401,8 @@ module _ (site : Site) (ends : Ends) (checked : IsChecked site) (old new : World
       (λ direction stands. ap (λ (c : Bool). c && (goes a b direction || goes b a direction)) (sym can) ∙ stands)
       (subst (λ (es : List RelayEvent). TurnedOn Stays k es (after_losing_all old a b) new) (sym (cut_events site k old.directions apart a b can two))
       (cut_turns ends k Stays (TurnedOn Stays k) (relay_takes site k Stays) old new a b losses two
-      (λ side stands. (or_parts (is_way a b side) (is_way b a side) stands).1) (λ side stands. (or_parts (is_way a b side) (is_way b a side) stands).0) made.1 well))
+      (λ side stands. (or_parts (is_way a b side) (is_way b a side) stands).1)
+      (λ side stands. (or_parts (is_way a b side) (is_way b a side) stands).0) made.1 well))
   cut_turned a b false cannot made =
       step_turned site (Cut a b) k old old new refl (λ direction h stands. h)
       (subst (λ (es : List RelayEvent). Turned k es old new) (sym (no_cut_events site k old.directions apart a b cannot)) (unchanged_turns made.2))
@@ -412,13 +418,14 @@ module _ (site : Site) (ends : Ends) (checked : IsChecked site) (old new : World
   not_it node cannot = false_from_ne_true (is_node node k) (λ is. both_ways (can_restart site node) cannot
       (or_left (is_relay site node) (is_front site node) (ap (is_relay site) (same_node node k is) ∙ relay_is)))
 
-  crash_turned : (node : NodeNo) (can : Bool) → can_restart site node ≡ can → Outcome (cond can (Some (after_crash old node)) None) applied old new → StepTurned site
-      (Crash node) k old new
+  crash_turned : (node : NodeNo) (can : Bool) → can_restart site node ≡ can
+      → Outcome (cond can (Some (after_crash old node)) None) applied old new → StepTurned site (Crash node) k old new
   crash_turned node true can made =
       step_turned site (Crash node) k old (directions_left old node) new refl
       (crash_leaves site (Crash node) node old (λ direction stands. ap (λ (c : Bool). c && is_node direction.to node) (sym can) ∙ stands) (λ direction. refl)
       (λ direction. refl))
-      (subst (λ (w : WorldState). Turned k (event_if (is_node node k) anew) (directions_left old node) w) (sym made.1) (crash_turns k node old (crash_single node)))
+      (subst (λ (w : WorldState). Turned k (event_if (is_node node k) anew) (directions_left old node) w) (sym made.1)
+      (crash_turns k node old (crash_single node)))
   crash_turned node false cannot made =
       step_turned site (Crash node) k old old new refl (λ direction h stands. h)
       (subst (λ (c : Bool). Turned k (cond c (anew ∷ []) []) old new) (sym (not_it node cannot)) (unchanged_turns made.1))
@@ -525,8 +532,9 @@ pub last_of-push : (w : WorldState) (past : Past) (t : Transition) → last_of w
 last_of-push w [] t = refl
 last_of-push w (first ∷ past) t = last_of-push first.after past t
 
-pub relay_runs_on : {site : Site} {ends : Ends} (past : Past) (t : Transition) → IsChecked site → IsWired site ends t.before → AreApart (sides t.before.directions) → FarmStep
-    site t.before t.step t.applied t.losses t.after → (node : NodeNo) → is_relay site node ≡ true → HasRun site node past t.before
+pub relay_runs_on : {site : Site} {ends : Ends} (past : Past) (t : Transition) → IsChecked site → IsWired site ends t.before
+    → AreApart (sides t.before.directions) → FarmStep site t.before t.step t.applied t.losses t.after
+    → (node : NodeNo) → is_relay site node ≡ true → HasRun site node past t.before
     → HasRun site node (past ++ t ∷ []) t.after
 relay_runs_on {site} {ends} past t checked wired apart made node relay_is has =
     let reached = step_turns site ends checked t.before t.after t.applied t.losses wired apart node relay_is t.step made has.last has.at in

@@ -93,8 +93,8 @@ left_one_out keep directions single node conn = let most = single node conn in l
 
 -- ---- what a node sends
 
-pub as_it_was : {directions : List Direction} (direction : Direction) → Has direction directions → Has (record direction { messages = direction.messages ++ [] })
-    directions
+pub as_it_was : {directions : List Direction} (direction : Direction) → Has direction directions
+    → Has (record direction { messages = direction.messages ++ [] }) directions
 as_it_was {directions} direction h = subst (λ (ms : List Message). Has (record direction { messages = ms }) directions) (sym (append-nil direction.messages)) h
 
 own_message : (node : NodeNo) (conn : ConnId) (message : Message) (directions : List Direction) → OneOut directions → (direction : Direction) → Has direction

@@ -16,7 +16,8 @@ use Rattle.farm_law.proofs.Lists.{Has-append, all-end}
 use Rattle.farm_base.specs.declared.site.Site.{Site}
 use Rattle.farm_model.specs.declared.state.Trace.{Trace}
 use Rattle.farm_base.specs.declared.step.Step.{Step}
-use Rattle.farm_base.specs.declared.step.Step.TheVariants.{Up, Accept, Opened, Send, Deliver, Lose, Cut, Drop, Restart, Crash, Pick, Charge, Refuse, Emit, Sweep}
+use Rattle.farm_base.specs.declared.step.Step.TheVariants.{Up, Accept, Opened, Send, Deliver, Lose, Cut, Drop}
+use Rattle.farm_base.specs.declared.step.Step.TheVariants.{Restart, Crash, Pick, Charge, Refuse, Emit, Sweep}
 use Rattle.farm_model.specs.Arrival.{AtRelay}
 use Rattle.farm_model.specs.Applying.{AppliesWhereItCan}
 use Rattle.farm_model.specs.BookAndEnds.{KeepsBookAndEnds}
@@ -170,8 +171,8 @@ module _ (premises : Premises) (site : Site) (all : Ends) (checked : IsChecked s
       answered from node place conn message directions name step flight flag relay named is in
       let fronts = step_keeps_fronts t checked h.wired h.apart s in
       let stand = fronts_stand_after site t h.stand fronts in
-      let relays : (node : NodeNo) → is_relay site node ≡ true → HasRun site node (past ++ t ∷ []) t.after = λ node relay_is. relay_runs_on past t checked h.wired
-      h.apart s node relay_is (h.relays node relay_is) in
+      let relays : (node : NodeNo) → is_relay site node ≡ true → HasRun site node (past ++ t ∷ []) t.after =
+      λ node relay_is. relay_runs_on past t checked h.wired h.apart s node relay_is (h.relays node relay_is) in
       record {
         refused = g.leads.refused;
         kept = premises.moves_keep (parties site all) (farm_of all h.refused t.before) (farm_of all g.leads.refused t.after) g.leads.moves h.kept;

@@ -14,9 +14,11 @@ use Rattle.farm_base.specs.Lists.{replace_first}
 use Rattle.farm_base.specs.Nodes.{is_node}
 use Rattle.farm_base.specs.declared.site.Site.{Site}
 use Rattle.farm_base.specs.declared.step.Step.{Step}
-use Rattle.farm_base.specs.declared.step.Step.TheVariants.{Up, Accept, Opened, Send, Deliver, Lose, Cut, Drop, Restart, Crash, Pick, Charge, Refuse, Emit, Sweep}
+use Rattle.farm_base.specs.declared.step.Step.TheVariants.{Up, Accept, Opened, Send, Deliver, Lose, Cut, Drop}
+use Rattle.farm_base.specs.declared.step.Step.TheVariants.{Restart, Crash, Pick, Charge, Refuse, Emit, Sweep}
 use Rattle.farm_model.specs.declared.state.Direction.{Direction}
-use Rattle.farm_model.specs.FarmStep.{FarmStep, Outcome, Flight, flight_in, flight_of, loss_at, after_lost_message, after_accept, after_opened, opened_if, can_cut, Cuts, Restarts, can_restart, after_crash_at}
+use Rattle.farm_model.specs.FarmStep.{FarmStep, Outcome, Flight, flight_in, flight_of, loss_at, after_lost_message, after_accept}
+use Rattle.farm_model.specs.FarmStep.{after_opened, opened_if, can_cut, Cuts, Restarts, can_restart, after_crash_at}
 use Rattle.farm_model.specs.InFlight.{goes}
 use Rattle.farm_model.specs.Loss.{LossAt, Drops, CutsBoth, DropAll, all_dropped, drops_too, after_losing_all, after_crash, end_with, peers_of}
 use Rattle.farm_model.specs.Run.{Past, Run, Transition, steps_in}
@@ -88,12 +90,13 @@ find_replaced : {A : Type 0} (test : A → Bool) (x y : A) (xs : List A) → fin
 find_replaced test x y [] e passes = absurd cc
 find_replaced {A} test x y (z ∷ zs) e passes = go (test z) refl (find_replaced test x y zs) e
   where
-    go : (b : Bool) → test z ≡ b → (find test zs ≡ Some x → test y ≡ true → find test (replace_first test y zs) ≡ Some y) → cond b (Some z) (find test zs) ≡ Some
-        x → find test (cond b (y ∷ zs) (z ∷ replace_first test y zs)) ≡ Some y
+    go : (b : Bool) → test z ≡ b → (find test zs ≡ Some x → test y ≡ true → find test (replace_first test y zs) ≡ Some y)
+        → cond b (Some z) (find test zs) ≡ Some x → find test (cond b (y ∷ zs) (z ∷ replace_first test y zs)) ≡ Some y
     go true is more k = ap (λ (b : Bool). cond b (Some y) (find test zs)) passes
     go false is more k = ap (λ (b : Bool). cond b (Some z) (find test (replace_first test y zs))) is ∙ more k passes
 
-replace_twice : {A : Type 0} (test : A → Bool) (y z : A) (xs : List A) → test y ≡ true → replace_first test z (replace_first test y xs) ≡ replace_first test z xs
+replace_twice : {A : Type 0} (test : A → Bool) (y z : A) (xs : List A) → test y ≡ true
+    → replace_first test z (replace_first test y xs) ≡ replace_first test z xs
 replace_twice test y z [] passes = refl
 replace_twice {A} test y z (x ∷ xs) passes = go (test x) refl (replace_twice test y z xs passes)
   where
@@ -331,7 +334,8 @@ up_row site w next a b None accepts last opens made = absurd (true≢false (subs
 up_row site w next a b (Some middle) accepts None opens made = absurd (true≢false made.0)
 up_row site w next a b (Some middle) accepts (Some last) opens made =
     let accept : Outcome (after_accept site w b a) true w middle = subst (λ (o : Option WorldState). Outcome o true w middle) (sym accepts) (refl, refl) in
-    let open_it : Outcome (after_opened middle a b) true middle next = subst (λ (o : Option WorldState). Outcome o true middle next) (sym opens) (refl, made.1) in
+    let open_it : Outcome (after_opened middle a b) true middle next =
+    subst (λ (o : Option WorldState). Outcome o true middle next) (sym opens) (refl, made.1) in
     rows (row_of site w middle (Accept b a) true [] (accept, refl)) (row_of site middle next (Opened a b) true [] (open_it, refl))
 
 -- ---- any step

@@ -3,7 +3,8 @@ use Rattle.std.proofs.Common.{Bool, List, refl, subst}
 use Rattle.std.specs.List.{find}
 use Rattle.farm_base.specs.declared.site.Site.{Site}
 use Rattle.farm_base.specs.declared.step.Step.{Step}
-use Rattle.farm_base.specs.declared.step.Step.TheVariants.{Up, Accept, Opened, Send, Deliver, Lose, Cut, Drop, Restart, Crash, Pick, Charge, Refuse, Emit, Sweep}
+use Rattle.farm_base.specs.declared.step.Step.TheVariants.{Up, Accept, Opened, Send, Deliver, Lose, Cut, Drop}
+use Rattle.farm_base.specs.declared.step.Step.TheVariants.{Restart, Crash, Pick, Charge, Refuse, Emit, Sweep}
 use Rattle.farm_base.specs.CheckedSite.{IsChecked}
 use Rattle.farm_model.specs.FarmStep.{FarmStep, flight_at, loss_at, after_pick_at, after_charge_at, after_refusal_at, after_emit_at, after_sweep_at}
 use Rattle.farm_model.specs.InFlight.{KeepsTraffic}
@@ -39,30 +40,25 @@ step_carries {site} {ends} checked old new (Restart node) applied losses wired m
     made
 step_carries {site} checked old new (Crash node) applied losses wired made apart = crash_carries site old new applied apart node made.0
 step_carries checked old new (Pick node worker) applied losses wired made apart =
-    quiet_carries none_grow (record { leaves = λ direction. refl; may_grow = λ direction. refl; knows = λ direction. refl; ends = λ directions direction. refl; receives = λ directions. refl })
+    quiet_carries none_grow (record { leaves = λ _. refl; may_grow = λ _. refl; knows = λ _. refl; ends = λ _ _. refl; receives = λ _. refl })
     apart refl (outcome_goes_on none_grow old (after_pick_at old node worker (front_at node old.fronts)) applied new
     (pick_goes_on none_grow old node worker (front_at node old.fronts)) made.0)
 step_carries checked old new (Charge node worker moment) applied losses wired made apart =
-    quiet_carries none_grow (record { leaves = λ direction. refl; may_grow = λ direction. refl; knows = λ direction. refl; ends = λ directions direction. refl; receives = λ directions. refl })
+    quiet_carries none_grow (record { leaves = λ _. refl; may_grow = λ _. refl; knows = λ _. refl; ends = λ _ _. refl; receives = λ _. refl })
     apart refl (outcome_goes_on none_grow old (after_charge_at old node worker moment (front_at node old.fronts)) applied new
     (charge_goes_on none_grow old node worker moment (front_at node old.fronts)) made.0)
 step_carries checked old new (Refuse node worker) applied losses wired made apart =
-    quiet_carries none_grow (record { leaves = λ direction. refl; may_grow = λ direction. refl; knows = λ direction. refl; ends = λ directions direction. refl; receives = λ directions. refl })
+    quiet_carries none_grow (record { leaves = λ _. refl; may_grow = λ _. refl; knows = λ _. refl; ends = λ _ _. refl; receives = λ _. refl })
     apart refl (outcome_goes_on none_grow old (after_refusal_at old node worker (front_at node old.fronts)) applied new
     (refuse_goes_on none_grow old node worker (front_at node old.fronts)) made.0)
 step_carries checked old new (Emit node worker) applied losses wired made apart =
-    quiet_carries (λ side. is_node side.1 node) (record {
-      leaves = λ direction. refl;
-      may_grow = λ direction. refl;
-      knows = λ direction. refl;
-      ends = λ directions direction. refl;
-      receives = λ
-          directions. refl;
-    }) apart refl (outcome_goes_on (λ side. is_node side.1 node) old (after_emit_at old node worker (front_at node old.fronts)) applied
+    quiet_carries (λ side. is_node side.1 node)
+    (record { leaves = λ _. refl; may_grow = λ _. refl; knows = λ _. refl; ends = λ _ _. refl; receives = λ _. refl })
+    apart refl (outcome_goes_on (λ side. is_node side.1 node) old (after_emit_at old node worker (front_at node old.fronts)) applied
     new (emit_goes_on (λ side. is_node side.1 node) old node (λ side e. e) worker (front_at node old.fronts)) made.0)
 step_carries checked old new (Sweep moment) applied losses wired made apart =
     let swept = same_goes_on none_grow (after_sweep_at old moment) new made.0.1 in
-    quiet_carries none_grow (record { leaves = λ direction. refl; may_grow = λ direction. refl; knows = λ direction. refl; ends = λ directions direction. refl; receives = λ directions. refl })
+    quiet_carries none_grow (record { leaves = λ _. refl; may_grow = λ _. refl; knows = λ _. refl; ends = λ _ _. refl; receives = λ _. refl })
     apart refl (record { directions = swept.directions; sent = swept.sent; received = swept.received })
 
 -- what is promised of the step, and what the next one stands on
@@ -77,7 +73,8 @@ step_keeps_traffic {site} {ends} checked t wired made apart =
         one_each = goes_once t.after.directions c.apart;
         posted = λ client to message direction is client_is knows h between.
             let sending = subst (λ (s : Step). FarmStep site t.before s t.applied t.losses t.after) is made in
-            Contains-has (send_posts site ends t.before t.after t.applied wired apart client to message client_is knows direction (Has-contained h) between sending.0);
+            Contains-has (send_posts site ends t.before t.after t.applied wired apart client to message client_is knows direction
+            (Has-contained h) between sending.0);
         sent = c.sent;
         received = c.received;
       },

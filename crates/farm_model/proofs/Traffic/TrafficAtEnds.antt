@@ -16,7 +16,8 @@ use Rattle.farm_base.specs.declared.step.Step.{Step}
 use Rattle.farm_base.specs.declared.step.Step.TheVariants.{Cut, Drop, Restart}
 use Rattle.farm_model.specs.FarmStep.{DropsIt, Cuts, can_cut, Restarts, can_restart}
 use Rattle.farm_model.specs.InFlight.{goes, ends_at, grows_at, known_after, left_by, sent_at, received_at}
-use Rattle.farm_model.specs.Loss.{Loss, LossAt, LearnLosses, EndGoes, Drops, CutsBoth, DropAll, all_dropped, drops_too, after_end, after_losing_all, after_crash, peers_of, end_with}
+use Rattle.farm_model.specs.Loss.{Loss, LossAt, LearnLosses, EndGoes, Drops, CutsBoth, DropAll, all_dropped}
+use Rattle.farm_model.specs.Loss.{drops_too, after_end, after_losing_all, after_crash, peers_of, end_with}
 use Rattle.farm_base.specs.Nodes.{is_node}
 use Rattle.farm_model.specs.World.{Ends, WorldState, is_between, is_on, is_inward, emptied}
 use Rattle.farm_model.proofs.Lists.Agreeing.{same_test}
@@ -96,8 +97,8 @@ module _ (grows : Side → Bool) where
 
   -- ---- one end
 
-  module _ (ends : Ends) (w next : WorldState) (a b : NodeNo) (losses : List LossAt) (joins : JoinsEach ends w.directions) (apart : AreApart (sides w.directions))
-      (may : MaySend grows a) where
+  module _ (ends : Ends) (w next : WorldState) (a b : NodeNo) (losses : List LossAt)
+      (joins : JoinsEach ends w.directions) (apart : AreApart (sides w.directions)) (may : MaySend grows a) where
     no_end : find (is_between b a) w.directions ≡ None → next ≡ w → EndsGo (is_way b a) w next
     no_end f same = subst (EndsGo (is_way b a) w) (sym same) (record {
       stands = λ direction h e. stands_as grows direction direction.messages h;
@@ -201,10 +202,11 @@ module _ (site : Site) (ends : Ends) (old new : WorldState) (wired : IsWired sit
       (and_from (is_node direction.from direction.from) (is_node direction.to direction.to) (node_itself direction.from) (node_itself direction.to)) in
       both_ways (goes_then (side_of other)) (made.is_left other k) (ap goes_then (sym of.side_is ∙ ap side_of is) ∙ e))
 
-  ends_carry : (step : Step) → ((direction : Direction) → left_by step direction ≡ direction.messages) →
-      ((direction : Direction) → grows_at step direction ≡ grows (side_of direction)) → ((direction : Direction) → known_after step direction ≡ direction.known) →
-      sent_at site step old.directions ≡ [] → received_at site step old.directions ≡ [] →
-      ((direction : Direction) → Has direction old.directions → ends_at site step old.directions direction ≡ goes_then (side_of direction))
+  ends_carry : (step : Step) → ((direction : Direction) → left_by step direction ≡ direction.messages)
+      → ((direction : Direction) → grows_at step direction ≡ grows (side_of direction))
+      → ((direction : Direction) → known_after step direction ≡ direction.known)
+      → sent_at site step old.directions ≡ [] → received_at site step old.directions ≡ []
+      → ((direction : Direction) → Has direction old.directions → ends_at site step old.directions direction ≡ goes_then (side_of direction))
       → Carries site step old new
   ends_carry step leaves may_grow knows silent unheard ends_as = record {
     in_flight = λ direction h e.
@@ -222,7 +224,8 @@ module _ (site : Site) (ends : Ends) (old new : WorldState) (wired : IsWired sit
   }
 
 -- where nothing ends, all stays
-module _ (site : Site) (ends : Ends) (old new : WorldState) (wired : IsWired site ends old) (apart : AreApart (sides old.directions)) (grows : Side → Bool) where
+module _ (site : Site) (ends : Ends) (old new : WorldState) (wired : IsWired site ends old)
+    (apart : AreApart (sides old.directions)) (grows : Side → Bool) where
   same_goes : new ≡ old → EndsGo grows (λ side. false) old new
   same_goes same = subst (EndsGo grows (λ side. false) old) (sym same) (none_goes grows old)
 
@@ -267,7 +270,8 @@ module _ (site : Site) (ends : Ends) (old new : WorldState) (losses : List LossA
   both_go cut =
       let joins : JoinsEach ends emptied_world.directions = λ side h. wired_joins wired side (subst (Has side) (sides_emptied a b old.directions) h) in
       let apart_still = subst AreApart (sym (sides_emptied a b old.directions)) apart in
-      let one = end_goes either ends emptied_world cut.middle a b cut.first joins apart_still (λ side e. or_left (is_node side.1 a) (is_node side.1 b) e) cut.one in
+      let one = end_goes either ends emptied_world cut.middle a b cut.first joins apart_still
+      (λ side e. or_left (is_node side.1 a) (is_node side.1 b) e) cut.one in
       let other = end_goes either ends cut.middle new b a cut.second (still_joins either one joins) (one.apart apart_still)
       (λ side e. or_right (is_node side.1 a) (is_node side.1 b) e) cut.other in
       lost_first (go_longer either one other)

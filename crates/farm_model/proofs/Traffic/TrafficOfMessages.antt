@@ -180,7 +180,8 @@ module _ (site : Site) (old new : WorldState) (apart : AreApart (sides old.direc
   pub lose_carries : GoesOn none_grow (record old { directions = left }) new → Carries site (Lose from to place) old new
   lose_carries on = record {
     in_flight = λ direction h e. stands_less (is_between from to) old new apart place goes_most flight flies none_grow on.directions direction h;
-    begun = λ direction h none. none_begun (same_sides (is_between from to) old new apart place goes_most flight flies none_grow on.directions) direction h none;
+    begun = λ direction h none.
+        none_begun (same_sides (is_between from to) old new apart place goes_most flight flies none_grow on.directions) direction h none;
     ended = λ direction other h e k. absurd cc;
     apart = still_apart (is_between from to) old new apart place goes_most flight flies none_grow on.directions;
     sent = nothing_more on.sent;
@@ -198,8 +199,8 @@ module _ (site : Site) (old new : WorldState) (apart : AreApart (sides old.direc
   abbrev from_it : Side → Bool
   from_it side = is_node side.1 to
 
-  pub deliver_carries : StandOn from_it heard_left new.directions → new.sent ≡ old.sent → new.received ≡ old.received ++ cond (is_client site to) (item_of flight) []
-      → Carries site (Deliver from to place) old new
+  pub deliver_carries : StandOn from_it heard_left new.directions → new.sent ≡ old.sent
+      → new.received ≡ old.received ++ cond (is_client site to) (item_of flight) [] → Carries site (Deliver from to place) old new
   deliver_carries on sent received = record {
     in_flight = λ direction h e. stands_less (is_heard from to) old new apart place heard_most flight flies from_it on direction h;
     begun = λ direction h none. none_begun (same_sides (is_heard from to) old new apart place heard_most flight flies from_it on) direction h none;

@@ -21,7 +21,8 @@ use Rattle.farm_model.specs.declared.state.Direction.{Direction}
 use Rattle.farm_base.specs.declared.step.Step.{Step}
 use Rattle.farm_base.specs.declared.step.Step.TheVariants.{Up, Accept, Opened, Crash}
 use Rattle.farm_base.specs.CheckedSite.{IsChecked}
-use Rattle.farm_model.specs.FarmStep.{Outcome, can_connect, next_conn, with_new_connection, after_accept, after_opened_on, opened_if, after_up, empty_direction, with_pick, after_pick_at}
+use Rattle.farm_model.specs.FarmStep.{Outcome, can_connect, next_conn, with_new_connection, after_accept}
+use Rattle.farm_model.specs.FarmStep.{after_opened_on, opened_if, after_up, empty_direction, with_pick, after_pick_at}
 use Rattle.farm_model.specs.Loss.{after_crash}
 use Rattle.farm_model.specs.FarmStep.{can_restart, after_crash_at, after_refusal_at, with_emit, after_emit_at, with_charge, after_charge_at}
 use Rattle.farm_model.specs.InFlight.{ends_at, grows_at, known_after, left_by, sent_at, received_at}
@@ -91,7 +92,8 @@ module _ {site : Site} {step : Step} {old new : WorldState} (grows : Side → Bo
           let stands = on.stands direction h in (
             stands.0,
             λ still. stands.1 (sym (quiet.may_grow direction) ∙ still),
-            subst (λ (k : Bool). Has (record direction { known = k; messages = left_by step direction ++ stands.0 }) new.directions) (sym (quiet.knows direction))
+            subst (λ (k : Bool). Has (record direction { known = k; messages = left_by step direction ++ stands.0 }) new.directions)
+                (sym (quiet.knows direction))
                 (subst (λ (ms : List Message). Has (record direction { messages = ms ++ stands.0 }) new.directions) (sym (quiet.leaves direction)) stands.2),
           );
       begun = λ direction h none. none_begun on.same direction h none;
@@ -180,8 +182,8 @@ module _ (site : Site) (checked : IsChecked site) (old new : WorldState) (applie
   pub accept_carries : Outcome (after_accept site old b a) applied old new → Carries site (Accept b a) old new
   accept_carries out = go (can_connect site old a b) refl out
     where
-      go : (c : Bool) → can_connect site old a b ≡ c → Outcome (cond c (Some (with_new_connection old a b)) None) applied old new → Carries site (Accept b a) old
-          new
+      go : (c : Bool) → can_connect site old a b ≡ c → Outcome (cond c (Some (with_new_connection old a b)) None) applied old new
+          → Carries site (Accept b a) old new
       go true can made = accepted_carries can made.1
       go false can made = quiet_carries none_grow (record {
         leaves = λ direction. refl;

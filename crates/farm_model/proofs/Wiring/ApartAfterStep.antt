@@ -41,7 +41,8 @@ apart_without keep directions apart = record {
 way_is : (from to : NodeNo) (side : Side) → is_way from to side ≡ true → side ≡ (side.0, from, to, side.3)
 way_is from to side e =
     let parts = and_parts (is_node side.1 from) (is_node side.2 to) e in
-    ap (λ (n : NodeNo). (side.0, n, side.2, side.3)) (same_node side.1 from parts.0) ∙ ap (λ (n : NodeNo). (side.0, from, n, side.3)) (same_node side.2 to parts.1)
+    ap (λ (n : NodeNo). (side.0, n, side.2, side.3)) (same_node side.1 from parts.0)
+    ∙ ap (λ (n : NodeNo). (side.0, from, n, side.3)) (same_node side.2 to parts.1)
 
 no_way : (all : List Side) (from to : NodeNo) → ((conn : ConnId) (known : Bool) → Has (conn, from, to, known) all → ⊥) → count_by (is_way from to) all ≡ 0
 no_way all from to none = none_pass (is_way from to) all (λ side h. false_from_ne_true (is_way from to side)

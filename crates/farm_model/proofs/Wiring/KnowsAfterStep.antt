@@ -16,7 +16,8 @@ use Rattle.relay_core.specs.RelayState.{RelayState}
 use Rattle.farm_base.specs.declared.site.Site.{Site}
 use Rattle.farm_model.specs.declared.state.Direction.{Direction}
 use Rattle.farm_base.specs.declared.step.Step.{Step}
-use Rattle.farm_base.specs.declared.step.Step.TheVariants.{Up, Accept, Opened, Send, Deliver, Lose, Cut, Drop, Restart, Crash, Pick, Charge, Refuse, Emit, Sweep}
+use Rattle.farm_base.specs.declared.step.Step.TheVariants.{Up, Accept, Opened, Send, Deliver, Lose, Cut, Drop}
+use Rattle.farm_base.specs.declared.step.Step.TheVariants.{Restart, Crash, Pick, Charge, Refuse, Emit, Sweep}
 use Rattle.farm_model.specs.Arrival.{AtRelay, after_relay_turn, after_arrival_at_front, after_arrival_at_client, ArrivesAtServer, Arrives}
 use Rattle.farm_base.specs.CheckedSite.{IsChecked}
 use Rattle.farm_model.specs.FarmStep.{Flight, FarmStep, Outcome, Delivers, DropsIt, can_cut, flight_at, loss_at, after_lost_message, after_send_on, after_send}
@@ -192,7 +193,8 @@ module _ {site : Site} {ends : Ends} where
       go true e learn =
           let same = ((losses_go_on (λ side. true) (λ loss h side at. refl) learn).directions).same in
           record {
-            joined = joined_by_sides left after.directions same (λ d h. well.joined d (Has-filter (λ d. not (is_inward node direction.conn d)) w.directions h).0);
+            joined = joined_by_sides left after.directions same
+                (λ d h. well.joined d (Has-filter (λ d. not (is_inward node direction.conn d)) w.directions h).0);
             apart = subst AreApart (sym same) (apart_without (λ d. not (is_inward node direction.conn d)) w.directions well.apart);
             kinds = learned_kinds learn (record { fronts = well.kinds.fronts; relays = well.kinds.relays });
             known = losses_known learn (record { fronts = well.kinds.fronts; relays = well.kinds.relays })
@@ -301,8 +303,8 @@ step_knows {site} checked old new (Opened a b) applied losses wired apart made k
     (opening_knows old wired apart known checked a b) made.0
 step_knows {site} {ends} checked old new (Up a b) applied losses wired apart made known = outcome_knows old known (after_up site old a b) applied new
     (up_knows checked old wired apart known a b) made.0
-step_knows {site} checked old new (Send client to message) applied losses wired apart made known = outcome_knows old known (after_send site old client to message)
-    applied new (send_knows old known client to message) made.0
+step_knows {site} checked old new (Send client to message) applied losses wired apart made known =
+    outcome_knows old known (after_send site old client to message) applied new (send_knows old known client to message) made.0
 step_knows checked old new (Deliver from to place) applied losses wired apart made known = deliver_knows old known from to place applied new
     (flight_at old.directions from to place) refl made.0
 step_knows checked old new (Lose from to place) applied losses wired apart made known = outcome_knows old known

@@ -123,7 +123,8 @@ module _ {site : Site} {ends : Ends} (checked : IsChecked site) (w : WorldState)
       peer_known w known b a conn (w.directions ++ two_directions conn a b)
       (λ relay at. no_fault checked w wired b a conn relay at (linked_turned site a b parts.0) (λ link h same. not_free free relay link at h same)
       (conn_is_new checked w wired b relay at)) (λ relay at. conn_is_new checked w wired b relay at) ways
-      (λ c from node h. sides_left w.directions (two_directions conn a b) h) (Has-map side_of (Has-right w.directions here)) (with_new_connection w a b) refl refl
+      (λ c from node h. sides_left w.directions (two_directions conn a b) h) (Has-map side_of (Has-right w.directions here))
+      (with_new_connection w a b) refl refl
     where
       not_free : is_connected w.directions a b ≡ false → (relay : RelayState) (link : Link) → relay_at b w.relays ≡ Some relay → Has link
           relay.node.peers.links → link.peer ≡ a → ⊥
@@ -151,7 +152,8 @@ same_one test xs most h g e f =
     let found = any_found test xs (any_has test h e) in
     the_one test found.0 xs most found.1 h e ∙ sym (the_one test found.0 xs most found.1 g f)
 
-module _ {site : Site} (w : WorldState) (known : KnowsPeers site w) (a b : NodeNo) (direction : Direction) (found : find (is_unheard b a) w.directions ≡ Some direction) where
+module _ {site : Site} (w : WorldState) (known : KnowsPeers site w) (a b : NodeNo) (direction : Direction)
+    (found : find (is_unheard b a) w.directions ≡ Some direction) where
   abbrev pub learned : Direction
   learned = record direction { known = true }
 
@@ -216,7 +218,8 @@ module _ {site : Site} {ends : Ends} (checked : IsChecked site) (w : WorldState)
       let goes_there : goes b a of.direction ≡ true =
       and_from (is_node of.direction.from b) (is_node of.direction.to a) (ap (λ (n : NodeNo). is_node n b) from_is ∙ node_itself b)
       (ap (λ (n : NodeNo). is_node n a) to_is ∙ node_itself a) in
-      let same : of.direction ≡ direction = same_one (goes b a) w.directions (goes_once w.directions apart b a) of.among here_is goes_there (parts w known a b direction found).0 in
+      let same : of.direction ≡ direction = same_one (goes b a) w.directions (goes_once w.directions apart b a)
+      of.among here_is goes_there (parts w known a b direction found).0 in
       true≢false (sym known_is ∙ ap (λ (d : Direction). d.known) same ∙ unknown w known a b direction found)
 
   its_joins : Joins ends direction.conn a b

@@ -58,8 +58,9 @@ module _ {site : Site} {ends : Ends} (checked : IsChecked site) (w : WorldState)
       ne_eqb link.conn.0 (length w.ends + 1) (λ same. absurd (omega arith)))
 
   -- the relay has no link with a peer, where none of its links that stand is with it
-  pub no_fault : (node peer : NodeNo) (conn : ConnId) (relay : RelayState) → relay_at node w.relays ≡ Some relay → is_linked site node peer ≡ true →
-      ((link : Link) → Has link relay.node.peers.links → link.peer ≡ peer → ⊥) → find (is_on conn) relay.node.peers.links ≡ None → up_fault relay peer conn ≡ None
+  pub no_fault : (node peer : NodeNo) (conn : ConnId) (relay : RelayState) → relay_at node w.relays ≡ Some relay
+      → is_linked site node peer ≡ true → ((link : Link) → Has link relay.node.peers.links → link.peer ≡ peer → ⊥)
+      → find (is_on conn) relay.node.peers.links ≡ None → up_fault relay peer conn ≡ None
   no_fault node peer conn relay at linked none new =
       let listed = peer_is_listed checked (relay_wired wired.relays at) peer linked in
       let not_up : conn_in relay.node.peers.links peer ≡ None = ap (option_map (λ (l : Link). l.conn))
