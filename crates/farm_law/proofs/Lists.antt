@@ -28,9 +28,11 @@ count-left test (stays {x = x} {xs = xs} {ys = ys} h) = let k = count-left test 
 count-left test (goes {x = x} {xs = xs} gone h) = let k = count-left test h in omega (arith, count-cons test x xs)
 
 -- and no less, where what is gone did not count
-pub count-left_same : {A : Type 0} {Gone : A → Type 0} (test : A → Bool) {xs ys : List A} → ((x : A) → Gone x → one (test x) ≡ 0) → Left Gone xs ys → count_by test ys ≡ count_by test xs
+pub count-left_same : {A : Type 0} {Gone : A → Type 0} (test : A → Bool) {xs ys : List A} → ((x : A) → Gone x → one (test x) ≡ 0) →
+    Left Gone xs ys → count_by test ys ≡ count_by test xs
 count-left_same test none nothing = refl
-count-left_same test none (stays {x = x} {xs = xs} {ys = ys} h) = let k = count-left_same test none h in omega (arith, count-cons test x xs, count-cons test x ys)
+count-left_same test none (stays {x = x} {xs = xs} {ys = ys} h) = let k = count-left_same test none h in
+    omega (arith, count-cons test x xs, count-cons test x ys)
 count-left_same test none (goes {x = x} {xs = xs} gone h) = let k = count-left_same test none h in let z = none x gone in omega (arith, count-cons test x xs)
 
 -- ---- what is among others

@@ -22,12 +22,18 @@ use Rattle.front_core.specs.Answered.{IsBookAnswer}
 use Rattle.relay_core.specs.Forwarding.{Descends}
 
 pub record Premises : Type 0 where
-  pub legal_grows : (terms : Terms) (history : List Entry) (moment : Moment) (request : CcRequest) → IsLegal terms history → kept_reply terms history request ≡ None → IsLegal terms (history ++ Take moment request ∷ [])
-  pub legal_sweeps : (terms : Terms) (history : List Entry) (moment : Moment) → IsLegal terms history → 0 < ended_sessions terms history moment → IsLegal terms (history ++ Sweep moment ∷ [])
-  pub answers_stay : (site : FrontSite) (ledger : Ledger) (more : List Entry) (message answer : Message) → IsBookAnswer site ledger message answer → IsBookAnswer site (record ledger { history = ledger.history ++ more }) message answer
+  pub legal_grows : (terms : Terms) (history : List Entry) (moment : Moment) (request : CcRequest) → IsLegal terms history →
+      kept_reply terms history request ≡ None → IsLegal terms (history ++ Take moment request ∷ [])
+  pub legal_sweeps : (terms : Terms) (history : List Entry) (moment : Moment) → IsLegal terms history →
+      0 < ended_sessions terms history moment → IsLegal terms (history ++ Sweep moment ∷ [])
+  pub answers_stay : (site : FrontSite) (ledger : Ledger) (more : List Entry) (message answer : Message) →
+      IsBookAnswer site ledger message answer → IsBookAnswer site (record ledger { history = ledger.history ++ more }) message answer
   pub descends_on : (request passed last : Message) → Descends request passed → Descends passed last → Descends request last
-  pub same_view : (profile : RequestProfile) (request passed : Message) (avps : List RawAvp) → split_of request.body ≡ Ok avps → Descends request passed → view_under profile passed ≡ view_under profile request
-  pub same_answer : (front realm : List ℕ) (request passed : Message) (content : CcRequest) (reply : CcReply) (avps : List RawAvp) → split_of request.body ≡ Ok avps → Descends request passed →
+  pub same_view : (profile : RequestProfile) (request passed : Message) (avps : List RawAvp) → split_of request.body ≡ Ok avps →
+      Descends request passed → view_under profile passed ≡ view_under profile request
+  pub same_answer : (front realm : List ℕ) (request passed : Message) (content : CcRequest) (reply : CcReply) (avps : List RawAvp) →
+      split_of request.body ≡ Ok avps → Descends request passed →
       answer_to front realm passed content reply ≡ with_hop passed.header.hop (answer_to front realm request content reply)
-  pub same_refusal : (node realm : List ℕ) (request passed : Message) (refusal : Refusal) (avps : List RawAvp) → split_of request.body ≡ Ok avps → Descends request passed →
+  pub same_refusal : (node realm : List ℕ) (request passed : Message) (refusal : Refusal) (avps : List RawAvp) →
+      split_of request.body ≡ Ok avps → Descends request passed →
       refusal_of node realm passed refusal ≡ with_hop passed.header.hop (refusal_of node realm request refusal)

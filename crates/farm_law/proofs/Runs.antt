@@ -10,7 +10,8 @@ use Rattle.farm_law.specs.Answers.{by_itself, Answers, of_front, of_refusal}
 use Rattle.farm_law.specs.Farm.{Refused, Farm}
 use Rattle.farm_law.specs.Invariant.{IsTaken, IsKept, new_farm}
 use Rattle.farm_law.specs.Lists.{Has}
-use Rattle.farm_law.specs.Moves.{Move, sends, receives, loses, moves_on, answers, takes, sweeps, refuses, forwards, returns, forgets, orphans, drops, sends_again, gives_up, ends, Moves, done, next}
+use Rattle.farm_law.specs.Moves.{Move, sends, receives, loses, moves_on, answers, takes, sweeps, refuses, forwards}
+use Rattle.farm_law.specs.Moves.{returns, forgets, orphans, drops, sends_again, gives_up, ends, Moves, done, next}
 use Rattle.farm_law.specs.Parties.{Parties}
 use Rattle.farm_law.proofs.Lists.{Has-last}
 use Rattle.farm_law.proofs.Premises.{Premises}
@@ -41,8 +42,10 @@ keep l p (refuses {f = f} {item = item} refusal wo e wi) k =
     let at : Refused = record { node = item.to; conn = item.conn; request = item.message; refusal = refusal } in
     let told = refusal_told p f.book f.refused at in
     keep_answers p (keep_refused p k (at ∷ [])) _ wo e (identifiers told) told wi
-keep l p (forwards conn peer hop avps wo e splits spelled is_relay relay server free wi wr) k = keep_forwards p k conn peer hop avps wo e splits spelled relay server free wi wr
-keep l p (returns {items = items} asker wo flag server is_relay linked live wr at_conn at_relay at_hop at_asker wi) k = keep_returns p wo flag server live wr at_conn at_relay at_hop k l asker items is_relay linked at_asker wi
+keep l p (forwards conn peer hop avps wo e splits spelled is_relay relay server free wi wr) k =
+    keep_forwards p k conn peer hop avps wo e splits spelled relay server free wi wr
+keep l p (returns {items = items} asker wo flag server is_relay linked live wr at_conn at_relay at_hop at_asker wi) k =
+    keep_returns p wo flag server live wr at_conn at_relay at_hop k l asker items is_relay linked at_asker wi
 keep l p (forgets wo flag server live wr at_conn at_relay at_hop) k = keep_forgets p wo flag server live wr at_conn at_relay at_hop k
 keep l p (orphans o) k = keep_orphans p k o
 keep l p (drops left) k = keep_drops p k left

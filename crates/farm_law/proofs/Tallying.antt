@@ -10,7 +10,8 @@ use Rattle.cc_view.specs.Answer.{answer_to}
 use Rattle.relay_hops.specs.PendingTable.{under, again}
 use Rattle.farm_law.specs.Farm.{Refused, Farm}
 use Rattle.farm_law.specs.Invariant.{IsKept}
-use Rattle.farm_law.specs.Moves.{Move, sends, receives, loses, moves_on, answers, takes, sweeps, refuses, forwards, returns, forgets, orphans, drops, sends_again, gives_up, ends, Moves, done, next, forwarded}
+use Rattle.farm_law.specs.Moves.{Move, sends, receives, loses, moves_on, answers, takes, sweeps, refuses, forwards, returns}
+use Rattle.farm_law.specs.Moves.{forgets, orphans, drops, sends_again, gives_up, ends, Moves, done, next, forwarded}
 use Rattle.farm_law.specs.Parties.{Parties}
 use Rattle.farm_law.specs.Tally.{IsOfText, is_error_with, is_told_with, written_by, OwesEach}
 use Rattle.farm_law.proofs.Lists.{count-end, count-without, count-left, Has-without}

@@ -23,6 +23,7 @@ TellsRefusal p node conn message refused = (p.is_relay node ≡ true) ⊎ ((refu
 -- A node tells an answer to a message on a connection: that of a front, with the reply that the book keeps for it, or
 -- the refusal of a node that has refused the message or one that descends from it.
 pub data Answers (p : Parties) (book : Ledger) (refused : List Refused) (node : NodeNo) (conn : ConnId) (message answer : Message) : Type 0 where
-  of_front : (front : NodeNo) → p.is_front front ≡ true → IsToldBy p front node → IsBookAnswer (p.front_site (p.name_of front)) book message answer → Answers p book refused node conn message answer
+  of_front : (front : NodeNo) → p.is_front front ≡ true → IsToldBy p front node →
+      IsBookAnswer (p.front_site (p.name_of front)) book message answer → Answers p book refused node conn message answer
   of_refusal : (there : Refused) → TellsRefusal p node conn message there → Descends message there.request → Has there refused →
       answer ≡ refusal_of (p.name_of there.node) p.realm message there.refusal → Answers p book refused node conn message answer

@@ -17,7 +17,8 @@ with_both conn node hop end = λ c n h e. c.0 == conn.0 && n.0 == node.0 && h ==
 
 -- answers that a client sends stand for nothing
 abbrev pub item_in : Parties → Class → Item → Bool
-item_in p class item = (item.message.header.request || not (p.is_client item.from)) && class item.conn (waiting_node item) item.message.header.hop item.message.header.end
+item_in p class item = (item.message.header.request || not (p.is_client item.from)) && class item.conn (waiting_node item)
+    item.message.header.hop item.message.header.end
 
 -- what a relay holds for an asker
 abbrev pub asker_in : Class → Option Asker → ℕ → Bool

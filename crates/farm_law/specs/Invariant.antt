@@ -23,9 +23,11 @@ use Rattle.farm_law.specs.Parties.{Parties}
 
 -- The node has asked something on the connection, such that P: a client has sent it, and a relay awaits its answer
 -- unless the connection has ended for it; whether it has for the other node is not asked.
-pub record Asks (p : Parties) (has_ended : NodeNo → ConnId → Bool) (rows : List PendingRow) (sent : Traffic) (conn : ConnId) (node : NodeNo) (P : Message → Type 0) : Type 0 where
+pub record Asks (p : Parties) (has_ended : NodeNo → ConnId → Bool) (rows : List PendingRow) (sent : Traffic) (conn : ConnId) (node : NodeNo)
+    (P : Message → Type 0) : Type 0 where
   pub client : p.is_client node ≡ true → (message : Message) × Has (conn, message) sent × (message.header.request ≡ true) × P message
-  pub relay : p.is_client node ≡ false → has_ended node conn ≡ false → (row : PendingRow) × Has row rows × (row.conn ≡ conn) × (row.relay ≡ node) × P row.request
+  pub relay : p.is_client node ≡ false → has_ended node conn ≡ false →
+      (row : PendingRow) × Has row rows × (row.conn ≡ conn) × (row.relay ≡ node) × P row.request
 
 -- a message that a node tells is what was asked, or answers it
 pub record Fits (p : Parties) (book : Ledger) (refused : List Refused) (node : NodeNo) (conn : ConnId) (message asked : Message) : Type 0 where
@@ -46,7 +48,8 @@ IsAsked p has_ended rows sent request (Some asker) = Asks p has_ended rows sent 
 -- a message on its way was asked, or answers what was; answers that a client sends stand for nothing
 abbrev pub IsSound : Parties → (NodeNo → ConnId → Bool) → List PendingRow → Ledger → List Refused → Traffic → Item → Type 0
 IsSound p has_ended rows book refused sent item =
-    (item.message.header.request ≡ true) ⊎ (p.is_client item.from ≡ false) → Asks p has_ended rows sent item.conn (waiting_node item) (Fits p book refused item.from item.conn item.message)
+    (item.message.header.request ≡ true) ⊎ (p.is_client item.from ≡ false) →
+    Asks p has_ended rows sent item.conn (waiting_node item) (Fits p book refused item.from item.conn item.message)
 
 -- a client has received the answer to a request that was sent on the connection
 pub record IsOwed (p : Parties) (book : Ledger) (refused : List Refused) (sent : Traffic) (conn : ConnId) (answer : Message) : Type 0 where
@@ -75,17 +78,20 @@ pub data ComesFrom (sent : Traffic) (message : Message) : Type 0 where
 
 -- An entry takes what is read in a request that a client sent. A sweep takes nothing of any message.
 abbrev pub IsTaken : Parties → Traffic → Entry → Type 0
-IsTaken p sent (Take moment request) = (conn : ConnId) × (message : Message) × Has (conn, message) sent × (message.header.request ≡ true) × (view_under p.profile message ≡ Ok request)
+IsTaken p sent (Take moment request) =
+    (conn : ConnId) × (message : Message) × Has (conn, message) sent × (message.header.request ≡ true) × (view_under p.profile message ≡ Ok request)
 IsTaken p sent (Sweep moment) = Unit {0}
 
 -- ---- the whole
 
-pub record Keeps (p : Parties) (has_ended : NodeNo → ConnId → Bool) (items : List Item) (rows : List PendingRow) (book : Ledger) (refused : List Refused) (sent received : Traffic) : Type 0 where
+pub record Keeps (p : Parties) (has_ended : NodeNo → ConnId → Bool) (items : List Item) (rows : List PendingRow) (book : Ledger)
+    (refused : List Refused) (sent received : Traffic) : Type 0 where
   -- no more open or answered than sent
   pub clients : (conn : ConnId) (hop end : ℕ) → p.is_client (p.client_on conn) ≡ true →
       open_in p (with_both conn (p.client_on conn) hop end) items rows + answers_with received conn hop end ≤ requests_with sent conn hop end
   -- at most one place goes on from a request that a relay has sent, and none without one
-  pub relays : (conn : ConnId) (node : NodeNo) (hop : ℕ) → p.is_client node ≡ false → has_ended node conn ≡ false → open_in p (with_hop conn node hop) items rows ≤ count_by (row_in (with_hop conn node hop)) rows
+  pub relays : (conn : ConnId) (node : NodeNo) (hop : ℕ) → p.is_client node ≡ false → has_ended node conn ≡ false →
+      open_in p (with_hop conn node hop) items rows ≤ count_by (row_in (with_hop conn node hop)) rows
   -- no identifier is in use twice
   pub single : (conn : ConnId) (node : NodeNo) (hop : ℕ) → count_by (row_in (with_hop conn node hop)) rows ≤ 1
   -- what stands there is what was asked, or answers it

@@ -63,11 +63,13 @@ pub data Move (p : Parties) : Farm → Farm → Type 0 where
   -- a message moves on without a change
   moves_on : {f : Farm} {item : Item} {rest items : List Item} → Without item f.items rest → Without item items rest → Move p f (record f { items = items })
   -- a front answers a request with what the book keeps
-  answers : {f : Farm} {item : Item} {rest items : List Item} (answer : Message) → Without item f.items rest → item.message.header.request ≡ true → p.is_front item.to ≡ true →
+  answers : {f : Farm} {item : Item} {rest items : List Item} (answer : Message) →
+      Without item f.items rest → item.message.header.request ≡ true → p.is_front item.to ≡ true →
       IsBookAnswer (p.front_site (p.name_of item.to)) f.book item.message answer → Without (reply_to item answer) items rest →
       Move p f (record f { items = items })
   -- the book takes what is read in a request
-  takes : {f : Farm} {item : Item} (moment : Moment) (request : CcRequest) → Has item f.items → item.message.header.request ≡ true → view_under p.profile item.message ≡ Ok request →
+  takes : {f : Farm} {item : Item} (moment : Moment) (request : CcRequest) → Has item f.items →
+      item.message.header.request ≡ true → view_under p.profile item.message ≡ Ok request →
       kept_reply f.book.terms f.book.history request ≡ None → length f.book.history < f.book.limit →
       Move p f (record f { book = with_take f.book moment request })
   -- the book ends sessions that are due (RFC 8506, section 13)
@@ -84,13 +86,15 @@ pub data Move (p : Parties) : Farm → Farm → Type 0 where
       Without (record { conn = conn; from = item.to; to = peer; message = forwarded p hop item }) items rest → Without (row_for p conn hop item) rows f.rows →
       Move p f (record f { items = items; rows = rows })
   -- a relay, for which the connection stands, sends an answer back to the asker of its request
-  returns : {f : Farm} {item : Item} {row : PendingRow} {rest items : List Item} {rows : List PendingRow} (asker : Asker) → Without item f.items rest → item.message.header.request ≡ false →
+  returns : {f : Farm} {item : Item} {row : PendingRow} {rest items : List Item} {rows : List PendingRow} (asker : Asker) →
+      Without item f.items rest → item.message.header.request ≡ false →
       p.is_client item.from ≡ false → p.is_relay item.to ≡ true → p.is_linked item.to item.from ≡ true → f.has_ended item.to item.conn ≡ false →
       Without row f.rows rows → row.conn ≡ item.conn → row.relay ≡ item.to → row.request.header.hop ≡ item.message.header.hop → row.asker ≡ Some asker →
       Without (record { conn = asker.conn; from = item.to; to = asker.node; message = under asker.hop item.message }) items rest →
       Move p f (record f { items = items; rows = rows })
   -- a relay gets an answer that nobody waits for any more
-  forgets : {f : Farm} {item : Item} {row : PendingRow} {rest : List Item} {rows : List PendingRow} → Without item f.items rest → item.message.header.request ≡ false →
+  forgets : {f : Farm} {item : Item} {row : PendingRow} {rest : List Item} {rows : List PendingRow} →
+      Without item f.items rest → item.message.header.request ≡ false →
       p.is_client item.from ≡ false → f.has_ended item.to item.conn ≡ false →
       Without row f.rows rows → row.conn ≡ item.conn → row.relay ≡ item.to → row.request.header.hop ≡ item.message.header.hop →
       Move p f (record f { items = rest; rows = rows })
@@ -99,17 +103,31 @@ pub data Move (p : Parties) : Farm → Farm → Type 0 where
   -- requests on connections that have ended for the relay are given up without an answer
   drops : {f : Farm} {rows : List PendingRow} → Left (λ row. f.has_ended row.relay row.conn ≡ true) f.rows rows → Move p f (record f { rows = rows })
   -- a request on a connection that has ended for the relay is sent again on another one
-  sends_again : {f : Farm} {row : PendingRow} {left rows : List PendingRow} {items : List Item} (conn : ConnId) (peer : NodeNo) (hop : ℕ) → Without row f.rows left → f.has_ended row.relay row.conn ≡ true →
+  sends_again : {f : Farm} {row : PendingRow} {left rows : List PendingRow} {items : List Item} (conn : ConnId) (peer : NodeNo) (hop : ℕ) →
+      Without row f.rows left → f.has_ended row.relay row.conn ≡ true →
       p.is_client peer ≡ false → count_by (row_in (with_hop conn row.relay hop)) left ≡ 0 →
-      Without (record { conn = conn; from = row.relay; to = peer; message = again hop row.request }) items f.items → Without (row_again conn hop row) rows left →
+      Without (record { conn = conn; from = row.relay; to = peer; message = again hop row.request }) items f.items →
+      Without (row_again conn hop row) rows left →
       Move p f (record f { items = items; rows = rows })
   -- a relay refuses a request on a connection that has ended for it
-  gives_up : {f : Farm} {row : PendingRow} {rows : List PendingRow} {items : List Item} (asker : Asker) (refusal : Refusal) → Without row f.rows rows → f.has_ended row.relay row.conn ≡ true →
+  gives_up : {f : Farm} {row : PendingRow} {rows : List PendingRow} {items : List Item} (asker : Asker) (refusal : Refusal) →
+      Without row f.rows rows → f.has_ended row.relay row.conn ≡ true →
       row.asker ≡ Some asker → p.is_relay row.relay ≡ true →
-      Without (record { conn = asker.conn; from = row.relay; to = asker.node; message = under asker.hop (refusal_of (p.name_of row.relay) p.realm row.request refusal) }) items f.items →
-      Move p f (record f { items = items; rows = rows; refused = f.refused ++ record { node = row.relay; conn = row.conn; request = row.request; refusal = refusal } ∷ [] })
+      Without (record {
+        conn = asker.conn;
+        from = row.relay;
+        to = asker.node;
+        message = under asker.hop (refusal_of (p.name_of row.relay) p.realm row.request refusal);
+      }) items f.items →
+      Move p f (record f {
+        items = items;
+        rows = rows;
+        refused = f.refused ++ record { node = row.relay; conn = row.conn; request = row.request; refusal = refusal } ∷ [];
+      })
   -- connections end, for one node or for both; one that has ended for a node does not come back
-  ends : {f : Farm} (has_ended : NodeNo → ConnId → Bool) → ((node : NodeNo) (conn : ConnId) → f.has_ended node conn ≡ true → has_ended node conn ≡ true) → Move p f (record f { has_ended = has_ended })
+  ends : {f : Farm} (has_ended : NodeNo → ConnId → Bool) →
+      ((node : NodeNo) (conn : ConnId) → f.has_ended node conn ≡ true → has_ended node conn ≡ true) →
+      Move p f (record f { has_ended = has_ended })
 
 -- one after the other
 pub data Moves (p : Parties) : Farm → Farm → Type 0 where
