@@ -1,5 +1,5 @@
 -- What is told of a job that was collected, and of a sweep.
-use Rattle.std.specs.Prelude.{Bool, true, false, Option, Some, None}
+use Rattle.std.specs.Prelude.{◌≡◌, ◌∷◌, ◌++◌, [], Bool, true, false, Option, Some, None}
 use Rattle.dia_base.specs.declared.number.Moment.{Moment}
 use Rattle.cc_shared.specs.declared.receipt.Receipt.{Receipt}
 use Rattle.farm_record.specs.declared.event.Age.{Age}
@@ -7,6 +7,7 @@ use Rattle.farm_record.specs.declared.event.Age.TheVariants.{New, Kept}
 use Rattle.farm_record.specs.declared.event.Event.{Event}
 use Rattle.farm_record.specs.declared.event.Event.TheVariants.{Charge, Refuse}
 use Rattle.front_pool.specs.declared.job.Finished.{Finished}
+use Rattle.pool_node.specs.declared.events.BookEvents.{BookEvents}
 
 abbrev pub age_of : Bool → Age
 age_of true = New
@@ -20,3 +21,10 @@ event_by finished None moment = Refuse finished.front finished.job finished.answ
 
 abbrev pub event_of : Finished → Event
 event_of finished = event_by finished finished.receipt finished.moment
+
+-- An event more is kept, unless memory is missing for it, or was for one before it: behind such a gap nothing is kept any more.
+pub record Keeps (event : Event) (old new : BookEvents) : Type 0 where
+  pub on : new.is_on ≡ old.is_on
+  pub gap : old.has_failed ≡ true → new.has_failed ≡ true
+  pub kept : new.has_failed ≡ false → new.events.items ≡ old.events.items ++ event ∷ []
+  pub lost : new.has_failed ≡ true → new.events.items ≡ old.events.items

@@ -1,22 +1,51 @@
 -- What a job that is collected adds to what the book has come to.
-use Rattle.std.specs.Prelude.{◌≡◌, ◌+◌, ℕ, min, max, MatchBool, Option, Some, None}
+use Rattle.std.specs.Prelude.{◌≡◌, ◌+◌, ℕ, min, max, Bool, true, false, MatchBool, if◌then◌else◌, Option, Some, None}
+use Rattle.cc_view.specs.declared.code.ResultCode.{ResultCode}
+use Rattle.cc_view.specs.declared.code.ResultCode.TheVariants.{Success, UnknownSessionId}
+use Rattle.cc_view.specs.declared.request.RequestKind.{RequestKind}
+use Rattle.cc_view.specs.declared.request.RequestKind.TheVariants.{Initial, Termination}
 use Rattle.cc_shared.specs.declared.receipt.Receipt.{Receipt}
 use Rattle.pool_node.specs.declared.figures.BookFigures.{BookFigures}
 
--- the number that follows, where there is one
-abbrev pub next_of : ℕ → ℕ
-next_of n = min (n + 1) 18446744073709551615
+-- a count that goes up stays at the greatest number
+abbrev pub sum_of : ℕ → ℕ → ℕ
+sum_of n more = min (n + more) 18446744073709551615
 
--- a request more was charged, whose entry has this place in the history
-pub record HasCharged (place : ℕ) (old new : BookFigures) : Type 0 where
+-- one more
+abbrev pub next_of : ℕ → ℕ
+next_of n = sum_of n 1
+
+-- the first request of a session opens it, where it succeeds
+abbrev pub opens : RequestKind → ResultCode → Bool
+opens Initial Success = true
+opens _ _ = false
+
+-- the last request of a session ends it, where it is open
+abbrev pub ends : RequestKind → ResultCode → Bool
+ends Termination UnknownSessionId = false
+ends Termination _ = true
+ends _ _ = false
+
+-- one more, or none
+abbrev pub count_if : Bool → ℕ → ℕ
+count_if one n = if one then next_of n else n
+
+-- a request more was charged
+pub record HasCharged (receipt : Receipt) (old new : BookFigures) : Type 0 where
   pub charges : new.charges ≡ next_of old.charges
-  pub entries : new.entries ≡ max old.entries (next_of place)
+  pub entries : new.entries ≡ max old.entries (next_of receipt.place)
+  pub opened : new.opened ≡ count_if (opens receipt.request.kind receipt.reply.code) old.opened
+  pub ended : new.ended ≡ count_if (ends receipt.request.kind receipt.reply.code) old.ended
 
 -- a repeat was charged before
 abbrev pub HasTaken : Receipt → BookFigures → BookFigures → Type 0
-HasTaken receipt old new = MatchBool receipt.fresh (HasCharged receipt.place old new) (new ≡ old)
+HasTaken receipt old new = MatchBool receipt.fresh (HasCharged receipt old new) (new ≡ old)
 
 -- a job without a receipt was not charged
 abbrev pub HasCollected : Option Receipt → BookFigures → BookFigures → Type 0
 HasCollected None old new = new ≡ old
 HasCollected (Some receipt) old new = HasTaken receipt old new
+
+-- so many sessions have ended at once, by one entry
+abbrev pub with_sweep : ℕ → BookFigures → BookFigures
+with_sweep sessions old = record old { entries = next_of old.entries; ended = sum_of old.ended sessions }

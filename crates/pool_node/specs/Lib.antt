@@ -1,5 +1,5 @@
+pub mod Events
+pub mod Figures
 pub mod Fronts
 pub mod Measure
 pub mod Sweeping
-pub mod Figures
-pub mod Events

@@ -1,7 +1,7 @@
 //! What fronts have done that nobody else can tell of.
 
-ghost use Rattle.std.specs.Prelude.{◌≡◌, ◌<◌, ◌∷◌, ◌++◌, [], ℕ, IfOk, IsErr, Ok, false, true};
-ghost use Rattle.pool_node.specs.Events.{event_of};
+ghost use Rattle.std.specs.Prelude.{◌≡◌, ◌<◌, [], ℕ, IfOk, IsErr, Ok, false, true};
+ghost use Rattle.pool_node.specs.Events.{Keeps, event_of};
 
 use cc_book::BookRefusal;
 use dia_base::Moment;
@@ -51,7 +51,11 @@ fn event_of(finished: &Finished) -> Result<Event, AllocError>
 
 impl BookEvents {
     /// One that takes nothing.
-    pub fn off(alloc: Global) -> Self {
+    pub fn off(alloc: Global) -> Self
+        ensures none { result.events.items ≡ [] }
+        ensures off { result.is_on ≡ false }
+        ensures whole { result.has_failed ≡ false }
+    {
         BookEvents {
             events: Vec::new(alloc),
             is_on: false,
@@ -60,53 +64,57 @@ impl BookEvents {
     }
 
     /// From now on it takes what is done.
-    pub fn begin(&mut self) {
+    pub fn begin(&mut self)
+        ensures { self.new ≡ record self.old { is_on = true } }
+    {
         self.is_on = true;
     }
 
     /// A job was collected.
     pub fn collected(&mut self, finished: &Finished)
-        ensures { self.old.is_on ≡ true → self.new.has_failed ≡ false → self.new.events.items ≡ self.old.events.items ++ event_of finished.now ∷ [] }
+        ensures on { self.old.is_on ≡ true → Keeps (event_of finished.now) self.old self.new }
+        ensures off { self.old.is_on ≡ false → self.new ≡ self.old }
     {
         if self.is_on {
-            let event = event_of(finished);
-            self.keep(event);
+            match event_of(finished) {
+                Ok(event) => self.keep(event),
+                Err(AllocError) => self.has_failed = true,
+            }
         }
     }
 
     /// A sweep came to this. One that ends no session is not told.
     pub fn swept(&mut self, moment: Moment, swept: &Result<u64, BookRefusal>)
-        ensures { (sessions : ℕ) → swept.now ≡ Ok sessions → 0 < sessions → self.old.is_on ≡ true → self.new.has_failed ≡ false →
-            self.new.events.items ≡ self.old.events.items ++ Event.Sweep moment sessions ∷ [] }
+        ensures on { (sessions : ℕ) → swept.now ≡ Ok sessions → 0 < sessions → self.old.is_on ≡ true → Keeps (Event.Sweep moment sessions) self.old self.new }
+        ensures none { swept.now ≡ Ok 0 → self.new ≡ self.old }
+        ensures err { IsErr swept.now → self.new ≡ self.old }
+        ensures off { self.old.is_on ≡ false → self.new ≡ self.old }
     {
         if let Ok(sessions) = swept {
             if self.is_on && *sessions > 0 {
                 let sessions = *sessions;
-                self.keep(Ok(Event::Sweep { moment, sessions }));
+                self.keep(Event::Sweep { moment, sessions });
             }
         }
     }
 
     /// Keeps an event. Nothing is kept behind one that there was no memory for: a record ends there.
-    fn keep(&mut self, event: Result<Event, AllocError>)
-        ensures kept { self.new.has_failed ≡ false → IfOk event (λ kept. self.new.events.items ≡ self.old.events.items ++ kept ∷ []) }
-        ensures failed { IsErr event → self.new.has_failed ≡ true }
+    fn keep(&mut self, event: Event)
+        ensures { Keeps event self.old self.new }
     {
         if self.has_failed {
             return;
         }
-        let is_kept = match event {
-            Ok(event) => self.events.push(event).is_ok(),
-            Err(AllocError) => false,
-        };
-        if !is_kept {
+        if self.events.push(event).is_err() {
             self.has_failed = true;
         }
     }
 
     /// Tells all that was done since it told last.
     pub fn tell(&mut self, alloc: Global, recorder: &mut Recorder)
-        ensures { self.new.events.items ≡ [] }
+        ensures told { self.new.events.items ≡ [] }
+        ensures on { self.new.is_on ≡ self.old.is_on }
+        ensures failed { self.new.has_failed ≡ self.old.has_failed }
     {
         for event in &self.events {
             recorder.tell(alloc, event);

@@ -1,6 +1,7 @@
 //! What a book has come to, as far as the answers of its fronts were collected.
 
-ghost use Rattle.pool_node.specs.Figures.{HasCollected, HasTaken};
+ghost use Rattle.std.specs.Prelude.{◌≡◌, ◌<◌, ◌-◌, ℕ, IsErr, Ok};
+ghost use Rattle.pool_node.specs.Figures.{HasCollected, HasTaken, count_if, ends, opens, with_sweep};
 
 use cc_book::BookRefusal;
 use cc_shared::Receipt;
@@ -19,9 +20,39 @@ pub struct BookFigures {
     pub ended: u64,
 }
 
+/// Whether a request of this kind that is answered so opens its session.
+fn opens(kind: RequestKind, code: ResultCode) -> bool
+    ensures { result ≡ opens kind code }
+{
+    match (kind, code) {
+        (RequestKind::Initial, ResultCode::Success) => true,
+        _ => false,
+    }
+}
+
+/// Whether a request of this kind that is answered so ends its session.
+fn ends(kind: RequestKind, code: ResultCode) -> bool
+    ensures { result ≡ ends kind code }
+{
+    match (kind, code) {
+        (RequestKind::Termination, ResultCode::UnknownSessionId) => false,
+        (RequestKind::Termination, _) => true,
+        _ => false,
+    }
+}
+
+/// One more, or none.
+fn count_if(one: bool, count: u64) -> u64
+    ensures { result ≡ count_if one count }
+{
+    if one { count.saturating_add(1) } else { count }
+}
+
 impl BookFigures {
     /// Of a book without entries.
-    pub fn nothing() -> Self {
+    pub fn nothing() -> Self
+        ensures { result ≡ record { entries = 0; charges = 0; opened = 0; ended = 0 } }
+    {
         BookFigures {
             entries: 0,
             charges: 0,
@@ -31,7 +62,9 @@ impl BookFigures {
     }
 
     /// Sessions that are open.
-    pub fn sessions(&self) -> u64 {
+    pub fn sessions(&self) -> u64
+        ensures { result ≡ self.now.opened - self.now.ended }
+    {
         self.opened.saturating_sub(self.ended)
     }
 
@@ -51,27 +84,19 @@ impl BookFigures {
         if !receipt.fresh {
             return;
         }
+        let (kind, code) = (receipt.request.kind, receipt.reply.code);
         self.charges = self.charges.saturating_add(1);
         self.entries = self.entries.max(receipt.place.saturating_add(1));
-        match (receipt.request.kind, receipt.reply.code) {
-            (RequestKind::Initial, ResultCode::Success) => {
-                self.opened = self.opened.saturating_add(1);
-            }
-            (RequestKind::Termination, code) if code != ResultCode::UnknownSessionId => {
-                self.ended = self.ended.saturating_add(1);
-            }
-            (
-                RequestKind::Initial
-                | RequestKind::Update
-                | RequestKind::Termination
-                | RequestKind::Event,
-                _,
-            ) => {}
-        }
+        self.opened = count_if(opens(kind, code), self.opened);
+        self.ended = count_if(ends(kind, code), self.ended);
     }
 
     /// A sweep has ended so many sessions, which is an entry where it has ended any.
-    pub fn swept(&mut self, swept: &Result<u64, BookRefusal>) {
+    pub fn swept(&mut self, swept: &Result<u64, BookRefusal>)
+        ensures ended { (sessions : ℕ) → swept.now ≡ Ok sessions → 0 < sessions → self.new ≡ with_sweep sessions self.old }
+        ensures none { swept.now ≡ Ok 0 → self.new ≡ self.old }
+        ensures err { IsErr swept.now → self.new ≡ self.old }
+    {
         if let Ok(ended) = swept {
             if *ended > 0 {
                 self.ended = self.ended.saturating_add(*ended);

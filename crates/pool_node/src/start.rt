@@ -171,8 +171,7 @@ where
 {
     let mut fronts = Vec::with_capacity(alloc, nodes.len())?;
     for node in nodes {
-        let front =
-            start_next::<W, L, R, K>(rt, alloc, shared, seats, site, *node, timer, waker)?;
+        let front = start_next::<W, L, R, K>(rt, alloc, shared, seats, site, *node, timer, waker)?;
         fronts.push(front)?;
     }
     Ok(fronts)

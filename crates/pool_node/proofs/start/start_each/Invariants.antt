@@ -5,4 +5,4 @@ use Rattle.pool_node.proofs.start.start_each.Given as goal
 abbrev pub invariant-loop-node : goal.invariant-loop-node
 invariant-loop-node g l =
     l.fronts.items ++ new_fronts (drop l.node-index l.nodes) l.site.workers l.site.queue (length l.seats.items)
-        ≡ new_fronts l.nodes l.site.workers l.site.queue (length l.fn.seats.items)
+    ≡ new_fronts l.nodes l.site.workers l.site.queue (length l.fn.seats.items)
