@@ -1,5 +1,5 @@
 -- Where the nodes of a site listen, and who connects to whom.
-use Rattle.std.specs.Prelude.{◌≡◌, ◌≢◌, ◌==◌, ◌⊎◌, ◌+◌, ◌&&◌, ℕ, Bool, true, false, List, [], ◌∷◌, ◌++◌, Option, Some, None, IfSome, map, filter, position, slice_get}
+use Rattle.std.specs.Prelude.{◌≡◌, ◌≢◌, ◌==◌, ◌⊎◌, ◌+◌, ◌&&◌, ℕ, Bool, true, false, List, [], ◌∷◌, ◌++◌, Option, Some, None, IfSome, IsSomeAnd, map, filter, position, slice_get}
 use Rattle.std.specs.Net.Addr.{ipv4_octets, ipv6_octets}
 use Rattle.std.specs.Net.Grammar.{IsSocketText}
 use Rattle.std.specs.Net.Socket.{v4_ip, v6_ip}
@@ -135,13 +135,25 @@ abbrev pub IsReached : Site → Option ℕ → Type 0
 IsReached site None = ⊥
 IsReached site (Some to) = (address : SocketAddr) × HasAddress site (record { 0 = to }) address
 
--- which of the names of a client and its peer is wrong: no client has the one, or the client connects to no node of the other
+-- the peer's name is no identity, or no node that the client at this place connects to has it
+abbrev pub IsNoPeer : Site → ℕ → List ℕ → Type 0
+IsNoPeer site at peer = (fault_of peer ≢ None) ⊎ IfSome (place_of_name site peer) (λ to. connects site (record { 0 = at }) to ≡ false)
+
+-- which of the names of a client and its peer is wrong: no client has the one; or one has it, and the other is none of its peers
 abbrev pub IsUnknown : Site → List ℕ → List ℕ → Role → Type 0
 IsUnknown site client peer role.Name = ⊥
 IsUnknown site client peer role.Client = IsNobody site kind.Client client
-IsUnknown site client peer role.Peer =
-    (fault_of peer ≢ None)
-    ⊎ IfSome (place_named site kind.Client client) (λ at. IfSome (place_of_name site peer) (λ to. connects site (record { 0 = at }) to ≡ false))
+IsUnknown site client peer role.Peer = IsSomeAnd (place_named site kind.Client client) (λ at. IsNoPeer site at peer)
+
+-- such a node is in the site, and its entry writes no address
+abbrev pub IsSilent : Site → Option ℕ → Type 0
+IsSilent site place = IsSomeAnd place (λ at. HasNone site (record { 0 = at }))
+
+-- the client connects to a node of the other name, which has no address
+abbrev pub HasSilentPeer : Site → List ℕ → List ℕ → Type 0
+HasSilentPeer site client peer =
+    IsSomeAnd (place_named site kind.Client client) (λ at. IsSomeAnd (place_of_name site peer) (λ to.
+    (connects site (record { 0 = at }) to ≡ true) × HasNone site (record { 0 = to })))
 
 -- ---- the fronts of a site
 

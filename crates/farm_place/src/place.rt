@@ -4,7 +4,7 @@ ghost use Rattle.std.specs.Prelude.{◌≡◌, ◌≢◌, ◌≤◌, ◌<◌, �
 ghost use Rattle.dia_base.specs.Identity.{fault_of};
 ghost use Rattle.farm_base.specs.CheckedSite.{IsChecked};
 ghost use Rattle.farm_place.specs.declared.fault.Role.{Role};
-ghost use Rattle.farm_place.specs.Places.{HasNone, IsPlace, IsReached, IsUnknown, host_of, place_named, place_of_name, watch_site, IsNobody, Serves, connects, fronts_from};
+ghost use Rattle.farm_place.specs.Places.{HasNone, HasSilentPeer, IsPlace, IsReached, IsSilent, IsUnknown, host_of, place_named, place_of_name, watch_site, IsNobody, Serves, connects, fronts_from};
 
 use crate::fault::{PlaceFault, Role};
 use crate::names::{
@@ -136,7 +136,7 @@ pub fn place_of_relay(alloc: Global, site: &Site, name: &[u8]) -> Result<Place, 
     requires { IsChecked site.now }
     ensures ok { IfOk result (λ place. (place_named site.now NodeKind.Relay name.now ≡ Some place.node.0) × Serves site.now place) }
     ensures unknown { (role : Role) → result ≡ Err (PlaceFault.UnknownName role) → (role ≡ Role.Name) × IsNobody site.now NodeKind.Relay name.now }
-    ensures silent { result ≡ Err PlaceFault.NoAddress → IfSome (place_named site.now NodeKind.Relay name.now) (λ place. HasNone site.now (record { 0 = place })) }
+    ensures silent { result ≡ Err PlaceFault.NoAddress → IsSilent site.now (place_named site.now NodeKind.Relay name.now) }
 {
     let place = place_named(alloc, site, NodeKind::Relay, name, Role::Name)?;
     serving_at(alloc, site, place)
@@ -183,7 +183,7 @@ pub fn place_of_client(
     ensures peer { IfOk result (λ place. IfSome (place_of_name site.now peer.now) (λ to. IsPlace site.now place.node.0 (record { 0 = to } ∷ []) place × (connects site.now place.node to ≡ true))) }
     ensures reached { IfOk result (λ _. IsReached site.now (place_of_name site.now peer.now)) }
     ensures unknown { (role : Role) → result ≡ Err (PlaceFault.UnknownName role) → IsUnknown site.now client.now peer.now role }
-    ensures silent { result ≡ Err PlaceFault.NoAddress → IfSome (place_of_name site.now peer.now) (λ to. HasNone site.now (record { 0 = to })) }
+    ensures silent { result ≡ Err PlaceFault.NoAddress → HasSilentPeer site.now client.now peer.now }
 {
     let place = place_named(alloc, site, NodeKind::Client, client, Role::Client)?;
     let name = identity_of(alloc, peer, Role::Peer)?;
