@@ -1,10 +1,12 @@
 -- What is told of a site file.
-use Rattle.std.specs.Prelude.{ℕ, List}
+use Rattle.std.specs.Prelude.{◌≡◌, ◌∷◌, ◌++◌, [], ℕ, List, Option, string_bytes}
+use Rattle.std.specs.Io.KnownBytes.{Appends}
 use Rattle.farm_access.specs.declared.access.AddressRule.{AddressRule}
 use Rattle.farm_access.specs.Spelling.{IsWhy, Spells}
 use Rattle.farm_base.specs.CheckedSite.{IsChecked}
 use Rattle.farm_base.specs.declared.site.Site.{Site}
 use Rattle.farm_check.specs.declared.fault.CheckFault.{CheckFault}
+use Rattle.farm_check.specs.declared.lines.Lines.{Lines}
 use Rattle.farm_check.specs.declared.fault.CheckFault.TheVariants.{Words, SiteFile, Site as of_site, Access as of_access, Write, OutOfMemory}
 use Rattle.farm_site.specs.Faults.{AreWhyOctets}
 use Rattle.farm_site.specs.Spelling.{IsSiteFile}
@@ -26,3 +28,20 @@ IsRefused file (of_site fault told) = AreWhyOctets file fault
 IsRefused file (of_access fault told) = IsWhy file fault
 IsRefused file Write = ⊥
 IsRefused file OutOfMemory = Unit {0}
+
+-- the exit status: 1 for a file or a stream, 2 for other words, 3 for a refused site, 4 for want of memory
+abbrev pub status_of : CheckFault → ℕ
+status_of Words = 2
+status_of SiteFile = 1
+status_of (of_site fault told) = 3
+status_of (of_access fault told) = 3
+status_of Write = 1
+status_of OutOfMemory = 4
+
+-- the lines end with a line feed
+abbrev pub IsEnded : Lines → Type 0
+IsEnded lines = (text : List ℕ) × (string_bytes lines.text ≡ text ++ 10 ∷ [])
+
+-- lines are written behind what was there, to the end of the last
+abbrev pub IsWritten : Option (List ℕ) → Option (List ℕ) → Type 0
+IsWritten old new = (text : List ℕ) × Appends old new (text ++ 10 ∷ [])

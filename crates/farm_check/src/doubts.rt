@@ -1,5 +1,9 @@
 //! What may look wrong in a site that is accepted.
 
+ghost use Rattle.std.specs.Prelude.{◌≡◌, OnOk};
+ghost use Rattle.farm_base.specs.Nodes.{is_relay};
+ghost use Rattle.farm_check.specs.Doubts.{IsToldIf, is_doubtful, is_linked_with_relay};
+
 use crate::clients::push_client_doubts;
 use crate::lines::{Lines, identity_text, node_name, text_of};
 use crate::money::{cost_by, services_of};
@@ -51,7 +55,9 @@ fn push_node_doubts(
     site: &Site,
     place: usize,
     node: &Node,
-) -> Result<(), AllocError> {
+) -> Result<(), AllocError>
+    ensures { OnOk result (IsToldIf (is_doubtful site.now place node.now) lines.old lines.new) }
+{
     let (kind, name) = (kind_word(node.kind), identity_text(alloc, &node.name)?);
     match node.kind {
         NodeKind::Relay | NodeKind::Front => {
@@ -72,14 +78,18 @@ fn push_node_doubts(
     Ok(())
 }
 
-fn is_relay(site: &Site, node: NodeNo) -> bool {
+fn is_relay(site: &Site, node: NodeNo) -> bool
+    ensures { result ≡ is_relay site.now node }
+{
     match site.nodes.as_slice().get(node.0 as usize) {
         Some(found) => found.kind == NodeKind::Relay,
         None => false,
     }
 }
 
-fn is_linked_with_relay(site: &Site, place: usize) -> bool {
+fn is_linked_with_relay(site: &Site, place: usize) -> bool
+    ensures { result ≡ is_linked_with_relay site.now place }
+{
     site.links.as_slice().iter().any(|link| {
         link.from.0 as usize == place && is_relay(site, link.to)
             || link.to.0 as usize == place && is_relay(site, link.from)

@@ -2,6 +2,7 @@
 
 ghost use Rattle.std.specs.Prelude.{◌≡◌};
 ghost use Rattle.farm_check.specs.declared.fault.CheckFault.TheVariants.{OutOfMemory};
+ghost use Rattle.farm_check.specs.Checking.{status_of};
 
 use farm_access::AccessFault;
 use farm_site::SiteFault;
@@ -30,7 +31,9 @@ pub enum CheckFault {
 impl CheckFault {
     /// The exit status: 1 for a file or a stream, 2 for other words than it knows, 3 for a refused site, 4 for want of
     /// memory.
-    pub fn status(&self) -> u8 {
+    pub fn status(&self) -> u8
+        ensures { result ≡ status_of self.now }
+    {
         match self {
             CheckFault::SiteFile | CheckFault::Write => 1,
             CheckFault::Words => 2,

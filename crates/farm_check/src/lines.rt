@@ -1,5 +1,8 @@
 //! The lines that are told.
 
+ghost use Rattle.std.specs.Prelude.{◌≡◌, ◌++◌, ◌∷◌, [], OnOk, string_bytes};
+ghost use Rattle.farm_check.specs.Doubts.{with_line};
+
 use dia_base::{Identity, NodeNo};
 use farm_base::Site;
 use std::alloc::{AllocError, Global};
@@ -18,7 +21,9 @@ impl Lines {
     }
 
     /// One line more.
-    pub fn push(&mut self, line: &str) -> Result<(), AllocError> {
+    pub fn push(&mut self, line: &str) -> Result<(), AllocError>
+        ensures { OnOk result (string_bytes self.new.text ≡ with_line (string_bytes self.old.text) line.now) }
+    {
         if !self.text.is_empty() {
             self.text.push_str("\n")?;
         }
@@ -26,11 +31,15 @@ impl Lines {
     }
 
     /// Ends the last line.
-    pub fn end(&mut self) -> Result<(), AllocError> {
+    pub fn end(&mut self) -> Result<(), AllocError>
+        ensures { OnOk result (string_bytes self.new.text ≡ string_bytes self.old.text ++ 10 ∷ []) }
+    {
         self.text.push_str("\n")
     }
 
-    pub fn as_bytes(&self) -> &[u8] {
+    pub fn as_bytes(&self) -> &[u8]
+        ensures { result.now ≡ string_bytes self.now.text }
+    {
         self.text.as_bytes()
     }
 

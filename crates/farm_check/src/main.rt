@@ -4,7 +4,7 @@
 
 ghost use Rattle.std.specs.Prelude.{◌≢◌, IfErr, IfOk, OnOk};
 ghost use Rattle.std.specs.Io.KnownBytes.{Keeps};
-ghost use Rattle.farm_check.specs.Checking.{IsAccepted, IsRefused};
+ghost use Rattle.farm_check.specs.Checking.{IsAccepted, IsEnded, IsRefused, IsWritten};
 
 mod clients;
 mod doubts;
@@ -41,6 +41,7 @@ const _: () = prove!(SITE_LIMIT == TEXT_LIMIT);
 /// What is told of a site file: its summary where it is accepted, else its first fault.
 fn told_of(alloc: Global, file: &[u8]) -> Result<Lines, CheckFault>
     ensures ok { IfOk result (λ _. IsAccepted file.now) }
+    ensures ended { IfOk result IsEnded }
     ensures fault { IfErr result (IsRefused file.now) }
 {
     match site_of_octets(alloc, file) {
@@ -61,6 +62,7 @@ fn told_of(alloc: Global, file: &[u8]) -> Result<Lines, CheckFault>
 /// Writes what is told of a site file that is accepted.
 fn check_file<W: Write>(alloc: Global, file: &[u8], writer: &mut W) -> Result<(), CheckFault>
     ensures ok { OnOk result (IsAccepted file.now) }
+    ensures written { OnOk result (IsWritten (W.contents writer.old) (W.contents writer.new)) }
     ensures fault { IfErr result (λ fault. fault ≢ CheckFault.Write → IsRefused file.now fault) }
 
     // Nothing is written before all is known.

@@ -1,7 +1,7 @@
 //! A client that sends requests, and keeps their answers.
 
 ghost use Rattle.std.specs.Prelude.{◌≡◌, ◌≤◌, ◌↔◌, ◌++◌, ◌∷◌, [], length, false, IfOk, OnOk, OnErr, IsTrue};
-ghost use Rattle.farm_client.specs.Client.{GoesOn, OnClientEvent, SendsNext};
+ghost use Rattle.farm_client.specs.Client.{GoesOn, OnClientEvent, SendsNext, flight_after_answer, length_of, may_send};
 
 use dia_avp::Wire;
 use dia_base::{ConnId, Listing, Moment, NodeNo};
@@ -42,7 +42,9 @@ impl Model for Sender {
 }
 
 /// The octets of a message.
-fn length_of(message: &Message) -> u64 {
+fn length_of(message: &Message) -> u64
+    ensures { result ≡ length_of message.now }
+{
     (message.body.as_slice().len() as u64).saturating_add(HEADER_LEN as u64)
 }
 
@@ -92,7 +94,9 @@ impl Sender {
     }
 
     /// Whether the next request, of so many octets, may go out.
-    fn may_send(&self, length: u64) -> bool {
+    fn may_send(&self, length: u64) -> bool
+        ensures { result ≡ may_send self.now.flight length }
+    {
         self.flight == 0 || self.flight.saturating_add(length) <= FLIGHT_LIMIT
     }
 
@@ -100,6 +104,7 @@ impl Sender {
     fn next_requests(&mut self, alloc: Global, conn: ConnId) -> Result<Out, AllocError>
         ensures sends { IfOk result (λ out. SendsNext conn self.old out.items self.new) }
         ensures others { (self.new.requests ≡ self.old.requests) × (self.new.answers ≡ self.old.answers) × (self.new.has_ended ≡ self.old.has_ended) }
+        ensures forward { self.old.sent ≤ self.new.sent }
     {
         let mut items = Vec::new(alloc);
         for place in self.sent..self.requests.len() {
@@ -129,7 +134,8 @@ impl Sender {
 
     /// An answer has come: it answers one of the requests that are unanswered, of which the oldest counts.
     fn take_answer(&mut self, answer: Message) -> Result<(), AllocError>
-        ensures ok { OnOk result (self.new ≡ record self.old { answers = self.old.answers ++ answer ∷ []; flight = self.new.flight }) }
+        ensures ok { OnOk result (self.new ≡ record self.old { answers = self.old.answers ++ answer ∷ []; flight = flight_after_answer self.old }) }
+        ensures err { OnErr result (self.new ≡ record self.old { flight = self.new.flight }) }
     {
         if let Some(request) = self.requests.get(self.answers.len()) {
             self.flight = self.flight.saturating_sub(length_of(request));

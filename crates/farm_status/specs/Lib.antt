@@ -1,3 +1,4 @@
 pub mod Escapes
+pub mod Figures
 pub mod Replies
 pub mod Tokens

@@ -1,5 +1,5 @@
 -- What a request is answered.
-use Rattle.std.specs.Prelude.{◌≡◌, ℕ, List, Bool, Option, Some, None, true, false, codes, drop, take, ◌||◌, if◌then◌else◌}
+use Rattle.std.specs.Prelude.{◌≡◌, ◌∷◌, [], ℕ, List, Bool, Option, Some, None, true, false, codes, drop, take, ◌||◌, if◌then◌else◌}
 use Rattle.std.specs.Cmp.Lexicographic.{pointwise}
 use Rattle.std.specs.Prelude.{nat_eq}
 use Rattle.http.specs.declared.request.Request.{Request}
@@ -66,7 +66,37 @@ is_of None shown = false
 abbrev pub reply_by : Option Token → Request (List ℕ) → Reply
 reply_by token request = reply_for (head_of request).method (uri_path (head_of request).uri) (is_of token (token_of request))
 
--- The answer has the status of its reply, and the node is to end from then on where that reply says so.
-abbrev pub IsAnswered : Option Token → Bool → Request (List ℕ) → ℕ → Bool → Type 0
-IsAnswered token stopped request status stops =
-    (status ≡ status_for (reply_by token request)) × (stops ≡ (stopped || is_stop (reply_by token request)))
+-- the type of its text
+abbrev pub type_for : Reply → List ℕ
+type_for Page = codes "text/html; charset=utf-8"
+type_for Metrics = codes "text/plain; version=0.0.4; charset=utf-8"
+type_for Stops = codes "text/plain; charset=utf-8"
+type_for Forbidden = codes "text/plain; charset=utf-8"
+type_for NotFound = codes "text/plain; charset=utf-8"
+type_for OnlyRead = codes "text/plain; charset=utf-8"
+type_for OnlyPost = codes "text/plain; charset=utf-8"
+
+-- the methods that a path takes, where another one was used (RFC 9110, section 15.5.6)
+abbrev pub methods_for : Reply → Option (List ℕ)
+methods_for Page = None
+methods_for Metrics = None
+methods_for Stops = None
+methods_for Forbidden = None
+methods_for NotFound = None
+methods_for OnlyRead = Some (codes "GET, HEAD")
+methods_for OnlyPost = Some (codes "POST")
+
+abbrev pub allow_line : Option (List ℕ) → List (List ℕ × List ℕ)
+allow_line None = []
+allow_line (Some methods) = (codes "allow", methods) ∷ []
+
+-- nobody keeps it, and the connection ends with it
+abbrev pub lines_for : Reply → List (List ℕ × List ℕ)
+lines_for reply =
+    (codes "content-type", type_for reply) ∷ (codes "cache-control", codes "no-store") ∷ (codes "connection", codes "close") ∷ allow_line (methods_for reply)
+
+-- The answer has the status and the lines of its reply, and the node is to end from then on where that reply says so.
+pub record IsAnswered (token : Option Token) (stopped : Bool) (request : Request (List ℕ)) (status : ℕ) (lines : List (List ℕ × List ℕ)) (stops : Bool) : Type 0 where
+  pub status_is : status ≡ status_for (reply_by token request)
+  pub lines_are : lines ≡ lines_for (reply_by token request)
+  pub stops_is : stops ≡ (stopped || is_stop (reply_by token request))

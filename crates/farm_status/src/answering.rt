@@ -1,7 +1,9 @@
 //! What a request over HTTP is answered.
 
-ghost use Rattle.std.specs.Prelude.{◌≡◌, option_copied};
-ghost use Rattle.farm_status.specs.Replies.{IsAnswered, is_of, reply_by, token_of};
+ghost use Rattle.std.specs.Prelude.{◌≡◌, option_copied, option_map};
+ghost use Rattle.http_header.specs.FieldValue.{plain_value};
+ghost use Rattle.http_server.specs.Response.{fields_of};
+ghost use Rattle.farm_status.specs.Replies.{IsAnswered, is_of, methods_for, reply_by, token_of, type_for};
 
 use crate::metrics::push_metrics;
 use crate::page::push_page;
@@ -60,7 +62,9 @@ fn reply_of(token: Option<&Token>, request: &Request<Bytes>) -> Reply
 }
 
 /// The type of the text that a reply has.
-fn type_of(reply: Reply) -> HeaderValue {
+fn type_of(reply: Reply) -> HeaderValue
+    ensures { result ≡ plain_value (type_for reply) }
+{
     match reply {
         Reply::Page => HeaderValue::from_static("text/html; charset=utf-8"),
         Reply::Metrics => HeaderValue::from_static("text/plain; version=0.0.4; charset=utf-8"),
@@ -70,7 +74,9 @@ fn type_of(reply: Reply) -> HeaderValue {
 }
 
 /// The methods that a path takes, where another one was used.
-fn allowed_by(reply: Reply) -> Option<HeaderValue> {
+fn allowed_by(reply: Reply) -> Option<HeaderValue>
+    ensures { result ≡ option_map plain_value (methods_for reply) }
+{
     match reply {
         Reply::OnlyRead => Some(HeaderValue::from_static("GET, HEAD")),
         Reply::OnlyPost => Some(HeaderValue::from_static("POST")),
@@ -96,7 +102,7 @@ fn text_of<S: Source>(alloc: Global, source: &S, reply: Reply) -> Result<String,
 }
 
 impl<S: Source> Service for Answering<'_, S> {
-    ghost answers = { λ old request response new. IsAnswered (option_copied old.token) old.stops request response.status new.stops };
+    ghost answers = { λ old request response new. IsAnswered (option_copied old.token) old.stops request response.status (fields_of response) new.stops };
 
     fn call(
         &mut self,

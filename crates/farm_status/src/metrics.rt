@@ -1,5 +1,8 @@
 //! The text format that Prometheus reads (version 0.0.4).
 
+ghost use Rattle.std.specs.Prelude.{◌≡◌, ◌++◌, OnOk, string_bytes};
+ghost use Rattle.farm_status.specs.Figures.{sample_text};
+
 use crate::escape::push_label;
 use crate::numbers::Seconds;
 use crate::status::{BookStatus, FrontStatus, Peer, PeerState, Status, Work};
@@ -49,7 +52,9 @@ fn labelled(
     label: &str,
     of: &str,
     value: u64,
-) -> Result<(), AllocError> {
+) -> Result<(), AllocError>
+    ensures { OnOk result (string_bytes out.new ≡ string_bytes out.old ++ sample_text name.now label.now of.now value) }
+{
     write!(out, "{name}{{{label}=\"")?;
     push_label(out, of)?;
     write!(out, "\"}} {value}\n")

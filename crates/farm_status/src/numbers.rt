@@ -1,6 +1,7 @@
 //! Numbers as people read them.
 
 ghost use Rattle.std.specs.Prelude.{◌≡◌, ◌≤◌};
+ghost use Rattle.farm_status.specs.Figures.{percent};
 
 use std::fmt;
 
@@ -77,7 +78,8 @@ impl fmt::Display for Size {
 
 /// How many hundredths of the whole a part is, rounded down; of nothing none.
 pub fn percent(part: u64, whole: u64) -> u64
-    ensures { result ≤ 100 }
+    ensures share { result ≡ percent part whole }
+    ensures most { result ≤ 100 }
 {
     if part >= whole {
         return if whole == 0 { 0 } else { 100 };

@@ -1,5 +1,8 @@
 //! The page for people.
 
+ghost use Rattle.std.specs.Prelude.{◌≡◌, ◌++◌, OnOk, string_bytes};
+ghost use Rattle.farm_status.specs.Figures.{mean, names_text, peers_up, refused, state_word};
+
 use crate::escape::push_html;
 use crate::names::code_name;
 use crate::numbers::{Grouped, Seconds, Size, Span, percent};
@@ -47,7 +50,9 @@ const FOOT: &str =
 "#;
 
 /// How many neighbours are up.
-fn peers_up(peers: &[Peer]) -> u64 {
+fn peers_up(peers: &[Peer]) -> u64
+    ensures { result ≡ peers_up peers.now }
+{
     peers
         .iter()
         .filter(|peer| peer.state == PeerState::Up)
@@ -55,7 +60,9 @@ fn peers_up(peers: &[Peer]) -> u64 {
 }
 
 /// The names of the nodes of the process, one behind the other.
-fn push_names(out: &mut String, names: &[String]) -> Result<(), AllocError> {
+fn push_names(out: &mut String, names: &[String]) -> Result<(), AllocError>
+    ensures { OnOk result (string_bytes out.new ≡ string_bytes out.old ++ names_text names.now) }
+{
     let mut is_first = true;
     for name in names {
         if !is_first {
@@ -119,7 +126,9 @@ fn tile_of(
 }
 
 /// How many answers were no success: those with a Result-Code of 3000 and above (RFC 6733, section 7.1), and those with none.
-fn refused(answers: &Answers) -> u64 {
+fn refused(answers: &Answers) -> u64
+    ensures { result ≡ refused answers.now }
+{
     let mut sum: u64 = 0;
     for at in &answers.codes {
         if at.code >= 3_000 || at.code == 0 {
@@ -130,7 +139,9 @@ fn refused(answers: &Answers) -> u64 {
 }
 
 /// The mean of all times, in milliseconds.
-fn mean(times: &Times) -> u64 {
+fn mean(times: &Times) -> u64
+    ensures { result ≡ mean times.now }
+{
     match times.sum.checked_div(times.count) {
         Some(mean) => mean,
         None => 0,
@@ -192,7 +203,9 @@ fn push_peers(out: &mut String, status: &Status<'_>) -> Result<(), AllocError> {
 }
 
 /// What a state is called, and how it is shown.
-fn state_word(state: PeerState) -> &'static str {
+fn state_word(state: PeerState) -> &'static str
+    ensures { result.now ≡ state_word state }
+{
     match state {
         PeerState::Up => "up",
         PeerState::Connecting => "connecting",

@@ -1,8 +1,8 @@
 //! The word by which a node knows who may end it.
 
-ghost use Rattle.std.specs.Prelude.{◌≡◌, IfOk};
+ghost use Rattle.std.specs.Prelude.{◌≡◌, IfErr, IfOk};
 ghost use Rattle.farm_status.specs.Replies.{is_text};
-ghost use Rattle.farm_status.specs.Tokens.{IsTokenText, is_graphic};
+ghost use Rattle.farm_status.specs.Tokens.{IsTokenText, IsWhyNone, is_graphic, unended};
 
 use std::alloc::Global;
 use thiserror::Error;
@@ -37,6 +37,7 @@ impl Token {
     /// The token that these octets are.
     fn of(alloc: Global, octets: &[u8]) -> Result<Token, TokenFault>
         ensures ok { IfOk result (λ token. (token.octets.items ≡ octets.now) × IsTokenText octets.now) }
+        ensures err { IfErr result (IsWhyNone octets.now) }
     {
         if octets.len() < TOKEN_LEAST || octets.len() > TOKEN_MOST {
             return Err(TokenFault::NoToken);
@@ -52,7 +53,8 @@ impl Token {
 
     /// The token that a text spells: all of it, but for a line feed at its end.
     pub fn read(alloc: Global, text: &[u8]) -> Result<Token, TokenFault>
-        ensures ok { IfOk result (λ token. IsTokenText token.octets.items) }
+        ensures ok { IfOk result (λ token. (token.octets.items ≡ unended text.now) × IsTokenText token.octets.items) }
+        ensures err { IfErr result (IsWhyNone (unended text.now)) }
     {
         match text.strip_suffix(b"\n") {
             Some(line) => Token::of(alloc, line),
@@ -68,7 +70,9 @@ impl Token {
     }
 
     /// Its octets.
-    pub fn as_slice(&self) -> &[u8] {
+    pub fn as_slice(&self) -> &[u8]
+        ensures { result.now ≡ self.now.octets.items }
+    {
         &self.octets
     }
 }

@@ -1,5 +1,5 @@
 -- Counts: how they rise.
-use Rattle.std.specs.Prelude.{◌≡◌, ◌==◌, ◌+◌, ◌-◌, ◌∷◌, ◌++◌, ◌⊎◌, ◌≢◌, ◌*◌, ◌%◌, ◌^◌, [], ℕ, Bool, List, Option, Some, None, map, min, sum_by, set, get_or, length, nat_le, Contains, if◌then◌else◌}
+use Rattle.std.specs.Prelude.{◌≡◌, ◌==◌, ◌+◌, ◌-◌, ◌∷◌, ◌++◌, ◌⊎◌, ◌*◌, ◌%◌, ◌^◌, ◌<◌, [], ℕ, Bool, List, Option, Some, None, map, min, sum_by, set, get_or, length, nat_le, replicate, if◌then◌else◌}
 use Rattle.std.specs.List.{position}
 use Rattle.dia_base.specs.declared.number.ConnId.{ConnId}
 use Rattle.dia_base.specs.declared.number.Moment.{Moment}
@@ -53,24 +53,19 @@ one_more at = record { code = at.code; count = plus at.count 1 }
 abbrev pub total_of : Answers → ℕ
 total_of answers = answers.others + sum_by (λ (at : CodeCount). at.count) answers.codes.items
 
--- it counts at its code, where that is there; else as the first of its code, or among the others
+-- it counts at its code, where that is there; else as the first of its code, of which 64 are told apart, or among the others
 abbrev pub CountsBy : Option ℕ → ℕ → Answers → Answers → Type 0
 CountsBy (Some place) code old new =
     (new.others ≡ old.others)
     × (new.codes.items ≡ set old.codes.items place (one_more (get_or old.codes.items place (record { code = 0; count = 0 }))))
 CountsBy None code old new =
-    ((new.others ≡ old.others) × (new.codes.items ≡ old.codes.items ++ (record { code = code; count = 1 }) ∷ []))
+    ((length old.codes.items < 64) × (new.others ≡ old.others) × (new.codes.items ≡ old.codes.items ++ (record { code = code; count = 1 }) ∷ []))
     ⊎ ((new.others ≡ plus old.others 1) × (new.codes.items ≡ old.codes.items))
 
 abbrev pub IsCounted : ℕ → Answers → Answers → Type 0
 IsCounted code old new = CountsBy (place_of code old.codes.items) code old new
 
 -- ---- requests that wait for their answers
-
--- such a request stood there, and so many milliseconds have passed since it came
-abbrev pub IsClocked : Clocks → ConnId → ℕ → Moment → ℕ → Type 0
-IsClocked clocks conn hop moment millis =
-    (since : Moment) × Contains clocks.places.items (Some (record { conn = conn; hop = hop; since = since })) × (millis ≡ moment.0 - since.0)
 
 -- the number of the place of a request, of so many
 abbrev pub place_for : ConnId → ℕ → ℕ → ℕ
@@ -88,9 +83,25 @@ abbrev pub IsBegun : Clocks → ConnId → ℕ → Moment → Clocks → Type 0
 IsBegun old conn hop since new =
     new.places.items ≡ set old.places.items (place_of_request old conn hop) (Some (record { conn = conn; hop = hop; since = since }))
 
+-- this request stands at its place, since this moment
+abbrev pub IsTimedSince : Clocks → ConnId → ℕ → Moment → Type 0
+IsTimedSince clocks conn hop since = clocked_at clocks conn hop ≡ Some (record { conn = conn; hop = hop; since = since })
+
+-- it stands at its place, and so many milliseconds have passed since it came
+abbrev pub IsClocked : Clocks → ConnId → ℕ → Moment → ℕ → Type 0
+IsClocked clocks conn hop moment millis = (since : Moment) × IsTimedSince clocks conn hop since × (millis ≡ moment.0 - since.0)
+
 -- nothing stands at its place, or another request
 abbrev pub IsUntimed : Clocks → ConnId → ℕ → Type 0
-IsUntimed clocks conn hop = (since : Moment) → clocked_at clocks conn hop ≢ Some (record { conn = conn; hop = hop; since = since })
+IsUntimed clocks conn hop = (since : Moment) → ¬ IsTimedSince clocks conn hop since
+
+-- its place is free from now on, and each other place is as it was
+abbrev pub IsEnded : Clocks → ConnId → ℕ → Clocks → Type 0
+IsEnded old conn hop new = new.places.items ≡ set old.places.items (place_of_request old conn hop) None
+
+-- all places are free
+abbrev pub HasNoClocks : Clocks → Type 0
+HasNoClocks clocks = (count : ℕ) × (clocks.places.items ≡ replicate count None)
 
 -- ---- all counts of a node
 
@@ -105,9 +116,10 @@ pub record IsNothing (tally : Tally) : Type 0 where
   pub failovers : tally.failovers ≡ 0
   pub given_up : tally.given_up ≡ 0
   pub times : tally.times ≡ record { rows = new_rows; count = 0; sum = 0 }
+  pub clocks : HasNoClocks tally.clocks
 
--- the time of an answer is counted where its request was timed, and nothing is where it was not
+-- where its request was timed, the time of an answer is counted and its clock ends; where it was not, nothing changes
 abbrev pub IsTimed : Tally → ConnId → ℕ → Moment → Tally → Type 0
 IsTimed old conn hop moment new =
-    ((millis : ℕ) × IsClocked old.clocks conn hop moment millis × (new.times ≡ times_after millis old.times))
-    ⊎ (IsUntimed old.clocks conn hop × (new.times ≡ old.times))
+    ((millis : ℕ) × IsClocked old.clocks conn hop moment millis × IsEnded old.clocks conn hop new.clocks × (new.times ≡ times_after millis old.times))
+    ⊎ (IsUntimed old.clocks conn hop × (new.clocks ≡ old.clocks) × (new.times ≡ old.times))

@@ -1,7 +1,7 @@
 //! Since when requests are waiting for their answers.
 
-ghost use Rattle.std.specs.Prelude.{◌≡◌, ◌<◌, IfNone, IfSome};
-ghost use Rattle.farm_tally.specs.Counting.{IsBegun, IsClocked, IsUntimed, place_for};
+ghost use Rattle.std.specs.Prelude.{◌≡◌, ◌<◌, IfNone, IfSome, OnSome};
+ghost use Rattle.farm_tally.specs.Counting.{HasNoClocks, IsBegun, IsClocked, IsEnded, IsUntimed, place_for};
 
 use dia_base::{ConnId, Moment};
 use std::alloc::Global;
@@ -35,7 +35,9 @@ fn place_for(conn: ConnId, hop: u32, count: usize) -> usize
 
 impl Clocks {
     /// None yet. Where memory is missing, there is no place, and nothing is timed.
-    pub fn none(alloc: Global) -> Self {
+    pub fn none(alloc: Global) -> Self
+        ensures { HasNoClocks result }
+    {
         match Vec::from_elem(alloc, None, CLOCK_LIMIT) {
             Ok(places) => Clocks { places },
             Err(_) => Clocks {
@@ -58,6 +60,7 @@ impl Clocks {
     /// It is answered: how many milliseconds it took, if it was timed. It is not timed any more.
     pub fn end(&mut self, conn: ConnId, hop: u32, moment: Moment) -> Option<u64>
         ensures timed { IfSome result (IsClocked self.old conn hop moment) }
+        ensures ended { OnSome result (IsEnded self.old conn hop self.new) }
         ensures untimed { IfNone result ((IsUntimed self.old conn hop) × (self.new ≡ self.old)) }
         ensures once { IsUntimed self.new conn hop }
     {

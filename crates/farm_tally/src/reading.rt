@@ -1,7 +1,7 @@
 //! The Result-Code of an answer, read without memory.
 
 ghost use Rattle.std.specs.Prelude.{◌≡◌};
-ghost use Rattle.farm_tally.specs.Reading.{code_in, room_of};
+ghost use Rattle.farm_tally.specs.Reading.{code_in, code_of, room_of};
 
 use byteorder::{BigEndian, ByteOrder};
 use dia_base::codes::RESULT_CODE;
@@ -43,7 +43,9 @@ fn code_in(avp: &[u8]) -> Option<u32>
 }
 
 /// The first Result-Code among the AVPs of an answer; 0 where there is none that can be read.
-pub fn code_of_answer(body: &[u8]) -> u32 {
+pub fn code_of_answer(body: &[u8]) -> u32
+    ensures { result ≡ code_of body.now }
+{
     let mut at = 0;
     while at < body.len() {
         let avp = &body[at..];

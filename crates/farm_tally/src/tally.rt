@@ -1,7 +1,7 @@
 //! What a node counts.
 
 ghost use Rattle.std.specs.Prelude.{◌≡◌};
-ghost use Rattle.farm_tally.specs.Counting.{IsBegun, IsCounted, IsNothing, IsTimed, plus};
+ghost use Rattle.farm_tally.specs.Counting.{IsBegun, IsCounted, IsNothing, IsTimed, IsUntimed, plus};
 
 use crate::answers::Answers;
 use crate::clocks::Clocks;
@@ -63,6 +63,7 @@ impl Tally {
     pub fn answer_sent(&mut self, conn: ConnId, hop: u32, code: u32, moment: Moment)
         ensures counted { IsCounted code self.old.answers self.new.answers }
         ensures timed { IsTimed self.old conn hop moment self.new }
+        ensures once { IsUntimed self.new.clocks conn hop }
         ensures others { self.new ≡ record self.old { answers = self.new.answers; times = self.new.times; clocks = self.new.clocks } }
     {
         self.answers.add(code);
