@@ -45,6 +45,3 @@ pub use laws::{
     stream_faults_are_seen_early, streams_give_their_whole_messages,
 };
 pub use message::{Message, Out, spell_message};
-
-#[cfg(test)]
-mod tests;
