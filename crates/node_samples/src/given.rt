@@ -61,13 +61,21 @@ fn front(alloc: Global, name: &[u8]) -> anyhow::Result<Node> {
     })
 }
 
+/// The two fronts.
+fn fronts(alloc: Global) -> anyhow::Result<Vec<Node>> {
+    let first = front(alloc, b"f1.example")?;
+    let second = front(alloc, b"f2.example")?;
+    Ok(vec![in alloc; first, second]?)
+}
+
 /// A site with the two fronts. Each has one worker, and eight requests may wait at it.
 pub fn site(alloc: Global, limit: u64) -> anyhow::Result<Site>
     ensures { IfOk result (λ site. 0 < site.queue) }
 {
-    let (first, second) = (front(alloc, b"f1.example")?, front(alloc, b"f2.example")?);
+    let realm = Identity::read(alloc, b"ocs.example")?;
+    let nodes = Listing::from_vec(fronts(alloc)?);
     Ok(Site {
-        realm: Identity::read(alloc, b"ocs.example")?,
+        realm,
         validity: 600,
         limit,
         workers: 1,
@@ -79,7 +87,7 @@ pub fn site(alloc: Global, limit: u64) -> anyhow::Result<Site>
         currency: 978,
         exponent: -2,
         watchdog: 30_000,
-        nodes: Listing::from_vec(vec![in alloc; first, second]?),
+        nodes,
         links: Listing::empty(alloc),
         routes: Listing::empty(alloc),
         tariffs: Listing::empty(alloc),
@@ -87,15 +95,18 @@ pub fn site(alloc: Global, limit: u64) -> anyhow::Result<Site>
     })
 }
 
-/// A book of one account of 1000, and 5 for each 1000 octets of group 10, with so many entries at most.
-pub fn book(alloc: Global, limit: u64) -> anyhow::Result<Book>
-    requires { limit ≤ 2 ^ 20 }
-{
+/// One account of 1000.
+fn accounts(alloc: Global) -> anyhow::Result<Vec<Account>> {
     let account = Account {
         id_kind: 0,
         id: Octets::copy_of(alloc, b"491700000001")?,
         opening: 1_000,
     };
+    Ok(vec![in alloc; account]?)
+}
+
+/// 5 for each 1000 octets of group 10.
+fn tariffs(alloc: Global) -> anyhow::Result<Tariffs> {
     let tariff = Tariff {
         group: Some(10),
         ident: None,
@@ -105,11 +116,18 @@ pub fn book(alloc: Global, limit: u64) -> anyhow::Result<Book>
         quantum: 5_000,
         greatest: 10_000,
     };
+    Ok(Tariffs::new(alloc, vec![in alloc; tariff]?)?)
+}
+
+/// A book of one account of 1000, and 5 for each 1000 octets of group 10, with so many entries at most.
+pub fn book(alloc: Global, limit: u64) -> anyhow::Result<Book>
+    requires { limit ≤ 2 ^ 20 }
+{
+    let accounts = accounts(alloc)?;
+    let tariffs = tariffs(alloc)?;
     let money = Money {
         currency: 978,
         exponent: -2,
     };
-    let tariffs = Tariffs::new(alloc, vec![in alloc; tariff]?)?;
-    let accounts = vec![in alloc; account]?;
     Ok(Book::new(alloc, accounts, tariffs, 600, money, limit)?)
 }

@@ -2,6 +2,7 @@
 
 use crate::given::CLIENT;
 use anyhow::Context;
+use cc_book::Book;
 use dia_avp::ViewWire;
 use dia_base::{ConnId, Identity, Moment, NodeNo};
 use dia_message::Message;
@@ -35,9 +36,9 @@ impl Wake for Rings {
 
 /// The fronts, how often their workers have waked, and by what they charge.
 #[derive(Drop)]
-pub struct Running<L: Pooling, R> {
+pub struct Running<'a, L: Pooling, R> {
     pub fronts: PoolFronts<L, R>,
-    pub rings: Arc<AtomicU64>,
+    pub rings: &'a AtomicU64,
     pub timer: Timer,
     pub recorder: Recorder,
 }
@@ -61,7 +62,7 @@ fn print_reaction(
     Ok(())
 }
 
-impl<L: Pooling, R: Threads + Wait + Clock + Print + Copy> Running<L, R> {
+impl<L: Pooling, R: Threads + Wait + Clock + Print + Copy> Running<'_, L, R> {
     /// A client comes up at this node.
     pub fn come_up(
         &mut self,
@@ -143,13 +144,18 @@ impl<L: Pooling, R: Threads + Wait + Clock + Print + Copy> Running<L, R> {
     /// Ends all workers. Prints what is recorded then, and what the book has come to.
     pub fn end(self, rt: &R, alloc: Global) -> anyhow::Result<()> {
         let mut recorder = self.recorder;
-        let ended = self.fronts.end(rt, alloc, &mut recorder);
-        print_record(rt, recorder.lines())?;
-        let book = ended.context("no book")?;
-        let balance = book.balance(0).unwrap_or(0);
-        println!(rt; "entries {} balance {balance}", book.history().len())?;
-        Ok(())
+        let book = self.fronts.end(rt, alloc, &mut recorder);
+        print_end(rt, recorder.lines(), book.as_ref())
     }
+}
+
+/// Prints what is recorded, and what the book has come to.
+fn print_end(rt: &impl Print, lines: &[u8], book: Option<&Book>) -> anyhow::Result<()> {
+    print_record(rt, lines)?;
+    let book = book.context("no book")?;
+    let balance = book.balance(0).unwrap_or(0);
+    println!(rt; "entries {} balance {balance}", book.history().len())?;
+    Ok(())
 }
 
 /// Prints the short words of each line: no moments, and no messages.
