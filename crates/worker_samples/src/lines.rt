@@ -1,8 +1,11 @@
-//! How finished jobs are told.
+//! How finished jobs and the book are told.
 
+use crate::gates::Signs;
 use anyhow::Context;
+use cc_book::Book;
 use front_pool::{Finished, Job};
 use std::alloc::Global;
+use std::sync::atomic::Ordering;
 
 /// Tells of the first two jobs, in the order of their numbers, with their places in the history where that is asked.
 pub fn print_jobs<R: Print>(
@@ -49,6 +52,13 @@ pub fn print_refused<R: Print>(rt: &R, alloc: Global, finished: &[Finished]) -> 
     print_answer(rt, alloc, job)
 }
 
+/// Tells how many holds have met their limit.
+pub fn print_late<R: Print>(rt: &R, signs: &Signs) -> anyhow::Result<()> {
+    let late = signs.late.load(Ordering::SeqCst);
+    println!(rt; "holds that met the limit {late}")?;
+    Ok(())
+}
+
 /// Tells how often each of the first five jobs is among these.
 pub fn print_times<R: Print>(
     rt: &R,
@@ -60,5 +70,33 @@ pub fn print_times<R: Print>(
         let left = unserved.iter().filter(|job| job.number == number).count();
         println!(rt; "job {number} times {}", done.saturating_add(left))?;
     }
+    Ok(())
+}
+
+/// Tells how often somebody was woken, for how many jobs.
+pub fn print_wakes<R: Print>(rt: &R, signs: &Signs, count: usize) -> anyhow::Result<()> {
+    let wakes = signs.wakes.load(Ordering::SeqCst);
+    println!(rt; "wakes {wakes} of {count}")?;
+    Ok(())
+}
+
+/// Tells how many jobs are finished, and how many are not.
+pub fn print_counts<R: Print>(rt: &R, finished: usize, unserved: usize) -> anyhow::Result<()> {
+    println!(rt; "finished {finished} unserved {unserved}")?;
+    Ok(())
+}
+
+/// Tells what stands in the book.
+pub fn print_book<R: Print>(rt: &R, book: &Book) -> anyhow::Result<()> {
+    let balance = book.balance(0).unwrap_or(0);
+    println!(rt; "entries {} balance {balance}", book.history().len())?;
+    Ok(())
+}
+
+/// Tells whether so many jobs are what was charged, each by 20.
+pub fn print_charged<R: Print>(rt: &R, book: &Book, count: usize) -> anyhow::Result<()> {
+    let spent = 1_000i128.saturating_sub(book.balance(0).unwrap_or(0));
+    let same = book.history().len() == count && spent == (count as i128).saturating_mul(20);
+    println!(rt; "charged what is finished {same}")?;
     Ok(())
 }

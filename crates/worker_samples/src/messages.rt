@@ -73,23 +73,31 @@ pub fn front(rt: &impl Clock, alloc: Global, jobs: usize) -> anyhow::Result<Pool
     requires { 0 < jobs }
     ensures { IfOk result (λ queue. queue.jobs ≡ jobs) }
 {
+    let timer = Timer::start(rt)?;
+    let name = Identity::read(alloc, b"f1.example")?;
+    let realm = Identity::read(alloc, b"ocs.example")?;
     Ok(PoolQueue {
         front: NodeNo(0),
-        name: Identity::read(alloc, b"f1.example")?,
-        realm: Identity::read(alloc, b"ocs.example")?,
+        name,
+        realm,
         profile: SiteProfile::strict(alloc, Listing::empty(alloc)),
-        timer: Timer::start(rt)?,
+        timer,
         jobs,
     })
 }
 
-/// A book of one account of 1000, and 5 for each 1000 octets of group 10.
-pub fn book(alloc: Global) -> anyhow::Result<Book> {
+/// One account of 1000.
+fn accounts(alloc: Global) -> anyhow::Result<Vec<Account>> {
     let account = Account {
         id_kind: 0,
         id: Octets::copy_of(alloc, b"491700000001")?,
         opening: 1_000,
     };
+    Ok(vec![in alloc; account]?)
+}
+
+/// 5 for each 1000 octets of group 10.
+fn tariffs(alloc: Global) -> anyhow::Result<Tariffs> {
     let tariff = Tariff {
         group: Some(10),
         ident: None,
@@ -99,11 +107,16 @@ pub fn book(alloc: Global) -> anyhow::Result<Book> {
         quantum: 5_000,
         greatest: 10_000,
     };
+    Ok(Tariffs::new(alloc, vec![in alloc; tariff]?)?)
+}
+
+/// A book of one account of 1000, and 5 for each 1000 octets of group 10.
+pub fn book(alloc: Global) -> anyhow::Result<Book> {
+    let accounts = accounts(alloc)?;
+    let tariffs = tariffs(alloc)?;
     let money = Money {
         currency: 978,
         exponent: -2,
     };
-    let tariffs = Tariffs::new(alloc, vec![in alloc; tariff]?)?;
-    let accounts = vec![in alloc; account]?;
     Ok(Book::new(alloc, accounts, tariffs, 600, money, 100)?)
 }

@@ -2,7 +2,6 @@
 
 ghost use Rattle.std.specs.Prelude.{◌≡◌, ◌<◌};
 
-use crate::gates::Signs;
 use crate::messages::debit;
 use anyhow::{Context, bail};
 use cc_book::Book;
@@ -14,9 +13,8 @@ use farm_clock::Timer;
 use front_pool::{Finished, Gate, Job, Pool, PoolQueue, Pooling, Stopped, SubmitError};
 use std::alloc::{AllocError, Global};
 use std::rt::Clock;
-use std::sync::atomic::Ordering;
+use std::sync::Wait;
 use std::sync::ledger::Blank;
-use std::sync::{Arc, Wait};
 use std::thread;
 use std::thread::Threads;
 use std::time::Duration;
@@ -29,22 +27,23 @@ const PAUSE: u64 = 100;
 /// After how many milliseconds without a job a worker sleeps.
 const IDLE: u64 = 20;
 
-/// A pool, a handle on its book, what its gate has seen, and the jobs that were collected.
+/// A pool, a handle on its book, and the jobs that were collected.
 #[derive(Drop)]
 pub struct Running<L: Pooling> {
     pub pool: Pool<L>,
     pub shared: SharedBook<L>,
-    pub signs: Arc<Signs>,
     /// By which its requests are charged.
     pub timer: Timer,
     pub finished: Vec<Finished>,
 }
 
-/// A pool that was stopped. The jobs that were finished by then are with those that were collected.
+/// A pool that was stopped.
 #[derive(Drop)]
 pub struct Ended<L: Pooling> {
     pub shared: SharedBook<L>,
     pub seats: Vec<Seat<L>>,
+    pub collected: Vec<Finished>,
+    /// The jobs that were finished by then, and not collected.
     pub finished: Vec<Finished>,
     pub unserved: Vec<Job>,
 }
@@ -58,7 +57,6 @@ pub fn start<L, R, G>(
     queue: PoolQueue,
     workers: u64,
     gate: G,
-    signs: Arc<Signs>,
 ) -> anyhow::Result<Running<L>>
 where
     L: Pooling + Send + Sync + 'static,
@@ -80,7 +78,6 @@ where
         Ok(pool) => Ok(Running {
             pool,
             shared,
-            signs,
             timer,
             finished: Vec::new(alloc),
         }),
@@ -141,12 +138,6 @@ impl<L: Pooling> Running<L> {
         Ok(())
     }
 
-    pub fn print_late<R: Print>(&self, rt: &R) -> anyhow::Result<()> {
-        let late = self.signs.late.load(Ordering::SeqCst);
-        println!(rt; "holds that met the limit {late}")?;
-        Ok(())
-    }
-
     /// Tells whether each request was charged from this moment on, and not after now.
     pub fn print_moments<R: Clock + Print>(&self, rt: &R, began: Moment) -> anyhow::Result<()> {
         let now = self.timer.now(rt)?;
@@ -159,27 +150,25 @@ impl<L: Pooling> Running<L> {
     }
 
     /// Stops the pool.
-    pub fn stop<R: Threads + Wait + Clock>(self, rt: &R) -> anyhow::Result<Ended<L>> {
+    pub fn stop<R: Threads + Wait + Clock>(self, rt: &R) -> Ended<L> {
         let Running {
             pool,
             shared,
-            signs: _,
             timer: _,
-            finished,
+            finished: collected,
         } = self;
         let Stopped {
             seats,
-            finished: last,
-            unserved,
-        } = pool.stop(rt);
-        let mut ended = Ended {
-            shared,
-            seats,
             finished,
             unserved,
-        };
-        ended.keep(last)?;
-        Ok(ended)
+        } = pool.stop(rt);
+        Ended {
+            shared,
+            seats,
+            collected,
+            finished,
+            unserved,
+        }
     }
 }
 
@@ -194,73 +183,38 @@ fn came_back(submitted: Result<u64, SubmitError>) -> Option<Message> {
     }
 }
 
-/// The receipts of finished jobs.
-fn receipts(alloc: Global, finished: Vec<Finished>) -> anyhow::Result<Vec<Receipt>> {
-    let mut receipts = Vec::new(alloc);
-    for job in finished {
-        let Finished {
-            job: _,
-            front: _,
-            conn: _,
-            request: _,
-            answer: _,
-            receipt,
-            moment: _,
-        } = job;
-        match receipt {
-            Some(receipt) => receipts.push(receipt)?,
-            None => {}
+/// Takes the receipts of finished jobs out.
+fn take_receipts(finished: &mut [Finished], receipts: &mut Vec<Receipt>) -> anyhow::Result<()> {
+    for job in finished.iter_mut() {
+        if let Some(receipt) = job.receipt.take() {
+            receipts.push(receipt)?;
         }
     }
-    Ok(receipts)
+    Ok(())
 }
 
 impl<L: Pooling> Ended<L> {
-    /// Finished jobs more.
-    fn keep(&mut self, finished: Vec<Finished>) -> anyhow::Result<()> {
-        for job in finished {
-            self.finished.push(job)?;
-        }
-        Ok(())
+    /// How many jobs are finished.
+    pub fn count(&self) -> usize {
+        self.collected.len().saturating_add(self.finished.len())
+    }
+
+    /// Takes the receipts of all jobs out.
+    fn receipts(&mut self, alloc: Global) -> anyhow::Result<Vec<Receipt>> {
+        let mut receipts = Vec::new(alloc);
+        take_receipts(&mut self.collected, &mut receipts)?;
+        take_receipts(&mut self.finished, &mut receipts)?;
+        Ok(receipts)
     }
 
     /// Closes the book with all seats and receipts.
-    fn close<R: Wait>(self, rt: &R, alloc: Global) -> anyhow::Result<Book> {
-        let Ended {
-            shared,
-            seats,
-            finished,
-            unserved: _,
-        } = self;
-        let receipts = receipts(alloc, finished)?;
-        shared
-            .finish(rt, alloc, seats, &receipts)
+    pub fn close<R: Wait>(self, rt: &R, alloc: Global) -> anyhow::Result<Book> {
+        let mut ended = self;
+        let receipts = ended.receipts(alloc)?;
+        ended
+            .shared
+            .finish(rt, alloc, ended.seats, &receipts)
             .ok()
             .context("not finished")
-    }
-
-    /// Tells how many jobs are finished, and how many are not.
-    pub fn print_counts<R: Print>(&self, rt: &R) -> anyhow::Result<()> {
-        let (finished, unserved) = (self.finished.len(), self.unserved.len());
-        println!(rt; "finished {finished} unserved {unserved}")?;
-        Ok(())
-    }
-
-    /// Tells what stands in the book.
-    pub fn print_book<R: Wait + Print>(self, rt: &R, alloc: Global) -> anyhow::Result<()> {
-        let book = self.close(rt, alloc)?;
-        let balance = book.balance(0).unwrap_or(0);
-        println!(rt; "entries {} balance {balance}", book.history().len())?;
-        Ok(())
-    }
-
-    /// Tells whether what is finished is what was charged, each by 20.
-    pub fn print_charged<R: Wait + Print>(self, rt: &R, alloc: Global) -> anyhow::Result<()> {
-        let count = self.finished.len();
-        let book = self.close(rt, alloc)?;
-        let spent = 1_000i128.saturating_sub(book.balance(0).unwrap_or(0));
-        let same = book.history().len() == count && spent == (count as i128).saturating_mul(20);
-        println!(rt; "charged what is finished {same}")?;
-        Ok(())
     }
 }

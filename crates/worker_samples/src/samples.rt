@@ -3,9 +3,12 @@
 ghost use Rattle.std.specs.Prelude.{◌≡◌, ◌<◌};
 
 use crate::gates::{Bell, Door, FirstLast, Signs, Slowly, Together};
-use crate::lines::{print_jobs, print_refused, print_times};
+use crate::lines::{
+    print_book, print_charged, print_counts, print_jobs, print_late, print_refused, print_times,
+    print_wakes,
+};
 use crate::messages::{book, debit, debit_without_number, front, initial, termination};
-use crate::runs::{Running, start};
+use crate::runs::{Ended, Running, start};
 use cc_book::Book;
 use front_pool::{Gate, NoGate, PoolQueue, Pooling, Wakes};
 use std::alloc::Global;
@@ -33,142 +36,172 @@ pub enum Sample {
 fn jobs<L: Pooling, R: Threads + Wait + Clock + Print>(
     rt: &R,
     alloc: Global,
-    running: Running<L>,
+    running: &mut Running<L>,
+    signs: &Signs,
     places: bool,
 ) -> anyhow::Result<()> {
-    let mut running = running;
     running.submit(rt, alloc, 0)?;
     running.submit(rt, alloc, 1)?;
     running.collect(rt, 2)?;
     print_jobs(rt, alloc, &running.finished, places)?;
-    running.print_late(rt)?;
-    running.stop(rt)?.print_book(rt, alloc)
+    print_late(rt, signs)
 }
 
 /// One worker that wakes after each answer, which waits until it is collected.
 fn woken<L: Pooling, R: Threads + Wait + Clock + Print>(
     rt: &R,
     alloc: Global,
-    running: Running<L>,
+    running: &mut Running<L>,
+    signs: &Signs,
 ) -> anyhow::Result<()> {
-    let mut running = running;
-    let signs = Arc::try_clone(&running.signs)?;
     running.submit(rt, alloc, 0)?;
     running.submit(rt, alloc, 1)?;
-    running.signs.hold(rt, &running.signs.wakes, 2);
+    signs.hold(rt, &signs.wakes, 2);
     running.collect(rt, 2)?;
-    running.print_late(rt)?;
-    let ended = running.stop(rt)?;
-    let wakes = signs.wakes.load(Ordering::SeqCst);
-    println!(rt; "wakes {wakes} of {}", ended.finished.len())?;
-    ended.print_book(rt, alloc)
+    print_late(rt, signs)
 }
 
 /// A worker holds one job, and one waits: there is no room for a third, which comes back.
 fn crowded<L: Pooling, R: Threads + Wait + Clock + Print>(
     rt: &R,
     alloc: Global,
-    running: Running<L>,
+    running: &mut Running<L>,
+    signs: &Signs,
 ) -> anyhow::Result<()> {
-    let mut running = running;
     running.submit(rt, alloc, 0)?;
-    running.signs.hold(rt, &running.signs.before, 1);
+    signs.hold(rt, &signs.before, 1);
     running.submit(rt, alloc, 1)?;
     running.print_full(rt, alloc, 2)?;
-    running.signs.door.store(1, Ordering::SeqCst);
+    signs.door.store(1, Ordering::SeqCst);
     running.collect(rt, 2)?;
-    running.print_late(rt)?;
-    let ended = running.stop(rt)?;
-    ended.print_counts(rt)?;
-    ended.print_book(rt, alloc)
+    print_late(rt, signs)
 }
 
 /// Five jobs, one worker, and a pool that stops at once: each job is there once, and what is finished is what was charged.
 fn stopped<L: Pooling, R: Threads + Wait + Clock + Print>(
     rt: &R,
     alloc: Global,
-    running: Running<L>,
+    running: &mut Running<L>,
 ) -> anyhow::Result<()> {
-    let mut running = running;
     for number in 0..5 {
         running.submit(rt, alloc, number)?;
     }
-    let ended = running.stop(rt)?;
-    print_times(rt, &ended.finished, &ended.unserved)?;
-    ended.print_charged(rt, alloc)
+    Ok(())
 }
 
 /// A debit, and the same once more: it is charged once, and answered alike. One worker, which sleeps before each.
 fn repeated<L: Pooling, R: Threads + Wait + Clock + Print>(
     rt: &R,
     alloc: Global,
-    running: Running<L>,
+    running: &mut Running<L>,
 ) -> anyhow::Result<()> {
-    let mut running = running;
     let began = running.timer.now(rt)?;
     running.ask(rt, debit(alloc, 0)?)?;
     running.ask(rt, debit(alloc, 0)?)?;
     print_jobs(rt, alloc, &running.finished, true)?;
-    running.print_moments(rt, began)?;
-    running.stop(rt)?.print_book(rt, alloc)
+    running.print_moments(rt, began)
 }
 
 /// A request that lacks an AVP: it is answered what it lacks, and the book is not asked.
 fn refused<L: Pooling, R: Threads + Wait + Clock + Print>(
     rt: &R,
     alloc: Global,
-    running: Running<L>,
+    running: &mut Running<L>,
 ) -> anyhow::Result<()> {
-    let mut running = running;
     running.ask(rt, debit_without_number(alloc)?)?;
-    print_refused(rt, alloc, &running.finished)?;
-    running.stop(rt)?.print_book(rt, alloc)
+    print_refused(rt, alloc, &running.finished)
 }
 
 /// A session that begins and ends: it is open still when it says what it has used, and that is debited.
 fn session<L: Pooling, R: Threads + Wait + Clock + Print>(
     rt: &R,
     alloc: Global,
-    running: Running<L>,
+    running: &mut Running<L>,
 ) -> anyhow::Result<()> {
-    let mut running = running;
     running.ask(rt, initial(alloc)?)?;
     running.ask(rt, termination(alloc)?)?;
-    print_jobs(rt, alloc, &running.finished, true)?;
-    running.stop(rt)?.print_book(rt, alloc)
+    print_jobs(rt, alloc, &running.finished, true)
 }
 
 /// A pool of two workers that stops while one of them holds a job, and the other one none: the job is finished.
 fn held<L: Pooling, R: Threads + Wait + Clock + Print>(
     rt: &R,
     alloc: Global,
-    running: Running<L>,
+    running: &mut Running<L>,
+    signs: &Signs,
 ) -> anyhow::Result<()> {
-    let mut running = running;
     running.submit(rt, alloc, 0)?;
-    running.signs.hold(rt, &running.signs.before, 1);
-    running.print_late(rt)?;
-    let ended = running.stop(rt)?;
-    ended.print_counts(rt)?;
-    ended.print_book(rt, alloc)
+    signs.hold(rt, &signs.before, 1);
+    print_late(rt, signs)
+}
+
+/// What is done with a pool before it stops.
+fn perform<L: Pooling, R: Threads + Wait + Clock + Print>(
+    rt: &R,
+    alloc: Global,
+    running: &mut Running<L>,
+    signs: &Signs,
+    sample: Sample,
+) -> anyhow::Result<()> {
+    match sample {
+        Sample::Jobs { places } => jobs(rt, alloc, running, signs, places),
+        Sample::Woken => woken(rt, alloc, running, signs),
+        Sample::Crowded => crowded(rt, alloc, running, signs),
+        Sample::Stopped => stopped(rt, alloc, running),
+        Sample::Repeated => repeated(rt, alloc, running),
+        Sample::Refused => refused(rt, alloc, running),
+        Sample::Session => session(rt, alloc, running),
+        Sample::Held => held(rt, alloc, running, signs),
+    }
+}
+
+/// Tells what there is to tell of a pool that was stopped.
+fn print_ended<L: Pooling, R: Print>(
+    rt: &R,
+    ended: &Ended<L>,
+    signs: &Signs,
+    sample: Sample,
+) -> anyhow::Result<()> {
+    match sample {
+        Sample::Woken => print_wakes(rt, signs, ended.count()),
+        Sample::Crowded | Sample::Held => print_counts(rt, ended.count(), ended.unserved.len()),
+        Sample::Stopped => print_times(rt, &ended.finished, &ended.unserved),
+        Sample::Jobs { places: _ } | Sample::Repeated | Sample::Refused | Sample::Session => Ok(()),
+    }
+}
+
+/// Tells what stands in the book behind so many jobs.
+fn print_closed<R: Print>(rt: &R, book: &Book, count: usize, sample: Sample) -> anyhow::Result<()> {
+    match sample {
+        Sample::Stopped => print_charged(rt, book, count),
+        _ => print_book(rt, book),
+    }
+}
+
+/// A pool that was stopped, and its book.
+fn end<L: Pooling, R: Wait + Print>(
+    rt: &R,
+    alloc: Global,
+    ended: Ended<L>,
+    signs: &Signs,
+    sample: Sample,
+) -> anyhow::Result<()> {
+    print_ended(rt, &ended, signs, sample)?;
+    let count = ended.count();
+    let book = ended.close(rt, alloc)?;
+    print_closed(rt, &book, count, sample)
 }
 
 fn print<L: Pooling, R: Threads + Wait + Clock + Print>(
     rt: &R,
     alloc: Global,
     running: Running<L>,
+    signs: &Signs,
     sample: Sample,
 ) -> anyhow::Result<()> {
-    match sample {
-        Sample::Jobs { places } => jobs(rt, alloc, running, places),
-        Sample::Woken => woken(rt, alloc, running),
-        Sample::Crowded => crowded(rt, alloc, running),
-        Sample::Stopped => stopped(rt, alloc, running),
-        Sample::Repeated => repeated(rt, alloc, running),
-        Sample::Refused => refused(rt, alloc, running),
-        Sample::Session => session(rt, alloc, running),
-        Sample::Held => held(rt, alloc, running),
-    }
+    let mut running = running;
+    perform(rt, alloc, &mut running, signs, sample)?;
+    end(rt, alloc, running.stop(rt), signs, sample)
 }
 
 fn run<L, R, G>(
@@ -179,7 +212,7 @@ fn run<L, R, G>(
     queue: PoolQueue,
     workers: u64,
     gate: G,
-    signs: Arc<Signs>,
+    signs: &Signs,
     sample: Sample,
 ) -> anyhow::Result<()>
 where
@@ -193,8 +226,8 @@ where
     requires site { L.site queue.front ≡ record { name = queue.name; realm = queue.realm; profile = queue.profile } }
     requires some { 0 < workers }
 {
-    let running = start::<L, R, G>(rt, alloc, blank, book, queue, workers, gate, signs)?;
-    print(rt, alloc, running, sample)
+    let running = start::<L, R, G>(rt, alloc, blank, book, queue, workers, gate)?;
+    print(rt, alloc, running, signs, sample)
 }
 
 /// The sample with so many workers, and so many places for jobs.
@@ -204,7 +237,7 @@ fn print_with<R, G>(
     workers: u64,
     places: usize,
     gate: G,
-    signs: Arc<Signs>,
+    signs: &Signs,
     sample: Sample,
 ) -> anyhow::Result<()>
 where
@@ -235,7 +268,7 @@ where
 {
     let signs = Arc::new(alloc, Signs::new())?;
     let gate = FirstLast(Arc::try_clone(&signs)?);
-    print_with::<R, FirstLast>(rt, alloc, 2, 8, gate, signs, Sample::Jobs { places: true })
+    print_with::<R, FirstLast>(rt, alloc, 2, 8, gate, &signs, Sample::Jobs { places: true })
 }
 
 /// Each job waits, once it is answered, until both are: the book's lock is free while a worker waits.
@@ -245,7 +278,15 @@ where
 {
     let signs = Arc::new(alloc, Signs::new())?;
     let gate = Together(Arc::try_clone(&signs)?);
-    print_with::<R, Together>(rt, alloc, 2, 8, gate, signs, Sample::Jobs { places: false })
+    print_with::<R, Together>(
+        rt,
+        alloc,
+        2,
+        8,
+        gate,
+        &signs,
+        Sample::Jobs { places: false },
+    )
 }
 
 pub fn print_woken<R>(rt: &R, alloc: Global) -> anyhow::Result<()>
@@ -254,7 +295,7 @@ where
 {
     let signs = Arc::new(alloc, Signs::new())?;
     let waker = Bell(Arc::try_clone(&signs)?);
-    print_with::<R, Wakes<Bell>>(rt, alloc, 1, 8, Wakes { waker }, signs, Sample::Woken)
+    print_with::<R, Wakes<Bell>>(rt, alloc, 1, 8, Wakes { waker }, &signs, Sample::Woken)
 }
 
 pub fn print_crowded<R>(rt: &R, alloc: Global) -> anyhow::Result<()>
@@ -263,7 +304,7 @@ where
 {
     let signs = Arc::new(alloc, Signs::new())?;
     let gate = Door(Arc::try_clone(&signs)?);
-    print_with::<R, Door>(rt, alloc, 1, 1, gate, signs, Sample::Crowded)
+    print_with::<R, Door>(rt, alloc, 1, 1, gate, &signs, Sample::Crowded)
 }
 
 pub fn print_stopped<R>(rt: &R, alloc: Global) -> anyhow::Result<()>
@@ -278,8 +319,8 @@ fn print_alone<R>(rt: &R, alloc: Global, sample: Sample) -> anyhow::Result<()>
 where
     R: Threads + Wait + Clock + Print + Copy + Send + 'static,
 {
-    let signs = Arc::new(alloc, Signs::new())?;
-    print_with::<R, NoGate>(rt, alloc, 1, 8, NoGate, signs, sample)
+    let signs = Signs::new();
+    print_with::<R, NoGate>(rt, alloc, 1, 8, NoGate, &signs, sample)
 }
 
 /// What a repeat, a request that is refused, and a session are answered.
@@ -298,5 +339,5 @@ where
 {
     let signs = Arc::new(alloc, Signs::new())?;
     let gate = Slowly(Arc::try_clone(&signs)?);
-    print_with::<R, Slowly>(rt, alloc, 2, 8, gate, signs, Sample::Held)
+    print_with::<R, Slowly>(rt, alloc, 2, 8, gate, &signs, Sample::Held)
 }
