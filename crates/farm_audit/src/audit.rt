@@ -10,7 +10,7 @@ use crate::told::{Charge, FrontNow, Job, Stream, Sweep};
 use dia_avp::ViewWire;
 use dia_base::NodeNo;
 use dia_message::Message;
-use farm_world::{NodeKind, Site, Step, World};
+use farm_world::{Direction, NodeKind, Site, Step, World};
 use std::alloc::{AllocError, Global};
 
 /// The records, what was read of them and is not played, and the farm that plays.
@@ -67,13 +67,7 @@ fn fronts_of(alloc: Global, site: &Site) -> Result<Vec<FrontNow>, AllocError> {
         let Ok(number) = u32::try_from(place) else {
             continue;
         };
-        let mut workers = Vec::new(alloc);
-        workers.resize(site.workers as usize, None::<u64>)?;
-        fronts.push(FrontNow {
-            node: NodeNo(number),
-            queue: Vec::new(alloc),
-            workers,
-        })?;
+        fronts.push(FrontNow::new(alloc, NodeNo(number), site.workers as usize)?)?;
     }
     Ok(fronts)
 }
@@ -83,14 +77,16 @@ impl<R: Drop> Audit<R> {
     pub fn new(alloc: Global, site: &Site, prints: bool) -> Result<Self, AuditFault>
         requires { IsChecked site.now }
     {
+        let fronts = fronts_of(alloc, site)?;
+        let world = World::open(alloc, site)?;
         Ok(Audit {
             alloc,
-            world: World::open(alloc, site)?,
+            world,
             sources: Vec::new(alloc),
             streams: Vec::new(alloc),
             conns: Vec::new(alloc),
             joints: Vec::new(alloc),
-            fronts: fronts_of(alloc, site)?,
+            fronts,
             short: Vec::new(alloc),
             jobs: Vec::new(alloc),
             orders: 0,
@@ -107,35 +103,38 @@ impl<R: Drop> Audit<R> {
 
     /// Takes a step, which has to apply.
     pub fn play(&mut self, site: &Site, at: At, step: Step) -> Result<(), AuditFault> {
-        if !self.world.step::<ViewWire>(self.alloc, site, &step)? {
+        self.take_step(site, at, &step)
+    }
+
+    fn take_step(&mut self, site: &Site, at: At, step: &Step) -> Result<(), AuditFault> {
+        if !self.world.step::<ViewWire>(self.alloc, site, step)? {
             return found(at, Why::CannotHappen);
         }
         self.steps = self.steps.saturating_add(1);
         if self.prints {
-            push_step(self.alloc, &mut self.lines, site, &step)?;
+            push_step(self.alloc, &mut self.lines, site, step)?;
         }
         Ok(())
     }
 
     /// What is in flight from one node to another.
     pub fn flight(&self, from: NodeNo, to: NodeNo) -> &[Message] {
-        let standing = self
-            .world
-            .directions()
-            .iter()
-            .find(|direction| direction.from == from && direction.to == to);
-        match standing {
+        match self.direction(from, to) {
             Some(direction) => direction.messages.as_slice(),
             None => &[],
         }
     }
 
-    /// Whether somebody reads what one node sends to another.
-    pub fn stands(&self, from: NodeNo, to: NodeNo) -> bool {
+    fn direction(&self, from: NodeNo, to: NodeNo) -> Option<&Direction> {
         self.world
             .directions()
             .iter()
-            .any(|direction| direction.from == from && direction.to == to)
+            .find(|direction| direction.from == from && direction.to == to)
+    }
+
+    /// Whether somebody reads what one node sends to another.
+    pub fn stands(&self, from: NodeNo, to: NodeNo) -> bool {
+        self.direction(from, to).is_some()
     }
 
     /// Whether these nodes have no connection.
@@ -171,6 +170,11 @@ impl<R: Drop> Audit<R> {
     /// The connection that stands between these nodes.
     pub fn joint(&self, a: NodeNo, b: NodeNo) -> Option<&Joint> {
         self.joints.iter().find(|joint| joint.joins(a, b))
+    }
+
+    /// The connection of a node with another one that stands, as the record of the first has it.
+    pub fn side_of(&self, node: NodeNo, peer: NodeNo) -> Option<usize> {
+        self.joint(node, peer)?.side(node)
     }
 
     /// A connection stands from now on, in place of the one before.

@@ -14,6 +14,17 @@ const TOO_BUSY: u32 = 3004;
 /// The code of the AVP Result-Code.
 const RESULT_CODE: u32 = 268;
 
+/// How many requests were told before the first line that tells of one at this place or a later one.
+fn first_seen(charges: &[Charge], place: Option<u64>) -> u64 {
+    let mut seen = u64::MAX;
+    for charge in charges {
+        if charge.place >= place {
+            seen = seen.min(charge.seen);
+        }
+    }
+    seen
+}
+
 impl<R: Read + Drop> Audit<R> {
     /// How many entries the book has, and how many sessions are open.
     fn standing(&self) -> (u64, u64) {
@@ -38,21 +49,28 @@ impl<R: Read + Drop> Audit<R> {
 
     /// The charge at this place among those that wait happens, if its request has arrived and a worker may have it.
     fn charge_at(&mut self, site: &Site, place: usize) -> Result<bool, AuditFault> {
-        let Some(order) = self.charges.get(place).map(|charge| charge.order) else {
-            return Ok(false);
+        let order = match self.charges.get(place) {
+            Some(charge) => charge.order,
+            None => return Ok(false),
         };
         if !self.may_be_charged(order)? || place >= self.charges.len() {
             return Ok(false);
         }
         let charge = self.charges.remove(place);
-        self.charge(site, &charge)?;
+        self.charge_new(site, &charge)?;
+        Ok(true)
+    }
+
+    /// A request is charged that has the next place in the book.
+    fn charge_new(&mut self, site: &Site, charge: &Charge) -> Result<(), AuditFault> {
+        self.charge(site, charge)?;
         let (entries, _) = self.standing();
         let after = self.place.saturating_add(1);
         if entries != after {
             return found(charge.at, Why::NotNew);
         }
         self.place = after;
-        Ok(true)
+        Ok(())
     }
 
     /// Whether a request has arrived and a worker may have it.
@@ -159,7 +177,7 @@ impl<R: Read + Drop> Audit<R> {
         let (node, peer) = self.nodes_of(at, job.conn)?;
         let since = self.flight(node, peer).len();
         self.emit(site, at, node, worker)?;
-        let is_there = self.joint(node, peer).and_then(|joint| joint.side(node)) == Some(job.conn);
+        let is_there = self.side_of(node, peer) == Some(job.conn);
         let Some(answer) = &charge.answer else {
             return Ok(());
         };
@@ -185,18 +203,13 @@ impl<R: Read + Drop> Audit<R> {
     /// later place.
     pub fn waits_for_a_job(&self) -> bool {
         let place = Some(self.place);
-        let charged = self.charges.iter().map(|charge| charge.seen).min();
-        let kept = self
-            .kept
-            .iter()
-            .filter(|charge| charge.place >= place)
-            .map(|charge| charge.seen)
-            .min();
-        let swept = self.sweeps.first().map(|sweep| sweep.seen);
-        let seen = charged
-            .unwrap_or(u64::MAX)
-            .min(kept.unwrap_or(u64::MAX))
-            .min(swept.unwrap_or(u64::MAX));
+        let swept = match self.sweeps.first() {
+            Some(sweep) => sweep.seen,
+            None => u64::MAX,
+        };
+        let seen = first_seen(&self.charges, None)
+            .min(first_seen(&self.kept, place))
+            .min(swept);
         seen < u64::MAX && self.jobs.iter().any(|job| !job.is_told && job.order < seen)
     }
 

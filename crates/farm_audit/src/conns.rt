@@ -2,6 +2,7 @@
 
 use dia_base::NodeNo;
 use dia_message::Message;
+use std::alloc::Global;
 
 /// A connection as the record of one of its nodes has it.
 #[derive(Drop)]
@@ -29,6 +30,23 @@ pub struct Conn {
 }
 
 impl Conn {
+    /// A connection of the first of these nodes with the second, which begins.
+    pub fn new(alloc: Global, nodes: (NodeNo, NodeNo), label: u64, opens: bool) -> Self {
+        Conn {
+            node: nodes.0,
+            peer: nodes.1,
+            label,
+            opens,
+            is_up: !opens,
+            was_dialled: false,
+            is_taken: false,
+            is_gone: false,
+            is_closing: false,
+            answers: Vec::new(alloc),
+            pending: 0,
+        }
+    }
+
     /// Whether it is a dial of these nodes under this label that an `accept` may be of.
     pub fn is_open_dial(&self, opener: NodeNo, acceptor: NodeNo, label: u64) -> bool {
         self.was_dialled

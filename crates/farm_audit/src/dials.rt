@@ -102,15 +102,24 @@ impl<R: Read + Drop> Audit<R> {
     }
 
     fn label_of(&self, conn: usize) -> u64 {
-        self.conns.get(conn).map_or(0, |conn| conn.label)
+        match self.conns.get(conn) {
+            Some(conn) => conn.label,
+            None => 0,
+        }
     }
 
     fn is_gone(&self, conn: usize) -> bool {
-        self.conns.get(conn).map_or(false, |conn| conn.is_gone)
+        match self.conns.get(conn) {
+            Some(conn) => conn.is_gone,
+            None => false,
+        }
     }
 
     fn is_taken(&self, conn: usize) -> bool {
-        self.conns.get(conn).map_or(false, |conn| conn.is_taken)
+        match self.conns.get(conn) {
+            Some(conn) => conn.is_taken,
+            None => false,
+        }
     }
 
     /// A node learns that its connection is made, once the other one has accepted it. A client without a record does so
@@ -157,8 +166,10 @@ impl<R: Read + Drop> Audit<R> {
     /// A node learns that its connection is made, if the other one has accepted one under its label.
     fn come_up(&mut self, site: &Site, at: At, conn: usize) -> Result<bool, AuditFault> {
         let (a, b) = self.nodes_of(at, conn)?;
-        let awaited = self.awaited(at, conn)?;
-        let Some(joint) = awaited.and_then(|place| self.joints.get_mut(place)) else {
+        let Some(place) = self.awaited(at, conn)? else {
+            return Ok(false);
+        };
+        let Some(joint) = self.joints.get_mut(place) else {
             return Ok(false);
         };
         joint.opened = Some(conn);
@@ -199,23 +210,24 @@ impl<R: Read + Drop> Audit<R> {
     /// ago is more often one that was never accepted.
     fn last_late(&self) -> Option<LateAccept> {
         let mut last: Option<LateAccept> = None;
-        for (stream, told) in self
-            .streams
-            .iter()
-            .map(|stream| stream.told.first())
-            .enumerate()
-        {
-            if let Some(dial) = told.and_then(|told| self.late_dial(told)) {
-                if last.map_or(true, |last| last.dial < dial) {
-                    last = Some(LateAccept { stream, dial });
-                }
+        for stream in 0..self.streams.len() {
+            let Some(dial) = self.late_dial(stream) else {
+                continue;
+            };
+            let is_later = match last {
+                Some(last) => last.dial < dial,
+                None => true,
+            };
+            if is_later {
+                last = Some(LateAccept { stream, dial });
             }
         }
         last
     }
 
-    /// The first dial that an `accept` may be of where nothing else may happen.
-    fn late_dial(&self, told: &Told) -> Option<usize> {
+    /// The first dial that an `accept` which comes next of a stream may be of where nothing else may happen.
+    fn late_dial(&self, stream: usize) -> Option<usize> {
+        let told = self.head(stream)?;
         if !matches!(&told.deed, Deed::Accept) {
             return None;
         }
@@ -239,7 +251,10 @@ impl<R: Read + Drop> Audit<R> {
         is_waited_for
             && joint.opener == opener
             && joint.label == label
-            && joint.dial.map_or(false, |dial| self.is_gone(dial))
+            && match joint.dial {
+                Some(dial) => self.is_gone(dial),
+                None => false,
+            }
     }
 
     /// A connection is accepted that may be of a dial that was given up. The one before it was, where that still waits.
@@ -247,28 +262,36 @@ impl<R: Read + Drop> Audit<R> {
         let Some(told) = self.take_head(late.stream) else {
             return Ok(false);
         };
-        let (at, conn) = (told.at, told.conn);
+        self.accept_of(site, told.at, told.conn, late.dial)?;
+        Ok(true)
+    }
+
+    /// A connection is accepted that is of this dial as far as is known.
+    fn accept_of(
+        &mut self,
+        site: &Site,
+        at: At,
+        conn: usize,
+        dial: usize,
+    ) -> Result<(), AuditFault> {
         let (b, a) = self.nodes_of(at, conn)?;
         if !self.is_free(a, b) {
             self.play(site, at, Step::Drop { a, b })?;
         }
-        self.take(site, at, conn, Some(late.dial))?;
-        let is_awaited = self
-            .open_dials(a, b, self.label_of(conn))
-            .map_or(false, |dials| dials.is_awaited);
-        if self.is_gone(late.dial) && !is_awaited {
+        self.take(site, at, conn, Some(dial))?;
+        let is_awaited = match self.open_dials(a, b, self.label_of(conn)) {
+            Some(dials) => dials.is_awaited,
+            None => false,
+        };
+        if self.is_gone(dial) && !is_awaited {
             self.play(site, at, Step::Drop { a, b })?;
         }
-        Ok(true)
+        Ok(())
     }
 
     /// A node learns that its connection is made, where that comes next of a stream.
     fn open_late(&mut self, site: &Site, stream: usize) -> Result<bool, AuditFault> {
-        let head = self
-            .streams
-            .get(stream)
-            .and_then(|stream| stream.told.first());
-        let Some(told) = head else {
+        let Some(told) = self.head(stream) else {
             return Ok(false);
         };
         let (at, conn) = (told.at, told.conn);

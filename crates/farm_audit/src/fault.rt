@@ -7,14 +7,14 @@ use std::alloc::{AllocError, AllocFailed};
 use thiserror::Error;
 
 /// Where something stands in the records: the place of the record among the words of the command line, and the line, from 1.
-#[derive(Clone, Copy, Debug, PartialEq, Eq)]
+#[derive(Clone, Copy, Debug)]
 pub struct At {
     pub record: usize,
     pub line: u64,
 }
 
 /// What is wrong with a line of a record.
-#[derive(Clone, Copy, Debug, PartialEq, Eq, Error)]
+#[derive(Clone, Copy, Debug, Error)]
 pub enum Why {
     #[error("{0}")]
     Group(GroupFault),
@@ -59,7 +59,7 @@ pub enum Why {
 }
 
 /// Why the program does not do what it is asked to do.
-#[derive(Debug, Drop, Error)]
+#[derive(Clone, Copy, Debug, Error)]
 pub enum AuditFault {
     #[error("usage: schedule --site FILE RECORD.., or audit --site FILE RECORD..")]
     Words,

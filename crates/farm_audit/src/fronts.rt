@@ -210,9 +210,10 @@ impl<R: Read + Drop> Audit<R> {
         node: NodeNo,
         order: u64,
     ) -> Result<usize, AuditFault> {
-        let has_arrived = self
-            .job(order)
-            .map_or(false, |job| job.where_it_is == Whereabouts::Arrived);
+        let has_arrived = match self.job(order) {
+            Some(job) => job.where_it_is == Whereabouts::Arrived,
+            None => false,
+        };
         if has_arrived {
             self.hand_over(site, at, order)?;
         }
@@ -232,9 +233,12 @@ impl<R: Read + Drop> Audit<R> {
     /// Workers pick while the queue of a front is full and one is idle.
     fn make_room(&mut self, site: &Site, at: At, node: NodeNo) -> Result<(), AuditFault> {
         for _ in 0..site.workers {
-            let is_full = self.front(node).map_or(false, |front| {
-                front.queue.len() >= site.queue as usize && front.first_idle().is_some()
-            });
+            let is_full = match self.front(node) {
+                Some(front) => {
+                    front.queue.len() >= site.queue as usize && front.first_idle().is_some()
+                }
+                None => false,
+            };
             if !is_full {
                 return Ok(());
             }
@@ -288,11 +292,13 @@ impl<R: Read + Drop> Audit<R> {
     /// A front that has lost its connection, as the node at the other end has too, drops it, though requests wait that came on
     /// it, if there is room for them.
     fn close(&mut self, site: &Site, at: At, node: NodeNo, peer: NodeNo) -> Result<(), AuditFault> {
-        let side = self.joint(node, peer).and_then(|joint| joint.side(node));
-        let Some(conn) = side else {
+        let Some(conn) = self.side_of(node, peer) else {
             return Ok(());
         };
-        let is_closing = self.conns.get(conn).map_or(false, |conn| conn.is_closing);
+        let is_closing = match self.conns.get(conn) {
+            Some(conn) => conn.is_closing,
+            None => false,
+        };
         if !is_closing || (self.stands(node, peer) && !self.is_silent(site, at, peer)?) {
             return Ok(());
         }

@@ -1,27 +1,18 @@
-//! What is read is kept until it is played: events for the node that they are of, and what became of requests for the book.
+//! What is read is kept until it is played: events for the node that they are of. What becomes of requests is kept for the
+//! book, by `requests`.
 
 use crate::audit::{Audit, is_front, kind_of};
 use crate::conns::Conn;
 use crate::fault::{At, AuditFault, Why, found};
-use crate::source::Numbered;
-use crate::told::{Charge, Deed, Job, Stream, Sweep, Told, Whereabouts};
+use crate::requests::Finished;
+use crate::told::{Deed, Stream, Sweep, Told};
 use dia_base::{ConnId, Moment, NodeNo};
 use dia_message::Message;
-use farm_record::{Age, Event};
+use farm_record::Event;
 use farm_world::{NodeKind, Site};
 use record_reader::Group;
 use std::io::Read;
-
-/// What a line tells of a finished job, before it is known whose it is.
-#[derive(Drop)]
-struct Finished {
-    front: NodeNo,
-    number: u64,
-    moment: Moment,
-    place: Option<u64>,
-    is_new: bool,
-    answer: Option<Message>,
-}
+use std::mem::swap;
 
 impl<R: Read + Drop> Audit<R> {
     /// Reads one more event of a record. Whether there was one.
@@ -34,40 +25,51 @@ impl<R: Read + Drop> Audit<R> {
             return Ok(false);
         };
         self.events = self.events.saturating_add(1);
-        self.keep(site, source, at, group)?;
+        self.keep(site, at, group)?;
         Ok(true)
     }
 
-    fn keep(&mut self, site: &Site, source: usize, at: At, group: Group) -> Result<(), AuditFault> {
+    /// An event is kept, with what was sent for it.
+    fn keep(&mut self, site: &Site, at: At, group: Group) -> Result<(), AuditFault> {
         let Group {
             line: _,
             event,
             outs,
             is_last,
         } = group;
+        let mut outs = self.outs_of(at, outs)?;
+        self.keep_event(site, at, event, &mut outs, is_last)
+    }
+
+    /// An event is kept by its kind. What was sent for it is taken out of `outs`.
+    fn keep_event(
+        &mut self,
+        site: &Site,
+        at: At,
+        event: Event,
+        outs: &mut Vec<(NodeNo, Message)>,
+        is_last: bool,
+    ) -> Result<(), AuditFault> {
         match event {
-            Event::Begin { nodes, moment: _ } => self.keep_begin(site, source, at, nodes),
+            Event::Begin { nodes, moment: _ } => self.keep_begin(site, at, &nodes),
             Event::Dial {
                 conn,
                 node,
                 peer,
                 label,
-            } => self.keep_conn(source, at, conn, (node, peer), label, true),
+            } => self.keep_conn(at, conn, (node, peer), label, true),
             Event::Accept {
                 conn,
                 node,
                 peer,
                 label,
-            } => self.keep_conn(source, at, conn, (node, peer), label, false),
-            Event::Opened { conn } => self.keep_opened(source, at, conn),
+            } => self.keep_conn(at, conn, (node, peer), label, false),
+            Event::Opened { conn } => self.keep_opened(at, conn),
             Event::Deliver { conn, message } => {
-                self.keep_message(site, source, at, conn, message, outs, is_last)
+                self.keep_message(site, at, conn, message, outs, is_last)
             }
-            Event::Send { conn, message } => {
-                let conn = self.conn_of(source, at, conn)?;
-                self.keep_deed(at, conn, Deed::Send(message), Vec::new(self.alloc), is_last)
-            }
-            Event::Drop { conn } => self.keep_drop(source, at, conn, outs, is_last),
+            Event::Send { conn, message } => self.keep_sent(at, conn, message, is_last),
+            Event::Drop { conn } => self.keep_drop(at, conn, outs, is_last),
             Event::Charge {
                 front,
                 job,
@@ -75,120 +77,95 @@ impl<R: Read + Drop> Audit<R> {
                 place,
                 age,
                 answer,
-            } => {
-                let finished = Finished {
-                    front,
-                    number: job,
-                    moment,
-                    place: Some(place),
-                    is_new: age == Age::New,
-                    answer,
-                };
-                self.keep_charge(source, at, finished)
-            }
+            } => self.keep_charge(
+                at,
+                Finished::charged(front, job, moment, place, age, answer),
+            ),
             Event::Refuse { front, job, answer } => {
-                let finished = Finished {
-                    front,
-                    number: job,
-                    moment: Moment(0),
-                    place: None,
-                    is_new: false,
-                    answer,
-                };
-                self.keep_charge(source, at, finished)
+                self.keep_charge(at, Finished::refused(front, job, answer))
             }
-            Event::Sweep { moment, sessions } => {
-                let seen = self.orders;
-                self.sweeps.push(Sweep {
-                    at,
-                    moment,
-                    sessions,
-                    seen,
-                })?;
-                Ok(())
-            }
-            Event::Report { line } => {
-                if let Some(from) = self.sources.get_mut(source) {
-                    from.reports.push((at, line))?;
-                }
-                Ok(())
-            }
+            Event::Sweep { moment, sessions } => self.keep_sweep(at, moment, sessions),
+            Event::Report { line } => self.keep_report(at, line),
             Event::Time { .. } | Event::Out { .. } | Event::End | Event::Lost => Ok(()),
         }
     }
 
     /// A process begins, for the first time or again.
-    fn keep_begin(
-        &mut self,
-        site: &Site,
-        source: usize,
-        at: At,
-        nodes: Vec<NodeNo>,
-    ) -> Result<(), AuditFault> {
-        let fronts = nodes.iter().all(|node| is_front(site, *node));
-        if nodes.len() != 1 && !fronts {
+    fn keep_begin(&mut self, site: &Site, at: At, nodes: &[NodeNo]) -> Result<(), AuditFault> {
+        let is_first = self.begins_first(site, at, nodes)?;
+        if let Some(from) = self.sources.get_mut(at.record) {
+            from.up.clear();
+            from.jobs.clear();
+        }
+        if is_first {
+            self.keep_names(at, nodes)?;
+        }
+        self.keep_beginning(at, is_first)
+    }
+
+    /// Whether a process of these nodes begins for the first time. Fronts do so once.
+    fn begins_first(&self, site: &Site, at: At, nodes: &[NodeNo]) -> Result<bool, AuditFault> {
+        let are_fronts = nodes.iter().all(|node| is_front(site, *node));
+        if nodes.len() != 1 && !are_fronts {
             return found(at, Why::Mixed);
         }
-        let Some(from) = self.sources.get_mut(source) else {
-            return Ok(());
+        let names = match self.sources.get(at.record) {
+            Some(from) => from.names.as_slice(),
+            None => &[],
         };
-        let is_first = from.names.is_empty();
-        if !is_first && from.names.as_slice() != nodes.as_slice() {
+        if names.is_empty() {
+            return Ok(true);
+        }
+        if names != nodes {
             return found(at, Why::OtherProcess);
         }
-        if !is_first && fronts {
+        if are_fronts {
             return found(at, Why::FrontsAgain);
         }
-        from.up.clear();
-        from.jobs.clear();
-        if is_first {
-            self.keep_names(source, at, nodes)?;
-        }
-        self.keep_beginning(source, at, is_first)
+        Ok(false)
     }
 
     /// The nodes of a process, of which no other record may be.
-    fn keep_names(&mut self, source: usize, at: At, nodes: Vec<NodeNo>) -> Result<(), AuditFault> {
-        for node in &nodes {
-            let node = *node;
-            if self.streams.iter().any(|stream| stream.node == node) {
-                return found(at, Why::TwoRecords);
-            }
-            self.streams.push(Stream {
-                source,
-                node,
-                told: Vec::new(self.alloc),
-            })?;
+    fn keep_names(&mut self, at: At, nodes: &[NodeNo]) -> Result<(), AuditFault> {
+        for node in nodes {
+            self.begin_stream(at, *node)?;
         }
-        if let Some(from) = self.sources.get_mut(source) {
-            from.names = nodes;
+        if let Some(from) = self.sources.get_mut(at.record) {
+            from.names.extend_from_slice(nodes)?;
         }
         Ok(())
     }
 
-    fn keep_beginning(&mut self, source: usize, at: At, is_first: bool) -> Result<(), AuditFault> {
-        let alloc = self.alloc;
+    /// The events of a node, of which no other record may be.
+    fn begin_stream(&mut self, at: At, node: NodeNo) -> Result<(), AuditFault> {
+        if self.streams.iter().any(|stream| stream.node == node) {
+            return found(at, Why::TwoRecords);
+        }
+        self.streams.push(Stream {
+            source: at.record,
+            node,
+            told: Vec::new(self.alloc),
+        })?;
+        Ok(())
+    }
+
+    /// That a process begins is kept for the first of its nodes.
+    fn keep_beginning(&mut self, at: At, is_first: bool) -> Result<(), AuditFault> {
+        let nobody = usize::MAX;
+        let told = Told::new(self.alloc, at, Deed::Begin { is_first }, nobody);
         let stream = self
             .streams
             .iter_mut()
-            .find(|stream| stream.source == source);
+            .find(|stream| stream.source == at.record);
         if let Some(stream) = stream {
-            stream.told.push(Told {
-                at,
-                deed: Deed::Begin { is_first },
-                conn: usize::MAX,
-                outs: Vec::new(alloc),
-                is_last: false,
-                order: None,
-                was_sent: false,
-            })?;
+            stream.told.push(told)?;
         }
         Ok(())
     }
 
     /// A connection that stands by its number in a record.
-    fn conn_of(&self, source: usize, at: At, conn: ConnId) -> Result<usize, AuditFault> {
-        let known = match self.sources.get(source) {
+    fn conn_of(&self, at: At, conn: ConnId) -> Result<usize, AuditFault> {
+        let known = match self.sources.get(at.record) {
             Some(from) => from.up.iter().find(|up| up.0 == conn),
             None => None,
         };
@@ -209,7 +186,6 @@ impl<R: Read + Drop> Audit<R> {
     /// A connection begins.
     fn keep_conn(
         &mut self,
-        source: usize,
         at: At,
         number: ConnId,
         nodes: (NodeNo, NodeNo),
@@ -217,7 +193,7 @@ impl<R: Read + Drop> Audit<R> {
         opens: bool,
     ) -> Result<(), AuditFault> {
         let place = self.conns.len();
-        let Some(from) = self.sources.get_mut(source) else {
+        let Some(from) = self.sources.get_mut(at.record) else {
             return Ok(());
         };
         let is_known = from.up.iter().any(|up| up.0 == number);
@@ -225,26 +201,14 @@ impl<R: Read + Drop> Audit<R> {
             return found(at, Why::NoSuchConnection);
         }
         from.up.push((number, place))?;
-        self.conns.push(Conn {
-            node: nodes.0,
-            peer: nodes.1,
-            label,
-            opens,
-            is_up: !opens,
-            was_dialled: false,
-            is_taken: false,
-            is_gone: false,
-            is_closing: false,
-            answers: Vec::new(self.alloc),
-            pending: 0,
-        })?;
+        self.conns.push(Conn::new(self.alloc, nodes, label, opens))?;
         let deed = if opens { Deed::Dial } else { Deed::Accept };
-        self.keep_deed(at, place, deed, Vec::new(self.alloc), false)
+        self.keep_told(Told::new(self.alloc, at, deed, place))
     }
 
     /// A node has learned that its connection is made.
-    fn keep_opened(&mut self, source: usize, at: At, number: ConnId) -> Result<(), AuditFault> {
-        let place = self.conn_of(source, at, number)?;
+    fn keep_opened(&mut self, at: At, number: ConnId) -> Result<(), AuditFault> {
+        let place = self.conn_of(at, number)?;
         let Some(conn) = self.conns.get_mut(place) else {
             return Ok(());
         };
@@ -252,21 +216,19 @@ impl<R: Read + Drop> Audit<R> {
             return found(at, Why::KnownAlready);
         }
         conn.is_up = true;
-        self.keep_deed(at, place, Deed::Opened, Vec::new(self.alloc), false)
+        self.keep_told(Told::new(self.alloc, at, Deed::Opened, place))
     }
 
     /// A connection has ended.
     fn keep_drop(
         &mut self,
-        source: usize,
         at: At,
         number: ConnId,
-        outs: Vec<(ConnId, Message)>,
+        outs: &mut Vec<(NodeNo, Message)>,
         is_last: bool,
     ) -> Result<(), AuditFault> {
-        let place = self.conn_of(source, at, number)?;
-        let outs = self.outs_of(source, at, outs)?;
-        if let Some(from) = self.sources.get_mut(source) {
+        let place = self.conn_of(at, number)?;
+        if let Some(from) = self.sources.get_mut(at.record) {
             from.up.retain(|up| up.0 != number);
         }
         let Some(conn) = self.conns.get_mut(place) else {
@@ -274,36 +236,67 @@ impl<R: Read + Drop> Audit<R> {
         };
         let was_up = conn.is_up;
         conn.is_up = false;
-        self.keep_deed(at, place, Deed::Drop { was_up }, outs, is_last)
+        let mut told = Told::new(self.alloc, at, Deed::Drop { was_up }, place);
+        told.is_last = is_last;
+        swap(&mut told.outs, outs);
+        self.keep_told(told)
+    }
+
+    /// A client has sent a message.
+    fn keep_sent(
+        &mut self,
+        at: At,
+        number: ConnId,
+        message: Message,
+        is_last: bool,
+    ) -> Result<(), AuditFault> {
+        let place = self.conn_of(at, number)?;
+        let mut told = Told::new(self.alloc, at, Deed::Send(message), place);
+        told.is_last = is_last;
+        self.keep_told(told)
     }
 
     /// A message came.
     fn keep_message(
         &mut self,
         site: &Site,
-        source: usize,
         at: At,
         number: ConnId,
         message: Message,
-        outs: Vec<(ConnId, Message)>,
+        outs: &mut Vec<(NodeNo, Message)>,
         is_last: bool,
     ) -> Result<(), AuditFault> {
-        let place = self.conn_of(source, at, number)?;
+        let (place, order) = self.arrival(site, at, number, message.header.request, outs)?;
+        let mut told = Told::new(self.alloc, at, Deed::Deliver(message), place);
+        told.order = order;
+        told.is_last = is_last;
+        swap(&mut told.outs, outs);
+        self.keep_told(told)
+    }
+
+    /// The connection that a message came on, and the number of a request that is with the workers of a front from now on.
+    fn arrival(
+        &mut self,
+        site: &Site,
+        at: At,
+        number: ConnId,
+        is_request: bool,
+        outs: &[(NodeNo, Message)],
+    ) -> Result<(usize, Option<u64>), AuditFault> {
+        let place = self.conn_of(at, number)?;
         let (node, _) = self.nodes_of(at, place)?;
-        let outs = self.outs_of(source, at, outs)?;
-        let mut order = None;
-        if is_front(site, node) {
-            if outs.is_empty() {
-                if message.header.request {
-                    order = Some(self.new_job(source, node, place)?);
-                }
-            } else {
-                self.keep_answers(place, &outs)?;
-            }
+        if !is_front(site, node) {
+            return Ok((place, None));
         }
-        self.keep_deed(at, place, Deed::Deliver(message), outs, is_last)?;
-        self.number_last(node, order);
-        Ok(())
+        if !outs.is_empty() {
+            self.keep_answers(place, outs)?;
+            return Ok((place, None));
+        }
+        if !is_request {
+            return Ok((place, None));
+        }
+        let order = self.new_job(at, node, place)?;
+        Ok((place, Some(order)))
     }
 
     /// What a front has answered at once.
@@ -316,149 +309,58 @@ impl<R: Read + Drop> Audit<R> {
         Ok(())
     }
 
-    /// A request is with the workers of a front: its number among all.
-    fn new_job(&mut self, source: usize, front: NodeNo, place: usize) -> Result<u64, AuditFault> {
-        let order = self.orders;
-        self.orders = order.saturating_add(1);
-        if let Some(from) = self.sources.get_mut(source) {
-            let number = match from.counts.iter_mut().find(|count| count.0 == front) {
-                Some(count) => {
-                    count.1 = count.1.saturating_add(1);
-                    count.1
-                }
-                None => {
-                    from.counts.push((front, 1))?;
-                    1
-                }
-            };
-            from.jobs.push(Numbered {
-                front,
-                number,
-                order,
-            })?;
-        }
-        if let Some(conn) = self.conns.get_mut(place) {
-            conn.pending = conn.pending.saturating_add(1);
-        }
-        self.jobs.push(Job {
-            order,
-            front,
-            conn: place,
-            is_told: false,
-            where_it_is: Whereabouts::Nowhere,
-        })?;
-        Ok(order)
-    }
-
-    /// The event that was kept last of a node hands this request over.
-    fn number_last(&mut self, node: NodeNo, order: Option<u64>) {
-        let stream = self.streams.iter_mut().find(|stream| stream.node == node);
-        if let Some(stream) = stream {
-            if let Some(told) = stream.told.last_mut() {
-                told.order = order;
-            }
-        }
-    }
-
     /// What was sent, by the nodes at the other ends.
     fn outs_of(
         &self,
-        source: usize,
         at: At,
         outs: Vec<(ConnId, Message)>,
     ) -> Result<Vec<(NodeNo, Message)>, AuditFault> {
         let mut told = Vec::new(self.alloc);
         for (number, message) in outs {
-            let place = self.conn_of(source, at, number)?;
-            let (_, peer) = self.nodes_of(at, place)?;
+            let peer = self.peer_on(at, number)?;
             told.push((peer, message))?;
         }
         Ok(told)
     }
 
+    /// The node at the other end of a connection that stands.
+    fn peer_on(&self, at: At, number: ConnId) -> Result<NodeNo, AuditFault> {
+        let place = self.conn_of(at, number)?;
+        let (_, peer) = self.nodes_of(at, place)?;
+        Ok(peer)
+    }
+
     /// An event is kept for the node that it is of: what the nodes of one process do is in no order of its own.
-    fn keep_deed(
-        &mut self,
-        at: At,
-        conn: usize,
-        deed: Deed,
-        outs: Vec<(NodeNo, Message)>,
-        is_last: bool,
-    ) -> Result<(), AuditFault> {
-        let (node, _) = self.nodes_of(at, conn)?;
-        let stream = self.streams.iter_mut().find(|stream| stream.node == node);
-        if let Some(stream) = stream {
-            stream.told.push(Told {
-                at,
-                deed,
-                conn,
-                outs,
-                is_last,
-                order: None,
-                was_sent: false,
-            })?;
+    fn keep_told(&mut self, told: Told) -> Result<(), AuditFault> {
+        let (node, _) = self.nodes_of(told.at, told.conn)?;
+        if let Some(stream) = self.stream_mut(node) {
+            stream.told.push(told)?;
         }
         Ok(())
     }
 
-    /// A line tells what became of a request.
-    fn keep_charge(&mut self, source: usize, at: At, finished: Finished) -> Result<(), AuditFault> {
-        let Some(order) = self.take_number(source, finished.front, finished.number) else {
-            return found(at, Why::NoJob);
-        };
-        let Some(job) = self.jobs.iter_mut().find(|job| job.order == order) else {
-            return found(at, Why::NoJob);
-        };
-        job.is_told = true;
-        let conn = job.conn;
-        let mut was_posted = false;
-        if let (Some(conn), Some(answer)) = (self.conns.get_mut(conn), &finished.answer) {
-            was_posted = conn.is_up;
-            if was_posted {
-                conn.answers.push(answer.clone()?)?;
-            }
-        }
-        let charge = Charge {
+    /// The events of a node.
+    fn stream_mut(&mut self, node: NodeNo) -> Option<&mut Stream> {
+        self.streams.iter_mut().find(|stream| stream.node == node)
+    }
+
+    /// A sweep has ended so many sessions.
+    fn keep_sweep(&mut self, at: At, moment: Moment, sessions: u64) -> Result<(), AuditFault> {
+        let seen = self.orders;
+        self.sweeps.push(Sweep {
             at,
-            order,
-            moment: finished.moment,
-            place: finished.place,
-            is_new: finished.is_new,
-            answer: finished.answer,
-            was_posted,
-            seen: self.orders,
-        };
-        self.sort_charge(charge)
+            moment,
+            sessions,
+            seen,
+        })?;
+        Ok(())
     }
 
-    /// The number among all of a front's job, which is told now.
-    fn take_number(&mut self, source: usize, front: NodeNo, number: u64) -> Option<u64> {
-        let from = self.sources.get_mut(source)?;
-        let place = from
-            .jobs
-            .iter()
-            .position(|job| job.front == front && job.number == number)?;
-        if place >= from.jobs.len() {
-            return None;
+    /// A line of what the book has come to.
+    fn keep_report(&mut self, at: At, line: Vec<u8>) -> Result<(), AuditFault> {
+        if let Some(from) = self.sources.get_mut(at.record) {
+            from.reports.push((at, line))?;
         }
-        Some(from.jobs.remove(place).order)
-    }
-
-    /// A new request waits for its place in the book; a repeat for that of the first.
-    fn sort_charge(&mut self, charge: Charge) -> Result<(), AuditFault> {
-        let Some(place) = charge.place else {
-            self.kept.push(charge)?;
-            return Ok(());
-        };
-        if !charge.is_new {
-            self.kept.push(charge)?;
-            return Ok(());
-        }
-        let is_told = self.charges.iter().any(|other| other.place == Some(place));
-        if is_told || place < self.place {
-            return found(charge.at, Why::PlaceTwice { place });
-        }
-        self.charges.push(charge)?;
         Ok(())
     }
 

@@ -2,7 +2,7 @@
 //! each client received what the farm gives, that each request was charged as it charges, and what the book comes to. Where
 //! the records contradict one another or the farm, it tells the first place.
 //!
-//! - `source`: a record, event by event. `keeping`: what is read is kept until it is played.
+//! - `source`: a record, event by event. `keeping`, `requests`: what is read is kept until it is played.
 //! - `playing`, `dials`, `fronts`, `book`: whether an event may happen, and then it has. `run`: all of them.
 //! - `audit`, `conns`, `told`: what there is of all that. `steps`: the lines of a schedule.
 #![tactic(auto)]
@@ -17,6 +17,7 @@ mod fault;
 mod fronts;
 mod keeping;
 mod playing;
+mod requests;
 mod run;
 mod source;
 mod steps;
@@ -77,6 +78,17 @@ fn play_files<W: Write>(
     requires { IsChecked site.now }
 {
     let mut audit = Audit::new(rt.alloc(), site, prints)?;
+    play(rt, site, &mut audit, records, writer)
+}
+
+/// Has the records of these files played, and writes what the audit comes to, unless the steps are asked for.
+fn play<W: Write>(
+    rt: &HostRuntime,
+    site: &Site,
+    audit: &mut Audit<File>,
+    records: &[String],
+    writer: &mut W,
+) -> Result<(), AuditFault> {
     for (record, path) in records.iter().enumerate() {
         let Ok(file) = File::open(rt, path.as_str()) else {
             return Err(AuditFault::RecordFile { record });
@@ -84,13 +96,14 @@ fn play_files<W: Write>(
         audit.add(site, file)?;
     }
     audit.run(site, writer)?;
-    if !prints {
-        let text = told_of(rt, &audit)?;
-        if write_text(writer, text.as_bytes()).is_err() {
-            return Err(AuditFault::Write);
-        }
+    if audit.prints {
+        return Ok(());
     }
-    Ok(())
+    let text = told_of(rt, audit)?;
+    match write_text(writer, text.as_bytes()) {
+        Ok(()) => Ok(()),
+        Err(_) => Err(AuditFault::Write),
+    }
 }
 
 /// Does what the words of the command line ask for.

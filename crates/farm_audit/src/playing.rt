@@ -30,16 +30,7 @@ impl<R: Read + Drop> Audit<R> {
             Deed::Opened => self.opened(site, at, conn),
             Deed::Send(message) => {
                 let (client, to) = self.nodes_of(at, conn)?;
-                let message = message.clone()?;
-                self.play(
-                    site,
-                    at,
-                    Step::Send {
-                        client,
-                        to,
-                        message,
-                    },
-                )?;
+                self.send(site, at, client, to, message)?;
                 Ok(true)
             }
             Deed::Deliver(_) => self.deliver(site, told),
@@ -48,6 +39,24 @@ impl<R: Read + Drop> Audit<R> {
                 self.drop_conn(site, told, was_up)
             }
         }
+    }
+
+    /// A client sends a message to a node.
+    fn send(
+        &mut self,
+        site: &Site,
+        at: At,
+        client: NodeNo,
+        to: NodeNo,
+        message: &Message,
+    ) -> Result<(), AuditFault> {
+        let message = message.clone()?;
+        let step = Step::Send {
+            client,
+            to,
+            message,
+        };
+        self.play(site, at, step)
     }
 
     /// A process begins again: a relay crashes, and a client drops all its connections.
@@ -95,16 +104,7 @@ impl<R: Read + Drop> Audit<R> {
             return Ok(false);
         };
         if !told.was_sent && self.is_silent(site, at, peer)? {
-            let message = message.clone()?;
-            self.play(
-                site,
-                at,
-                Step::Send {
-                    client: peer,
-                    to: node,
-                    message,
-                },
-            )?;
+            self.send(site, at, peer, node, message)?;
             told.was_sent = true;
         }
         let place = match self.next_place(site, at, conn, message)? {
@@ -165,8 +165,7 @@ impl<R: Read + Drop> Audit<R> {
         front: NodeNo,
         message: &Message,
     ) -> Result<Next, AuditFault> {
-        let sender = self.joint(node, front).and_then(|joint| joint.side(front));
-        let Some(sender) = sender else {
+        let Some(sender) = self.side_of(front, node) else {
             return Ok(Next::NotYet);
         };
         let flight = self.flight(front, node);
@@ -214,7 +213,18 @@ impl<R: Read + Drop> Audit<R> {
     ) -> Result<(), AuditFault> {
         let before = self.flights_from(site, node)?;
         self.play(site, told.at, step)?;
-        for (peer, since) in &before {
+        self.compare_all(site, told, node, &before)
+    }
+
+    /// What a node has sent beyond what was in flight to each other one is what its record tells.
+    fn compare_all(
+        &mut self,
+        site: &Site,
+        told: &Told,
+        node: NodeNo,
+        before: &[(NodeNo, usize)],
+    ) -> Result<(), AuditFault> {
+        for (peer, since) in before {
             self.compare(told, node, *peer, *since)?;
             self.hand_to_silent(site, told.at, node, *peer, *since)?;
         }
@@ -279,10 +289,10 @@ impl<R: Read + Drop> Audit<R> {
 
     /// A front drops a connection that it has lost once all requests are charged that came on it.
     pub fn drop_if_done(&mut self, site: &Site, at: At, conn: usize) -> Result<(), AuditFault> {
-        let is_done = self
-            .conns
-            .get(conn)
-            .map_or(false, |conn| conn.is_closing && conn.pending == 0);
+        let is_done = match self.conns.get(conn) {
+            Some(conn) => conn.is_closing && conn.pending == 0,
+            None => false,
+        };
         if is_done {
             self.drop_here(site, at, conn)?;
         }

@@ -78,11 +78,17 @@ impl<R: Read + Drop> Audit<R> {
 
     /// Takes out the next event of a node, where one was read. More is read where none of its record is left.
     fn take_told(&mut self, site: &Site, stream: usize) -> Result<Option<Told>, AuditFault> {
-        let Some(source) = self.streams.get(stream).map(|stream| stream.source) else {
-            return Ok(None);
+        let source = match self.streams.get(stream) {
+            Some(of_node) => of_node.source,
+            None => return Ok(None),
         };
         self.refill(site, source)?;
         Ok(self.take_head(stream))
+    }
+
+    /// The next event of a node that was read.
+    pub fn head(&self, stream: usize) -> Option<&Told> {
+        self.streams.get(stream)?.told.first()
     }
 
     /// Takes out the next event of a node that was read.
@@ -106,11 +112,7 @@ impl<R: Read + Drop> Audit<R> {
     fn advance(&mut self, site: &Site, stream: usize) -> Result<bool, AuditFault> {
         let mut went = false;
         for _ in 0..u64::MAX {
-            let Some(mut told) = self.take_told(site, stream)? else {
-                return Ok(went);
-            };
-            if !self.happens(site, stream, &mut told)? {
-                self.put_back(stream, told)?;
+            if !self.advance_one(site, stream)? {
                 return Ok(went);
             }
             went = true;
@@ -118,11 +120,23 @@ impl<R: Read + Drop> Audit<R> {
         Ok(went)
     }
 
+    /// Plays the next event of a node if it may happen. Whether there was one, and it did.
+    fn advance_one(&mut self, site: &Site, stream: usize) -> Result<bool, AuditFault> {
+        let Some(mut told) = self.take_told(site, stream)? else {
+            return Ok(false);
+        };
+        let happened = self.happens(site, stream, &mut told)?;
+        if !happened {
+            self.put_back(stream, told)?;
+        }
+        Ok(happened)
+    }
+
     /// Plays an event if it may happen.
     fn happens(&mut self, site: &Site, stream: usize, told: &mut Told) -> Result<bool, AuditFault> {
         if let Deed::Begin { is_first: false } = &told.deed {
-            let node = self.streams.get(stream).map(|stream| stream.node);
-            if let Some(node) = node {
+            if let Some(of_node) = self.streams.get(stream) {
+                let node = of_node.node;
                 self.begin_again(site, told.at, node)?;
             }
             return Ok(true);
@@ -160,6 +174,12 @@ impl<R: Read + Drop> Audit<R> {
             .first()
     }
 
+    /// The next event of the node that the node of this one may wait for.
+    fn waited_for(&self, told: &Told) -> Option<&Told> {
+        let conn = self.conns.get(told.conn)?;
+        self.head_of(conn.peer)
+    }
+
     /// From the first node that waits to the one that it waits for, and so on: where the event stands that the last one waits
     /// to play.
     fn first_that_waits(&self) -> Option<At> {
@@ -170,8 +190,7 @@ impl<R: Read + Drop> Audit<R> {
             .count();
         let mut head = self.streams.iter().find_map(|stream| stream.told.first())?;
         for _ in 0..waiting {
-            let peer = self.conns.get(head.conn).map(|conn| conn.peer);
-            match peer.and_then(|peer| self.head_of(peer)) {
+            match self.waited_for(head) {
                 Some(next) => head = next,
                 None => return Some(head.at),
             }
@@ -182,10 +201,12 @@ impl<R: Read + Drop> Audit<R> {
     /// What records tell of the book is what it comes to.
     fn look_at_reports(&self) -> Result<(), AuditFault> {
         let played = report(self.alloc, self.world.book())?;
-        let lines: Vec<&[u8]> = played
-            .as_bytes()
-            .split(|octet| *octet == b'\n')
-            .collect(self.alloc)?;
+        self.compare_reports(played.as_bytes())
+    }
+
+    /// What records tell of the book is this report.
+    fn compare_reports(&self, played: &[u8]) -> Result<(), AuditFault> {
+        let lines: Vec<&[u8]> = played.split(|octet| *octet == b'\n').collect(self.alloc)?;
         for source in &self.sources {
             look_at_lines(&source.reports, &lines)?;
         }

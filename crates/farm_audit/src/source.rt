@@ -4,7 +4,7 @@ use crate::fault::{At, AuditFault, of_group};
 use dia_base::{ConnId, NodeNo};
 use farm_base::Site;
 use record_reader::{Group, Groups};
-use std::alloc::Global;
+use std::alloc::{AllocError, Global};
 use std::io::Read;
 
 /// A request that is with the workers of a front: its number there, and its place among all requests that were told.
@@ -49,6 +49,18 @@ impl<R: Read> Source<R> {
     /// Whether it was read to its end.
     pub fn is_at_end(&self) -> bool {
         self.groups.is_at_end
+    }
+
+    /// The number that the next request of a front has. They count from 1.
+    pub fn next_number(&mut self, front: NodeNo) -> Result<u64, AllocError> {
+        for count in self.counts.iter_mut() {
+            if count.0 == front {
+                count.1 = count.1.saturating_add(1);
+                return Ok(count.1);
+            }
+        }
+        self.counts.push((front, 1))?;
+        Ok(1)
     }
 
     /// Where the line stands that was read last.

@@ -3,6 +3,7 @@
 use crate::fault::At;
 use dia_base::{Moment, NodeNo};
 use dia_message::Message;
+use std::alloc::{AllocError, Global};
 
 /// What a node did or what happened to it.
 #[derive(Drop)]
@@ -30,6 +31,21 @@ pub struct Told {
     pub order: Option<u64>,
     /// A client without a record has sent the message already.
     pub was_sent: bool,
+}
+
+impl Told {
+    /// An event on a connection, for which nothing was sent, and behind which more is told.
+    pub fn new(alloc: Global, at: At, deed: Deed, conn: usize) -> Self {
+        Told {
+            at,
+            deed,
+            conn,
+            outs: Vec::new(alloc),
+            is_last: false,
+            order: None,
+            was_sent: false,
+        }
+    }
 }
 
 /// The events of a node that were read and are not played.
@@ -96,6 +112,17 @@ pub struct FrontNow {
 }
 
 impl FrontNow {
+    /// A front with so many workers, which has nothing in hand.
+    pub fn new(alloc: Global, node: NodeNo, count: usize) -> Result<Self, AllocError> {
+        let mut workers = Vec::new(alloc);
+        workers.resize(count, None::<u64>)?;
+        Ok(FrontNow {
+            node,
+            queue: Vec::new(alloc),
+            workers,
+        })
+    }
+
     /// How many workers are idle.
     pub fn idle(&self) -> usize {
         self.workers
