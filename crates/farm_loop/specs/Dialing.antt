@@ -1,6 +1,12 @@
--- When a connection is made that a process makes itself.
-use Rattle.std.specs.Prelude.{◌≡◌, ◌≤◌, ◌+◌, ℕ, min}
+-- When a connection is made that a process makes itself, and whether it was tried.
+use Rattle.std.specs.Prelude.{◌≡◌, ◌≤◌, ◌+◌, ◌==◌, ◌&&◌, ◌||◌, ℕ, Bool, true, false, List, min}
+use Rattle.std.specs.List.{list_any}
+use Rattle.dia_base.specs.declared.number.ConnId.{ConnId}
 use Rattle.dia_base.specs.declared.number.Moment.{Moment}
+use Rattle.farm_serve.specs.declared.link.Link.{Link}
+use Rattle.farm_serve.specs.declared.link.Standing.{Standing}
+use Rattle.farm_serve.specs.declared.link.Standing.TheVariants.{Waiting, Up, Over}
+use Rattle.farm_loop.specs.declared.dial.Dial.{Dial}
 use Rattle.farm_loop.specs.declared.dial.DialState.{DialState}
 use Rattle.farm_loop.specs.declared.dial.DialState.TheVariants.{Due, Made, Nowhere}
 
@@ -13,3 +19,23 @@ IsDue Nowhere moment = ⊥
 -- so many milliseconds later; the last moment that there is, where that is behind it
 abbrev pub IsLater : Moment → ℕ → Moment → Type 0
 IsLater moment interval later = later.0 ≡ min (moment.0 + interval) 18446744073709551615
+
+-- ---- what a node waits for before it listens
+
+-- the node here was told that the one at the other end is up; a connection on which that was refused has ended
+abbrev pub has_come_up : Standing → Bool
+has_come_up Waiting = false
+has_come_up (Up peer) = true
+has_come_up (Over peer) = true
+
+abbrev pub is_up_on : {R W : Type 0} → ConnId → Link R W → Bool
+is_up_on conn link = (link.id.0 == conn.0) && has_come_up link.standing
+
+abbrev pub is_tried_at : {R W : Type 0} → List (Link R W) → DialState → Bool
+is_tried_at links (Due at) = false
+is_tried_at links (Made conn) = list_any (is_up_on conn) links
+is_tried_at links Nowhere = true
+
+-- It has failed or ended once, the node at its other end has come up, or nobody knows where it is to be made. What the log is told has no part in it.
+abbrev pub is_tried : {R W : Type 0} → List (Link R W) → Dial → Bool
+is_tried links dial = dial.has_ended || is_tried_at links dial.state

@@ -1,9 +1,11 @@
 //! The connections that a process makes itself.
 
 ghost use Rattle.std.specs.Prelude.{◌≡◌, ◌↔◌, IsTrue, true, false};
-ghost use Rattle.farm_loop.specs.Dialing.{IsDue, IsLater};
+ghost use Rattle.std.specs.List.{list_all, list_any};
+ghost use Rattle.farm_loop.specs.Dialing.{IsDue, IsLater, has_come_up, is_tried, is_up_on};
 
 use dia_base::{ConnId, Moment, NodeNo};
+use farm_serve::{Link, Standing};
 
 /// Where a connection that is to be made stands.
 #[derive(Clone, Copy, Debug, PartialEq, Eq)]
@@ -22,32 +24,29 @@ pub struct Dial {
     pub local: NodeNo,
     pub peer: NodeNo,
     pub state: DialState,
-    /// Whether it has come up or failed once.
-    pub was_tried: bool,
+    /// Whether it has failed or ended once.
+    pub has_ended: bool,
 }
 
 impl Dial {
-    /// A connection that is to be made at once, where there is an address; a node without one counts as tried.
+    /// A connection that is to be made at once, where there is an address, and nowhere without one.
     pub fn new(local: NodeNo, peer: NodeNo, has_address: bool) -> Self
         ensures ends { (result.local ≡ local) × (result.peer ≡ peer) }
-        ensures due { IsTrue has_address → (result.state ≡ DialState.Due (record { 0 = 0 })) × (result.was_tried ≡ false) }
-        ensures nowhere { has_address ≡ false → (result.state ≡ DialState.Nowhere) × (result.was_tried ≡ true) }
+        ensures due { IsTrue has_address → result.state ≡ DialState.Due (record { 0 = 0 }) }
+        ensures nowhere { has_address ≡ false → result.state ≡ DialState.Nowhere }
+        ensures fresh { result.has_ended ≡ false }
     {
-        if has_address {
-            let at = Moment(0);
-            Dial {
-                local,
-                peer,
-                state: DialState::Due { at },
-                was_tried: false,
-            }
+        let at = Moment(0);
+        let state = if has_address {
+            DialState::Due { at }
         } else {
-            Dial {
-                local,
-                peer,
-                state: DialState::Nowhere,
-                was_tried: true,
-            }
+            DialState::Nowhere
+        };
+        Dial {
+            local,
+            peer,
+            state,
+            has_ended: false,
         }
     }
 
@@ -71,18 +70,24 @@ impl Dial {
     /// It has failed, or has ended: it is made again so many milliseconds later.
     pub fn fail(&mut self, moment: Moment, interval: u32)
         ensures state { (later : Moment) × (self.new.state ≡ DialState.Due later) × IsLater moment interval later }
-        ensures others { self.new ≡ record self.old { state = self.new.state; was_tried = true } }
+        ensures others { self.new ≡ record self.old { state = self.new.state; has_ended = true } }
     {
         let at = Moment(moment.0.saturating_add(u64::from(interval)));
         self.state = DialState::Due { at };
-        self.was_tried = true;
+        self.has_ended = true;
     }
 
-    /// It has come up.
-    pub fn come_up(&mut self)
-        ensures { self.new ≡ record self.old { was_tried = true } }
+    /// Whether it was tried, by the connections that there are: it has failed or ended once, or the node at its other end
+    /// has come up, or nobody knows where it is to be made.
+    pub fn is_tried<R, W>(&self, links: &[Link<R, W>]) -> bool
+        ensures { result ≡ is_tried links.now self.now }
     {
-        self.was_tried = true;
+        self.has_ended
+            || match self.state {
+                DialState::Nowhere => true,
+                DialState::Made { conn } => has_come_up_on(links, conn),
+                DialState::Due { .. } => false,
+            }
     }
 
     /// Whether it was made under this number.
@@ -93,5 +98,36 @@ impl Dial {
             DialState::Made { conn: made } => made.0 == conn.0,
             DialState::Due { .. } | DialState::Nowhere => false,
         }
+    }
+}
+
+/// Whether each connection was tried, by the connections that there are. A node listens once this holds.
+pub fn are_tried<R, W>(dials: &[Dial], links: &[Link<R, W>]) -> bool
+    ensures { result ≡ list_all (is_tried links.now) dials.now }
+{
+    dials.iter().all(|dial| dial.is_tried(links))
+}
+
+/// Whether the node at the other end of the connection with this number has come up.
+fn has_come_up_on<R, W>(links: &[Link<R, W>], conn: ConnId) -> bool
+    ensures { result ≡ list_any (is_up_on conn) links.now }
+{
+    links.iter().any(|link| is_up_on(link, conn))
+}
+
+/// Whether this is that connection, and the node at its other end has come up.
+fn is_up_on<R, W>(link: &Link<R, W>, conn: ConnId) -> bool
+    ensures { result ≡ is_up_on conn link.now }
+{
+    link.id.0 == conn.0 && has_come_up(link.standing)
+}
+
+/// Whether the node here was told that the one at the other end is up.
+fn has_come_up(standing: Standing) -> bool
+    ensures { result ≡ has_come_up standing }
+{
+    match standing {
+        Standing::Waiting => false,
+        Standing::Up { .. } | Standing::Over { .. } => true,
     }
 }

@@ -11,7 +11,8 @@
 //! - [`LoopFault`]: why it cannot go on.
 //!
 //! What a socket gives or takes, and what the system reports, no contract can say: all of this is proved safe, `Dial` is
-//! proved to be made when it is due, `Pause` to let each connection be read by its rule, and the rest is tested.
+//! proved to be made when it is due and to be tried by its definition ([`are_tried`]), `Pause` to let each connection be read
+//! by its rule, and the rest is tested.
 #![tactic(auto)]
 
 mod dial;
@@ -24,7 +25,7 @@ mod port;
 mod sockets;
 mod tell;
 
-pub use dial::{Dial, DialState};
+pub use dial::{Dial, DialState, are_tried};
 use farm_net::Counted;
 use farm_serve::Serving;
 pub use fault::LoopFault;

@@ -1,6 +1,10 @@
 //! The loop of a process: sockets, its node with its connections, and the time.
 
-use crate::dial::{Dial, DialState};
+ghost use Rattle.std.specs.Prelude.{◌≡◌};
+ghost use Rattle.std.specs.List.{list_all};
+ghost use Rattle.farm_loop.specs.Dialing.{is_tried};
+
+use crate::dial::{Dial, DialState, are_tried};
 use crate::fault::LoopFault;
 use crate::half::{Half, halves};
 use crate::outgoing::Outgoing;
@@ -15,7 +19,7 @@ use farm_net::Counted;
 use farm_node::Node;
 use farm_place::{Place, socket_of};
 use farm_record::{Event, Recorder};
-use farm_serve::{LocalNode, NOTE_LIMIT, Note, Refusal, Serving};
+use farm_serve::{LocalNode, NOTE_LIMIT, Refusal, Serving};
 use log::Log;
 use mio::net::TcpStream;
 use std::alloc::Global;
@@ -63,6 +67,8 @@ pub struct Live<N> {
     later: Vec<Unread>,
     /// Which connections are read while requests wait to be written on others.
     outgoing: Outgoing,
+    /// How many lines of the log were missing when that was last told.
+    dropped: u64,
     timer: Timer,
     interval: u32,
 }
@@ -153,6 +159,7 @@ impl<N: Node + Drop> Live<N> {
             again: Vec::new(alloc),
             later: Vec::new(alloc),
             outgoing: Outgoing::new(alloc, site.watchdog, moment),
+            dropped: 0,
             timer,
             interval: site.watchdog,
         })
@@ -192,6 +199,7 @@ impl<N: Node + Drop> Live<N> {
             again: _,
             later: _,
             outgoing: _,
+            dropped: _,
             timer: _,
             interval: _,
         } = self;
@@ -593,15 +601,20 @@ impl<N: Node + Drop> Live<N> {
             let Some(note) = self.serving.take_note() else {
                 return;
             };
-            if let Note::Up { conn, .. } = note {
-                for dial in self.dials.iter_mut() {
-                    if dial.is_made(conn) {
-                        dial.come_up();
-                    }
-                }
-            }
             tell::note(log, site, note);
         }
+        let dropped = self.serving.notes_dropped();
+        if self.dropped < dropped {
+            tell::dropped(log, dropped - self.dropped);
+            self.dropped = dropped;
+        }
+    }
+
+    /// Whether each connection of its own was tried.
+    fn has_tried(&self) -> bool
+        ensures { result ≡ list_all (is_tried self.now.serving.desk.links.items) self.now.dials.items }
+    {
+        are_tried(&self.dials, self.serving.links())
     }
 
     /// Listens, once each connection of its own has come up or failed.
@@ -611,7 +624,7 @@ impl<N: Node + Drop> Live<N> {
         log: &L,
         site: &Site,
     ) -> Result<(), LoopFault> {
-        if self.listens || !self.dials.iter().all(|dial| dial.was_tried) {
+        if self.listens || !self.has_tried() {
             return Ok(());
         }
         self.listens = true;

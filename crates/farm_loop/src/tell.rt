@@ -89,6 +89,11 @@ fn refusal<L: Log>(log: &L, conn: ConnId, code: u32) {
     info!(log; target: "farm", "connection {}: a request is refused: {code}", conn.0);
 }
 
+/// So many lines are missing here: more happened in a turn than the log is told, or memory was missing.
+pub fn dropped<L: Log>(log: &L, count: u64) {
+    warn!(log; target: "farm", "{count} lines are missing here: too much happened at once");
+}
+
 /// Something that has happened to connections.
 pub fn note<L: Log>(log: &L, site: &Site, note: Note) {
     match note {

@@ -363,7 +363,9 @@ impl<N: Node, R: Read + Device, W: Write + Device> Serving<N, R, W> {
     }
 
     /// All connections, to be looked at.
-    pub fn links(&self) -> &[Link<R, W>] {
+    pub fn links(&self) -> &[Link<R, W>]
+        ensures { result.now ≡ self.now.desk.links.items }
+    {
         &self.desk.links
     }
 
