@@ -14,7 +14,6 @@ use Rattle.farm_base.specs.declared.site.Link.{Link}
 use Rattle.farm_base.specs.declared.site.Node.{Node}
 use Rattle.farm_base.specs.declared.site.Route.{Route}
 use Rattle.farm_base.specs.declared.site.Site.{Site}
-use Rattle.farm_base.specs.FrontProfile.{front_profile}
 use Rattle.farm_model.specs.Run.{Past, Transition}
 use Rattle.farm_model.specs.World.{WorldState, front_at, relay_at}
 
@@ -24,7 +23,10 @@ use Rattle.farm_model.specs.World.{WorldState, front_at, relay_at}
 pub record IsFrontOf (site : Site) (node : Node) (front : FrontState) : Type 0 where
   pub name : front.site.name ≡ node.name
   pub realm : front.site.realm ≡ site.realm
-  pub profile : front.site.profile ≡ front_profile site
+  -- the vendors whose AVPs it knows, the AVPs that it knows beside the dictionary, and the deviations that it tolerates
+  pub vendors : front.site.profile.vendors ≡ site.vendors
+  pub known : front.site.profile.known ≡ site.known
+  pub tolerated : front.site.profile.tolerated ≡ site.tolerate
   pub queue : front.site.queue ≡ site.queue
   pub workers : front.site.workers ≡ site.workers
   -- and so many there are

@@ -120,7 +120,9 @@ state_set_up {site} {w = w} wired stand runs = record {
         as_said = record {
           name = ap (λ (f : FrontSite). f.name) site_is ∙ ap name_in there;
           realm = ap (λ (f : FrontSite). f.realm) site_is;
-          profile = ap (λ (f : FrontSite). f.profile) site_is;
+          vendors = ap (λ (f : FrontSite). f.profile.vendors) site_is;
+          known = ap (λ (f : FrontSite). f.profile.known) site_is;
+          tolerated = ap (λ (f : FrontSite). f.profile.tolerated) site_is;
           queue = ap (λ (f : FrontSite). f.queue) site_is;
           workers = ap (λ (f : FrontSite). f.workers) site_is;
           working = s.as_said;
