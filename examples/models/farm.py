@@ -71,8 +71,13 @@ def scattered():
     return choose
 
 
+def as_the_program():
+    """Rising with the highest bit set, by the relays themselves (`RisingRelay`)."""
+    return
+
+
 # Ways in which relays may choose Hop-by-Hop Identifiers.
-CHOICES = [lowest, highest, rising, kept, scattered]
+CHOICES = [lowest, highest, rising, kept, scattered, as_the_program]
 
 
 def stored_schedules():

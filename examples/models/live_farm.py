@@ -7,11 +7,12 @@ that it has gone. A process that is killed leaves a record that may end in the m
 """
 from collections import deque
 from dataclasses import dataclass, field
+from zlib import crc32
 
 from book import Book, Full
 from credit_control import Refused, credit_control_answer, request_under
 from diameter import TOO_BUSY, refusal
-from nodes import SlabRelay
+from nodes import RisingRelay
 from records import beginning, spelled
 from site_data import CLIENT, FRONT, RELAY
 
@@ -76,7 +77,8 @@ class Process:
         self.is_alive, self.made, self.ends, self.lines, self.heard = True, 0, {}, [], []
         self.lines.append(beginning(self.names, self.farm.moment))
         if self.kind == RELAY:
-            self.relay = SlabRelay(self.names[0], self.farm.site)
+            self.relay = RisingRelay(self.names[0], self.farm.site)
+            self.relay.number_from(crc32(f"{self.names[0]} {self.starts}".encode()))
         if self.kind == FRONT:
             self.pools = {name: Pool(name, self.farm.site) for name in self.names}
 

@@ -254,30 +254,32 @@ class Relay:
         return [self.forward(self.up[peer], pending.origin, request, hop)]
 
 
-class SlabRelay(Relay):
-    """A relay that chooses identifiers as the program does: places in one table for all connections.
+HIGHEST_BIT = 2**31
 
-    The place that became free last comes first, then the least that was never in use. A request that goes out again
-    stays where it is, and after a restart no place was ever in use.
+# How many identifiers that follow one another differ in their low bits.
+PLACES = 2**15
+
+
+class RisingRelay(Relay):
+    """A relay that chooses identifiers as the program does: they rise by one, for all connections together.
+
+    The highest bit is set. One whose low bits a pending request has is passed over. A request that goes out again keeps
+    its own, and a restart goes on from where it was.
     """
 
     def __init__(self, name, site):
+        self.count = 0
         super().__init__(name, site, choose=None)
 
-    def restart(self):
-        super().restart()
-        self.places, self.free = 0, []
-
-    def settled(self, conn, hop):
-        pending = super().settled(conn, hop)
-        self.free += [hop] if pending else []
-        return pending
+    def number_from(self, start):
+        """Identifiers rise from another start from now on."""
+        self.count = start % HIGHEST_BIT
 
     def identifier(self, _conn, old):
         if old is not None:
-            self.free.remove(old)
             return old
-        if self.free:
-            return self.free.pop()
-        self.places += 1
-        return self.places - 1
+        taken = {hop % PLACES for _, hop in self.pending}
+        while self.count % PLACES in taken:
+            self.count += 1
+        self.count += 1
+        return HIGHEST_BIT + (self.count - 1) % HIGHEST_BIT

@@ -181,7 +181,7 @@ class Audit:
         self.links, self.dials, self.charges, self.kept, self.sweeps, self.open = {}, {}, {}, [], deque(), {}
         self.jobs_told, self.conns_told, self.place, self.short, self.events, self.taken = 0, 0, 0, set(), 0, {}
         self.fronts = {name: FrontState(site.workers) for name, kind in site.nodes.items() if kind == FRONT}
-        self.readers = []
+        self.readers, self.numbered = [], set()
         self.owners = {}
         for file, octets in files:
             self.readers.append(Reader(self, file, octets))
@@ -255,6 +255,7 @@ class Audit:
             for conn in conns:
                 conn.is_gone = conn.is_gone or node == name
         if self.site.nodes[name] == RELAY:
+            self.numbered.discard(name)
             self.play(event, "crash", name)
             for client in self.silent_at(event, name):
                 self.play(event, "drop", client, name)
@@ -411,8 +412,17 @@ class Audit:
             return False
         if self.site.nodes[node] == FRONT:
             return self.arrive_at_front(event, conn, message, place)
+        if self.site.nodes[node] == RELAY and message.is_request:
+            self.learn_start(event, node)
         self.react(event, conn.node, "deliver", peer, node, place)
         return True
+
+    def learn_start(self, event, name):
+        """The first identifier that a relay gives since it began is its start, which it drew by itself."""
+        request = next((out for _, out in event.outs or [] if out.is_request), None)
+        if request and name not in self.numbered:
+            self.world.nodes[name].number_from(request.hop)
+            self.numbered.add(name)
 
     def place_of(self, event, conn, message):
         """Where the message is in flight that arrives next; None where it was not sent yet."""

@@ -10,7 +10,7 @@ from dataclasses import dataclass
 
 from book import Book
 from diameter import Message
-from nodes import Client, Front, Relay, SlabRelay
+from nodes import Client, Front, Relay, RisingRelay
 from site_data import CLIENT, FRONT, RELAY
 
 SCHEDULE_LIMIT, STEPS_LIMIT = 16_777_216, 1_000_000
@@ -59,7 +59,7 @@ class World:
     def __init__(self, site, choose=lowest_free):
         self.site, self.book, self.received = site, Book(site), []
         self.connections, self.made, self.steps, self.skipped = {}, 0, 0, 0
-        makers = {RELAY: lambda name: Relay(name, site, choose) if choose else SlabRelay(name, site),
+        makers = {RELAY: lambda name: Relay(name, site, choose) if choose else RisingRelay(name, site),
                   FRONT: lambda name: Front(name, site, self.book), CLIENT: lambda name: Client(name, self.received)}
         self.nodes = {name: makers[kind](name) for name, kind in site.nodes.items()}
 

@@ -27,6 +27,8 @@ pub struct Audit<R> {
     pub fronts: Vec<FrontNow>,
     /// The fronts of which a worker is wanted, and none is idle.
     pub short: Vec<NodeNo>,
+    /// The relays of which the start of their identifiers is known since they began.
+    pub numbered: Vec<NodeNo>,
     /// The requests of fronts that are not charged.
     pub jobs: Vec<Job>,
     /// How many requests were told.
@@ -88,6 +90,7 @@ impl<R: Drop> Audit<R> {
             joints: Vec::new(alloc),
             fronts,
             short: Vec::new(alloc),
+            numbered: Vec::new(alloc),
             jobs: Vec::new(alloc),
             orders: 0,
             charges: Vec::new(alloc),

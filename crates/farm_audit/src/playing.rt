@@ -67,6 +67,7 @@ impl<R: Read + Drop> Audit<R> {
             }
         }
         if self.is_relay(site, node) {
+            self.numbered.retain(|known| *known != node);
             self.play(site, at, Step::Crash { node })?;
             return self.drop_silent_at(site, at, node);
         }
@@ -115,6 +116,9 @@ impl<R: Read + Drop> Audit<R> {
         if is_front(site, node) {
             return self.arrive_at_front(site, told, place, is_request);
         }
+        if is_request {
+            self.learn_start(site, told, node)?;
+        }
         let step = Step::Deliver {
             from: peer,
             to: node,
@@ -122,6 +126,21 @@ impl<R: Read + Drop> Audit<R> {
         };
         self.react(site, told, node, step)?;
         Ok(true)
+    }
+
+    /// The first identifier that a relay gives since it began is its start, which it drew by itself.
+    fn learn_start(&mut self, site: &Site, told: &Told, node: NodeNo) -> Result<(), AuditFault> {
+        if !self.is_relay(site, node) || self.numbered.as_slice().contains(&node) {
+            return Ok(());
+        }
+        for (_, message) in &told.outs {
+            if message.header.request {
+                self.world.number_from(node, message.header.hop);
+                self.numbered.push(node)?;
+                return Ok(());
+            }
+        }
+        Ok(())
     }
 
     /// How many messages have arrived at a front on a connection that are in flight yet.

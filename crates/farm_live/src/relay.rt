@@ -5,10 +5,10 @@ ghost use Rattle.farm_base.specs.CheckedSite.{IsChecked};
 use crate::fault::Fault;
 use crate::serving::{alone, serve_alone};
 use crate::setting::Setting;
-use dia_base::NodeNo;
+use dia_base::{NodeKind, NodeNo};
 use farm_base::Site;
 use farm_place::{Place, PlaceFault, place_of_relay};
-use farm_world::relays_of;
+use farm_world::relay_starting_at;
 use relay_core::Relay;
 use std::net::Net;
 use std::random::RandomSource;
@@ -16,16 +16,27 @@ use std::rt::Clock;
 use std::sync::Wait;
 use std::thread::Threads;
 
-/// The relay of this number.
+/// The relay of this number. Its identifiers rise from a start by chance (RFC 6733, section 3), so that those of a process
+/// that is started again are others.
 fn relay_at(rt: &HostRuntime, site: &Site, node: NodeNo) -> Result<Relay, Fault>
     requires { IsChecked site.now }
 {
-    for at in relays_of(rt.alloc(), site)? {
-        if at.node.0 == node.0 {
-            return Ok(at.relay);
+    match site.nodes.as_slice().get(node.0 as usize) {
+        Some(found) if found.kind == NodeKind::Relay => {
+            let start = start_by_chance(rt);
+            Ok(relay_starting_at(rt.alloc(), site, node, &found.name, start)?)
         }
+        Some(_) | None => Err(Fault::Place(PlaceFault::NoAddress)),
     }
-    Err(Fault::Place(PlaceFault::NoAddress))
+}
+
+/// Any number, from the system's source of random octets; 0 where it gives none.
+fn start_by_chance(rt: &impl RandomSource) -> u32 {
+    let mut octets = [0u8; 4];
+    if rt.fill_bytes(&mut octets).is_err() {
+        return 0;
+    }
+    u32::from_le_bytes(octets)
 }
 
 /// Serves as the relay of this name until so many answers were sent, 0 for ever, or until it is asked to end.

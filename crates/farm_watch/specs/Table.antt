@@ -1,5 +1,5 @@
 -- The life of a connection as a table (RFC 6733, section 5): what a node does with a connection for each event, by what the connection waits for.
-use Rattle.std.specs.Prelude.{ℕ, ◌+◌, ◌==◌, Bool, nat_le, List, [], ◌∷◌, if◌then◌else◌}
+use Rattle.std.specs.Prelude.{ℕ, ◌+◌, Bool, nat_le, nat_lt, List, [], ◌∷◌, if◌then◌else◌}
 use Rattle.dia_base.specs.declared.number.Moment.{Moment}
 use Rattle.dia_base.specs.declared.number.NodeNo.{NodeNo}
 use Rattle.dia_message.specs.declared.message.Message.{Message}
@@ -30,9 +30,9 @@ pub record Effect : Type 0 where
 
 -- ---- words of the table
 
--- the identifier of the next request of its own: they are counted from 1, and after the highest from 1 again
+-- the identifier of the next request of its own: they are counted from 1, and after 2^31 - 1 from 1 again, so that the highest bit is never set (relays set it)
 abbrev pub identifier_after : ℕ → ℕ
-identifier_after sent = if sent == 4294967295 then 1 else sent + 1
+identifier_after sent = if nat_lt sent 2147483647 then sent + 1 else 1
 
 -- a whole interval has passed
 abbrev pub has_passed : WatchSite → Moment → Moment → Bool

@@ -1,6 +1,6 @@
 //! Laws and worked examples. Each is the contract of a function without a body.
 
-ghost use Rattle.std.specs.Prelude.{◌≡◌, ◌∷◌, ◌++◌, [], ℕ, List, map, codes, Some, true, false};
+ghost use Rattle.std.specs.Prelude.{◌≡◌, ◌≢◌, ◌≤◌, ◌<◌, ◌^◌, ◌∷◌, ◌++◌, [], ℕ, List, map, codes, Some, true, false};
 ghost use Rattle.dia_avp.specs.AvpExample.{from_hex};
 ghost use Rattle.dia_dict.specs.Dictionary.{name_of};
 ghost use Rattle.dia_message.specs.declared.header.Header.{Header};
@@ -96,7 +96,14 @@ pub fn watchdogs_ask_and_then_drop()
     // Any message counts as an answer.
     ensures hears { (after_message r1 [] (at 40000) (message dwa_text) asked).next ≡ record asked { waits = waits.ForMessage (at 40000) } }
     // Identifiers begin again behind the highest one.
-    ensures identifiers { map identifier_after (0 ∷ 1 ∷ 4294967294 ∷ 4294967295 ∷ []) ≡ 1 ∷ 2 ∷ 4294967295 ∷ 1 ∷ [] }
+    ensures identifiers { map identifier_after (0 ∷ 1 ∷ 2147483646 ∷ 2147483647 ∷ []) ≡ 1 ∷ 2 ∷ 2147483647 ∷ 1 ∷ [] }
+{}
+
+/// The identifiers of a connection's own requests, and those that a relay gives to what it forwards, are one space
+/// (RFC 6733, section 3), and never meet: a relay's have the highest bit, and a connection's never have it.
+pub fn connections_and_relays_number_apart()
+    ensures range { (sent : ℕ) → (1 ≤ identifier_after sent) × (identifier_after sent < 2 ^ 31) }
+    ensures apart { (sent relayed : ℕ) → 2 ^ 31 ≤ relayed → identifier_after sent ≢ relayed }
 {}
 
 /// Worked examples: how a connection ends.

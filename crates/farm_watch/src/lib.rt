@@ -16,7 +16,8 @@
 //! The functions of `laws` have no body: their contracts are laws of these definitions. Of a whole life, a node
 //! comes up once, messages are passed only while it is up, and nothing comes behind the end
 //! ([`peers_come_up_once_and_nothing_follows_the_end`]). A site that advertises no vendor changes no octet of what its nodes
-//! write ([`no_vendor_adds_no_octet`]). Worked examples are laws too ([`neighbours_write_their_octets`], [`only_linked_nodes_are_welcome`], [`connections_begin_with_capabilities`],
+//! write ([`no_vendor_adds_no_octet`]). A connection's own requests have no identifier that a relay gives
+//! ([`connections_and_relays_number_apart`]). Worked examples are laws too ([`neighbours_write_their_octets`], [`only_linked_nodes_are_welcome`], [`connections_begin_with_capabilities`],
 //! [`watchdogs_ask_and_then_drop`], [`connections_end_with_disconnect_peer`]).
 //!
 //! ```
@@ -48,10 +49,10 @@ mod writing;
 pub use acts::{Act, Acts};
 pub use kind::{MessageKind, kind_of};
 pub use laws::{
-    connections_begin_with_capabilities, connections_end_with_disconnect_peer,
-    neighbours_write_their_octets, no_vendor_adds_no_octet, only_linked_nodes_are_welcome,
-    peer_codes_are_defined, peers_come_up_once_and_nothing_follows_the_end,
-    watchdogs_ask_and_then_drop,
+    connections_and_relays_number_apart, connections_begin_with_capabilities,
+    connections_end_with_disconnect_peer, neighbours_write_their_octets, no_vendor_adds_no_octet,
+    only_linked_nodes_are_welcome, peer_codes_are_defined,
+    peers_come_up_once_and_nothing_follows_the_end, watchdogs_ask_and_then_drop,
 };
 pub use site::{Application, HostAddress, Neighbour, Side, WatchSite};
 pub use watch::{Waits, Watch};

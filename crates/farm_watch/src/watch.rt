@@ -19,6 +19,10 @@ use dia_message::Message;
 use std::alloc::{AllocError, Global};
 use std::marker::Model;
 
+/// The last identifier of a connection's own requests, before they begin again at 1: those with the highest bit are
+/// given by relays.
+const HIGHEST_IDENTIFIER: u32 = 0x7fff_ffff;
+
 /// What a connection waits for, and since when.
 #[derive(Clone, Copy, Debug, PartialEq, Eq)]
 pub enum Waits {
@@ -316,10 +320,10 @@ impl Watch {
     fn next_identifier(&self) -> u32
         ensures { result ≡ identifier_after self.now.sent }
     {
-        if self.sent == u32::MAX {
-            1
-        } else {
+        if self.sent < HIGHEST_IDENTIFIER {
             self.sent + 1
+        } else {
+            1
         }
     }
 }

@@ -5,7 +5,8 @@
 //!   contract carries what is promised of every run: who is answered what, how often, and what the
 //!   book stands on, over any graph of relays.
 //! - [`World`]: the farm between two steps, for who looks at a run step by step.
-//! - [`relays_of`], [`fronts_of`], [`empty_book`]: what the farm of a site begins with, for those who serve it.
+//! - [`relays_of`], [`relay_starting_at`], [`fronts_of`], [`empty_book`]: what the farm of a site begins with, for those who
+//!   serve it.
 //! - [`row_site`]: the site that a schedule runs over where no site file is given.
 //! - [`Site`], [`Step`], [`Trace`] and the definitions of a step and a run are `farm_model`'s.
 //!
@@ -44,7 +45,7 @@ mod world;
 pub use dia_base::NodeKind;
 pub use farm_model::{Direction, FrontAt, Link, Node, RelayAt, Route, Site, Step, Trace};
 pub use nodes::is_client;
-pub use opening::{empty_book, fronts_of, relays_of};
+pub use opening::{empty_book, fronts_of, relay_starting_at, relays_of};
 pub use row::row_site;
 pub use runs::{RunError, run};
 pub use world::World;

@@ -13,7 +13,7 @@ use cc_rating::{Tariff, Tariffs};
 use dia_base::{NodeKind, NodeNo};
 use farm_model::{FrontAt, Node, Site};
 use front_core::{Front, FrontSite};
-pub use relays::relays_of;
+pub use relays::{relay_starting_at, relays_of};
 use std::alloc::{AllocError, Global};
 
 fn fresh_front(alloc: Global, site: &Site, node: &Node) -> Result<Front, AllocError>

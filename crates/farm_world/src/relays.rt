@@ -1,12 +1,12 @@
 //! The relays of the farm, each at its node.
 
-ghost use Rattle.std.specs.Prelude.{◌≡◌, IfSome, IfNone, IfOk, OnOk, None};
+ghost use Rattle.std.specs.Prelude.{◌≡◌, IfSome, IfNone, IfOk, OnOk, None, ◌%◌, ◌^◌};
 ghost use Rattle.std.specs.List.{find};
 ghost use Rattle.farm_model.specs.FarmStep.{with_link_at};
 ghost use Rattle.farm_base.specs.Lists.{IsFirst};
 ghost use Rattle.farm_model.specs.Loss.{with_restart_of_relay};
 ghost use Rattle.farm_model.specs.World.{is_relay_at, relay_at};
-ghost use Rattle.farm_world.specs.RelayEvents.{RelayReacts};
+ghost use Rattle.farm_world.specs.RelayEvents.{RelayReacts, with_start_of_relay};
 ghost use Rattle.relay_core.specs.declared.run.RelayEvent.TheVariants.{Received, Lost};
 
 use crate::events;
@@ -80,5 +80,14 @@ pub fn restart(relays: &mut Vec<RelayAt>, node: NodeNo)
 {
     if let Some(place) = place_of_relay(relays, node) {
         relays[place].relay.restart();
+    }
+}
+
+/// A relay gives identifiers from another start. Where the node is no relay, nothing happens.
+pub fn number_from(relays: &mut Vec<RelayAt>, node: NodeNo, start: u32)
+    ensures { relays.new.items ≡ with_start_of_relay node (start % 2 ^ 31) relays.old.items (relay_at node relays.old.items) }
+{
+    if let Some(place) = place_of_relay(relays, node) {
+        relays[place].relay.number_from(start);
     }
 }

@@ -1,7 +1,10 @@
 //! What the farm consists of between two steps.
 
-ghost use Rattle.std.specs.Prelude.{◌≡◌};
+ghost use Rattle.std.specs.Prelude.{◌≡◌, ◌%◌, ◌^◌};
+ghost use Rattle.farm_model.specs.World.{relay_at};
+ghost use Rattle.farm_world.specs.RelayEvents.{with_start_of_relay};
 
+use crate::relays::number_from;
 use cc_book::Book;
 use dia_base::{ConnId, NodeNo};
 use dia_message::Message;
@@ -47,6 +50,14 @@ impl World {
         ensures { result.now ≡ self.now.directions }
     {
         &self.directions
+    }
+
+    /// A relay gives identifiers from another start from now on: for those who play what a relay did that drew its own.
+    /// It is no step. Where the node is no relay, nothing happens.
+    pub fn number_from(&mut self, node: NodeNo, start: u32)
+        ensures { self.new ≡ record self.old { relays = with_start_of_relay node (start % 2 ^ 31) self.old.relays (relay_at node self.old.relays) } }
+    {
+        number_from(&mut self.relays, node, start);
     }
 
     /// The account book, which all fronts share.

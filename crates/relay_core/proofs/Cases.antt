@@ -1,5 +1,5 @@
 -- The cases of a relay, at the table of pending requests as its calls leave it.
-use Rattle.std.proofs.Common.{◌≡◌, ℕ, List, [], ◌∷◌, Option, Some, None, Result, Ok, Err, IfOk, IfSome, Bool, true, false, MatchBool, ap, sym, subst}
+use Rattle.std.proofs.Common.{◌≡◌, ℕ, List, [], ◌∷◌, Option, Some, None, Result, Ok, Err, IfOk, IfSome, Bool, true, false, MatchBool, ap, sym, subst, ◌∙◌}
 use Rattle.dia_base.specs.declared.number.ConnId.{ConnId}
 use Rattle.dia_message.specs.declared.message.Message.{Message}
 use Rattle.dia_message.specs.Traffic.{Traffic}
@@ -33,9 +33,18 @@ at_false false P Q e q = q
 
 -- ---- a message came
 
--- a table with the same limit is the old one with other rows
-pub same_limit : (old new : PendingTable) → new.limit ≡ old.limit → record old { rows = new.rows } ≡ new
-same_limit old new e = ap (λ (n : ℕ). record { limit = n; rows = new.rows }) (sym e)
+-- a table with the same limit is the old one with other rows and another count
+pub same_limit : (old new : PendingTable) → new.limit ≡ old.limit → record old { rows = new.rows; next = new.next } ≡ new
+same_limit old new e = ap (λ (n : ℕ). record { limit = n; rows = new.rows; next = new.next }) (sym e)
+
+-- with the same count too it is the old one with other rows
+pub same_but_rows : (old new : PendingTable) → new.limit ≡ old.limit → new.next ≡ old.next → record old { rows = new.rows } ≡ new
+same_but_rows old new e f =
+    let limits : record old { rows = new.rows } ≡ record new { next = old.next } = ap (λ (n : ℕ). with_both n old.next) (sym e) in
+    limits ∙ ap (λ (n : ℕ). with_both new.limit n) (sym f)
+  where
+    with_both : ℕ → ℕ → PendingTable
+    with_both limit next = record { limit = limit; rows = new.rows; next = next }
 
 abbrev pub state : RelayNode → PendingTable → RelayState
 state node pending = record { node = node; pending = pending }
@@ -47,8 +56,8 @@ pub request_forwarded : (node : RelayNode) (old new : PendingTable) (conn : Conn
     → OnRequest (state node old) conn sender request sent (state node new)
 request_forwarded node old new conn sender request to hop sent way free more limit is =
     subst (λ (t : PendingTable). OnRequest (state node old) conn sender request sent (state node t)) (same_limit old new limit)
-    (subst (λ (s : Traffic). OnRequest (state node old) conn sender request s (state node (record old { rows = new.rows }))) (sym is)
-    (forwarded to hop new.rows way free more))
+    (subst (λ (s : Traffic). OnRequest (state node old) conn sender request s (state node (record old { rows = new.rows; next = new.next }))) (sym is)
+    (forwarded to hop new.rows new.next way free more))
 
 pub request_refused : (node : RelayNode) (old : PendingTable) (conn : ConnId) (sender : List ℕ) (request : Message) (refusal : Refusal) (sent : Traffic)
     → decision (state node old) sender request ≡ Err refusal → sent ≡ refusal_to node conn request refusal
@@ -57,19 +66,19 @@ request_refused node old conn sender request refusal sent way is =
     subst (λ (s : Traffic). OnRequest (state node old) conn sender request s (state node old)) (sym is) (refused refusal way)
 
 pub answer_sent_back : (node : RelayNode) (old new : PendingTable) (conn : ConnId) (answer : Message) (held : Held) (origin : Origin) (sent : Traffic)
-    → held_at old.rows conn answer.header.hop ≡ Some held → held.origin ≡ Some origin → IsWith (row_of conn held) new.rows old.rows → new.limit ≡ old.limit
+    → held_at old.rows conn answer.header.hop ≡ Some held → held.origin ≡ Some origin → IsWith (row_of conn held) new.rows old.rows → new.limit ≡ old.limit → new.next ≡ old.next
     → sent ≡ (origin.conn, under origin.hop answer) ∷ []
     → OnAnswer (state node old) conn answer sent (state node new)
-answer_sent_back node old new conn answer held origin sent at_hop from less limit is =
-    subst (λ (t : PendingTable). OnAnswer (state node old) conn answer sent (state node t)) (same_limit old new limit)
+answer_sent_back node old new conn answer held origin sent at_hop from less limit next is =
+    subst (λ (t : PendingTable). OnAnswer (state node old) conn answer sent (state node t)) (same_but_rows old new limit next)
     (subst (λ (s : Traffic). OnAnswer (state node old) conn answer s (state node (record old { rows = new.rows }))) (sym is)
     (sent_back held origin new.rows at_hop from less))
 
 pub answer_dropped : (node : RelayNode) (old new : PendingTable) (conn : ConnId) (answer : Message) (held : Held) (sent : Traffic)
-    → held_at old.rows conn answer.header.hop ≡ Some held → held.origin ≡ None → IsWith (row_of conn held) new.rows old.rows → new.limit ≡ old.limit → sent ≡ []
+    → held_at old.rows conn answer.header.hop ≡ Some held → held.origin ≡ None → IsWith (row_of conn held) new.rows old.rows → new.limit ≡ old.limit → new.next ≡ old.next → sent ≡ []
     → OnAnswer (state node old) conn answer sent (state node new)
-answer_dropped node old new conn answer held sent at_hop from less limit is =
-    subst (λ (t : PendingTable). OnAnswer (state node old) conn answer sent (state node t)) (same_limit old new limit)
+answer_dropped node old new conn answer held sent at_hop from less limit next is =
+    subst (λ (t : PendingTable). OnAnswer (state node old) conn answer sent (state node t)) (same_but_rows old new limit next)
     (subst (λ (s : Traffic). OnAnswer (state node old) conn answer s (state node (record old { rows = new.rows }))) (sym is)
     (dropped held new.rows at_hop from less))
 

@@ -25,7 +25,7 @@ use Rattle.relay_core.specs.declared.node.RelaySite.{RelaySite}
 use Rattle.relay_core.specs.declared.run.RelayEvent.{RelayEvent}
 use Rattle.relay_core.specs.declared.run.RelayEvent.TheVariants.{Up, Received, Lost, Restart}
 use Rattle.relay_core.specs.Acts.{Act, happened, acts_with, acts_of, is_in_use}
-use Rattle.relay_core.specs.Connecting.{new_relay, up_fault, after_up, after_restart}
+use Rattle.relay_core.specs.Connecting.{relay_at, up_fault, after_up, after_restart}
 use Rattle.relay_core.specs.Failover.{OnConnLost, after_end, without_origins}
 use Rattle.relay_core.specs.Promise.{FailOverOnce, LoseNoRequests, RefusesLoop, RefusesLoops, KeepsPromise, is_from}
 use Rattle.relay_core.specs.RelayRun.{IsIdle, OnEvent, RelayStep, IsRun, not_begun, one_more}
@@ -55,7 +55,7 @@ refused-loop : {relay : RelayState} {conn : ConnId} {sender : List ℕ} {request
 refused-loop {relay = relay} {conn = conn} {request = request} d (refused refusal e) =
     let same : refusal ≡ refusal_with LoopDetected = cc in
     (ap (λ (x : Refusal). refusal_to relay.node conn request x) same, refl)
-refused-loop d (forwarded to hop rows e free more) = absurd cc
+refused-loop d (forwarded to hop rows count e free more) = absurd cc
 
 pub loop-refused : (relay : RelayState) (conn : ConnId) (sender : List ℕ) (request : Message) (items : Traffic) (next : RelayState) → IsLoop relay.node.name request.body
     → OnRequest relay conn sender request items next → (items ≡ refusal_to relay.node conn request (refusal_with LoopDetected)) × (next ≡ relay)
@@ -123,7 +123,7 @@ up_step name realm peer conn acts relay after items (Some fault) e m n r u k = i
 -- a message leaves the peers as they are
 request_node : {relay : RelayState} {conn : ConnId} {sender : List ℕ} {request : Message} {items : Traffic} {after : RelayState} → OnRequest relay conn sender request items after → after.node ≡ relay.node
 request_node (refused refusal e) = refl
-request_node (forwarded to hop rows e free more) = refl
+request_node (forwarded to hop rows count e free more) = refl
 
 answer_node : {relay : RelayState} {conn : ConnId} {answer : Message} {items : Traffic} {after : RelayState} → OnAnswer relay conn answer items after → after.node ≡ relay.node
 answer_node (sent_back held origin rows e f w) = refl
@@ -205,8 +205,8 @@ step_kept name realm Restart acts relay after items step n r u k = restart_step 
 
 -- ---- a run
 
-begins : (site : RelaySite) → Stands site.name site.realm [] (new_relay site)
-begins site = record {
+begins : (site : RelaySite) (start : ℕ) → Stands site.name site.realm [] (relay_at site start)
+begins site start = record {
   name_is = refl;
   realm_is = refl;
   kept = record {
@@ -214,16 +214,16 @@ begins site = record {
     counted = λ to hop. let zero_rows : count_by (is_from to hop) [] ≡ 0 = refl in omega arith;
     right = tt;
   };
-  unanswered = unanswered-nothing (new_relay site).node [] refl;
+  unanswered = unanswered-nothing (relay_at site start).node [] refl;
   failovers = tt;
   waits = tt;
   loops = tt;
 }
 
-goes_on : (site : RelaySite) {events : List RelayEvent} {outs : List Out} {past : List RelayStep} {last : RelayState} → IsRun (new_relay site) events outs past last → Stands site.name site.realm past last
-goes_on site not_begun = begins site
-goes_on site (one_more events event outs out past before after run step) =
-    let s = goes_on site run in
+goes_on : (site : RelaySite) (start : ℕ) {events : List RelayEvent} {outs : List Out} {past : List RelayStep} {last : RelayState} → IsRun (relay_at site start) events outs past last → Stands site.name site.realm past last
+goes_on site start not_begun = begins site start
+goes_on site start (one_more events event outs out past before after run step) =
+    let s = goes_on site start run in
     let a = step_kept site.name site.realm event (acts_of past) before after out.items step s.name_is s.realm_is s.unanswered s.kept in
     record {
       name_is = a.name_is;
@@ -235,9 +235,9 @@ goes_on site (one_more events event outs out past before after run step) =
       loops = (loop_step before event out.items after step, s.loops);
     }
 
-pub promise-kept : (site : RelaySite) {events : List RelayEvent} {outs : List Out} {past : List RelayStep} {last : RelayState} → IsRun (new_relay site) events outs past last → KeepsPromise site.name site.realm past
-promise-kept site {past = past} {last = last} run =
-    let s = goes_on site run in
+pub promise-kept : (site : RelaySite) (start : ℕ) {events : List RelayEvent} {outs : List Out} {past : List RelayStep} {last : RelayState} → IsRun (relay_at site start) events outs past last → KeepsPromise site.name site.realm past
+promise-kept site start {past = past} {last = last} run =
+    let s = goes_on site start run in
     record {
       right = s.kept.right;
       once = λ conn hop. let le = s.kept.counted conn hop in omega arith;

@@ -15,3 +15,6 @@ pub mod Lengths
 pub mod Running
 pub mod Unanswered
 pub mod Walking
+pub mod Giving
+pub mod Laps
+pub mod Rising

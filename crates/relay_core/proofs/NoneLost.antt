@@ -53,7 +53,7 @@ even-request conn hop relay next on sender request items flag step = go step
         let same = ap (λ (n : ℕ). one ((on.0 == conn.0) && (n == hop))) (refusal-hop relay.node.name relay.node.realm request refusal) in
         let all = asked in
         omega arith
-    go (forwarded to fresh rows e free w) =
+    go (forwarded to fresh rows count e free w) =
         let message = under fresh (with_record sender request) in
         let whole = count-with (is_from conn hop) (row_of to (held_for on request message)) relay.pending.rows rows w in
         let its : one (is_from conn hop (row_of to (held_for on request message))) ≡ one (is_under conn hop on request) = refl in

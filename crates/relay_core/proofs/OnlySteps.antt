@@ -9,7 +9,7 @@ use Rattle.relay_hops.specs.declared.row.Origin.{Origin}
 use Rattle.relay_hops.specs.declared.row.Row.{Row}
 use Rattle.relay_hops.specs.PendingTable.{held_at, under, IsWith}
 use Rattle.relay_core.specs.Forwarding.{with_record}
-use Rattle.relay_core.specs.RelayState.{RelayState, with_rows}
+use Rattle.relay_core.specs.RelayState.{RelayState, with_next, with_rows}
 use Rattle.relay_core.specs.RelayStep.{OnAnswer, sent_back, dropped, ignored, OnRequest, refused, forwarded, held_for, refusal_to, row_of}
 use Rattle.relay_core.specs.Verdict.{decision}
 
@@ -62,7 +62,7 @@ refused-only : {relay : RelayState} {conn : ConnId} {sender : List ℕ} {request
 refused-only {relay = relay} {conn = conn} {request = request} refusal d (refused other e) =
     let same : other ≡ refusal = cc in
     (ap (λ (x : Refusal). refusal_to relay.node conn request x) same, refl)
-refused-only refusal d (forwarded to hop rows e free more) = absurd cc
+refused-only refusal d (forwarded to hop rows count e free more) = absurd cc
 
 pub refuses : (relay : RelayState) (conn : ConnId) (sender : List ℕ) (request : Message) (refusal : Refusal) → decision relay sender request ≡ Err refusal
     → Only (OnRequest relay conn sender request) (refusal_to relay.node conn request refusal) relay
@@ -77,7 +77,7 @@ kept to conn sender request hop = row_of to (held_for conn request (under hop (w
 
 abbrev GoesOut : RelayState → ConnId → ConnId → List ℕ → Message → Traffic → RelayState → Type 0
 GoesOut relay to conn sender request items after =
-    (hop : ℕ) × (items ≡ (to, under hop (with_record sender request)) ∷ []) × (after ≡ with_rows (kept to conn sender request hop ∷ []) relay)
+    (hop : ℕ) × (count : ℕ) × (items ≡ (to, under hop (with_record sender request)) ∷ []) × (after ≡ with_rows (kept to conn sender request hop ∷ []) (with_next count relay))
 
 only_row : (row : Row) (others rows : List Row) → others ≡ [] → IsWith row others rows → rows ≡ row ∷ []
 only_row row others rows none w =
@@ -88,22 +88,23 @@ forwarded-only : {relay : RelayState} {conn : ConnId} {sender : List ℕ} {reque
     → decision relay sender request ≡ Ok to → relay.pending.rows ≡ [] → OnRequest relay conn sender request items after
     → GoesOut relay to conn sender request items after
 forwarded-only to d none (refused refusal e) = absurd cc
-forwarded-only {relay = relay} {conn = conn} {sender = sender} {request = request} to d none (forwarded other hop rows e free more) =
+forwarded-only {relay = relay} {conn = conn} {sender = sender} {request = request} to d none (forwarded other hop rows count e free more) =
     let same : other ≡ to = cc in (
       hop,
+      count,
       ap (λ (x : ConnId). (x, under hop (with_record sender request)) ∷ []) same,
-      ap (λ (x : List Row). with_rows x relay) (only_row (kept other conn sender request hop) relay.pending.rows rows none more
+      ap (λ (x : List Row). with_rows x (with_next count relay)) (only_row (kept other conn sender request hop) relay.pending.rows rows none more
           ∙ ap (λ (x : ConnId). kept x conn sender request hop ∷ []) same),
     )
 
 goes_out : {relay : RelayState} {conn : ConnId} {sender : List ℕ} {request : Message} {items : Traffic} {after : RelayState} (to : ConnId)
     → decision relay sender request ≡ Ok to → relay.pending.rows ≡ [] → GoesOut relay to conn sender request items after
     → OnRequest relay conn sender request items after
-goes_out {relay = relay} {conn = conn} {sender = sender} {request = request} {items = items} {after = after} to d none (hop, sent, next) =
+goes_out {relay = relay} {conn = conn} {sender = sender} {request = request} {items = items} {after = after} to d none (hop, count, sent, next) =
     let row = kept to conn sender request hop in
     let free : held_at relay.pending.rows to hop ≡ None = ap (λ (rows : List Row). held_at rows to hop) none in
-    both (OnRequest relay conn sender request) items ((to, under hop (with_record sender request)) ∷ []) after (with_rows (row ∷ []) relay) sent next
-    (forwarded to hop (row ∷ []) d free (record { before = []; after = []; without = none; whole = refl }))
+    both (OnRequest relay conn sender request) items ((to, under hop (with_record sender request)) ∷ []) after (with_rows (row ∷ []) (with_next count relay)) sent next
+    (forwarded to hop (row ∷ []) count d free (record { before = []; after = []; without = none; whole = refl }))
 
 pub forwards : (relay : RelayState) (conn : ConnId) (sender : List ℕ) (request : Message) (to : ConnId)
     → decision relay sender request ≡ Ok to → relay.pending.rows ≡ []

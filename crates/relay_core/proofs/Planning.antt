@@ -203,6 +203,13 @@ done_more node lost first rows left planned plan sent new item before p turn fra
       },
     )
 
+-- what is held under the first identifier of a plan, and its choice
+pub first-planned : (node : RelayNode) (lost : ConnId) (rows : List Row) (planned : PlannedFailover) (plan : List PlannedFailover) → IsFailoverPlan node lost rows (planned ∷ plan)
+    → (held : Held) × (held_at rows lost planned.hop ≡ Some held) × (planned.choice ≡ choice_of node held)
+first-planned node lost rows planned plan p =
+    let there = held_there (held_at rows lost planned.hop) (first-held rows lost planned.hop (map (λ (q : PlannedFailover). q.hop) plan) p.hops) in
+    (there.0, there.1, p.choices.0 there.0 there.1)
+
 nothing : (o : Option Held) → is_some o ≡ false → o ≡ None
 nothing None e = refl
 nothing (Some held) e = absurd cc

@@ -120,7 +120,7 @@ kept-request name realm relay next conn sender request items acts n r flag step 
             (tt, k.right),
           );
         }
-    kept n r (forwarded to hop rows e free w) =
+    kept n r (forwarded to hop rows count e free w) =
         let message = under hop (with_record sender request) in
         let row = row_of to (held_for conn request message) in
         let before = happened (Received conn request) ∷ acts in

@@ -243,7 +243,7 @@ unanswered-request relay next conn sender request items acts flag step map u = g
     go : {out : Traffic} {after : RelayState} → OnRequest relay conn sender request out after → IsMap after.pending.rows
         → Unanswered after.node (acts_with out (happened (Received conn request) ∷ acts)) after.pending.rows
     go (refused refusal e) m = unanswered-sent relay.node conn (refusal_of relay.node.name relay.node.realm request refusal) (happened (Received conn request) ∷ acts) relay.pending.rows came
-    go (forwarded to hop rows e free w) m =
+    go (forwarded to hop rows count e free w) m =
         let message = under hop (with_record sender request) in
         let row = row_of to (held_for conn request message) in
         let now = happened (Received conn request) ∷ acts in

@@ -14,3 +14,4 @@ pub mod Promise
 pub mod FirstForwarding
 pub mod RuleExample
 pub mod StepExample
+pub mod Giving

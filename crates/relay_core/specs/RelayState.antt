@@ -1,5 +1,5 @@
 -- What a relay knows between two events (RFC 6733, sections 2.6, 2.7 and 3).
-use Rattle.std.specs.Prelude.{List, Option, Some, None}
+use Rattle.std.specs.Prelude.{ℕ, List, Option, Some, None}
 use Rattle.std.specs.Option.{option_and_then}
 use Rattle.dia_base.specs.declared.number.ConnId.{ConnId}
 use Rattle.relay_peers.specs.declared.peers.Link.{Link}
@@ -26,6 +26,10 @@ with_links links node = record node { peers = record node.peers { links = links 
 
 abbrev pub with_rows : List Row → RelayState → RelayState
 with_rows rows relay = record relay { pending = record relay.pending { rows = rows } }
+
+-- the count from which identifiers are given has gone on
+abbrev pub with_next : ℕ → RelayState → RelayState
+with_next next relay = record relay { pending = record relay.pending { next = next } }
 
 -- the links, but for one on a connection that ends
 abbrev pub links_but : Option ConnId → List Link → List Link

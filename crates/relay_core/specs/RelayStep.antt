@@ -11,7 +11,7 @@ use Rattle.relay_hops.specs.declared.row.Origin.{Origin}
 use Rattle.relay_hops.specs.declared.row.Row.{Row}
 use Rattle.relay_hops.specs.PendingTable.{held_at, under, IsWith}
 use Rattle.relay_core.specs.declared.node.RelayNode.{RelayNode}
-use Rattle.relay_core.specs.RelayState.{RelayState, with_rows}
+use Rattle.relay_core.specs.RelayState.{RelayState, with_rows, with_next}
 use Rattle.relay_core.specs.Forwarding.{with_record}
 use Rattle.relay_core.specs.Verdict.{decision}
 
@@ -35,11 +35,11 @@ pub data OnRequest (relay : RelayState) (conn : ConnId) (sender : List ℕ) (req
   -- a rule refuses it
   refused : (refusal : Refusal) → decision relay sender request ≡ Err refusal →
       OnRequest relay conn sender request (refusal_to relay.node conn request refusal) relay
-  -- it goes out under any identifier that is not in use there
-  forwarded : (to : ConnId) (hop : ℕ) (rows : List Row) → decision relay sender request ≡ Ok to →
+  -- it goes out under any identifier that is not in use there; which one it is, `Giving` says
+  forwarded : (to : ConnId) (hop : ℕ) (rows : List Row) (next : ℕ) → decision relay sender request ≡ Ok to →
       held_at relay.pending.rows to hop ≡ None →
       IsWith (row_of to (held_for conn request (under hop (with_record sender request)))) relay.pending.rows rows →
-      OnRequest relay conn sender request ((to, under hop (with_record sender request)) ∷ []) (with_rows rows relay)
+      OnRequest relay conn sender request ((to, under hop (with_record sender request)) ∷ []) (with_rows rows (with_next next relay))
 
 -- The same when an answer came.
 pub data OnAnswer (relay : RelayState) (conn : ConnId) (answer : Message) : Traffic → RelayState → Type 0 where

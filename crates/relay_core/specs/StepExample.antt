@@ -11,7 +11,7 @@ use Rattle.relay_core.specs.declared.run.RelayEvent.{RelayEvent}
 use Rattle.relay_core.specs.declared.run.RelayEvent.TheVariants.{Received, Lost}
 use Rattle.relay_core.specs.FirstForwarding.{forwarded_debit}
 use Rattle.relay_core.specs.RelayRun.{OnEvent}
-use Rattle.relay_core.specs.RelayState.{RelayState}
+use Rattle.relay_core.specs.RelayState.{RelayState, with_next}
 use Rattle.relay_core.specs.RuleExample.{avp, conn, session}
 
 -- ---- what is sent
@@ -24,6 +24,11 @@ DoesOnly relay event sent next = (items : Traffic) (after : RelayState) → OnEv
 abbrev pub DoesUnder : RelayState → RelayEvent → (ℕ → Traffic) → (ℕ → RelayState) → Type 0
 DoesUnder relay event sent next =
     (items : Traffic) (after : RelayState) → OnEvent relay event items after ↔ ((hop : ℕ) × (items ≡ sent hop) × (after ≡ next hop))
+
+-- the same where it gives an identifier, so that its count goes on
+abbrev pub DoesUnderNew : RelayState → RelayEvent → (ℕ → Traffic) → (ℕ → RelayState) → Type 0
+DoesUnderNew relay event sent next =
+    (items : Traffic) (after : RelayState) → OnEvent relay event items after ↔ ((hop : ℕ) × (count : ℕ) × (items ≡ sent hop) × (after ≡ with_next count (next hop)))
 
 -- r1's refusal of a request of c1 with that Session-Id, with the octets of this Result-Code
 abbrev pub refused_with : List ℕ → Message

@@ -7,6 +7,7 @@ ghost use Rattle.relay_hops.specs.declared.row.Held.{Held as HeldRequest};
 ghost use Rattle.relay_hops.specs.PendingTable.{but_from, held_at, without_origin};
 ghost use Rattle.relay_core.specs.declared.node.RelayNode.{RelayNode as Node};
 ghost use Rattle.relay_core.specs.Failover.{Failover, RequestFailover, after_end, next_hop_again, without_origins};
+ghost use Rattle.relay_core.specs.Giving.{SendsAgain};
 ghost use Rattle.relay_core.specs.FailoverPlan.{IsFailoverPlan, choice_of};
 
 use crate::deciding::next_hop;
@@ -130,6 +131,7 @@ pub(crate) fn fail_over(
     requires empty { room.items ≡ [] }
     requires enough { length plan.items ≤ vec_capacity room }
     ensures ok { (node : Node) → peer_in node.peers.links lost ≡ None → IsFailoverPlan node lost pending.old.rows plan.items → Failover node lost pending.old.rows result.items pending.new.rows }
+    ensures again { (node : Node) → peer_in node.peers.links lost ≡ None → IsFailoverPlan node lost pending.old.rows plan.items → SendsAgain pending.old result.items pending.new }
     ensures limit { pending.new.limit ≡ pending.old.limit }
 {
     let mut items = room;
@@ -154,6 +156,8 @@ fn fail_over_one(
     ensures ok { (node : Node) (held : HeldRequest) → held_at pending.old.rows lost hop ≡ Some held → choice ≡ choice_of node held → RequestFailover node lost held pending.old.rows (option_to_list result) pending.new.rows }
     // On the lost connection one identifier is in use no more, and all others as before.
     ensures left { (node : Node) (held : HeldRequest) → held_at pending.old.rows lost hop ≡ Some held → choice ≡ choice_of node held → peer_in node.peers.links lost ≡ None → (other : ℕ) → held_at pending.new.rows lost other ≡ (if other == hop then None else held_at pending.old.rows lost other) }
+    // What is sent again keeps its identifier.
+    ensures again { (node : Node) (held : HeldRequest) → held_at pending.old.rows lost hop ≡ Some held → choice ≡ choice_of node held → peer_in node.peers.links lost ≡ None → SendsAgain pending.old (option_to_list result) pending.new }
     ensures limit { pending.new.limit ≡ pending.old.limit }
 {
     match choice {

@@ -1,9 +1,10 @@
 //! A request comes: it is refused or forwarded (RFC 6733, section 6.1).
 
-ghost use Rattle.std.specs.Prelude.{◌≡◌, IfOk, IsErr, OnErr, IsOkUnless, Ok, Err};
+ghost use Rattle.std.specs.Prelude.{◌≡◌, true, IfOk, IsErr, OnErr, IsOkUnless, Ok, Err};
 ghost use Rattle.dia_avp.specs.AvpReading.{split_of};
 ghost use Rattle.cc_view.specs.Refusal.{avps_of};
 ghost use Rattle.cc_view.specs.declared.refusal.Refusal.{Refusal as BodyRefusal};
+ghost use Rattle.relay_core.specs.Giving.{GivesOne};
 ghost use Rattle.relay_core.specs.RelayStep.{OnRequest, refusal_to};
 ghost use Rattle.relay_core.specs.Verdict.{decision};
 
@@ -30,6 +31,7 @@ pub(crate) fn on_request<W: Wire>(
     request: Message,
 ) -> Result<Out, RelayError>
     ensures ok { IfOk result (λ out. OnRequest (record { node = node.now; pending = pending.old }) conn sender.now request out.items (record { node = node.now; pending = pending.new })) }
+    ensures given { request.header.request ≡ true → IfOk result (λ out. GivesOne pending.old out.items pending.new) }
     ensures err { OnErr result (pending.new ≡ pending.old) }
     ensures memory { IsOkUnless result RelayError.OutOfMemory }
 {
@@ -55,6 +57,7 @@ fn forward(
 ) -> Result<Out, RelayError>
     requires { decision (record { node = node.now; pending = pending.old }) sender.now request ≡ Ok to }
     ensures ok { IfOk result (λ out. OnRequest (record { node = node.now; pending = pending.old }) conn sender.now request out.items (record { node = node.now; pending = pending.new })) }
+    ensures given { request.header.request ≡ true → IfOk result (λ out. GivesOne pending.old out.items pending.new) }
     ensures err { OnErr result (pending.new ≡ pending.old) }
     ensures memory { IsOkUnless result RelayError.OutOfMemory }
 {

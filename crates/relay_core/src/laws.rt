@@ -20,9 +20,10 @@ ghost use Rattle.cc_view.specs.declared.refusal.Refusal.{Refusal};
 ghost use Rattle.cc_view.specs.declared.reply.CcReply.{CcReply};
 ghost use Rattle.cc_view.specs.declared.request.CcRequest.{CcRequest};
 ghost use Rattle.relay_routes.specs.Routing.{record_of, loops, IsLoop};
-ghost use Rattle.relay_core.specs.Connecting.{new_relay};
+ghost use Rattle.relay_core.specs.Connecting.{relay_at};
 ghost use Rattle.relay_core.specs.FirstForwarding.{client_name, forwarded_debit};
 ghost use Rattle.relay_core.specs.Forwarding.{with_record, Descends};
+ghost use Rattle.relay_core.specs.Giving.{GiveInTurn, GivesRising};
 ghost use Rattle.relay_core.specs.Promise.{KeepsPromise};
 ghost use Rattle.relay_core.specs.RelayRun.{IsRun, RelayStep};
 ghost use Rattle.relay_core.specs.RelayState.{RelayState};
@@ -80,10 +81,18 @@ pub fn returning_requests_loop()
     loops_have_a_record_of_the_node();
 }
 
-/// Every run of a relay keeps the promise, over any list of events, whichever identifiers it gives among those
-/// that are not in use.
+/// Every run of a relay keeps the promise, over any list of events, from any start, and whichever identifiers it
+/// gives among those that are not in use.
 pub fn relays_keep_their_promise()
-    ensures { (site : RelaySite) (events : List RelayEvent) (outs : List Out) (past : List RelayStep) (last : RelayState) → IsRun (new_relay site) events outs past last → KeepsPromise site.name site.realm past }
+    ensures { (site : RelaySite) (start : ℕ) (events : List RelayEvent) (outs : List Out) (past : List RelayStep) (last : RelayState) →
+        IsRun (relay_at site start) events outs past last → KeepsPromise site.name site.realm past }
+{}
+
+/// Where the identifiers of a run are those that a relay gives at each event, they rise: of two requests that go
+/// out new under one identifier at least 2^30 others go out new between them.
+pub fn identifiers_come_back_late()
+    ensures { (site : RelaySite) (start : ℕ) (events : List RelayEvent) (outs : List Out) (past : List RelayStep) (last : RelayState) →
+        IsRun (relay_at site start) events outs past last → GiveInTurn past → GivesRising past }
 {}
 
 /// The worked example: the first debit, as a relay forwards it that has it from `c1.example`, has the

@@ -6,7 +6,8 @@
 //! - [`RelaySite`]: what it is set up with; [`RelayNode`]: the same with the peers that are up.
 //! - [`FailoverChoice`], [`PlannedFailover`]: what is prepared before a connection is given up.
 //! - [`descending_goes_on`], [`descendants_read_alike`], [`loops_are_not_forwarded`],
-//!   [`loops_are_refused`], [`returning_requests_loop`], [`relays_keep_their_promise`]: laws, functions without a
+//!   [`loops_are_refused`], [`returning_requests_loop`], [`relays_keep_their_promise`],
+//!   [`identifiers_come_back_late`]: laws, functions without a
 //!   body. `rule_examples` has a worked example for each rule, `step_examples` one for each case of an event.
 //!
 //! The thirteen rules stand in `specs/Verdict`, with `specs/NextHop`; what may change in a request in
@@ -48,8 +49,8 @@ mod step_examples;
 pub use error::RelayError;
 pub use failover::{FailoverChoice, PlannedFailover};
 pub use laws::{
-    descendants_read_alike, descending_goes_on, first_forwarding, loops_are_not_forwarded,
-    loops_are_refused, relays_keep_their_promise, returning_requests_loop,
+    descendants_read_alike, descending_goes_on, first_forwarding, identifiers_come_back_late,
+    loops_are_not_forwarded, loops_are_refused, relays_keep_their_promise, returning_requests_loop,
 };
 pub use node::{RelayNode, RelaySite};
 pub use relay::Relay;

@@ -1,9 +1,10 @@
 //! A relay and its events.
 
-ghost use Rattle.std.specs.Prelude.{◌≡◌, IsSome, IsNone, IsOk, IfOk, IfSome, None, OnOk, OnErr, IsOkUnless, MatchOption, false, length};
+ghost use Rattle.std.specs.Prelude.{◌≡◌, ◌%◌, ◌^◌, IsSome, IsNone, IsOk, IfOk, IfSome, None, OnOk, OnErr, IsOkUnless, MatchOption, false, length};
 ghost use Rattle.relay_peers.specs.PeerTable.{peer_in};
-ghost use Rattle.relay_core.specs.Connecting.{new_relay, up_fault, after_up, after_restart};
-ghost use Rattle.relay_core.specs.RelayState.{peer_on};
+ghost use Rattle.relay_core.specs.Connecting.{new_relay, relay_at, up_fault, after_up, after_restart};
+ghost use Rattle.relay_core.specs.Giving.{GivesOne, SendsAgain};
+ghost use Rattle.relay_core.specs.RelayState.{peer_on, with_next};
 ghost use Rattle.relay_core.specs.RelayStep.{OnMessage, asker_of};
 ghost use Rattle.relay_core.specs.Failover.{OnConnLost};
 
@@ -37,14 +38,30 @@ impl Model for Relay {
 }
 
 impl Relay {
-    /// A relay with no connection and nothing pending.
+    /// A relay with no connection and nothing pending. Its identifiers rise from the first.
     pub fn new(alloc: Global, site: RelaySite) -> Result<Self, AllocError>
         ensures { IfOk result (λ relay. relay ≡ new_relay site) }
     {
+        Relay::starting_at(alloc, site, 0)
+    }
+
+    /// The same, with identifiers that rise from another start (RFC 6733, section 3): its low 31 bits are the
+    /// number of the first one.
+    pub fn starting_at(alloc: Global, site: RelaySite, start: u32) -> Result<Self, AllocError>
+        ensures { IfOk result (λ relay. relay ≡ relay_at site start) }
+    {
         Ok(Relay {
             node: RelayNode::new(alloc, site),
-            pending: Pending::new(alloc, PENDING_LIMIT)?,
+            pending: Pending::starting_at(alloc, PENDING_LIMIT, start)?,
         })
+    }
+
+    /// Identifiers rise from another start from now on: for those who play what another relay did, which drew its
+    /// own. It is no event of a run.
+    pub fn number_from(&mut self, start: u32)
+        ensures { self.new ≡ with_next (start % 2 ^ 31) self.old }
+    {
+        self.pending.number_from(start);
     }
 
     /// A peer's connection is made. A peer that is not linked is refused first, `UnknownPeer`, then one
@@ -74,6 +91,7 @@ impl Relay {
     ) -> Result<Out, RelayError>
         ensures known { MatchOption (peer_on self.old.node conn) (result ≡ Err (RelayError.UnknownConn conn)) (λ sender. IsOkUnless result RelayError.OutOfMemory) }
         ensures ok { IfSome (peer_on self.old.node conn) (λ sender. IfOk result (λ out. OnMessage self.old conn sender.name message out.items self.new)) }
+        ensures given { IfOk result (λ out. GivesOne self.old.pending out.items self.new.pending) }
         ensures dropped { IsSome (peer_on self.old.node conn) → message.header.request ≡ false → asker_of self.old.pending.rows conn message.header.hop ≡ None → IsOk result }
         ensures err { OnErr result (self.new ≡ self.old) }
     {
@@ -101,6 +119,7 @@ impl Relay {
         ensures unknown { IsNone (peer_in self.old.node.peers.links conn) → result ≡ Err (RelayError.UnknownConn conn) }
         ensures known { IsSome (peer_in self.old.node.peers.links conn) → IsOkUnless result RelayError.OutOfMemory }
         ensures ok { IfOk result (λ out. OnConnLost self.old conn out.items self.new) }
+        ensures again { IfOk result (λ out. SendsAgain self.old.pending out.items self.new.pending) }
         ensures err { OnErr result (self.new ≡ self.old) }
     {
         if self.node.peers.peer_of(conn).is_none() {
@@ -120,7 +139,8 @@ impl Relay {
         self.pending.count()
     }
 
-    /// Everything is forgotten: no peer is up, and nothing is pending. It takes no memory.
+    /// Everything is forgotten: no peer is up, and nothing is pending. Identifiers go on from where they were, so
+    /// that a late answer matches nothing. It takes no memory.
     pub fn restart(&mut self)
         ensures { self.new ≡ after_restart self.old }
     {

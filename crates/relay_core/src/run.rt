@@ -2,6 +2,7 @@
 
 ghost use Rattle.std.specs.Prelude.{◌≡◌, ◌≢◌, [], List, IfOk, IsOkUnless};
 ghost use Rattle.relay_core.specs.Connecting.{new_relay};
+ghost use Rattle.relay_core.specs.Giving.{GivesAt, GivesRising};
 ghost use Rattle.relay_core.specs.Promise.{KeepsPromise};
 ghost use Rattle.relay_core.specs.RelayRun.{OnEvent, IsRun, RelayStep};
 ghost use Rattle.relay_core.specs.RelayState.{RelayState};
@@ -39,12 +40,17 @@ impl Relay {
     /// peer that is up is answered at once or waits for its answer, which only the end of its connection or a
     /// restart forgets; an identifier in use on a connection is given to no other request; and a request in
     /// which the relay finds itself is answered DIAMETER_LOOP_DETECTED, and nothing else happens.
+    ///
+    /// Its identifiers rise: each has the highest bit, and of two requests that go out new under one identifier at
+    /// least 2^30 others went out new between them, whatever is pending, and though connections ended or the relay
+    /// was restarted. So whatever answers come, however often, one whose request was answered before is that of no
+    /// other request of the next 2^30.
     pub fn run<W: Wire>(
         alloc: Global,
         site: &RelaySite,
         events: &[RelayEvent],
     ) -> Result<Vec<Out>, RelayError>
-        ensures run { IfOk result (λ outs. (past : List RelayStep) × (last : RelayState) × IsRun (new_relay site.now) events.now outs.items past last × KeepsPromise site.now.name site.now.realm past) }
+        ensures run { IfOk result (λ outs. (past : List RelayStep) × (last : RelayState) × IsRun (new_relay site.now) events.now outs.items past last × KeepsPromise site.now.name site.now.realm past × GivesRising past) }
         ensures memory { IsOkUnless result RelayError.OutOfMemory }
     {
         let mut relay = Relay::new(alloc, site.copied(alloc)?)?;
@@ -63,6 +69,7 @@ fn on_event<W: Wire>(
     event: &RelayEvent,
 ) -> Result<Out, RelayError>
     ensures ok { IfOk result (λ out. OnEvent relay.old event.now out.items relay.new) }
+    ensures given { IfOk result (λ out. GivesAt event.now relay.old.pending out.items relay.new.pending) }
     ensures memory { IsOkUnless result RelayError.OutOfMemory }
 {
     match event {
@@ -78,6 +85,7 @@ fn on_event<W: Wire>(
 
 fn on_up(relay: &mut Relay, alloc: Global, peer: NodeNo, conn: ConnId) -> Result<Out, RelayError>
     ensures ok { IfOk result (λ out. OnEvent relay.old (RelayEvent.Up peer conn) out.items relay.new) }
+    ensures given { IfOk result (λ out. GivesAt (RelayEvent.Up peer conn) relay.old.pending out.items relay.new.pending) }
     ensures memory { IsOkUnless result RelayError.OutOfMemory }
 {
     match relay.conn_up(peer, conn) {
@@ -93,6 +101,7 @@ fn on_received<W: Wire>(
     message: &Message,
 ) -> Result<Out, RelayError>
     ensures ok { IfOk result (λ out. OnEvent relay.old (RelayEvent.Received conn message.now) out.items relay.new) }
+    ensures given { IfOk result (λ out. GivesAt (RelayEvent.Received conn message.now) relay.old.pending out.items relay.new.pending) }
     ensures memory { IsOkUnless result RelayError.OutOfMemory }
 {
     let message = message.clone()?;
@@ -104,6 +113,7 @@ fn on_received<W: Wire>(
 
 fn on_lost<W: Wire>(relay: &mut Relay, alloc: Global, conn: ConnId) -> Result<Out, RelayError>
     ensures ok { IfOk result (λ out. OnEvent relay.old (RelayEvent.Lost conn) out.items relay.new) }
+    ensures given { IfOk result (λ out. GivesAt (RelayEvent.Lost conn) relay.old.pending out.items relay.new.pending) }
     ensures memory { IsOkUnless result RelayError.OutOfMemory }
 {
     match relay.conn_lost::<W>(alloc, conn) {

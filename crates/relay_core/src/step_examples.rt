@@ -9,7 +9,7 @@ ghost use Rattle.relay_core.specs.Connecting.{after_restart, new_relay, up_fault
 ghost use Rattle.relay_core.specs.FirstForwarding.{forwarded_debit};
 ghost use Rattle.relay_core.specs.RelayState.{with_rows};
 ghost use Rattle.relay_core.specs.RuleExample.{all_up, but_for, c1, client_up, conn, request_with, site_of_r1};
-ghost use Rattle.relay_core.specs.StepExample.{DoesOnly, DoesUnder, debit_again_on, debit_on, lost, of_c1, received, refused_with};
+ghost use Rattle.relay_core.specs.StepExample.{DoesOnly, DoesUnder, DoesUnderNew, debit_again_on, debit_on, lost, of_c1, received, refused_with};
 
 /// A request that is refused is answered where it came from, with E and the relay's name, and is not pending. The first
 /// names nobody, DIAMETER_APPLICATION_UNSUPPORTED; the second meets no candidate, DIAMETER_UNABLE_TO_DELIVER.
@@ -21,7 +21,7 @@ pub fn refused_requests_are_answered_and_not_kept()
 /// A request goes out with the Route-Record of its sender, under an identifier of the relay, and is pending with where it
 /// came from.
 pub fn forwarded_requests_are_kept_with_their_origin()
-    ensures { DoesUnder all_up (received 1 debit_message)
+    ensures { DoesUnderNew all_up (received 1 debit_message)
         (λ hop. (conn 2, under hop forwarded_debit) ∷ []) (λ hop. with_rows (debit_on 2 hop of_c1 ∷ []) all_up) }
 {}
 

@@ -1,4 +1,9 @@
 pub mod Rows
+pub mod Keyed
+pub mod Numbers
 pub mod Slab
+pub mod Orphans
+pub mod Going
 pub mod LookUps
 pub mod InUse
+pub mod OneGiven

@@ -1,14 +1,10 @@
 -- Rows found, taken out, put in and changed.
-use Rattle.std.proofs.Common.{◌≡◌, ℕ, suc, ◌+◌, ◌<◌, ◌≤◌, ◌&&◌, ◌==◌, Bool, true, false, cond, List, [], ◌∷◌, ◌++◌, map, length, take, drop, get_or, set, Some, None, option_map, refl, ap, sym, subst, ◌∙◌, arith, drop-cons, length-append}
-use Rattle.std.specs.List.{find, position, position_or_len, remove, count_by, list_any, slice_get}
-use Rattle.std.proofs.lemmas.Bool.{eqb-true, ltb-false}
-use Rattle.std.proofs.lemmas.List.{take-append-drop, append-nil, set_split}
-use Rattle.std.proofs.lemmas.List.Folds.{find_at}
-use Rattle.std.proofs.lemmas.List.Quantifiers.{position-Some}
-use Rattle.std.proofs.lemmas.Option.{slice_get_past, slice_get_read}
+use Rattle.std.proofs.Common.{◌≡◌, ℕ, ◌+◌, ◌≤◌, ◌&&◌, ◌==◌, Bool, true, false, List, ◌∷◌, map, length, None, option_map, refl, ap, sym, subst, ◌∙◌, arith, length-append}
+use Rattle.std.specs.List.{count_by, list_any}
+use Rattle.std.proofs.lemmas.Bool.{eqb-true}
 use Rattle.dia_base.specs.declared.number.ConnId.{ConnId}
 use Rattle.relay_hops.specs.declared.row.Row.{Row}
-use Rattle.relay_hops.specs.PendingTable.{hop_of, is_sent_on, has_key, IsMap, held_at, IsWith, IsMoved, resent, orphaned}
+use Rattle.relay_hops.specs.PendingTable.{hop_of, is_sent_on, has_key, IsMap, held_at, IsWith, orphaned}
 use Rattle.dia_base.proofs.Counting.{one, count-among, count-map, none_counted, none_any}
 
 -- ---- keys

@@ -1,425 +1,316 @@
--- What a key finds among the rows of a slab, and what a place more, less or changed leaves of it.
-use Rattle.std.proofs.Common.{◌≡◌, ◌≢◌, ◌⊎◌, ℕ, zero, suc, ◌+◌, ◌<◌, ◌≤◌, ◌&&◌, ◌==◌, Bool, true, false, cond, List, [], ◌∷◌, ◌++◌, map, length, filter_map, take, drop, get_or, set, Option, Some, None, option_map, is_some, IfSome, MutBor, inl, inr, refl, ap, sym, subst, ◌∙◌, arith, drop-cons}
-use Rattle.std.specs.List.{find, filter, count_by, AllByRecursion}
-use Rattle.std.specs.Ordering.{nat_cmp}
-use Rattle.std.specs.declared.cmp.Ordering.TheVariants.{Less}
-use Rattle.std.specs.List.Sorted.{IsStrictlySortedBy}
-use Rattle.std.specs.Cmp.{nat_cmp_is}
-use Rattle.std.proofs.lemmas.Bool.{cases_eq, eq-eqb, eqb-true, ne_eqb}
-use Rattle.std.proofs.lemmas.List.{append-nil, take-append-drop, set_split, get_or-set_same, get_or-set_other}
+-- What an identifier finds among the rows of a slab by an index, and what a row more, less or changed leaves of the two.
+use Rattle.std.proofs.Common.{◌≡◌, ◌≢◌, ℕ, zero, suc, ◌+◌, ◌<◌, ◌==◌, Bool, true, false, cond, List, [], ◌∷◌, ◌++◌, length, take, drop, get_or, set, replicate, Option, Some, None, option_map, is_some, IfSome, inl, inr, refl, ap, sym, subst, ◌∙◌, arith, drop-cons}
+use Rattle.std.specs.List.{find, count_by}
+use Rattle.std.proofs.lemmas.Bool.{cases_eq, eq-eqb, eqb-true}
+use Rattle.std.proofs.lemmas.List.{take-append-drop, set_split, get_or-set_same, get_or-set_other, length-set}
 use Rattle.std.proofs.lemmas.List.Sums.{sum_by-set}
 use Rattle.std.proofs.lemmas.List.Elements.{filter_map-append}
-use Rattle.slab.specs.Slab.{Slab, get, slab_len, with_value, entries_from, ContainsKey, Updates, CalledAt, RetainsFrom}
+use Rattle.std.proofs.lemmas.Nat.{mod_below}
+use Rattle.slab.specs.Slab.{Slab, get, slab_len, with_value, ContainsKey, Updates}
 use Rattle.slab.proofs.SlabLemmas.{ContainsKey-within, Updates-with_value}
 use Rattle.dia_base.specs.declared.number.ConnId.{ConnId}
 use Rattle.relay_hops.specs.declared.row.Held.{Held}
 use Rattle.relay_hops.specs.declared.row.Row.{Row}
-use Rattle.relay_hops.specs.PendingTable.{hop_of, is_sent_on, has_key, IsMap, held_at, hops_on, IsWith, IsMoved, resent, orphaned}
 use Rattle.relay_hops.specs.declared.places.Places.{Places}
-use Rattle.relay_hops.specs.PlaceTable.{Place, row_in, rows_at, place_at, if_sent_on, row_at, AreInPlace, IsSlab}
+use Rattle.relay_hops.specs.Identifiers.{place_of, key_in, is_taken}
+use Rattle.relay_hops.specs.PendingTable.{hop_of, has_key, IsMap, held_at, IsWith, IsMoved, resent}
+use Rattle.relay_hops.specs.PlaceTable.{rows_at, rows_of, key_at, if_key, row_under, row_at, IsFilled, AreIndexed, IsIndexed}
 use Rattle.dia_base.proofs.Counting.{one, count-cons, none_counted}
-use Rattle.relay_hops.proofs.Rows.{at_most_one, length-with}
+use Rattle.relay_hops.proofs.Rows.{its_key}
+use Rattle.relay_hops.proofs.Keyed.{HaveKeys, PassWith, NonePasses, single, found_at, if_passes, none_pass, none_any_pass, one_passes}
 
--- ---- what a key finds
+-- ---- what an identifier finds
 
-pub later : (first : ℕ) (place : Place) (places : List Place) → AreInPlace first (place ∷ places) → AreInPlace (suc first) places
-later first place places own at row e = let here = own (suc at) row e in omega arith
+-- the key that an index has for a row
+key_of : List (Option ℕ) → Row → Option ℕ
+key_of keys row = key_in keys (hop_of row)
 
-and_false : (b c : Bool) → c ≡ false → (b && c) ≡ false
-and_false true c e = e
-and_false false c e = refl
+have_keys : (slots : List (Option Row)) (keys : List (Option ℕ)) → AreIndexed slots keys → HaveKeys (key_of keys) 0 slots
+unfolding key_of
+have_keys slots keys s at row e = let same : at ≡ 0 + at = omega arith in s.indexed at row e ∙ ap (λ (n : ℕ). Some n) same
 
-and_true : (b c : Bool) → c ≡ true → (b && c) ≡ b
-and_true true c e = e
-and_true false c e = refl
+pass_with : (keys : List (Option ℕ)) (conn : ConnId) (hop : ℕ) → PassWith (key_of keys) (has_key conn hop) (key_in keys hop)
+unfolding key_of
+pass_with keys conn hop row e = ap (key_in keys) (its_key conn hop row e).1
 
-other_key : (conn : ConnId) (hop : ℕ) (row : Row) → (hop_of row ≡ hop → ⊥) → has_key conn hop row ≡ false
-other_key conn hop row ne = and_false (is_sent_on conn row) (hop_of row == hop) (ne_eqb (hop_of row) hop ne)
+pub IsMap-indexed : (slots : List (Option Row)) (keys : List (Option ℕ)) → AreIndexed slots keys → IsMap (rows_at slots)
+IsMap-indexed slots keys s = record { single = λ conn hop. single (key_of keys) (has_key conn hop) (key_in keys hop) 0 slots (have_keys slots keys s) (pass_with keys conn hop) }
 
-own_key : (conn : ConnId) (hop : ℕ) (row : Row) → hop_of row ≡ hop → has_key conn hop row ≡ is_sent_on conn row
-own_key conn hop row e = and_true (is_sent_on conn row) (hop_of row == hop) (eq-eqb (hop_of row) hop e)
+same_key : (conn : ConnId) (hop : ℕ) (slot : Option Row) → if_passes (has_key conn hop) slot ≡ if_key conn hop slot
+same_key conn hop None = refl
+same_key conn hop (Some row) = refl
 
--- no row has a number below that of the first place
-before : (conn : ConnId) (hop first : ℕ) (places : List Place) → AreInPlace first places → hop < first → count_by (has_key conn hop) (rows_at places) ≡ 0
-before conn hop first [] own lt = refl
-before conn hop first (None ∷ places) own lt = before conn hop (suc first) places (later first None places own) (omega arith)
-before conn hop first (Some None ∷ places) own lt = before conn hop (suc first) places (later first (Some None) places own) (omega arith)
-before conn hop first (Some (Some row) ∷ places) own lt =
-    let here : hop_of row ≡ first + 0 = own 0 row refl in
-    let not_it : one (has_key conn hop row) ≡ 0 = ap one (other_key conn hop row (λ e. omega arith)) in
-    let rest = before conn hop (suc first) places (later first (Some (Some row)) places own) (omega arith) in
-    omega (arith, count-cons (has_key conn hop) row (rows_at places))
+-- no row passes a test whose rows have no key
+unkeyed : (slots : List (Option Row)) (keys : List (Option ℕ)) (test : Row → Bool) → AreIndexed slots keys → ((row : Row) → test row ≡ true → key_in keys (hop_of row) ≡ None) → NonePasses test slots
+unkeyed slots keys test s none at row e f = let here = s.indexed at row e in let no = none row f in absurd (let both : Some at ≡ None = sym here ∙ no in cc)
 
-single : (conn : ConnId) (hop first : ℕ) (places : List Place) → AreInPlace first places → count_by (has_key conn hop) (rows_at places) ≤ 1
-single conn hop first [] own = omega arith
-single conn hop first (None ∷ places) own = single conn hop (suc first) places (later first None places own)
-single conn hop first (Some None ∷ places) own = single conn hop (suc first) places (later first (Some None) places own)
-single conn hop first (Some (Some row) ∷ places) own =
-    let here : hop_of row ≡ first + 0 = own 0 row refl in
-    let le = at_most_one (has_key conn hop row) (count_by (has_key conn hop) (rows_at places)) (single conn hop (suc first) places (later first (Some (Some row)) places own))
-    (λ key. before conn hop (suc first) places (later first (Some (Some row)) places own) (let same = its_number conn hop row key in omega arith)) in
-    omega (arith, count-cons (has_key conn hop) row (rows_at places))
-  where
-    second : (a b : Bool) → (a && b) ≡ true → b ≡ true
-    second true b e = e
-    second false b e = absurd cc
-
-    its_number : (conn : ConnId) (hop : ℕ) (row : Row) → has_key conn hop row ≡ true → hop_of row ≡ hop
-    its_number conn hop row key = eqb-true (hop_of row) hop (second (is_sent_on conn row) (hop_of row == hop) key)
-
-pub IsMap-places : (places : List Place) → AreInPlace 0 places → IsMap (rows_at places)
-IsMap-places places own = record { single = λ conn hop. single conn hop 0 places own }
-
-first_found : (b c : Bool) (row : Row) (rest : Option Row) → b ≡ c → rest ≡ None → cond b (Some row) rest ≡ cond c (Some row) None
-first_found true true row rest e none = refl
-first_found false false row rest e none = none
-first_found true false row rest e none = absurd cc
-first_found false true row rest e none = absurd cc
-
-passed_over : (b : Bool) (row : Row) (rest found : Option Row) → b ≡ false → rest ≡ found → cond b (Some row) rest ≡ found
-passed_over true row rest found e f = absurd cc
-passed_over false row rest found e f = f
-
-found : (conn : ConnId) (hop first at : ℕ) (places : List Place) → AreInPlace first places → hop ≡ first + at → find (has_key conn hop) (rows_at places) ≡ if_sent_on conn (place_at places at)
-found conn hop first at [] own e = refl
-found conn hop first zero (None ∷ places) own e =
-    none_counted (has_key conn hop) (rows_at places) (before conn hop (suc first) places (later first None places own) (omega arith))
-found conn hop first zero (Some None ∷ places) own e =
-    none_counted (has_key conn hop) (rows_at places) (before conn hop (suc first) places (later first (Some None) places own) (omega arith))
-found conn hop first zero (Some (Some row) ∷ places) own e =
-    let here : hop_of row ≡ first + 0 = own 0 row refl in
-    first_found (has_key conn hop row) (is_sent_on conn row) row (find (has_key conn hop) (rows_at places)) (own_key conn hop row (omega arith))
-    (none_counted (has_key conn hop) (rows_at places) (before conn hop (suc first) places (later first (Some (Some row)) places own) (omega arith)))
-found conn hop first (suc at) (None ∷ places) own e = found conn hop (suc first) at places (later first None places own) (omega arith)
-found conn hop first (suc at) (Some None ∷ places) own e = found conn hop (suc first) at places (later first (Some None) places own) (omega arith)
-found conn hop first (suc at) (Some (Some row) ∷ places) own e =
-    let here : hop_of row ≡ first + 0 = own 0 row refl in
-    passed_over (has_key conn hop row) row (find (has_key conn hop) (rows_at places)) (if_sent_on conn (place_at places at)) (other_key conn hop row (λ same. omega arith))
-    (found conn hop (suc first) at places (later first (Some (Some row)) places own) (omega arith))
+found : (p : Places) (conn : ConnId) (hop : ℕ) (key : Option ℕ) → IsIndexed p → key_at p.index hop ≡ key → find (has_key conn hop) (rows_of p) ≡ row_under p conn hop key
+found p conn hop None s e =
+    none_counted (has_key conn hop) (rows_of p)
+    (none_pass (has_key conn hop) p.slab.slots (unkeyed p.slab.slots p.index.keys.items (has_key conn hop) s (λ row f. ap (key_in p.index.keys.items) (its_key conn hop row f).1 ∙ e)))
+found p conn hop (Some key) s e =
+    let same : key ≡ 0 + key = omega arith in
+    found_at (key_of p.index.keys.items) (has_key conn hop) (key_in p.index.keys.items hop) 0 key p.slab.slots (have_keys p.slab.slots p.index.keys.items s) (pass_with p.index.keys.items conn hop) (e ∙ ap (λ (n : ℕ). Some n) same)
+    ∙ same_key conn hop (get p.slab key)
 
 abbrev held : Option Row → Option Held
 held o = option_map (λ row. row.held) o
 
-pub held-places : (places : List Place) (conn : ConnId) (hop : ℕ) → AreInPlace 0 places → held_at (rows_at places) conn hop ≡ held (if_sent_on conn (place_at places hop))
-held-places places conn hop own = ap held (found conn hop 0 hop places own (omega arith))
+pub held-row : (p : Places) (conn : ConnId) (hop : ℕ) → IsIndexed p → held_at (rows_of p) conn hop ≡ held (row_at p conn hop)
+held-row p conn hop s = ap held (found p conn hop (key_at p.index hop) s refl)
 
--- ---- the rows of places
+-- a place is taken where the index has a key there
+pub taken-key : (slots : List (Option Row)) (keys : List (Option ℕ)) (hop : ℕ) → AreIndexed slots keys → is_taken (length keys) (rows_at slots) hop ≡ is_some (key_in keys hop)
+taken-key slots keys hop s = by_key (key_in keys hop) refl
+  where
+    test : Row → Bool
+    test row = place_of (length keys) (hop_of row) == place_of (length keys) hop
 
-pub within : (places : List Place) (hop : ℕ) (row : Row) → place_at places hop ≡ Some row → hop < length places
-within [] hop row e = absurd cc
-within (place ∷ places) zero row e = omega arith
-within (place ∷ places) (suc hop) row e = let lt = within places hop row e in omega arith
+    by_key : (key : Option ℕ) → key_in keys hop ≡ key → is_taken (length keys) (rows_at slots) hop ≡ is_some key
+    by_key None e = none_any_pass test slots (unkeyed slots keys test s (λ row f. ap (λ n. get_or keys n None) (eqb-true _ _ f) ∙ e))
+    by_key (Some key) e =
+        let filled = s.filled (place_of (length keys) hop) key e in
+        one_passes test slots key filled.row filled.there (eq-eqb _ _ filled.place)
 
-parts : (places : List Place) (hop : ℕ) → hop < length places → places ≡ take hop places ++ get_or places hop None ∷ drop (suc hop) places
-parts places hop lt = sym (take-append-drop hop places) ∙ ap (λ (ps : List Place). take hop places ++ ps) (drop-cons places hop None lt)
+-- ---- the rows of slots
 
-front_row : (place : Place) (places : List Place) (row : Row) → row_in place ≡ Some row → rows_at (place ∷ places) ≡ row ∷ rows_at places
-front_row None places row e = absurd cc
-front_row (Some None) places row e = absurd cc
-front_row (Some (Some other)) places row e = let same : other ≡ row = cc in ap (λ (r : Row). r ∷ rows_at places) same
+pub within : (slots : List (Option Row)) (key : ℕ) (row : Row) → get_or slots key None ≡ Some row → key < length slots
+within [] key row e = absurd cc
+within (slot ∷ slots) zero row e = omega arith
+within (slot ∷ slots) (suc key) row e = let lt = within slots key row e in omega arith
 
-one_less : (before after : List Place) (place : Place) (row : Row) → row_in place ≡ Some row → IsWith row (rows_at (before ++ None ∷ after)) (rows_at (before ++ place ∷ after))
-one_less before after place row e = record {
+parts : (slots : List (Option Row)) (key : ℕ) → key < length slots → slots ≡ take key slots ++ get_or slots key None ∷ drop (suc key) slots
+parts slots key lt = sym (take-append-drop key slots) ∙ ap (λ (ps : List (Option Row)). take key slots ++ ps) (drop-cons slots key None lt)
+
+front_row : (slot : Option Row) (slots : List (Option Row)) (row : Row) → slot ≡ Some row → rows_at (slot ∷ slots) ≡ row ∷ rows_at slots
+front_row None slots row e = absurd cc
+front_row (Some other) slots row e = let same : other ≡ row = cc in ap (λ (r : Row). r ∷ rows_at slots) same
+
+one_less : (before after : List (Option Row)) (slot : Option Row) (row : Row) → slot ≡ Some row → IsWith row (rows_at (before ++ None ∷ after)) (rows_at (before ++ slot ∷ after))
+one_less before after slot row e = record {
   before = rows_at before;
   after = rows_at after;
-  without = filter_map-append row_in before (None ∷ after);
-  whole = filter_map-append row_in before (place ∷ after) ∙ ap (λ (rows : List Row). rows_at before ++ rows) (front_row place after row e);
+  without = filter_map-append (λ s. s) before (None ∷ after);
+  whole = filter_map-append (λ s. s) before (slot ∷ after) ∙ ap (λ (rows : List Row). rows_at before ++ rows) (front_row slot after row e);
 }
 
-without_set : (places : List Place) (hop : ℕ) (row : Row) → place_at places hop ≡ Some row → IsWith row (rows_at (set places hop None)) (rows_at places)
-without_set places hop row e =
-    let lt = within places hop row e in
-    subst (λ (ps : List Place). IsWith row (rows_at (set places hop None)) (rows_at ps)) (sym (parts places hop lt))
-    (subst (λ (ps : List Place). IsWith row (rows_at ps) (rows_at (take hop places ++ get_or places hop None ∷ drop (suc hop) places))) (sym (set_split places hop None lt))
-    (one_less (take hop places) (drop (suc hop) places) (get_or places hop None) row e))
+without_set : (slots : List (Option Row)) (key : ℕ) (row : Row) → get_or slots key None ≡ Some row → IsWith row (rows_at (set slots key None)) (rows_at slots)
+without_set slots key row e =
+    let lt = within slots key row e in
+    subst (λ (ps : List (Option Row)). IsWith row (rows_at (set slots key None)) (rows_at ps)) (sym (parts slots key lt))
+    (subst (λ (ps : List (Option Row)). IsWith row (rows_at ps) (rows_at (take key slots ++ get_or slots key None ∷ drop (suc key) slots))) (sym (set_split slots key None lt))
+    (one_less (take key slots) (drop (suc key) slots) (get_or slots key None) row e))
 
--- a place without a row changes no rows
-same_front : (place other : Place) (places others : List Place) → row_in other ≡ row_in place → rows_at others ≡ rows_at places → rows_at (other ∷ others) ≡ rows_at (place ∷ places)
-same_front None None places others e rest = rest
-same_front None (Some None) places others e rest = rest
-same_front None (Some (Some row)) places others e rest = absurd cc
-same_front (Some None) None places others e rest = rest
-same_front (Some None) (Some None) places others e rest = rest
-same_front (Some None) (Some (Some row)) places others e rest = absurd cc
-same_front (Some (Some row)) None places others e rest = absurd cc
-same_front (Some (Some row)) (Some None) places others e rest = absurd cc
-same_front (Some (Some row)) (Some (Some other)) places others e rest = let same : other ≡ row = cc in ap (λ (r : Row). r ∷ rows_at others) same ∙ ap (λ (rows : List Row). row ∷ rows) rest
+same_front : (slot other : Option Row) (slots others : List (Option Row)) → other ≡ slot → rows_at others ≡ rows_at slots → rows_at (other ∷ others) ≡ rows_at (slot ∷ slots)
+same_front None None slots others e rest = rest
+same_front None (Some row) slots others e rest = absurd cc
+same_front (Some row) None slots others e rest = absurd cc
+same_front (Some row) (Some other) slots others e rest = let same : other ≡ row = cc in ap (λ (r : Row). r ∷ rows_at others) same ∙ ap (λ (rows : List Row). row ∷ rows) rest
 
-no_front : (place : Place) (places : List Place) → row_in place ≡ None → rows_at places ≡ [] → rows_at (place ∷ places) ≡ []
-no_front None places e rest = rest
-no_front (Some None) places e rest = rest
-no_front (Some (Some row)) places e rest = absurd cc
+no_front : (slot : Option Row) (slots : List (Option Row)) → slot ≡ None → rows_at slots ≡ [] → rows_at (slot ∷ slots) ≡ []
+no_front None slots e rest = rest
+no_front (Some row) slots e rest = absurd cc
 
-no_rows : (places : List Place) → ((at : ℕ) → place_at places at ≡ None) → rows_at places ≡ []
+no_rows : (slots : List (Option Row)) → ((at : ℕ) → get_or slots at None ≡ None) → rows_at slots ≡ []
 no_rows [] none = refl
-no_rows (place ∷ places) none = no_front place places (none 0) (no_rows places (λ at. none (suc at)))
+no_rows (slot ∷ slots) none = no_front slot slots (none 0) (no_rows slots (λ at. none (suc at)))
 
--- the same row at each place
-pub same_rows : (places others : List Place) → ((at : ℕ) → place_at others at ≡ place_at places at) → rows_at others ≡ rows_at places
+-- the same row in each slot
+pub same_rows : (slots others : List (Option Row)) → ((at : ℕ) → get_or others at None ≡ get_or slots at None) → rows_at others ≡ rows_at slots
 same_rows [] others same = no_rows others same
-same_rows (place ∷ places) [] same = sym (no_rows (place ∷ places) (λ at. sym (same at)))
-same_rows (place ∷ places) (other ∷ others) same = same_front place other places others (same 0) (same_rows places others (λ at. same (suc at)))
+same_rows (slot ∷ slots) [] same = sym (no_rows (slot ∷ slots) (λ at. sym (same at)))
+same_rows (slot ∷ slots) (other ∷ others) same = same_front slot other slots others (same 0) (same_rows slots others (λ at. same (suc at)))
 
--- ---- one place of a slab changes
-
-pub at_others : (old new : Slab (Option Row)) (hop : ℕ) (place : Place) → Updates old new hop place → (at : ℕ) → (at ≢ hop) → place_at new.slots at ≡ place_at old.slots at
-at_others old new hop place u at ne = ap row_in (u.others at ne)
+-- ---- one key of a slab changes
 
 -- one row is at the key in the slab with it, none in the one without it, and all other keys have the same
-pub one_more : (few many : Slab (Option Row)) (hop : ℕ) (row : Row) → place_at few.slots hop ≡ None → place_at many.slots hop ≡ Some row
-    → ((at : ℕ) → (at ≢ hop) → place_at few.slots at ≡ place_at many.slots at) → IsWith row (rows_at few.slots) (rows_at many.slots)
-one_more few many hop row none some others =
-    subst (λ (rows : List Row). IsWith row rows (rows_at many.slots)) (sym (same_rows (set many.slots hop None) few.slots same)) (without_set many.slots hop row some)
+pub one_more : (few many : Slab Row) (key : ℕ) (row : Row) → get few key ≡ None → get many key ≡ Some row
+    → ((at : ℕ) → (at ≢ key) → get few at ≡ get many at) → IsWith row (rows_at few.slots) (rows_at many.slots)
+one_more few many key row none some others =
+    subst (λ (rows : List Row). IsWith row rows (rows_at many.slots)) (sym (same_rows (set many.slots key None) few.slots same)) (without_set many.slots key row some)
   where
-    same : (at : ℕ) → place_at few.slots at ≡ place_at (set many.slots hop None) at
-    same at = elim (cases_eq at hop) [
-      | inl is ↦ ap (place_at few.slots) is ∙ none ∙ sym (ap (place_at (set many.slots hop None)) is ∙ ap row_in (get_or-set_same many.slots hop None None (within many.slots hop row some)))
-      | inr ne ↦ others at ne ∙ sym (ap row_in (get_or-set_other many.slots hop at None None ne))
+    same : (at : ℕ) → get few at ≡ get_or (set many.slots key None) at None
+    same at = elim (cases_eq at key) [
+      | inl is ↦ ap (get few) is ∙ none ∙ sym (ap (λ n. get_or (set many.slots key None) n None) is ∙ get_or-set_same many.slots key None None (within many.slots key row some))
+      | inr ne ↦ others at ne ∙ sym (get_or-set_other many.slots key at None None ne)
     ]
 
-pub row_put : (old new : Slab (Option Row)) (hop : ℕ) (row : Row) → get old hop ≡ None → Updates old new hop (Some (Some row)) → IsWith row (rows_at old.slots) (rows_at new.slots)
-row_put old new hop row free u = one_more old new hop row (ap row_in free) (ap row_in u.changed) (λ at ne. sym (at_others old new hop (Some (Some row)) u at ne))
+pub row_put : (old new : Slab Row) (key : ℕ) (row : Row) → get old key ≡ None → Updates old new key (Some row) → IsWith row (rows_at old.slots) (rows_at new.slots)
+row_put old new key row free u = one_more old new key row free u.changed (λ at ne. sym (u.others at ne))
 
-pub row_out : (old new : Slab (Option Row)) (hop : ℕ) (row : Row) (place : Place) → place_at old.slots hop ≡ Some row → row_in place ≡ None → Updates old new hop place → IsWith row (rows_at new.slots) (rows_at old.slots)
-row_out old new hop row place there none u = one_more new old hop row (ap row_in u.changed ∙ none) there (at_others old new hop place u)
+pub row_out : (old new : Slab Row) (key : ℕ) (row : Row) → get old key ≡ Some row → Updates old new key None → IsWith row (rows_at new.slots) (rows_at old.slots)
+row_out old new key row there u = one_more new old key row u.changed there u.others
 
--- a row becomes another one at its key
-pub row_moved : (old new : Slab (Option Row)) (hop : ℕ) (row other : Row) → place_at old.slots hop ≡ Some row → Updates old new hop (Some (Some other)) → IsMoved row other (rows_at old.slots) (rows_at new.slots)
-row_moved old new hop row other there u =
-    let lt = within old.slots hop row there in
-    let gone = get_or-set_same old.slots hop None None lt in
+-- what is taken out of a key
+pub taken_out : (old new : Slab Row) (key : ℕ) (slot : Option Row) → get old key ≡ slot → Updates old new key None → IfSome slot (λ row. IsWith row (rows_at new.slots) (rows_at old.slots))
+taken_out old new key None e u = tt
+taken_out old new key (Some row) e u = row_out old new key row e u
+
+-- a row becomes another one under its key
+pub row_moved : (old new : Slab Row) (key : ℕ) (row other : Row) → get old key ≡ Some row → Updates old new key (Some other) → IsMoved row other (rows_at old.slots) (rows_at new.slots)
+row_moved old new key row other there u =
+    let lt = within old.slots key row there in
+    let gone = get_or-set_same old.slots key None None lt in
     record {
-      rest = rows_at (set old.slots hop None);
-      was = without_set old.slots hop row there;
-      is = one_more (record old { slots = set old.slots hop None }) new hop other (ap row_in gone) (ap row_in u.changed)
-          (λ at ne. ap row_in (get_or-set_other old.slots hop at None None ne) ∙ sym (at_others old new hop (Some (Some other)) u at ne));
+      rest = rows_at (set old.slots key None);
+      was = without_set old.slots key row there;
+      is = one_more (record old { slots = set old.slots key None }) new key other gone u.changed
+          (λ at ne. get_or-set_other old.slots key at None None ne ∙ sym (u.others at ne));
     }
 
--- no key but one changes what it has, and there is no row under that one
-pub rows_kept : (old new : Slab (Option Row)) (hop : ℕ) (place : Place) → place_at old.slots hop ≡ row_in place → Updates old new hop place → rows_at new.slots ≡ rows_at old.slots
-rows_kept old new hop place same u = same_rows old.slots new.slots (λ at. elim (cases_eq at hop) [
-  | inl is ↦ ap (place_at new.slots) is ∙ ap row_in u.changed ∙ sym same ∙ sym (ap (place_at old.slots) is)
-  | inr ne ↦ at_others old new hop place u at ne
-])
+-- ---- one place of an index changes
 
-pub in_place-changed : (old new : Slab (Option Row)) (hop : ℕ) (place : Place) → AreInPlace 0 old.slots → ((row : Row) → row_in place ≡ Some row → hop_of row ≡ hop) → Updates old new hop place → AreInPlace 0 new.slots
-in_place-changed old new hop place own here u at row e = elim (cases_eq at hop) [
-  | inl is ↦ let its = here row (sym (ap row_in u.changed) ∙ sym (ap (place_at new.slots) is) ∙ e) ∙ sym is in omega (arith, its)
-  | inr ne ↦ own at row (sym (at_others old new hop place u at ne) ∙ e)
-]
+some_place : (keys : List (Option ℕ)) (hop : ℕ) → 0 < length keys → place_of (length keys) hop < length keys
+some_place keys hop some = mod_below hop (length keys) some
+
+set-length : (keys : List (Option ℕ)) (hop other : ℕ) (slot : Option ℕ) → key_in (set keys (place_of (length keys) hop) slot) other ≡ get_or (set keys (place_of (length keys) hop) slot) (place_of (length keys) other) None
+set-length keys hop other slot = ap (λ size. get_or (set keys (place_of (length keys) hop) slot) (place_of size other) None) (length-set keys (place_of (length keys) hop) slot)
+
+key_in-same : (keys : List (Option ℕ)) (hop other : ℕ) (slot : Option ℕ) → 0 < length keys → place_of (length keys) other ≡ place_of (length keys) hop → key_in (set keys (place_of (length keys) hop) slot) other ≡ slot
+key_in-same keys hop other slot some e =
+    set-length keys hop other slot ∙ ap (λ n. get_or (set keys (place_of (length keys) hop) slot) n None) e
+    ∙ get_or-set_same keys (place_of (length keys) hop) slot None (some_place keys hop some)
+
+key_in-other : (keys : List (Option ℕ)) (hop other : ℕ) (slot : Option ℕ) → (place_of (length keys) other ≢ place_of (length keys) hop) → key_in (set keys (place_of (length keys) hop) slot) other ≡ key_in keys other
+key_in-other keys hop other slot ne = set-length keys hop other slot ∙ get_or-set_other keys (place_of (length keys) hop) (place_of (length keys) other) slot None ne
+
+as_filled : (slots others : List (Option Row)) (size at key : ℕ) → IsFilled slots size at key → ((row : Row) → get_or slots key None ≡ Some row → get_or others key None ≡ Some row) → IsFilled others size at key
+as_filled slots others size at key f same = record { row = f.row; there = same f.row f.there; place = f.place }
+
+-- a row more, under a key and at a place that no row had
+pub indexed_put : (old new : Slab Row) (keys : List (Option ℕ)) (key : ℕ) (row : Row) → 0 < length keys → AreIndexed old.slots keys → key_in keys (hop_of row) ≡ None → get old key ≡ None
+    → Updates old new key (Some row) → slab_len new ≡ slab_len old + 1 → AreIndexed new.slots (set keys (place_of (length keys) (hop_of row)) (Some key))
+indexed_put old new keys key row some s none free u many = record {
+  indexed = λ other r e. elim (cases_eq other key) [
+    | inl is ↦
+        let same : row ≡ r = let a = sym u.changed ∙ sym (ap (get new) is) ∙ e in cc in
+        key_in-same keys (hop_of row) (hop_of r) (Some key) some (ap (λ (x : Row). place_of (length keys) (hop_of x)) (sym same)) ∙ ap (λ (n : ℕ). Some n) (sym is)
+    | inr ne ↦
+        let was = s.indexed other r (sym (u.others other ne) ∙ e) in
+        key_in-other keys (hop_of row) (hop_of r) (Some key) (λ same. absurd (let both : Some other ≡ None = sym was ∙ ap (λ n. get_or keys n None) same ∙ none in cc)) ∙ was
+  ];
+  filled = λ at other e. subst (λ size. IsFilled new.slots size at other) (sym (length-set keys (place_of (length keys) (hop_of row)) (Some key))) (elim (cases_eq at (place_of (length keys) (hop_of row))) [
+    | inl is ↦
+        let same : Some key ≡ Some other = sym (get_or-set_same keys (place_of (length keys) (hop_of row)) (Some key) None (some_place keys (hop_of row) some)) ∙ sym (ap (λ n. get_or (set keys (place_of (length keys) (hop_of row)) (Some key)) n None) is) ∙ e in
+        let key_is : key ≡ other = cc in
+        record { row = row; there = ap (get new) (sym key_is) ∙ u.changed; place = sym is }
+    | inr ne ↦
+        let was = s.filled at other (sym (get_or-set_other keys (place_of (length keys) (hop_of row)) at (Some key) None ne) ∙ e) in
+        as_filled old.slots new.slots (length keys) at other was (λ r there. u.others other (λ same. absurd (let both : Some r ≡ None = sym there ∙ ap (get old) same ∙ free in cc)) ∙ there)
+  ]);
+  many =
+      let was : one (is_some (get_or keys (place_of (length keys) (hop_of row)) None)) ≡ 0 = ap (λ o. one (is_some o)) none in
+      let sums = sum_by-set (λ o. one (is_some o)) keys (place_of (length keys) (hop_of row)) (Some key) None (some_place keys (hop_of row) some) in
+      omega (arith, s.many);
+}
+
+-- a row less
+pub indexed_out : (old new : Slab Row) (keys : List (Option ℕ)) (key hop : ℕ) (row : Row) → 0 < length keys → AreIndexed old.slots keys → key_in keys hop ≡ Some key → get old key ≡ Some row
+    → Updates old new key None → slab_len new + 1 ≡ slab_len old → AreIndexed new.slots (set keys (place_of (length keys) hop) None)
+indexed_out old new keys key hop row some s there found u many = record {
+  indexed = λ other r e. elim (cases_eq other key) [
+    | inl is ↦ absurd (let both : None ≡ Some r = sym u.changed ∙ sym (ap (get new) is) ∙ e in cc)
+    | inr ne ↦
+        let was = s.indexed other r (sym (u.others other ne) ∙ e) in
+        key_in-other keys hop (hop_of r) None (λ same. absurd (let both : Some other ≡ Some key = sym was ∙ ap (λ n. get_or keys n None) same ∙ there in ne cc)) ∙ was
+  ];
+  filled = λ at other e. subst (λ size. IsFilled new.slots size at other) (sym (length-set keys (place_of (length keys) hop) None)) (elim (cases_eq at (place_of (length keys) hop)) [
+    | inl is ↦
+        absurd (let both : None ≡ Some other = sym (get_or-set_same keys (place_of (length keys) hop) None None (some_place keys hop some)) ∙ sym (ap (λ n. get_or (set keys (place_of (length keys) hop) None) n None) is) ∙ e in cc)
+    | inr ne ↦
+        let was = s.filled at other (sym (get_or-set_other keys (place_of (length keys) hop) at None None ne) ∙ e) in
+        let own = s.filled (place_of (length keys) hop) key there in
+        as_filled old.slots new.slots (length keys) at other was (λ r here. u.others other (λ same. ne (apart r own same was here)) ∙ here)
+  ]);
+  many =
+      let was : one (is_some (get_or keys (place_of (length keys) hop) None)) ≡ 1 = ap (λ o. one (is_some o)) there in
+      let sums = sum_by-set (λ o. one (is_some o)) keys (place_of (length keys) hop) None None (some_place keys hop some) in
+      omega (arith, s.many);
+}
+  where
+    apart : {at other : ℕ} (r : Row) → IsFilled old.slots (length keys) (place_of (length keys) hop) key → other ≡ key → IsFilled old.slots (length keys) at other → get old other ≡ Some r → at ≡ place_of (length keys) hop
+    apart r own same was here =
+        let rows : Some was.row ≡ Some own.row = sym was.there ∙ ap (get old) same ∙ own.there in
+        let row_is : was.row ≡ own.row = cc in
+        sym was.place ∙ ap (λ (x : Row). place_of (length keys) (hop_of x)) row_is ∙ own.place
+
+-- rows that keep their identifiers
+pub indexed_kept : (slots others : List (Option Row)) (keys : List (Option ℕ)) → AreIndexed slots keys
+    → ((key : ℕ) (row : Row) → get_or others key None ≡ Some row → (r : Row) × (get_or slots key None ≡ Some r) × (hop_of r ≡ hop_of row))
+    → ((key : ℕ) (row : Row) → get_or slots key None ≡ Some row → (r : Row) × (get_or others key None ≡ Some r) × (hop_of r ≡ hop_of row))
+    → count_by is_some others ≡ count_by is_some slots → AreIndexed others keys
+indexed_kept slots others keys s back forth many = record {
+  indexed = λ key row e. let was = back key row e in ap (key_in keys) (sym was.2) ∙ s.indexed key was.0 was.1;
+  filled = λ at key e.
+      let was = s.filled at key e in
+      let is = forth key was.row was.there in
+      record { row = is.0; there = is.1; place = ap (place_of (length keys)) is.2 ∙ was.place };
+  many = s.many ∙ sym many;
+}
+
+pub indexed_none : (keys : List (Option ℕ)) (size : ℕ) → keys ≡ replicate size None → AreIndexed [] keys
+indexed_none keys size e = subst (λ ks. AreIndexed [] ks) (sym e) (record {
+  indexed = λ key row h. absurd cc;
+  filled = λ at key h. absurd (let both : None ≡ Some key = sym (get_none size at) ∙ h in cc);
+  many = count_none size;
+})
+  where
+    get_none : (size at : ℕ) → get_or (replicate {A = Option ℕ} size None) at None ≡ None
+    get_none zero at = refl
+    get_none (suc size) zero = refl
+    get_none (suc size) (suc at) = get_none size at
+
+    count_none : (size : ℕ) → count_by is_some (replicate {A = Option ℕ} size None) ≡ 0
+    count_none zero = refl
+    count_none (suc size) = omega (arith, count-cons is_some None (replicate {A = Option ℕ} size None), count_none size)
+
+-- ---- a request that goes out again on another connection
 
 if_there : (b : Bool) (row : Row) (P : Row → Type 0) → P row → IfSome (cond b (Some row) None) P
 if_there true row P x = x
 if_there false row P x = tt
 
--- what is taken out of a place
-pub taken_out : (old new : Slab (Option Row)) (hop : ℕ) (place : Option Row) → get old hop ≡ Some place → Updates old new hop None → IfSome place (λ row. IsWith row (rows_at new.slots) (rows_at old.slots))
-taken_out old new hop None e u = tt
-taken_out old new hop (Some row) e u = row_out old new hop row None (ap row_in e) refl u
+pub moved_elsewhere : (slab : Slab Row) (conn to : ConnId) (hop key : ℕ) (row : Row) → get slab key ≡ Some row
+    → IfSome (if_key conn hop (Some row)) (λ r. IsMoved r (resent to hop r) (rows_at slab.slots) (rows_at (with_value slab key (resent to hop row)).slots))
+moved_elsewhere slab conn to hop key row there =
+    if_there (has_key conn hop row) row (λ r. IsMoved r (resent to hop r) (rows_at slab.slots) (rows_at (with_value slab key (resent to hop row)).slots))
+    (row_moved slab (with_value slab key (resent to hop row)) key row (resent to hop row) there (Updates-with_value slab key (resent to hop row) (ap is_some there)))
 
--- a place whose request goes out again on another connection
-abbrev pub elsewhere : ConnId → ℕ → Option Row → Option Row
-elsewhere to hop place = option_map (resent to hop) place
-
-pub moved_elsewhere : (old : Slab (Option Row)) (conn to : ConnId) (hop : ℕ) (place : Option Row) → get old hop ≡ Some place
-    → IfSome (if_sent_on conn place) (λ row. IsMoved row (resent to hop row) (rows_at old.slots) (rows_at (with_value old hop (elsewhere to hop place)).slots))
-moved_elsewhere old conn to hop None e = tt
-moved_elsewhere old conn to hop (Some row) e =
-    if_there (is_sent_on conn row) row (λ r. IsMoved r (resent to hop r) (rows_at old.slots) (rows_at (with_value old hop (Some (resent to hop row))).slots))
-    (row_moved old (with_value old hop (Some (resent to hop row))) hop row (resent to hop row) (ap row_in e)
-    (Updates-with_value old hop (Some (resent to hop row)) (ap is_some e)))
-
-its_hop : (to : ConnId) (hop : ℕ) (place : Option Row) (row : Row) → elsewhere to hop place ≡ Some row → hop_of row ≡ hop
-its_hop to hop None row e = absurd cc
-its_hop to hop (Some other) row e = let same : resent to hop other ≡ row = cc in ap hop_of (sym same)
-
-pub slab_elsewhere : (p : Places) (to : ConnId) (hop : ℕ) (place : Option Row) → IsSlab p → get p.slab hop ≡ Some place → IsSlab (record { slab = with_value p.slab hop (elsewhere to hop place) })
-slab_elsewhere p to hop place s e = record {
-  in_place = in_place-changed p.slab (with_value p.slab hop (elsewhere to hop place)) hop (Some (elsewhere to hop place)) s.in_place (its_hop to hop place)
-      (Updates-with_value p.slab hop (elsewhere to hop place) (ap is_some e));
-  numbered = s.numbered;
-}
-
-pub len-moved : (row other : Row) (old new : List Row) → IsMoved row other old new → length new ≡ length old
-len-moved row other old new moved = length-with other moved.rest new moved.is ∙ sym (length-with row moved.rest old moved.was)
-
-pub len-elsewhere : (old : Slab (Option Row)) (to : ConnId) (hop : ℕ) (place : Option Row) → get old hop ≡ Some place
-    → length (rows_at (with_value old hop (elsewhere to hop place)).slots) ≡ length (rows_at old.slots)
-len-elsewhere old to hop None e =
-    ap (λ (rows : List Row). length rows) (rows_kept old (with_value old hop None) hop (Some None) (ap row_in e) (Updates-with_value old hop None (ap is_some e)))
-len-elsewhere old to hop (Some row) e =
-    len-moved row (resent to hop row) (rows_at old.slots) (rows_at (with_value old hop (Some (resent to hop row))).slots)
-    (row_moved old (with_value old hop (Some (resent to hop row))) hop row (resent to hop row) (ap row_in e)
-    (Updates-with_value old hop (Some (resent to hop row)) (ap is_some e)))
-
--- a request that goes out again on its own connection: its place is emptied, another one is taken, and the first is free then
-pub moved_here : (before emptied more after : Slab (Option Row)) (conn : ConnId) (hop fresh : ℕ) (row other : Row) → place_at before.slots hop ≡ Some row
-    → Updates before emptied hop (Some None) → get emptied fresh ≡ None → Updates emptied more fresh (Some (Some other))
-    → IsWith (resent conn fresh row) (rows_at emptied.slots) (rows_at more.slots) → Updates more after hop None
-    → IsMoved row (resent conn fresh row) (rows_at before.slots) (rows_at after.slots)
-moved_here before emptied more after conn hop fresh row other there out free u added last =
-    let kept : get more hop ≡ Some None = u.others hop (λ same. absurd (let both = sym out.changed ∙ ap (get emptied) same ∙ free in cc)) ∙ out.changed in
-    record {
-      rest = rows_at emptied.slots;
-      was = row_out before emptied hop row (Some None) there refl out;
-      is = subst (λ (rows : List Row). IsWith (resent conn fresh row) (rows_at emptied.slots) rows) (sym (rows_kept more after hop None (ap row_in kept) last)) added;
-    }
-
-pub moved_if_sent : (conn : ConnId) (fresh : ℕ) (row : Row) (old new : List Row) → IsMoved row (resent conn fresh row) old new
-    → IfSome (if_sent_on conn (Some row)) (λ r. IsMoved r (resent conn fresh r) old new)
-moved_if_sent conn fresh row old new moved = if_there (is_sent_on conn row) row (λ r. IsMoved r (resent conn fresh r) old new) moved
-
-pub len-with_value : {T : Type 0} (s : Slab T) (key : ℕ) (value : T) → ContainsKey s key → slab_len (with_value s key value) ≡ slab_len s
-len-with_value s key value present =
-    let lt = ContainsKey-within s key present in
-    let here : one (is_some (get s key)) ≡ 1 = ap one present in
-    omega (arith, sum_by-set (λ o. one (is_some o)) s.slots key (Some value) None lt, here)
-
--- ---- all rows lose an origin
-
--- what `retain` leaves where the closure keeps all values, each changed in one way
-module _ {T F : Type 0} (step : F → ℕ → MutBor T → Bool → MutBor T → F → Type 0) (change : T → T) (f : F)
-    (says : (key : ℕ) (shown : MutBor T) (keep : Bool) (left : MutBor T) (next : F) → step f key shown keep left next → (keep ≡ true) × (left.now ≡ change shown.now) × (next ≡ f)) where
-  pub map-RetainsFrom : (key : ℕ) (old kept : List (Option T)) → RetainsFrom step f key old kept → kept ≡ map (option_map change) old
-  map-RetainsFrom key [] kept h = h
-  map-RetainsFrom key (None ∷ rest) kept h = h.1 ∙ ap (λ (xs : List (Option T)). None ∷ xs) (map-RetainsFrom (key + 1) rest h.0 h.2)
-  map-RetainsFrom key (Some old ∷ rest) kept h =
-      let s = says key h.3.shown h.0 h.3.left h.2 h.3.called in
-      let changed : h.1 ≡ change old = sym h.3.leaves ∙ s.1 ∙ ap change h.3.shows in
-      let later : h.4 ≡ map (option_map change) rest = map-RetainsFrom (key + 1) rest h.4 (subst (λ (g : F). RetainsFrom step g (key + 1) rest h.4) s.2 h.6) in
-      h.5 ∙ ap (λ b. cond b (Some h.1) None ∷ h.4) s.0 ∙ ap (λ (x : T). Some x ∷ h.4) changed ∙ ap (λ (xs : List (Option T)). Some (change old) ∷ xs) later
-
-pub len-map : {T : Type 0} (change : T → T) (slots : List (Option T)) → count_by is_some (map (option_map change) slots) ≡ count_by is_some slots
-len-map change [] = refl
-len-map change (None ∷ slots) = omega (arith, count-cons is_some (option_map change None) (map (option_map change) slots), count-cons is_some None slots, len-map change slots)
-len-map change (Some x ∷ slots) = omega (arith, count-cons is_some (option_map change (Some x)) (map (option_map change) slots), count-cons is_some (Some x) slots, len-map change slots)
-
-abbrev pub lose : ConnId → Place → Place
-lose conn place = option_map (option_map (orphaned conn)) place
-
-pub rows-orphaned : (conn : ConnId) (places : List Place) → rows_at (map (lose conn) places) ≡ map (orphaned conn) (rows_at places)
-rows-orphaned conn [] = refl
-rows-orphaned conn (None ∷ places) = rows-orphaned conn places
-rows-orphaned conn (Some None ∷ places) = rows-orphaned conn places
-rows-orphaned conn (Some (Some row) ∷ places) = ap (λ (rows : List Row). orphaned conn row ∷ rows) (rows-orphaned conn places)
-
-pub in_place-orphaned : (conn : ConnId) (first : ℕ) (places : List Place) → AreInPlace first places → AreInPlace first (map (lose conn) places)
-in_place-orphaned conn first [] own at row e = absurd cc
-in_place-orphaned conn first (None ∷ places) own zero row e = absurd cc
-in_place-orphaned conn first (Some None ∷ places) own zero row e = absurd cc
-in_place-orphaned conn first (Some (Some other) ∷ places) own zero row e = let same : orphaned conn other ≡ row = cc in ap hop_of (sym same) ∙ own 0 other refl
-in_place-orphaned conn first (place ∷ places) own (suc at) row e =
-    let here = in_place-orphaned conn (suc first) places (later first place places own) at row e in
-    omega arith
-
--- ---- the rows as a slab's iterator gives them
-
-abbrev pub rows_in : List (ℕ × Option Row) → List Row
-rows_in entries = filter_map (λ entry. entry.1) entries
-
-pub rows-entries : (first : ℕ) (places : List Place) → rows_in (entries_from first places) ≡ rows_at places
-rows-entries first [] = refl
-rows-entries first (None ∷ places) = rows-entries (first + 1) places
-rows-entries first (Some None ∷ places) = rows-entries (first + 1) places
-rows-entries first (Some (Some row) ∷ places) = ap (λ (rows : List Row). row ∷ rows) (rows-entries (first + 1) places)
-
--- ---- the identifiers on a connection rise
-
-above_front : (low : ℕ) (sent : Bool) (row : Row) (rows : List Row) → low < hop_of row → AllByRecursion (λ hop. nat_cmp low hop ≡ Less) (map hop_of rows)
-    → AllByRecursion (λ hop. nat_cmp low hop ≡ Less) (map hop_of (cond sent (row ∷ rows) rows))
-above_front low true row rows lt rest = (sym (nat_cmp_is low (hop_of row) Less lt), rest)
-above_front low false row rows lt rest = rest
-
-above : (conn : ConnId) (low first : ℕ) (places : List Place) → AreInPlace first places → low < first → AllByRecursion (λ hop. nat_cmp low hop ≡ Less) (hops_on (rows_at places) conn)
-above conn low first [] own lt = tt
-above conn low first (None ∷ places) own lt = above conn low (suc first) places (later first None places own) (omega arith)
-above conn low first (Some None ∷ places) own lt = above conn low (suc first) places (later first (Some None) places own) (omega arith)
-above conn low first (Some (Some row) ∷ places) own lt =
-    let here : hop_of row ≡ first + 0 = own 0 row refl in
-    above_front low (is_sent_on conn row) row (filter (is_sent_on conn) (rows_at places)) (omega arith) (above conn low (suc first) places (later first (Some (Some row)) places own) (omega arith))
-
-sorted_front : (sent : Bool) (row : Row) (rows : List Row) → AllByRecursion (λ hop. nat_cmp (hop_of row) hop ≡ Less) (map hop_of rows) → IsStrictlySortedBy nat_cmp (map hop_of rows)
-    → IsStrictlySortedBy nat_cmp (map hop_of (cond sent (row ∷ rows) rows))
-unfolding IsStrictlySortedBy
-sorted_front true row rows low rest = (low, rest)
-sorted_front false row rows low rest = rest
-
-pub sorted_on : (conn : ConnId) (first : ℕ) (places : List Place) → AreInPlace first places → IsStrictlySortedBy nat_cmp (hops_on (rows_at places) conn)
-unfolding IsStrictlySortedBy
-sorted_on conn first [] own = tt
-sorted_on conn first (None ∷ places) own = sorted_on conn (suc first) places (later first None places own)
-sorted_on conn first (Some None ∷ places) own = sorted_on conn (suc first) places (later first (Some None) places own)
-sorted_on conn first (Some (Some row) ∷ places) own =
-    let here : hop_of row ≡ first + 0 = own 0 row refl in
-    sorted_front (is_sent_on conn row) row (filter (is_sent_on conn) (rows_at places)) (above conn (hop_of row) (suc first) places (later first (Some (Some row)) places own) (omega arith))
-    (sorted_on conn (suc first) places (later first (Some (Some row)) places own))
-
--- ---- what is held
-
-pub row_is : (conn : ConnId) (place : Option Row) (row : Row) → if_sent_on conn place ≡ Some row → row ≡ record { conn = conn; held = row.held }
-row_is conn None row e = absurd cc
-row_is conn (Some other) row e = chosen (is_sent_on conn other) other refl e
+pub its_hop : (conn : ConnId) (hop : ℕ) (row : Row) → is_some (if_key conn hop (Some row)) ≡ true → hop_of row ≡ hop
+its_hop conn hop row e = (its_key conn hop row (passes (has_key conn hop row) e)).1
   where
-    conn_id : ℕ → ConnId
-    conn_id n = record { 0 = n }
+    passes : (b : Bool) → is_some (cond b (Some row) None) ≡ true → b ≡ true
+    passes true e = refl
+    passes false e = e
 
-    same_conn : (other : Row) → is_sent_on conn other ≡ true → other ≡ record { conn = conn; held = other.held }
-    same_conn other sent = ap (λ (n : ℕ). record { conn = record { 0 = n }; held = other.held }) (eqb-true other.conn.0 conn.0 sent)
-
-    chosen : (b : Bool) (other : Row) → is_sent_on conn other ≡ b → cond b (Some other) None ≡ Some row → row ≡ record { conn = conn; held = row.held }
-    chosen true other sent f = let same : other ≡ row = cc in subst (λ (r : Row). r ≡ record { conn = conn; held = r.held }) same (same_conn other sent)
-    chosen false other sent f = absurd cc
-
-pub told_by : (p : Places) (conn : ConnId) (hop : ℕ) (row : Option Row) → IsSlab p → row ≡ row_at p conn hop → held_at (rows_at p.slab.slots) conn hop ≡ option_map (λ (r : Row). r.held) row
-told_by p conn hop row s e = held-places p.slab.slots conn hop s.in_place ∙ ap (option_map (λ (r : Row). r.held)) (sym e)
-
-pub none_left : (p : Places) (conn : ConnId) (hop : ℕ) → IsSlab p → row_at p conn hop ≡ None → held_at (rows_at p.slab.slots) conn hop ≡ None
-none_left p conn hop s e = told_by p conn hop None s (sym e)
-
--- ---- a request that goes out again
-
-pub conn_is : (a b : ConnId) → (a.0 == b.0) ≡ true → a ≡ b
-conn_is a b e = ap conn_id (eqb-true a.0 b.0 e)
+pub slab_elsewhere : (slab : Slab Row) (keys : List (Option ℕ)) (to : ConnId) (key : ℕ) (row : Row) → AreIndexed slab.slots keys → get slab key ≡ Some row
+    → AreIndexed (with_value slab key (resent to (hop_of row) row)).slots keys
+slab_elsewhere slab keys to key row s there = indexed_kept slab.slots new.slots keys s back forth (len-with_value slab key (resent to (hop_of row) row) (ap is_some there))
   where
-    conn_id : ℕ → ConnId
-    conn_id n = record { 0 = n }
+    new : Slab Row
+    new = with_value slab key (resent to (hop_of row) row)
 
-pub as_held : (row : Option Row) → is_some row ≡ is_some (option_map (λ (r : Row). r.held) row)
-as_held None = refl
-as_held (Some row) = refl
+    u : Updates slab new key (Some (resent to (hop_of row) row))
+    u = Updates-with_value slab key (resent to (hop_of row) row) (ap is_some there)
 
-pub same_if_free : (new : Option ℕ) (there : Option Held) (hop : ℕ) → is_some new ≡ is_some there → IfSome new (λ fresh. there ≡ None → fresh ≡ hop)
-same_if_free None there hop e = tt
-same_if_free (Some fresh) None hop e = absurd cc
-same_if_free (Some fresh) (Some held) hop e = λ f. absurd cc
+    back : (other : ℕ) (r : Row) → get_or new.slots other None ≡ Some r → (x : Row) × (get_or slab.slots other None ≡ Some x) × (hop_of x ≡ hop_of r)
+    back other r e = elim (cases_eq other key) [
+      | inl is ↦
+          let same : resent to (hop_of row) row ≡ r = let a = sym u.changed ∙ sym (ap (get new) is) ∙ e in cc in
+          (row, ap (get slab) is ∙ there, ap hop_of same)
+      | inr ne ↦ (r, sym (u.others other ne) ∙ e, refl)
+    ]
 
-sent_elsewhere : (b : Bool) (conn to : ConnId) (row : Row) → is_sent_on conn row ≡ b → (to.0 == conn.0) ≡ false → is_some (cond b (Some row) None) ≡ true → is_sent_on to row ≡ false
-sent_elsewhere true conn to row e ne there =
-    ne_eqb row.conn.0 to.0 (λ same. absurd (let is = eqb-true row.conn.0 conn.0 e in let yes = eq-eqb to.0 conn.0 (sym same ∙ is) in cc))
-sent_elsewhere false conn to row e ne there = absurd cc
+    forth : (other : ℕ) (r : Row) → get_or slab.slots other None ≡ Some r → (x : Row) × (get_or new.slots other None ≡ Some x) × (hop_of x ≡ hop_of r)
+    forth other r e = elim (cases_eq other key) [
+      | inl is ↦
+          let same : row ≡ r = let a = sym there ∙ sym (ap (get slab) is) ∙ e in cc in
+          (resent to (hop_of row) row, ap (get new) is ∙ u.changed, ap hop_of same)
+      | inr ne ↦ (r, u.others other ne ∙ e, refl)
+    ]
 
-not_there : (conn to : ConnId) (place : Option Row) → (to.0 == conn.0) ≡ false → is_some (if_sent_on conn place) ≡ true → if_sent_on to place ≡ None
-not_there conn to None ne there = refl
-not_there conn to (Some row) ne there = ap (λ b. cond b (Some row) None) (sent_elsewhere (is_sent_on conn row) conn to row refl ne there)
-
-pub free_there : (p : Places) (conn to : ConnId) (hop : ℕ) (new : Option ℕ) → IsSlab p → IfSome new (λ kept. kept ≡ hop) → is_some new ≡ is_some (row_at p conn hop) → (to.0 == conn.0) ≡ false
-    → IfSome new (λ fresh. held_at (rows_at p.slab.slots) to fresh ≡ None)
-free_there p conn to hop None s same there ne = tt
-free_there p conn to hop (Some fresh) s same there ne =
-    subst (λ (n : ℕ). held_at (rows_at p.slab.slots) to n ≡ None) (sym same) (none_left p to hop s (not_there conn to (place_at p.slab.slots hop) ne (sym there)))
-
--- nothing is held under the key of a place without a row
-pub free_under : (p : Places) (to : ConnId) (new : Option ℕ) → IsSlab p → IfSome new (λ fresh. place_at p.slab.slots fresh ≡ None) → IfSome new (λ fresh. held_at (rows_at p.slab.slots) to fresh ≡ None)
-free_under p to None s free = tt
-free_under p to (Some fresh) s free = held-places p.slab.slots to fresh s.in_place ∙ ap (λ o. held (if_sent_on to o)) free
-
-moved_row : (conn to : ConnId) (new : Option ℕ) (row : Option Row) (before left : List Row) → ((r : Row) → row ≡ Some r → r ≡ record { conn = conn; held = r.held })
-    → IfSome new (λ fresh. IfSome row (λ r. IsMoved r (resent to fresh r) before left))
-    → IfSome new (λ fresh. IfSome (option_map (λ (r : Row). r.held) row) (λ held. IsMoved (record { conn = conn; held = held }) (resent to fresh (record { conn = conn; held = held })) before left))
-moved_row conn to None row before left is moved = tt
-moved_row conn to (Some fresh) None before left is moved = tt
-moved_row conn to (Some fresh) (Some row) before left is moved = subst (λ (r : Row). IsMoved r (resent to fresh r) before left) (is row refl) moved
-
-pub moved_held : (p : Places) (conn to : ConnId) (hop : ℕ) (new : Option ℕ) (left : List Row) → IfSome new (λ fresh. IfSome (row_at p conn hop) (λ r. IsMoved r (resent to fresh r) (rows_at p.slab.slots) left))
-    → IfSome new (λ fresh. IfSome (option_map (λ (r : Row). r.held) (row_at p conn hop)) (λ held. IsMoved (record { conn = conn; held = held }) (resent to fresh (record { conn = conn; held = held })) (rows_at p.slab.slots) left))
-moved_held p conn to hop new left moved = moved_row conn to new (row_at p conn hop) (rows_at p.slab.slots) left (row_is conn (place_at p.slab.slots hop)) moved
+    len-with_value : {T : Type 0} (s : Slab T) (k : ℕ) (value : T) → ContainsKey s k → slab_len (with_value s k value) ≡ slab_len s
+    len-with_value s k value present =
+        let lt = ContainsKey-within s k present in
+        let here : one (is_some (get s k)) ≡ 1 = ap one present in
+        omega (arith, sum_by-set (λ o. one (is_some o)) s.slots k (Some value) None lt, here)

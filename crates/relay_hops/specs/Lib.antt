@@ -1,2 +1,4 @@
 pub mod PendingTable
+pub mod Identifiers
 pub mod PlaceTable
+pub mod IdentifierExample

@@ -9,10 +9,11 @@ use Rattle.relay_hops.specs.declared.row.Origin.{Origin}
 use Rattle.relay_hops.specs.declared.row.Held.{Held}
 use Rattle.relay_hops.specs.declared.row.Row.{Row}
 
--- the pending requests, and how many there may be
+-- the pending requests, how many there may be, and the count from which the next identifier is given
 pub record PendingTable : Type 0 where
   pub limit : ℕ
   pub rows : List Row
+  pub next : ℕ
 
 -- ---- keys
 

@@ -9,8 +9,11 @@
 //! - [`held_with_one_more`], [`held_with_one_less`], [`held_has_its_identifier`], [`the_first_is_the_least`],
 //!   [`the_rest_are_in_use`] and others: laws, functions without a body. They speak of what is held under a
 //!   key, so that another body than a list may take its place.
+//! - [`one_identifier_is_given`], [`identifiers_rise_from_the_start`], [`places_in_use_are_passed_over`],
+//!   [`there_are_twice_as_many_places`]: which identifier is given, with worked examples.
 //!
-//! What contracts see of the table stands in `specs/PendingTable`.
+//! What contracts see of the table stands in `specs/PendingTable`, and which identifier it gives in
+//! `specs/Identifiers`.
 //!
 //! ```
 //! use dia_base::ConnId;
@@ -27,11 +30,18 @@
 //! ```
 #![tactic(auto)]
 
+mod examples;
+mod identifier;
+mod index;
 mod laws;
 mod pending;
 mod places;
 mod row;
 
+pub use examples::{
+    identifiers_rise_from_the_start, one_identifier_is_given, places_in_use_are_passed_over,
+    there_are_twice_as_many_places,
+};
 pub use laws::{
     free_is_without_a_row, held_has_its_identifier, held_with_one_less, held_with_one_more,
     held_without_origins, moved_is_out_and_in, sent_to_is_what_is_held, the_first_is_the_least,

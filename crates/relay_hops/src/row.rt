@@ -1,7 +1,7 @@
 //! What is kept of one request.
 
 ghost use Rattle.std.specs.Prelude.{◌≡◌};
-ghost use Rattle.relay_hops.specs.PendingTable.{is_sent_on, orphaned, resent};
+ghost use Rattle.relay_hops.specs.PendingTable.{has_key, is_sent_on, orphaned, resent, under};
 
 use dia_base::ConnId;
 use dia_message::Message;
@@ -34,6 +34,25 @@ pub struct Row {
 }
 
 impl Row {
+    /// What is kept of a request that goes out on a connection under an identifier.
+    pub(crate) fn new(conn: ConnId, hop: Hop, origin: Option<Origin>, request: Message) -> Row
+        ensures { result ≡ record { conn = conn; held = record { origin = origin; request = under hop request } } }
+    {
+        let mut request = request;
+        request.header.hop = hop;
+        Row {
+            conn,
+            held: Held { origin, request },
+        }
+    }
+
+    /// Whether the request was sent on the connection under the identifier.
+    pub(crate) fn has_key(&self, conn: ConnId, hop: Hop) -> bool
+        ensures { result ≡ has_key conn hop self.now }
+    {
+        self.is_sent_on(conn) && self.hop() == hop
+    }
+
     /// Whether the request was sent on the connection.
     pub(crate) fn is_sent_on(&self, conn: ConnId) -> bool
         ensures { result ≡ is_sent_on conn self.now }

@@ -112,7 +112,7 @@ of_request site relay after conn from sender request sent named (refused refusal
   | inl one ↦ absurd (no_request relay.node.name relay.node.realm request refusal next (sym (ap (λ (i : ConnId × Message). i.1) one) ∙ is) flag)
   | inr none ↦ elim none [ ]
 ]
-of_request site relay after conn from sender request sent named (forwarded to hop rows e free more) item h next is flag = elim (Has-cons h) [
+of_request site relay after conn from sender request sent named (forwarded to hop rows count e free more) item h next is flag = elim (Has-cons h) [
   | inl one ↦ let goes_to = is_forwarded relay sender request to e in record {
     hop = hop;
     avps = goes_to.avps;

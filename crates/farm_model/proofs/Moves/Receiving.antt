@@ -15,7 +15,7 @@ use Rattle.relay_hops.specs.PendingTable.{held_at, under, IsWith}
 use Rattle.relay_core.specs.declared.run.RelayEvent.TheVariants.{Received}
 use Rattle.relay_core.specs.Forwarding.{with_record}
 use Rattle.relay_core.specs.RelayRun.{IsIdle}
-use Rattle.relay_core.specs.RelayState.{RelayState, peer_on, with_rows}
+use Rattle.relay_core.specs.RelayState.{RelayState, peer_on, with_next, with_rows}
 use Rattle.relay_core.specs.RelayStep.{OnRequest, refused, forwarded, OnAnswer, sent_back, dropped, ignored, OnMessage, refusal_to, held_for, row_of}
 use Rattle.relay_core.specs.NextHop.{outgoing}
 use Rattle.relay_core.specs.Verdict.{decision}
@@ -39,7 +39,7 @@ use Rattle.farm_model.proofs.Wiring.RelayPeers.{IsForwardedTo, is_forwarded, own
 use Rattle.farm_model.proofs.Moves.RowsOf.{RowsStand, rows_stand, IsWith-without, row_less, not_in_use, held_key}
 use Rattle.farm_model.proofs.Moves.Sending.{posted_items, posted_across}
 use Rattle.farm_model.proofs.OwnCauses.Refusing.{HasRefused, at_most_once, as_before, one_more_refused}
-use Rattle.farm_model.proofs.Moves.Turning.{seen, turn_seen, rows_wired, turn_wired}
+use Rattle.farm_model.proofs.Moves.Turning.{seen, turn_seen, turn_wired}
 use Rattle.farm_model.proofs.Wiring.Wired.{Joins, RelayIsWired, RowIsWired, IsWired}
 use Rattle.farm_model.proofs.Wiring.WiredLemmas.{relay_wired}
 
@@ -71,23 +71,24 @@ module _ (site : Site) (ends : Ends) (Reason : Refused → Type 0) (checked : Is
   with_own rows = rows_are.front ++ (map (pending_of ends node) rows ++ rows_are.back)
 
   -- moves to what is seen are an outcome
-  outcome : (sent : Traffic) (rows : List Row) (last : WorldState) (later_refusals : List Refused) → last ≡ after_relay_turn w node sent (with_rows rows relay)
+  outcome : (sent : Traffic) (rows : List Row) (next : ℕ) (last : WorldState) (later_refusals : List Refused) → last ≡ after_relay_turn w node sent (with_rows rows (with_next next relay))
       → ((row : Row) → Has row rows → RowIsWired site ends w.ends node row)
       → HasRefused Reason at_most_once refusals later_refusals
       → Moves (parties site ends) old (seen ends w (with_traffic_from node w.directions sent) (with_own rows) later_refusals) → Outcome last
-  outcome sent rows last later_refusals is fit caused moves = (
+  outcome sent rows next last later_refusals is fit caused moves = (
     record {
       refused = later_refusals;
-      moves = turn_seen (parties site ends) ends old w node sent (with_rows rows relay) last (with_own rows) later_refusals is
-          (rows_are.change (with_rows rows relay)) moves;
+      moves = turn_seen (parties site ends) ends old w node sent (with_rows rows (with_next next relay)) last (with_own rows) later_refusals is
+          (rows_are.change (with_rows rows (with_next next relay))) moves;
       caused = caused;
     },
-    turn_wired site ends w node relay sent (with_rows rows relay) last wired stands is (rows_wired site ends w.ends node relay rows own fit),
+    turn_wired site ends w node relay sent (with_rows rows (with_next next relay)) last wired stands is
+        (record { is_relay = own.is_relay; node_is = own.node_is; links = own.links; rows = fit }),
   )
 
   -- nobody is at the other end, or nothing was sent on the connection under its identifier
   lost : (last : WorldState) → last ≡ after_relay_turn w node [] relay → Outcome last
-  lost last is = outcome [] relay.pending.rows last refusals is own.rows (as_before Reason refusals)
+  lost last is = outcome [] relay.pending.rows relay.pending.next last refusals is own.rows (as_before Reason refusals)
       (subst (λ (rs : List PendingRow). Moves (parties site ends) old (seen ends w w.directions rs refusals)) rows_are.now
       (then_moves (loses (Left-without tt taken)) done))
 
@@ -101,7 +102,7 @@ module _ (site : Site) (ends : Ends) (Reason : Refused → Type 0) (checked : Is
       ap (λ (n : List ℕ). refusal_of n relay.node.realm message refusal) (own_name site ends w.ends node relay own) ∙ ap
       (λ (r : List ℕ). refusal_of (name_at site node) r message refusal) (own_realm site ends w.ends node relay own) in
       let entry : Refused = record { node = node; conn = conn; request = message; refusal = refusal } in
-      outcome (refusal_to relay.node conn message refusal) relay.pending.rows last (refusals ++ entry ∷ []) is own.rows
+      outcome (refusal_to relay.node conn message refusal) relay.pending.rows relay.pending.next last (refusals ++ entry ∷ []) is own.rows
       (one_more_refused Reason refusals entry reason)
       (subst (λ (rs : List PendingRow). Moves (parties site ends) old (seen ends w (with_message_from node w.directions conn told) rs (refusals ++ entry ∷ [])))
       rows_are.now
@@ -112,11 +113,11 @@ module _ (site : Site) (ends : Ends) (Reason : Refused → Type 0) (checked : Is
       (items_of ends w.directions w.fronts)) same wo))))
 
   -- it goes out again, with the name of the node that it came from
-  sent_on : (to : ConnId) (hop : ℕ) (rows : List Row) → message.header.request ≡ true → held_at relay.pending.rows to hop ≡ None → IsForwardedTo relay
+  sent_on : (to : ConnId) (hop : ℕ) (rows : List Row) (count : ℕ) → message.header.request ≡ true → held_at relay.pending.rows to hop ≡ None → IsForwardedTo relay
       (name_at site from) message to
       → IsWith (row_of to (held_for conn message (under hop (with_record (name_at site from) message)))) relay.pending.rows rows → (last : WorldState)
-      → last ≡ after_relay_turn w node ((to, under hop (with_record (name_at site from) message)) ∷ []) (with_rows rows relay) → Outcome last
-  sent_on to hop rows flag free goes_to more last is =
+      → last ≡ after_relay_turn w node ((to, under hop (with_record (name_at site from) message)) ∷ []) (with_rows rows (with_next count relay)) → Outcome last
+  sent_on to hop rows count flag free goes_to more last is =
       let sent = under hop (with_record (name_at site from) message) in
       let held = held_for conn message sent in
       let new = row_sent site ends w.ends node relay own checked relay.node refl refl (λ link h. h) (outgoing (Some (name_at site from)) goes_to.avps)
@@ -133,7 +134,7 @@ module _ (site : Site) (ends : Ends) (Reason : Refused → Type 0) (checked : Is
       subst (λ (rs : List PendingRow). count_by (row_in (with_hop to node hop)) rs ≡ 0) (sym rows_are.now)
       (not_in_use ends node rows_are.front rows_are.back relay.pending.rows relay.pending.rows to hop rows_are.front_others rows_are.back_others free
       (λ r h. h)) in
-      outcome ((to, sent) ∷ []) rows last refusals is
+      outcome ((to, sent) ∷ []) rows count last refusals is
       (all-in (RowIsWired site ends w.ends node) out own.rows new) (as_before Reason refusals)
       (put old (record old { rows = with_own rows }) (record { conn = to; from = node; to = other_end ends to node; message = sent })
       (items_of ends w.directions w.fronts) (items_of ends (with_message_from node w.directions to sent) w.fronts)
@@ -163,7 +164,7 @@ module _ (site : Site) (ends : Ends) (Reason : Refused → Type 0) (checked : Is
   given_back held origin rows flag at from_there less last is =
       let asker : Asker = record { conn = origin.conn; node = other_end ends origin.conn node; hop = origin.hop } in
       let answer = under origin.hop message in
-      outcome ((origin.conn, answer) ∷ []) rows last refusals is (fewer held rows less) (as_before Reason refusals)
+      outcome ((origin.conn, answer) ∷ []) rows relay.pending.next last refusals is (fewer held rows less) (as_before Reason refusals)
       (put old (record old { rows = with_own rows }) (record { conn = origin.conn; from = node; to = other_end ends origin.conn node; message = answer })
       (items_of ends w.directions w.fronts)
       (items_of ends (with_message_from node w.directions origin.conn answer) w.fronts)
@@ -174,7 +175,7 @@ module _ (site : Site) (ends : Ends) (Reason : Refused → Type 0) (checked : Is
   -- the connection of the asker has ended
   thrown_away : (held : Held) (rows : List Row) → message.header.request ≡ false → held_at relay.pending.rows conn message.header.hop ≡ Some held
       → IsWith (row_of conn held) rows relay.pending.rows → (last : WorldState) → last ≡ after_relay_turn w node [] (with_rows rows relay) → Outcome last
-  thrown_away held rows flag at less last is = outcome [] rows last refusals is (fewer held rows less) (as_before Reason refusals)
+  thrown_away held rows flag at less last is = outcome [] rows relay.pending.next last refusals is (fewer held rows less) (as_before Reason refusals)
       (then_moves (forgets taken flag (sender_no_client held rows less) lasts (own_row held rows less) refl refl
       (held_key relay.pending.rows conn message.header.hop held at)) done)
 
@@ -188,12 +189,12 @@ module _ (site : Site) (ends : Ends) (Reason : Refused → Type 0) (checked : Is
       (after : RelayState) → OnRequest relay conn sender.name message sent after
       → (last : WorldState) → last ≡ after_relay_turn w node sent after → Outcome last
   of_request causes sender on flag sent after (refused refusal e) last is = turned_away refusal flag (causes sender refusal flag on e) last is
-  of_request causes sender on flag sent after (forwarded to hop rows e free more) last is =
+  of_request causes sender on flag sent after (forwarded to hop rows count e free more) last is =
       subst (λ (name : List ℕ). IsForwardedTo relay name message to → IsWith (row_of to (held_for conn message (under hop (with_record name message))))
       relay.pending.rows rows
-      → last ≡ after_relay_turn w node ((to, under hop (with_record name message)) ∷ []) (with_rows rows relay) → Outcome last)
+      → last ≡ after_relay_turn w node ((to, under hop (with_record name message)) ∷ []) (with_rows rows (with_next count relay)) → Outcome last)
       (sym (sender_is site ends w.ends node relay own conn from sender (Joins-turned joins) on))
-      (λ goes_to m i. sent_on to hop rows flag free goes_to m last i) (is_forwarded relay sender.name message to e) more is
+      (λ goes_to m i. sent_on to hop rows count flag free goes_to m last i) (is_forwarded relay sender.name message to e) more is
 
   of_answer : message.header.request ≡ false → (sent : Traffic) (after : RelayState) → OnAnswer relay conn message sent after → (last : WorldState) → last ≡
       after_relay_turn w node sent after → Outcome last

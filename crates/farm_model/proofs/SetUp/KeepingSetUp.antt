@@ -59,7 +59,7 @@ module _ (relay next : RelayState) (sent : Traffic) where
 request_limit : (relay next : RelayState) (conn : ConnId) (sender : List ℕ) (message : Message) (sent : Traffic) → OnRequest relay conn sender message sent next
     → next.pending.limit ≡ relay.pending.limit
 request_limit relay next conn sender message sent (refused refusal e) = refl
-request_limit relay next conn sender message sent (forwarded to hop rows e free more) = refl
+request_limit relay next conn sender message sent (forwarded to hop rows count e free more) = refl
 
 answer_limit : (relay next : RelayState) (conn : ConnId) (message : Message) (sent : Traffic) → OnAnswer relay conn message sent next
     → next.pending.limit ≡ relay.pending.limit

@@ -116,7 +116,7 @@ same_links_after node relay after relays at links = record {
 request_same_node : {relay next : RelayState} {conn : ConnId} {sender : List ℕ} {request : Message} {sent : Traffic} → OnRequest relay conn sender request sent
     next → next.node ≡ relay.node
 request_same_node (refused refusal e) = refl
-request_same_node (forwarded to hop rows e free is) = refl
+request_same_node (forwarded to hop rows count e free is) = refl
 
 answer_same_node : {relay next : RelayState} {conn : ConnId} {answer : Message} {sent : Traffic} → OnAnswer relay conn answer sent next → next.node ≡ relay.node
 answer_same_node (sent_back held origin rows e f is) = refl

@@ -3,7 +3,7 @@
 ghost use Rattle.std.specs.Prelude.{◌≡◌, IfOk};
 ghost use Rattle.farm_base.specs.CheckedSite.{IsChecked};
 ghost use Rattle.farm_model.specs.Run.{peers_from, routes_at, relay_site, relays_from};
-ghost use Rattle.relay_core.specs.Connecting.{new_relay};
+ghost use Rattle.relay_core.specs.Connecting.{relay_at};
 
 use crate::nodes::is_linked;
 use dia_base::{Identity, Listing, NodeKind, NodeNo};
@@ -53,16 +53,19 @@ fn routes_of(
     Ok(Listing::from_vec(found))
 }
 
-fn fresh_relay(
+/// The relay of this number and name of the site, with its peers and routes and no connection. Its identifiers rise
+/// from a start (`Relay::starting_at`).
+pub fn relay_starting_at(
     alloc: Global,
     site: &Site,
     node: NodeNo,
     name: &Identity,
+    start: u32,
 ) -> Result<Relay, AllocError>
     requires { IsChecked site.now }
-    ensures { IfOk result (λ relay. relay ≡ new_relay (relay_site site.now node name.now)) }
+    ensures { IfOk result (λ relay. relay ≡ relay_at (relay_site site.now node name.now) start) }
 {
-    Relay::new(
+    Relay::starting_at(
         alloc,
         RelaySite {
             name: name.clone()?,
@@ -70,6 +73,7 @@ fn fresh_relay(
             peers: peers_of(alloc, site, node)?,
             routes: routes_of(alloc, site.routes.as_slice(), node)?,
         },
+        start,
     )
 }
 
@@ -83,7 +87,7 @@ pub fn relays_of(alloc: Global, site: &Site) -> Result<Vec<RelayAt>, AllocError>
         match node.kind {
             NodeKind::Relay => {
                 let at = NodeNo(place as u32);
-                let relay = fresh_relay(alloc, site, at, &node.name)?;
+                let relay = relay_starting_at(alloc, site, at, &node.name, 0)?;
                 relays.push(RelayAt { node: at, relay })?;
             }
             NodeKind::Front => {}

@@ -17,7 +17,7 @@ returns-in_default-origin-clause-ok c = λ node.
     at_some c.settle-dropped.result c.in-Some.held.now (λ (h : Held). IsWith (row_of c.args.conn h) c.settle-dropped.new.self.rows c.args.pending.now.rows)
     (c.settle-dropped.ensures.value ∙ at_hop) c.settle-dropped.ensures.gone in
     answer_dropped node c.args.pending.now c.settle-dropped.new.self c.args.conn c.args.answer c.in-Some.held.now c.nothing-in_default-origin.result.items at_hop (search rules) gone
-    c.settle-dropped.ensures.limit c.nothing-in_default-origin.ensures
+    c.settle-dropped.ensures.limit c.settle-dropped.ensures.next c.nothing-in_default-origin.ensures
 
 pub returns-clause-ok : goal.returns-clause-ok
 returns-clause-ok c = λ node.
@@ -26,4 +26,4 @@ returns-clause-ok c = λ node.
     at_some c.settle-answered.result c.in-Some.held.now (λ (h : Held). IsWith (row_of c.args.conn h) c.settle-answered.new.self.rows c.args.pending.now.rows)
     (c.settle-answered.ensures.value ∙ at_hop) c.settle-answered.ensures.gone in
     answer_sent_back node c.args.pending.now c.settle-answered.new.self c.args.conn c.args.answer c.in-Some.held.now c.in-Some-origin.origin c.in_ok-out.out.items at_hop (search rules) gone
-    c.settle-answered.ensures.limit c.in_ok-out.ensures
+    c.settle-answered.ensures.limit c.settle-answered.ensures.next c.in_ok-out.ensures

@@ -1,4 +1,4 @@
-use Rattle.std.proofs.Common.{rules, ◌≡◌, ◌∙◌, ℕ, ap, subst, List, Result, Ok, Err}
+use Rattle.std.proofs.Common.{rules, ◌≡◌, ◌∙◌, ℕ, refl, ap, subst, List, Result, Ok, Err}
 use Rattle.dia_avp.specs.declared.avp.RawAvp.{RawAvp}
 use Rattle.dia_avp.specs.declared.fault.AvpFault.{AvpFault}
 use Rattle.dia_avp.specs.AvpReading.{split_of}
@@ -7,6 +7,7 @@ use Rattle.cc_view.specs.Refusal.{avps_by, avps_of, refusal_with}
 use Rattle.relay_core.specs.Reading.{avps_in_octets}
 use Rattle.relay_core.specs.Verdict.{verdict, decision}
 use Rattle.relay_core.proofs.Cases.{if_ok, request_refused, state}
+use Rattle.relay_core.proofs.Giving.{one-refused}
 use Rattle.relay_core.proofs.forwarding.on_request.Goals as goal
 
 pub returns-in_default-clause-ok : goal.returns-in_default-clause-ok
@@ -26,3 +27,11 @@ returns-in-Err-clause-ok g c =
     ap (λ (r : Result (List RawAvp) Refusal). verdict (state c.args.node.now c.args.pending.now) c.args.sender.now c.args.request r) listed ∙ code in
     if_ok c.refuse.result _ _ (λ out is. request_refused c.args.node.now c.args.pending.now c.args.conn c.args.sender.now c.args.request (refusal_with c.in-Err.code) out.items refusal is)
     c.refuse.ensures.ok
+
+pub returns-in_default-clause-given : goal.returns-in_default-clause-given
+returns-in_default-clause-given g c = λ flag.
+    if_ok c.refuse_broken.result _ _ (λ out is. one-refused c.args.node.now c.args.conn c.args.request is.0 c.args.pending.now c.args.pending.now out.items is.2 refl) c.refuse_broken.ensures.ok
+
+pub returns-in-Err-clause-given : goal.returns-in-Err-clause-given
+returns-in-Err-clause-given g c = λ flag.
+    if_ok c.refuse.result _ _ (λ out is. one-refused c.args.node.now c.args.conn c.args.request (refusal_with c.in-Err.code) c.args.pending.now c.args.pending.now out.items is refl) c.refuse.ensures.ok

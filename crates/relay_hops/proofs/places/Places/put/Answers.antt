@@ -1,13 +1,16 @@
-use Rattle.std.proofs.Common.{rules, ◌≡◌, Some, None, arith, ap, sym, ◌∙◌}
-use Rattle.slab.specs.Slab.{get, Updates}
-use Rattle.relay_hops.specs.declared.row.Row.{Row}
-use Rattle.relay_hops.specs.PendingTable.{under}
-use Rattle.relay_hops.proofs.Slab.{row_put}
+use Rattle.std.proofs.Common.{◌<◌, List, Option, ℕ, Some, length, set, sym, subst, rules}
+use Rattle.relay_hops.specs.Identifiers.{place_of}
+use Rattle.relay_hops.specs.PlaceTable.{AreIndexed}
+use Rattle.relay_hops.proofs.Slab.{row_put, indexed_put}
 use Rattle.relay_hops.proofs.places.Places.put.Goals as goal
 
 pub returns-clause-with : goal.returns-clause-with
-returns-clause-with c =
-    let row : Row = record { conn = c.args.conn; held = record { origin = c.args.origin; request = under c.min-hop.result c.args.request } } in
-    let free : get c.args.self.now.slab c.min-hop.result ≡ None = search rules in
-    let put : Updates c.args.self.now.slab c.insert_reserved.new.self c.min-hop.result (Some (Some row)) = search rules in
-    row_put c.args.self.now.slab c.insert_reserved.new.self c.min-hop.result row free put
+returns-clause-with c = row_put c.args.self.now.slab c.insert_reserved-key.new.self c.insert_reserved-key.result c.args.row c.insert_reserved-key.ensures.was_vacant c.insert_reserved-key.ensures.updates
+
+pub returns-clause-indexed : goal.returns-clause-indexed
+returns-clause-indexed c =
+    let some : 0 < length c.args.self.now.index.keys.items = search rules in
+    subst (λ (keys : List (Option ℕ)). AreIndexed c.insert_reserved-key.new.self.slots keys) (sym c.set.ensures)
+    (subst (λ (hop : ℕ). AreIndexed c.insert_reserved-key.new.self.slots (set c.args.self.now.index.keys.items (place_of (length c.args.self.now.index.keys.items) hop) (Some c.insert_reserved-key.result))) (sym c.hop-hop.ensures)
+    (indexed_put c.args.self.now.slab c.insert_reserved-key.new.self c.args.self.now.index.keys.items c.insert_reserved-key.result c.args.row some c.requires.indexed c.requires.vacant c.insert_reserved-key.ensures.was_vacant
+    c.insert_reserved-key.ensures.updates c.insert_reserved-key.ensures.len))
