@@ -1,7 +1,11 @@
 //! Why the program does not do what it is asked to do.
 
+ghost use Rattle.std.specs.Prelude.{◌≡◌};
+ghost use Rattle.farm_cli.specs.Ending.{replay_status, status_of};
+
 use crate::replay::ReplayFault;
-use farm_command::CliFault;
+use farm_command::{CliFault, Status};
+use farm_script::{LineFault, ScriptFault};
 use farm_site::SiteFault;
 use thiserror::Error;
 
@@ -18,4 +22,35 @@ pub enum Fault {
     Site(SiteFault),
     #[error("{0}")]
     Replay(ReplayFault),
+}
+
+impl Fault {
+    /// How the program ends by this fault.
+    pub fn status(&self) -> Status
+        ensures { result ≡ status_of self.now }
+    {
+        match self {
+            Fault::Words(fault) => fault.status(),
+            Fault::SiteFile => Status::Failed,
+            Fault::Site(SiteFault::OutOfMemory) => Status::OutOfMemory,
+            Fault::Site(_) => Status::Refused,
+            Fault::Replay(fault) => replay_status(fault),
+        }
+    }
+}
+
+fn replay_status(fault: &ReplayFault) -> Status
+    ensures { result ≡ replay_status fault.now }
+{
+    match fault {
+        ReplayFault::Read | ReplayFault::Write => Status::Failed,
+        ReplayFault::Script(
+            ScriptFault::Line {
+                fault: LineFault::OutOfMemory,
+                ..
+            },
+        )
+        | ReplayFault::OutOfMemory => Status::OutOfMemory,
+        ReplayFault::Script(_) => Status::Refused,
+    }
 }

@@ -16,24 +16,12 @@ mod replay;
 mod sites;
 mod skipped;
 
-use ending::{Ending, Stream};
-use fault::Fault;
+use ending::Ending;
+use farm_command::end;
 use program::farm;
-use replay::ReplayFault;
 use std::process::ExitCode;
 
 fn main(rt: HostRuntime) -> ExitCode {
-    let mut ending = Ending::of(farm(&rt));
-    if ending.stream == Stream::Output
-        && let Some(text) = &ending.told
-        && rt.println(text).is_err()
-    {
-        ending = Ending::of(Err(Fault::Replay(ReplayFault::Write)));
-    }
-    if ending.stream == Stream::Error
-        && let Some(fault) = &ending.told
-    {
-        let _ = rt.eprintln(fault);
-    }
-    ExitCode::from(ending.status)
+    let ending = Ending::of(farm(&rt));
+    end(&rt, ending.status, ending.told.as_ref())
 }

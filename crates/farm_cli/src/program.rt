@@ -3,48 +3,41 @@
 use crate::fault::Fault;
 use crate::sites::{replay_row_site, replay_site_file};
 use dia_base::SCHEDULE_LIMIT;
-use farm_command::{CliFault, Command, command_of};
+use farm_command::{CliFault, Command, Run, command_of, words_of};
 use farm_site::{SITE_LIMIT, SiteFault};
-use farm_text::{ReadFault, TEXT_LIMIT, read_text, write_text};
-use std::fs::File;
-use std::io::ErrorKind;
-use std::{env, io};
+use farm_text::{ReadFault, TEXT_LIMIT, file_at, write_text};
+use std::alloc::Global;
+use std::io;
 
 // A text of either is read up to one octet above its limit.
 const _: () = prove!(SITE_LIMIT == TEXT_LIMIT && SCHEDULE_LIMIT == TEXT_LIMIT);
 
-/// The words behind the program's name.
-fn words_of(rt: &HostRuntime) -> Result<Vec<String>, CliFault> {
-    match env::args(rt) {
-        Ok(words) => match words.skip(1).collect(rt.alloc()) {
-            Ok(words) => Ok(words),
-            Err(_) => Err(CliFault::OutOfMemory),
-        },
-        Err(error) if error.kind() == ErrorKind::OutOfMemory => Err(CliFault::OutOfMemory),
-        Err(_) => Err(CliFault::NotUtf8),
+/// The run that the words behind the program's name ask for.
+fn run_of<'a>(alloc: Global, words: &'a [String]) -> Result<Run<'a>, Fault> {
+    match command_of(alloc, words) {
+        Ok(Command::Run(run)) => Ok(run),
+        Ok(_) => Err(Fault::Words(CliFault::Elsewhere)),
+        Err(fault) => Err(Fault::Words(fault)),
     }
 }
 
 /// The octets of a site file, up to one above its size limit.
 fn site_file(rt: &HostRuntime, path: &str) -> Result<Vec<u8>, Fault> {
-    let Ok(mut file) = File::open(rt, path) else {
-        return Err(Fault::SiteFile);
-    };
-    match read_text(rt.alloc(), &mut file) {
+    match file_at(rt, path) {
         Ok(octets) => Ok(octets),
         Err(ReadFault::OutOfMemory) => Err(Fault::Site(SiteFault::OutOfMemory)),
         Err(ReadFault::Failed) => Err(Fault::SiteFile),
     }
 }
 
-/// Carries out a command between standard input and standard output, and puts the names of the steps that were skipped
-/// into `named`, where it asks for them. Nothing is written before the run is done.
-fn carry_out(rt: &HostRuntime, command: &Command, named: &mut Vec<u8>) -> Result<(), Fault> {
-    let (alloc, action, skipped) = (rt.alloc(), command.action, command.skipped);
+/// Carries out a run between standard input and standard output, and puts the names of the steps that were skipped into
+/// `named`, where it asks for them. Nothing is written before the run is done.
+fn carry_out(rt: &HostRuntime, run: &Run<'_>, named: &mut Vec<u8>) -> Result<(), Fault> {
+    let (alloc, action, skipped) = (rt.alloc(), run.action, run.skipped);
     let (reader, writer) = (&mut rt.reader(), &mut io::writer(rt));
-    match &command.site {
+    match run.site {
         Some(path) => {
-            let octets = site_file(rt, path.as_str())?;
+            let octets = site_file(rt, path)?;
             replay_site_file(alloc, action, skipped, &octets, reader, writer, named)
         }
         None => replay_row_site(alloc, action, skipped, reader, writer, named).map_err(
@@ -57,9 +50,9 @@ fn carry_out(rt: &HostRuntime, command: &Command, named: &mut Vec<u8>) -> Result
 /// standard error.
 pub fn farm(rt: &HostRuntime) -> Result<(), Fault> {
     let words = words_of(rt).map_err(Fault::Words)?;
-    let command = command_of(rt.alloc(), &words).map_err(Fault::Words)?;
+    let run = run_of(rt.alloc(), &words)?;
     let mut named = Vec::new(rt.alloc());
-    carry_out(rt, &command, &mut named)?;
+    carry_out(rt, &run, &mut named)?;
     let _ = write_text(&mut rt.stderr(), &named);
     Ok(())
 }

@@ -1,29 +1,77 @@
--- What the words of a command line ask for, as clap reads them.
-use Rattle.std.specs.Prelude.{◌≡◌, ◌≢◌, ◌⊎◌, ℕ, List, [], ◌∷◌, Bool, true, false, Option, Some, None, map, option_map, codes, string_bytes, if◌then◌else◌}
-use Rattle.std.specs.Str.{bytes_eq}
-use Rattle.clap.specs.Kinds.{Kinds, IsAmong}
-use Rattle.clap.specs.Walk.{Row, Rule, Text, first_of}
+-- The command line of all programs, in clap's terms.
+use Rattle.std.specs.Prelude.{List, [], ◌∷◌, Some, true, codes}
+use Rattle.clap.specs.Walk.{Rule, Text}
 use Rattle.clap.specs.Simple.{App, new_app, new_rule, with_rule, with_subcommand}
-use Rattle.clap.specs.declared.builder.action.ArgAction.TheVariants.{SetTrue}
-use Rattle.clap.specs.declared.error.kind.ErrorKind.{ErrorKind}
-use Rattle.clap.specs.declared.error.kind.ErrorKind.TheVariants.{DisplayHelp, DisplayVersion}
-use Rattle.farm_command.specs.declared.command.Action.{Action}
-use Rattle.farm_command.specs.declared.command.Action.TheVariants.{Replay, Report}
-use Rattle.farm_command.specs.declared.command.Command.{Command}
-use Rattle.farm_command.specs.declared.command.CliFault.{CliFault}
-use Rattle.farm_command.specs.declared.command.CliFault.TheVariants.{Asked, Refused, NotUtf8, OutOfMemory}
+use Rattle.clap.specs.declared.builder.action.ArgAction.TheVariants.{Append, SetTrue}
+use Rattle.farm_command.specs.declared.subcommand.Subcommand.{Subcommand}
+use Rattle.farm_command.specs.declared.subcommand.Subcommand.TheVariants as sub
+use Rattle.farm_command.specs.declared.word.Word.{Word}
+use Rattle.farm_command.specs.declared.word.Word.TheVariants as word
 
--- `--site FILE`
-abbrev pub site_option : Rule
-site_option = record (new_rule (codes "site")) { long = Some (codes "site"); value_names = 1 }
+-- the name of an option, or of the operands
+abbrev pub id_of : Word → Text
+id_of word.Site = codes "site"
+id_of word.Name = codes "name"
+id_of word.Client = codes "client"
+id_of word.Peer = codes "peer"
+id_of word.Answers = codes "answers"
+id_of word.Status = codes "status"
+id_of word.Token = codes "token"
+id_of word.Record = codes "record"
+id_of word.Log = codes "log"
+id_of word.From = codes "from"
+id_of word.To = codes "to"
+id_of word.Records = codes "records"
+
+-- the name of a subcommand
+abbrev pub name_of : Subcommand → Text
+name_of sub.Replay = codes "replay"
+name_of sub.Report = codes "report"
+name_of sub.Relay = codes "relay"
+name_of sub.Front = codes "front"
+name_of sub.Send = codes "send"
+name_of sub.Check = codes "check"
+name_of sub.Audit = codes "audit"
+name_of sub.Schedule = codes "schedule"
+name_of sub.Picture = codes "picture"
+name_of sub.Words = codes "words"
+
+-- `--NAME VALUE`
+abbrev pub option_named : Text → Rule
+option_named id = record (new_rule id) { long = Some id; value_names = 1 }
+
+abbrev pub option : Word → Rule
+option w = option_named (id_of w)
 
 -- `--skipped`
 abbrev pub skipped_option : Rule
 skipped_option = record (new_rule (codes "skipped")) { long = Some (codes "skipped"); action = Some SetTrue }
 
--- a subcommand with both
-abbrev pub with_options : Text → App
-with_options name = with_rule (with_rule (new_app name) site_option) skipped_option
+-- `RECORD..`
+abbrev pub records_rule : Rule
+records_rule = record (new_rule (codes "records")) { action = Some Append; value_names = 1 }
+
+-- a subcommand with these options
+abbrev pub added_options : App → List Word → App
+added_options line [] = line
+added_options line (w ∷ words) = added_options (with_rule line (option w)) words
+
+abbrev pub with_options : Text → List Word → App
+with_options name words = added_options (new_app name) words
+
+-- each subcommand, with its options and operands
+abbrev pub line_of : Subcommand → App
+line_of sub.Replay = with_rule (with_options (codes "replay") (word.Site ∷ [])) skipped_option
+line_of sub.Report = with_rule (with_options (codes "report") (word.Site ∷ [])) skipped_option
+line_of sub.Relay =
+    with_options (codes "relay") (word.Site ∷ word.Name ∷ word.Answers ∷ word.Status ∷ word.Token ∷ word.Record ∷ word.Log ∷ [])
+line_of sub.Front = with_options (codes "front") (word.Site ∷ word.Answers ∷ word.Status ∷ word.Token ∷ word.Record ∷ word.Log ∷ [])
+line_of sub.Send = with_options (codes "send") (word.Site ∷ word.Client ∷ word.Peer ∷ word.Record ∷ word.Log ∷ [])
+line_of sub.Check = with_options (codes "check") (word.Site ∷ [])
+line_of sub.Audit = with_rule (with_options (codes "audit") (word.Site ∷ [])) records_rule
+line_of sub.Schedule = with_rule (with_options (codes "schedule") (word.Site ∷ [])) records_rule
+line_of sub.Picture = with_options (codes "picture") (word.Site ∷ word.From ∷ word.To ∷ [])
+line_of sub.Words = with_options (codes "words") []
 
 -- the program named `farm`, which has a version and no subcommand `help`; the words do not begin with its name
 abbrev pub program : App
@@ -31,57 +79,17 @@ program = record (new_app (codes "farm")) {
   top = record (new_app (codes "farm")).top { has_version = true; no_binary_name = true; disable_help_subcommand = true };
 }
 
--- the command line of the program: `replay` and `report`, each with `--site FILE` and `--skipped`
+abbrev pub with_lines : App → List Subcommand → App
+with_lines line [] = line
+with_lines line (s ∷ rest) = with_lines (with_subcommand line (line_of s).top) rest
+
+-- what runs a schedule or serves
+abbrev pub farm_lines : List Subcommand
+farm_lines = sub.Replay ∷ sub.Report ∷ sub.Relay ∷ sub.Front ∷ sub.Send ∷ []
+
+-- what looks at a site, at records, at a run or at messages
+abbrev pub look_lines : List Subcommand
+look_lines = sub.Check ∷ sub.Audit ∷ sub.Schedule ∷ sub.Picture ∷ sub.Words ∷ []
+
 abbrev pub command_line : App
-command_line = with_subcommand (with_subcommand program (with_options (codes "replay")).top) (with_options (codes "report")).top
-
--- the subcommand of an action
-abbrev pub name_of : Action → Text
-name_of Replay = codes "replay"
-name_of Report = codes "report"
-
--- the action of a subcommand
-abbrev pub action_named : Text → Action
-action_named name = if bytes_eq name (codes "report") then Report else Replay
-
--- the site file among what was found for a subcommand
-abbrev pub site_in : List Row → Option Text
-site_in = first_of (codes "site")
-
--- clap gives a flag the value `true` where it is among the words, else `false`
-abbrev pub is_true : Option Text → Bool
-is_true None = false
-is_true (Some text) = bytes_eq text (codes "true")
-
--- whether the flag is among what was found for a subcommand
-abbrev pub skipped_in : List Row → Bool
-skipped_in rows = is_true (first_of (codes "skipped") rows)
-
--- without a subcommand a replay over the row site
-abbrev pub IsPlain : Command → Type 0
-IsPlain command = (command.action ≡ Replay) × (command.site ≡ None) × (command.skipped ≡ false)
-
--- what is read of a subcommand's options
-abbrev pub HasOptions : List Row → Command → Type 0
-HasOptions rows command = (option_map string_bytes command.site ≡ site_in rows) × (command.skipped ≡ skipped_in rows)
-
--- the subcommand that clap enters, with what it finds for `--site` and `--skipped`
-abbrev pub IsReadFrom : Option (Text × List Row) → Command → Type 0
-IsReadFrom None command = IsPlain command
-IsReadFrom (Some entered) command = (name_of command.action ≡ entered.0) × HasOptions entered.1 command
-
--- the same by the name alone
-abbrev pub IsNamedIn : Option (Text × List Row) → Command → Type 0
-IsNamedIn None command = IsPlain command
-IsNamedIn (Some entered) command = (command.action ≡ action_named entered.0) × HasOptions entered.1 command
-
--- clap shows help or the version in place of matches
-abbrev pub IsShown : ErrorKind → Type 0
-IsShown kind = (kind ≡ DisplayHelp) ⊎ (kind ≡ DisplayVersion)
-
--- the fault is of one of the kinds for which clap gives no matches, or memory ran out
-abbrev pub IsFaultBy : Kinds → CliFault → Type 0
-IsFaultBy kinds (Asked text) = (kind : ErrorKind) × IsAmong kind kinds × IsShown kind
-IsFaultBy kinds (Refused text) = (kind : ErrorKind) × IsAmong kind kinds × (kind ≢ DisplayHelp) × (kind ≢ DisplayVersion)
-IsFaultBy kinds NotUtf8 = ⊥
-IsFaultBy kinds OutOfMemory = Unit {0}
+command_line = with_lines (with_lines program farm_lines) look_lines

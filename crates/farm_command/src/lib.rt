@@ -1,8 +1,26 @@
-//! What the words of the program's command line ask for.
+//! The command line of all programs.
 //!
-//! - [`command_of`]: a [`Command`], or why the words are none ([`CliFault`]).
+//! - [`command_of`]: what the words behind a program's name ask for, a [`Command`], or why they are none ([`CliFault`]).
+//! - [`words_of`]: these words.
+//! - [`Status`], [`end`], [`refuse`]: the exit statuses of all programs, and how one ends.
+//! - [`Word`]: the options that may be missing or malformed, as they are told.
+//!
+//! Each program reads the same command line, and carries out its own commands alone ([`CliFault::Elsewhere`]).
 #![tactic(auto)]
 
 mod command;
+mod fault;
+mod lines;
+mod reading;
+mod status;
+mod subcommand;
+mod word;
+mod words;
 
-pub use command::{Action, CliFault, Command, command_of};
+pub use command::{Action, Audit, AuditAction, Check, Command, Picture, Process, Run, Task};
+pub use fault::CliFault;
+pub use reading::command_of;
+pub use status::{Status, Stream, end, refuse};
+pub use subcommand::Subcommand;
+pub use word::Word;
+pub use words::words_of;

@@ -53,6 +53,7 @@
 //!   A text is read, unless memory runs out, exactly where it spells a checked site (`specs/Spelling`),
 //!   and then as this site; a fault is one that the text has (`specs/Faults`). Which of several faults is
 //!   told is not proved.
+//! - [`site_document_of_octets`]: the same with the document, so that whoever reads other keys of it parses no text again.
 //! - [`SiteFault`] with its [`Key`]: why a text is no site, with the words that are printed.
 //! - [`one_site`], [`site_files_have_no_fault`]: a text spells one site at most, and where it does, no fault could be told
 //!   of it.
@@ -118,6 +119,30 @@ use toml::Table;
 
 /// The longest site file in octets.
 pub const SITE_LIMIT: usize = 16_777_216;
+
+/// A site, and the document that spells it: there stand keys that are none of a site.
+#[derive(Drop)]
+pub struct SiteDocument {
+    pub site: Site,
+    pub document: Table,
+}
+
+/// The site that octets spell, as [`site_of_octets`] reads them, with their document.
+pub fn site_document_of_octets(alloc: Global, octets: &[u8]) -> Result<SiteDocument, SiteFault>
+    ensures checked { IfOk result (λ read. IsChecked read.site) }
+    ensures file { IfOk result (λ read. IsSiteFile octets.now read.site) }
+    ensures document { IfOk result (λ read. parse_document octets.now ≡ Some (table_view read.document)) }
+    ensures fault { IfErr result (AreWhyOctets octets.now) }
+{
+    let Ok(text) = str::from_utf8(octets) else {
+        return Err(SiteFault::NotToml);
+    };
+    let document = table_of(alloc, text)?;
+    match site_in(alloc, Entry::new(&document)) {
+        Ok(site) => Ok(SiteDocument { site, document }),
+        Err(fault) => Err(fault),
+    }
+}
 
 /// The site that octets spell, as [`site_of`] reads them. Octets that are no UTF-8 are `NotToml`.
 pub fn site_of_octets(alloc: Global, octets: &[u8]) -> Result<Site, SiteFault>

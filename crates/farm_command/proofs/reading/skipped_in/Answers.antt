@@ -1,11 +1,11 @@
 use Rattle.std.proofs.Common.{ap, ◌∙◌, codes}
 use Rattle.clap.specs.Words.{found_of}
 use Rattle.clap.proofs.WalkLemmas.{first_value-rows}
-use Rattle.farm_command.specs.CommandLine.{is_true}
-use Rattle.farm_command.proofs.command.skipped_in.Goals as goal
+use Rattle.farm_command.specs.Asked.{is_true}
+use Rattle.farm_command.proofs.reading.skipped_in.Goals as goal
 
 pub returns-in-Some : goal.returns-in-Some
-returns-in-Some c = c.is_true.ensures ∙ ap is_true (c.in-Some.ensures ∙ first_value-rows (found_of c.args.found.now) (codes "skipped"))
+returns-in-Some c = c.eq.ensures ∙ ap is_true (c.in-Some.ensures ∙ first_value-rows (found_of c.args.found.now) (codes "skipped"))
 
 pub returns-in-None : goal.returns-in-None
 returns-in-None c = ap is_true (c.in-None.ensures ∙ first_value-rows (found_of c.args.found.now) (codes "skipped"))

@@ -1,0 +1,251 @@
+//! The command line of all programs, in clap's terms.
+
+ghost use Rattle.std.specs.Prelude.{◌≡◌, ◌∷◌, [], codes, false, IfOk};
+ghost use Rattle.clap.specs.declared.builder.command.Command.TheViews.{out-Command as fields_of};
+ghost use Rattle.clap.specs.Simple.{with_rule};
+ghost use Rattle.clap.specs.Words.{app_of};
+ghost use Rattle.farm_command.specs.CommandLine.{command_line, farm_lines, line_of, look_lines, option_named, program, records_rule, skipped_option, with_lines, with_options};
+ghost use Rattle.farm_command.specs.declared.word.Word.TheVariants as word;
+ghost use Rattle.farm_command.specs.declared.subcommand.Subcommand.TheVariants as sub;
+
+use crate::word::Word;
+use clap::{Arg, ArgAction, Command as Line};
+use std::alloc::{AllocError, Global};
+
+/// The line with one more option.
+fn with_option<'a>(
+    line: Line<'a>,
+    alloc: Global,
+    id: &'a str,
+    value_name: &'a str,
+    help: &'a str,
+) -> Result<Line<'a>, AllocError>
+    ensures shape { (fields_of line.entry).has_globals ≡ false →
+        IfOk result (λ made. app_of made
+        ≡ with_rule (app_of line.entry) (option_named id.entry.now)) }
+    ensures local { (fields_of line.entry).has_globals ≡ false →
+        IfOk result (λ made. (fields_of made).has_globals ≡ false) }
+{
+    let option = Arg::new(alloc, id)
+        .long(id)
+        .value_name(value_name)
+        .help(help);
+    line.arg(option)
+}
+
+/// The line with `--skipped`.
+fn with_skipped<'a>(line: Line<'a>, alloc: Global) -> Result<Line<'a>, AllocError>
+    ensures shape { (fields_of line.entry).has_globals ≡ false →
+        IfOk result (λ made. app_of made ≡ with_rule (app_of line.entry) skipped_option) }
+    ensures local { (fields_of line.entry).has_globals ≡ false →
+        IfOk result (λ made. (fields_of made).has_globals ≡ false) }
+{
+    let skipped = Arg::new(alloc, "skipped")
+        .long("skipped")
+        .action(ArgAction::SetTrue)
+        .help("Names the steps that were skipped, on standard error");
+    line.arg(skipped)
+}
+
+/// The line with the operands `RECORD..`.
+fn with_records<'a>(line: Line<'a>, alloc: Global) -> Result<Line<'a>, AllocError>
+    ensures shape { (fields_of line.entry).has_globals ≡ false →
+        IfOk result (λ made. app_of made ≡ with_rule (app_of line.entry) records_rule) }
+    ensures local { (fields_of line.entry).has_globals ≡ false →
+        IfOk result (λ made. (fields_of made).has_globals ≡ false) }
+{
+    let records = Arg::new(alloc, "records")
+        .action(ArgAction::Append)
+        .value_name("RECORD")
+        .help("What a process of the farm wrote down");
+    line.arg(records)
+}
+
+/// `replay` or `report`.
+fn run_line<'a>(alloc: Global, name: &'a str, about: &'a str) -> Result<Line<'a>, AllocError>
+    ensures shape { IfOk result (λ line. app_of line
+        ≡ with_rule (with_options name.entry.now (word.Site ∷ [])) skipped_option) }
+    ensures local { IfOk result (λ line. (fields_of line).has_globals ≡ false) }
+{
+    let bare = Line::new(alloc, name).about(about);
+    let help = "The site file; without it the run is over the row site";
+    let sited = with_option(bare, alloc, "site", "FILE", help)?;
+    with_skipped(sited, alloc)
+}
+
+/// The line with `--answers`, `--status` and `--token`, by which a serving node ends.
+fn with_ends<'a>(line: Line<'a>, alloc: Global) -> Result<Line<'a>, AllocError>
+    ensures shape { (fields_of line.entry).has_globals ≡ false → IfOk result (λ made. app_of made ≡
+        with_rule (with_rule (with_rule (app_of line.entry) (option_named (codes "answers")))
+        (option_named (codes "status"))) (option_named (codes "token"))) }
+    ensures local { (fields_of line.entry).has_globals ≡ false →
+        IfOk result (λ made. (fields_of made).has_globals ≡ false) }
+{
+    let help = "Ends when so many answers were sent; 0, the default, for never";
+    let counted = with_option(line, alloc, "answers", "N", help)?;
+    let help = "Says there what it does, over HTTP: PORT, of this machine alone, or ADDRESS:PORT";
+    let stated = with_option(counted, alloc, "status", "ADDRESS", help)?;
+    let help = "The token that farm stop shows; it is made where the file is not there";
+    with_option(stated, alloc, "token", "FILE", help)
+}
+
+/// The line with `--record` and `--log`.
+fn with_log<'a>(line: Line<'a>, alloc: Global) -> Result<Line<'a>, AllocError>
+    ensures shape { (fields_of line.entry).has_globals ≡ false → IfOk result (λ made. app_of made ≡
+        with_rule (with_rule (app_of line.entry) (option_named (codes "record")))
+        (option_named (codes "log"))) }
+    ensures local { (fields_of line.entry).has_globals ≡ false →
+        IfOk result (λ made. (fields_of made).has_globals ≡ false) }
+{
+    let help = "Writes down what happens, behind what the file has: farm audit plays it";
+    let recorded = with_option(line, alloc, "record", "FILE", help)?;
+    let help = "What is told on standard error: off, error, warn, info (the default) or debug";
+    with_option(recorded, alloc, "log", "LEVEL", help)
+}
+
+/// The line with `--site FILE`, which must be there.
+fn with_site<'a>(line: Line<'a>, alloc: Global) -> Result<Line<'a>, AllocError>
+    ensures shape { (fields_of line.entry).has_globals ≡ false →
+        IfOk result (λ made. app_of made
+        ≡ with_rule (app_of line.entry) (option_named (codes "site"))) }
+    ensures local { (fields_of line.entry).has_globals ≡ false →
+        IfOk result (λ made. (fields_of made).has_globals ≡ false) }
+{
+    with_option(line, alloc, "site", "FILE", "The site file")
+}
+
+/// `relay`.
+fn relay_line<'a>(alloc: Global) -> Result<Line<'a>, AllocError>
+    ensures shape { IfOk result (λ line. app_of line ≡ line_of sub.Relay) }
+    ensures local { IfOk result (λ line. (fields_of line).has_globals ≡ false) }
+{
+    let bare = Line::new(alloc, "relay").about("Serves as a relay of the site, over TCP");
+    let sited = with_site(bare, alloc)?;
+    let named = with_option(sited, alloc, "name", "NAME", "The relay that serves")?;
+    let ending = with_ends(named, alloc)?;
+    with_log(ending, alloc)
+}
+
+/// `front`.
+fn front_line<'a>(alloc: Global) -> Result<Line<'a>, AllocError>
+    ensures shape { IfOk result (λ line. app_of line ≡ line_of sub.Front) }
+    ensures local { IfOk result (λ line. (fields_of line).has_globals ≡ false) }
+{
+    let bare = Line::new(alloc, "front").about("Serves as all fronts of the site, over TCP");
+    let sited = with_site(bare, alloc)?;
+    let ending = with_ends(sited, alloc)?;
+    with_log(ending, alloc)
+}
+
+/// `send`.
+fn send_line<'a>(alloc: Global) -> Result<Line<'a>, AllocError>
+    ensures shape { IfOk result (λ line. app_of line ≡ line_of sub.Send) }
+    ensures local { IfOk result (λ line. (fields_of line).has_globals ≡ false) }
+{
+    let about = "Sends messages, one in hexadecimal on a line, and prints their answers";
+    let bare = Line::new(alloc, "send").about(about);
+    let sited = with_site(bare, alloc)?;
+    let from = with_option(sited, alloc, "client", "NAME", "The client that sends")?;
+    let to = with_option(from, alloc, "peer", "NAME", "The node it sends to")?;
+    with_log(to, alloc)
+}
+
+/// `check`.
+fn check_line<'a>(alloc: Global) -> Result<Line<'a>, AllocError>
+    ensures shape { IfOk result (λ line. app_of line ≡ line_of sub.Check) }
+    ensures local { IfOk result (λ line. (fields_of line).has_globals ≡ false) }
+{
+    let about =
+        "Says what a site comes to and what may look wrong in it, or where its fault stands";
+    with_site(Line::new(alloc, "check").about(about), alloc)
+}
+
+/// `audit` or `schedule`.
+fn audit_line<'a>(alloc: Global, name: &'a str, about: &'a str) -> Result<Line<'a>, AllocError>
+    ensures shape { IfOk result (λ line. app_of line
+        ≡ with_rule (with_options name.entry.now (word.Site ∷ [])) records_rule) }
+    ensures local { IfOk result (λ line. (fields_of line).has_globals ≡ false) }
+{
+    let sited = with_site(Line::new(alloc, name).about(about), alloc)?;
+    with_records(sited, alloc)
+}
+
+/// `picture`.
+fn picture_line<'a>(alloc: Global) -> Result<Line<'a>, AllocError>
+    ensures shape { IfOk result (λ line. app_of line ≡ line_of sub.Picture) }
+    ensures local { IfOk result (λ line. (fields_of line).has_globals ≡ false) }
+{
+    let bare = Line::new(alloc, "picture").about("Draws the run, as an SVG");
+    let help = "The site file; without it the run is over the row site";
+    let sited = with_option(bare, alloc, "site", "FILE", help)?;
+    let from = with_option(sited, alloc, "from", "STEP", "The first step that is drawn")?;
+    with_option(from, alloc, "to", "STEP", "The last step that is drawn")
+}
+
+/// `words`.
+fn words_line<'a>(alloc: Global) -> Line<'a>
+    ensures shape { app_of result ≡ line_of sub.Words }
+    ensures local { (fields_of result).has_globals ≡ false }
+{
+    Line::new(alloc, "words").about("Prints the messages that it reads in words")
+}
+
+/// The program without a subcommand.
+fn program<'a>(alloc: Global) -> Result<Line<'a>, AllocError>
+    ensures { IfOk result (λ line. app_of line ≡ program) }
+{
+    let bare = Line::new(alloc, "farm")
+        .about("Diameter relays and fronts for online charging")
+        .bin_name("farm")?;
+    Ok(
+        bare.version("0.1.0")
+            .no_binary_name(true)
+            .disable_help_subcommand(true),
+    )
+}
+
+/// The line with `replay`, `report`, `relay`, `front` and `send`.
+fn with_farm<'a>(line: Line<'a>, alloc: Global) -> Result<Line<'a>, AllocError>
+    ensures { IfOk result (λ made. app_of made ≡ with_lines (app_of line.entry) farm_lines) }
+{
+    let about = "Prints what clients received, an end line, and the report (the default)";
+    let replay = run_line(alloc, "replay", about)?;
+    let report = run_line(alloc, "report", "Prints the report alone")?;
+    let relay = relay_line(alloc)?;
+    let front = front_line(alloc)?;
+    let send = send_line(alloc)?;
+    line.subcommand(replay)?
+        .subcommand(report)?
+        .subcommand(relay)?
+        .subcommand(front)?
+        .subcommand(send)
+}
+
+/// The line with `check`, `audit`, `schedule`, `picture` and `words`.
+fn with_looks<'a>(line: Line<'a>, alloc: Global) -> Result<Line<'a>, AllocError>
+    ensures { IfOk result (λ made. app_of made ≡ with_lines (app_of line.entry) look_lines) }
+{
+    let check = check_line(alloc)?;
+    let audit = audit_line(
+        alloc,
+        "audit",
+        "Plays the records of a farm, and says what they come to",
+    )?;
+    let about = "Prints the order of the records of a farm, as a schedule";
+    let schedule = audit_line(alloc, "schedule", about)?;
+    let picture = picture_line(alloc)?;
+    line.subcommand(check)?
+        .subcommand(audit)?
+        .subcommand(schedule)?
+        .subcommand(picture)?
+        .subcommand(words_line(alloc))
+}
+
+/// The command line.
+pub fn command_line<'a>(alloc: Global) -> Result<Line<'a>, AllocError>
+    ensures { IfOk result (λ line. app_of line ≡ command_line) }
+{
+    let bare = program(alloc)?;
+    let some = with_farm(bare, alloc)?;
+    with_looks(some, alloc)
+}
