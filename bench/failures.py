@@ -1,6 +1,6 @@
 #!/usr/bin/env python3
 """What the program does where memory is refused and where its streams fail: bench/failures.py [PROGRAM] [SCHEDULE ..]
-    bench/failures.py --runs [PROGRAM] [SCHEDULE ..]      of the program memory_samples: what is told of a run
+    bench/failures.py --runs [PROGRAM] [SCHEDULE ..]      of the program farm_samples: what is told of a run
     bench/failures.py --random N [--seed S] [PROGRAM]     over random sites and schedules
 
 For each schedule (those of ROWS, if none is named) it runs the proved program, crates/farm_cli/out/farm_cli, with the
@@ -15,7 +15,7 @@ through a small library (LD_PRELOAD; it needs cc) that counts them. What has to 
     a write fails          exit status 1, and what was written before is a beginning of the output
     interrupted, or short  all as it was
 
-With --runs it is the program memory_samples (crates/memory_samples/out/memory_samples), which prints what is told of a
+With --runs it is the replay of the program farm_samples (crates/farm_samples/out/farm_samples), which prints what is told of a
 run that ended early, and asks a book again after a refusal. Where memory is refused at a step, what is told has to be
 the run of the steps before it, as the program prints it of them alone; and the book has to answer as it would have,
 unless it was refused twice. Where memory is refused before or between, the program ends early, with a beginning of it.
@@ -38,7 +38,9 @@ from concurrent.futures import ThreadPoolExecutor
 from pathlib import Path
 
 TOP = Path(__file__).resolve().parent.parent
-PROGRAM, SAMPLES = TOP / "crates/farm_cli/out/farm_cli", TOP / "crates/memory_samples/out/memory_samples"
+PROGRAM, SAMPLES = TOP / "crates/farm_cli/out/farm_cli", TOP / "crates/farm_samples/out/farm_samples"
+# With a word behind its name farm_samples plays the schedule of its standard input, and does nothing else.
+REPLAY = ["replay"]
 ROWS = ["debits/first-debit", "failover/failover", "failover/failover-while-picked", "sessions/session-not-due",
         "sessions/session-abandoned", "sessions/session-kept-up", "sessions/answers",
         "refusals/loop-detected", "refusals/front-refusals"]
@@ -221,17 +223,17 @@ def parts(output):
 
 
 def told_runs(runner, name, schedule, jobs):
-    """Allocations of memory_samples are refused, one and two. Prints how the runs end, and gives the findings."""
-    (whole, _, _), counts = runner.run([], schedule, "n", 0)
+    """Allocations of farm_samples are refused, one and two. Prints how the runs end, and gives the findings."""
+    (whole, _, _), counts = runner.run(REPLAY, schedule, "n", 0)
     told_whole, book, steps = parts(whole)
-    told_of = [parts(runner.run([], steps_before(schedule, count), "n", 0)[0][0])[0] for count in range(steps)]
+    told_of = [parts(runner.run(REPLAY, steps_before(schedule, count), "n", 0)[0][0])[0] for count in range(steps)]
     told_of.append(told_whole)
     findings = []
     for kind in REFUSALS:
         letter, names = KINDS[kind][0], Counter()
         with ThreadPoolExecutor(jobs) as pool:
             places = range(1, counts[ALLOCATION] + 1)
-            runs = list(pool.map(lambda place: runner.run([], schedule, letter, place)[0], places))
+            runs = list(pool.map(lambda place: runner.run(REPLAY, schedule, letter, place)[0], places))
         for place, found in zip(places, runs):
             came, well = verdict_of_run(found, told_of, book, kind)
             names[came] += 1
@@ -242,7 +244,7 @@ def told_runs(runner, name, schedule, jobs):
 
 
 def verdict_of_run(found, told_of, book, kind):
-    """The same of a run of memory_samples; `told_of` has what is told of so many steps, the last of all of them."""
+    """The same of a run of farm_samples; `told_of` has what is told of so many steps, the last of all of them."""
     output, told, status = found
     told_run, told_book, count = parts(output)
     if status == 1:

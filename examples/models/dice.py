@@ -1,5 +1,5 @@
 #!/usr/bin/env python3
-"""What crates/book_samples prints of its first list of requests and sweeps: examples/models/dice.py
+"""What crates/farm_samples prints at its end of its first list of requests and sweeps: examples/models/dice.py
 
 It makes the list once more, by the same generator, counts what is in it, and keeps which keys (Session-Id and
 CC-Request-Number) were there before: those are the repeats.

@@ -1,42 +1,18 @@
 //! A front alone over a list of events: a debit comes, and its answer goes out.
 
-use crate::messages::{debit, print_sent};
-use cc_book::{Account, Book, Money};
-use cc_rating::{Tariff, Tariffs, UnitKind};
-use dia_avp::{Octets, ViewWire};
+use crate::sent::print_sent;
+use cc_book::Book;
+use dia_avp::ViewWire;
 use dia_base::{ConnId, Identity, Listing, Moment};
 use dia_grammar::SiteProfile;
+use dia_message::Out;
 use front_core::{Front, FrontEvent, FrontSite};
+use samples_given::{ONE_ACCOUNT, book, debit};
 use std::alloc::Global;
-
-/// A book of one account of 1000, and 5 for each 1000 octets of group 10.
-fn book(alloc: Global) -> anyhow::Result<Book> {
-    let account = Account {
-        id_kind: 0,
-        id: Octets::copy_of(alloc, b"491700000001")?,
-        opening: 1_000,
-    };
-    let tariff = Tariff {
-        group: Some(10),
-        ident: None,
-        kind: UnitKind::Octets,
-        block: 1_000,
-        price: 5,
-        quantum: 5_000,
-        greatest: 10_000,
-    };
-    let money = Money {
-        currency: 978,
-        exponent: -2,
-    };
-    let tariffs = Tariffs::new(alloc, vec![in alloc; tariff]?)?;
-    let accounts = vec![in alloc; account]?;
-    Ok(Book::new(alloc, accounts, tariffs, 600, money, 10)?)
-}
 
 fn events(alloc: Global) -> anyhow::Result<Vec<FrontEvent>> {
     let conn = ConnId(1);
-    let message = debit(alloc)?;
+    let message = debit(alloc, 0)?;
     Ok(vec![in alloc;
         FrontEvent::Up { conn },
         FrontEvent::Message { conn, message },
@@ -49,17 +25,43 @@ fn events(alloc: Global) -> anyhow::Result<Vec<FrontEvent>> {
     ]?)
 }
 
-/// Prints what the front sends, and the balance of the account.
-pub fn print_run(rt: &impl Print, alloc: Global) -> anyhow::Result<()> {
-    let site = FrontSite {
-        name: Identity::read(alloc, b"f1.example")?,
-        realm: Identity::read(alloc, b"ocs.example")?,
+fn site(alloc: Global) -> anyhow::Result<FrontSite> {
+    let name = Identity::read(alloc, b"f1.example")?;
+    let realm = Identity::read(alloc, b"ocs.example")?;
+    Ok(FrontSite {
+        name,
+        realm,
         profile: SiteProfile::strict(alloc, Listing::empty(alloc)),
         workers: 1,
         queue: 1,
-    };
-    let (outs, book) = Front::run::<ViewWire>(alloc, &site, book(alloc)?, &events(alloc)?)?;
-    print_sent(rt, alloc, &outs)?;
+    })
+}
+
+/// Prints what the front sends, and the balance of the account.
+fn print(rt: &impl Print, alloc: Global, outs: &[Out], book: &Book) -> anyhow::Result<()> {
+    print_sent(rt, alloc, outs)?;
     println!(rt; "balance {}", book.balance(0).unwrap_or(0))?;
     Ok(())
+}
+
+fn print_events(
+    rt: &impl Print,
+    alloc: Global,
+    site: &FrontSite,
+    events: &[FrontEvent],
+) -> anyhow::Result<()> {
+    let book = book(alloc, &ONE_ACCOUNT, 10)?;
+    let (outs, book) = Front::run::<ViewWire>(alloc, site, book, events)?;
+    print(rt, alloc, &outs, &book)
+}
+
+fn print_at(rt: &impl Print, alloc: Global, site: &FrontSite) -> anyhow::Result<()> {
+    let events = events(alloc)?;
+    print_events(rt, alloc, site, &events)
+}
+
+/// Prints what the front sends, and the balance of the account.
+pub fn print_run(rt: &impl Print, alloc: Global) -> anyhow::Result<()> {
+    let site = site(alloc)?;
+    print_at(rt, alloc, &site)
 }

@@ -3,7 +3,7 @@
 ghost use Rattle.std.specs.Prelude.{◌<◌};
 
 /// A linear congruential generator of 64 bits, of which the upper ones are used.
-#[derive(Debug, Drop)]
+#[derive(Drop)]
 pub struct Dice {
     state: u64,
 }

@@ -2,6 +2,7 @@
 
 ghost use Rattle.farm_base.specs.CheckedSite.{IsChecked};
 
+use cc_book::Book;
 use dia_avp::ViewWire;
 use dia_base::ConnId;
 use dia_message::{Message, spell_message};
@@ -37,7 +38,13 @@ fn print_trace(rt: &impl Print, alloc: Global, steps: u64, trace: &Trace) -> any
     for (one, other) in trace.ends.as_slice() {
         println!(rt; "ends {} {}", one.0, other.0)?;
     }
-    print!(rt; "{}", report(alloc, &trace.book)?)?;
+    print_report(rt, alloc, &trace.book)
+}
+
+/// Prints the report of a book.
+pub fn print_report(rt: &impl Print, alloc: Global, book: &Book) -> anyhow::Result<()> {
+    let text = report(alloc, book)?;
+    print!(rt; "{text}")?;
     Ok(())
 }
 

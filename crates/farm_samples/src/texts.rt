@@ -13,16 +13,6 @@ struct Refusing {
     kind: ErrorKind,
 }
 
-impl Refusing {
-    fn refusing(from: u32, kind: ErrorKind) -> Refusing {
-        Refusing {
-            calls: 0,
-            from,
-            kind,
-        }
-    }
-}
-
 impl Read for Refusing {
     fn read(&mut self, buf: &mut [u8]) -> io::Result<usize> {
         self.calls = self.calls.saturating_add(1);
@@ -87,16 +77,30 @@ impl Write for Short {
     }
 }
 
-fn print_read(rt: &impl Print, alloc: Global, reader: &mut Refusing) -> anyhow::Result<()> {
-    match read_text(alloc, reader) {
+/// Prints what comes of a reader whose calls are refused so from one on.
+fn print_read(rt: &impl Print, alloc: Global, from: u32, kind: ErrorKind) -> anyhow::Result<()> {
+    let mut reader = Refusing {
+        calls: 0,
+        from,
+        kind,
+    };
+    match read_text(alloc, &mut reader) {
         Ok(text) => println!(rt; "read {} octets in {} calls", text.len(), reader.calls)?,
         Err(fault) => println!(rt; "{fault} after {} calls", reader.calls)?,
     }
     Ok(())
 }
 
-fn print_write(rt: &impl Print, writer: &mut Short) -> anyhow::Result<()> {
-    let told = match write_text(writer, b"end steps 0 skipped 0 entries 0\n") {
+/// Prints what comes of a writer that is interrupted so often, takes so many octets, and refuses the rest or takes it not.
+fn print_write(
+    rt: &impl Print,
+    alloc: Global,
+    interrupted: u32,
+    room: usize,
+    refuses: bool,
+) -> anyhow::Result<()> {
+    let mut writer = Short::new(alloc, interrupted, room, refuses);
+    let told = match write_text(&mut writer, b"end steps 0 skipped 0 entries 0\n") {
         Ok(()) => "written",
         Err(_) => "not written",
     };
@@ -111,24 +115,20 @@ fn print_write(rt: &impl Print, writer: &mut Short) -> anyhow::Result<()> {
 /// Prints what comes of readers that fail.
 pub fn print_reads(rt: &impl Print, alloc: Global) -> anyhow::Result<()> {
     // The second read fails; each read is interrupted.
-    print_read(rt, alloc, &mut Refusing::refusing(1, ErrorKind::BrokenPipe))?;
-    print_read(
-        rt,
-        alloc,
-        &mut Refusing::refusing(0, ErrorKind::Interrupted),
-    )
+    print_read(rt, alloc, 1, ErrorKind::BrokenPipe)?;
+    print_read(rt, alloc, 0, ErrorKind::Interrupted)
 }
 
 /// Prints what comes of writers that stop or fail.
 pub fn print_writes(rt: &impl Print, alloc: Global) -> anyhow::Result<()> {
     // Three, a thousand and a thousand and one interrupted writes; the last is given up.
-    print_write(rt, &mut Short::new(alloc, 3, 100, false))?;
-    print_write(rt, &mut Short::new(alloc, 1_000, 100, false))?;
-    print_write(rt, &mut Short::new(alloc, 1_001, 100, false))?;
+    print_write(rt, alloc, 3, 100, false)?;
+    print_write(rt, alloc, 1_000, 100, false)?;
+    print_write(rt, alloc, 1_001, 100, false)?;
     // A broken pipe, which is asked once; room for a beginning, and then nothing is taken, or refused.
-    print_write(rt, &mut Short::new(alloc, 0, 0, true))?;
-    print_write(rt, &mut Short::new(alloc, 0, 20, false))?;
-    print_write(rt, &mut Short::new(alloc, 0, 20, true))?;
+    print_write(rt, alloc, 0, 0, true)?;
+    print_write(rt, alloc, 0, 20, false)?;
+    print_write(rt, alloc, 0, 20, true)?;
     // All is written, and cannot be flushed.
-    print_write(rt, &mut Short::new(alloc, 0, 100, true))
+    print_write(rt, alloc, 0, 100, true)
 }

@@ -1,14 +1,15 @@
 //! Both books, side by side.
 
-use crate::site::{ACCOUNTS, MONEY, VALIDITY, accounts, tariffs};
+use crate::books::site::{OPENINGS, VALIDITY, tariffs};
 use cc_book::{Answered, Book, BookRefusal};
 use cc_list::ListBook;
 use cc_view::{CcReply, CcRequest};
 use dia_base::Moment;
+use samples_given::{MONEY, accounts};
 use std::alloc::Global;
 
 /// A book by maps and a book by lists, with one site, and how often they did not agree.
-#[derive(Debug, Drop)]
+#[derive(Drop)]
 pub struct Both {
     maps: Book,
     lists: ListBook,
@@ -54,7 +55,7 @@ impl Both {
     fn compare(&mut self) {
         let mut same = self.maps.open_sessions() == self.lists.open_sessions()
             && self.maps.history().len() == self.lists.history().len();
-        for account in 0..ACCOUNTS {
+        for account in 0..OPENINGS.len() {
             same = same
                 && self.maps.balance(account) == self.lists.balance(account)
                 && self.maps.reserved(account) == self.lists.reserved(account);
@@ -71,13 +72,13 @@ impl Both {
 
 fn by_maps(alloc: Global, limit: u16) -> anyhow::Result<Book> {
     let tariffs = tariffs(alloc)?;
-    let accounts = accounts(alloc)?;
+    let accounts = accounts(alloc, &OPENINGS)?;
     Ok(Book::new(alloc, accounts, tariffs, VALIDITY, MONEY, limit as u64)?)
 }
 
 fn by_lists(alloc: Global, limit: u16) -> anyhow::Result<ListBook> {
     let tariffs = tariffs(alloc)?;
-    let accounts = accounts(alloc)?;
+    let accounts = accounts(alloc, &OPENINGS)?;
     Ok(ListBook::new(alloc, accounts, tariffs, VALIDITY, MONEY, limit as u64)?)
 }
 

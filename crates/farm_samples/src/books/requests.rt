@@ -3,8 +3,7 @@
 ghost use Rattle.std.specs.Prelude.{◌≡◌, ◌≢◌};
 ghost use Rattle.cc_view.specs.Request.ServiceLimits.{HasSmallSums};
 
-use crate::dice::Dice;
-use crate::site::subscriber;
+use crate::books::dice::Dice;
 use cc_view::{CcRequest, RequestKind, RequestedAction, Service, Services, Subscription};
 use dia_avp::Octets;
 use dia_base::Listing;
@@ -108,10 +107,9 @@ fn session_id(alloc: Global, dice: &mut Dice) -> anyhow::Result<Octets> {
 
 /// The Subscription-Id of one of the accounts, or of nobody.
 fn subscriptions(alloc: Global, dice: &mut Dice) -> anyhow::Result<Listing<Subscription>> {
-    let subscription = Subscription {
-        kind: 0,
-        text: subscriber(alloc, dice.roll(6))?,
-    };
+    let id = format!(in alloc; "49170000000{}", dice.roll(6))?;
+    let text = Octets::copy_of(alloc, id.as_bytes())?;
+    let subscription = Subscription { kind: 0, text };
     Ok(Listing::from_vec(vec![in alloc; subscription]?))
 }
 

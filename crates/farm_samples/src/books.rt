@@ -5,26 +5,25 @@
 //! It prints how many requests of each kind there were, how many of them were repeats, how many sweeps, and how often
 //! the books differed. The second list is that of books that are soon full.
 //!
-//! What it must print, `stdout`, is what examples/models/dice.py says, which makes the same lists.
-#![tactic(auto)]
+//! What it must print is what examples/models/dice.py says, which makes the same lists.
 
 mod both;
 mod dice;
 mod requests;
 mod site;
 
-use crate::both::Both;
-use crate::dice::Dice;
-use crate::requests::request;
+use both::Both;
 use cc_view::RequestKind;
 use dia_base::Moment;
+use dice::Dice;
+use requests::request;
 use std::alloc::Global;
 
 /// How many requests and sweeps a list has.
 const STEPS: u64 = 2_000;
 
 /// What a list had.
-#[derive(Clone, Copy, Debug)]
+#[derive(Clone, Copy)]
 struct Tally {
     initials: u64,
     updates: u64,
@@ -36,6 +35,18 @@ struct Tally {
 }
 
 impl Tally {
+    fn none() -> Tally {
+        Tally {
+            initials: 0,
+            updates: 0,
+            terminations: 0,
+            events: 0,
+            repeats: 0,
+            sweeps: 0,
+            differences: 0,
+        }
+    }
+
     fn count(&mut self, kind: RequestKind) {
         let counter = match kind {
             RequestKind::Initial => &mut self.initials,
@@ -68,35 +79,33 @@ fn step(
     Ok(())
 }
 
-/// Both books of a limit take a list that is made from this seed.
-fn run(alloc: Global, seed: u64, limit: u16) -> anyhow::Result<Tally> {
+/// Both books take a list that is made from this seed.
+fn take_list(alloc: Global, seed: u64, both: &mut Both) -> anyhow::Result<Tally> {
     let mut dice = Dice::new(seed);
-    let mut both = Both::new(alloc, limit)?;
-    let mut tally = Tally {
-        initials: 0,
-        updates: 0,
-        terminations: 0,
-        events: 0,
-        repeats: 0,
-        sweeps: 0,
-        differences: 0,
-    };
+    let mut tally = Tally::none();
     let mut now: u64 = 0;
     for _ in 0..STEPS {
         now = now.saturating_add(dice.roll(6_000));
-        step(alloc, &mut dice, &mut both, &mut tally, Moment(now))?;
+        step(alloc, &mut dice, both, &mut tally, Moment(now))?;
     }
     tally.differences = both.differences;
     Ok(tally)
 }
 
-fn main(rt: HostRuntime) -> anyhow::Result<()> {
-    let ample = run(rt.alloc(), 1, 4_000)?;
+/// Both books of a limit take a list that is made from this seed.
+fn run(alloc: Global, seed: u64, limit: u16) -> anyhow::Result<Tally> {
+    let mut both = Both::new(alloc, limit)?;
+    take_list(alloc, seed, &mut both)
+}
+
+/// Prints what the two lists had.
+pub fn print_all(rt: &impl Print, alloc: Global) -> anyhow::Result<()> {
+    let ample = run(alloc, 1, 4_000)?;
     println!(rt; "INITIAL {} UPDATE {}", ample.initials, ample.updates)?;
     println!(rt; "TERMINATION {} EVENT {}", ample.terminations, ample.events)?;
     println!(rt; "repeats {} sweeps {}", ample.repeats, ample.sweeps)?;
     println!(rt; "{} differences", ample.differences)?;
-    let full = run(rt.alloc(), 2, 400)?;
+    let full = run(alloc, 2, 400)?;
     println!(rt; "full books: {} differences", full.differences)?;
     Ok(())
 }

@@ -2,6 +2,7 @@
 
 ghost use Rattle.farm_base.specs.CheckedSite.{IsChecked};
 
+use crate::replay::farm::print_report;
 use anyhow::bail;
 use cc_book::{Answered, Book, BookRefusal};
 use cc_view::{CcRequest, ViewError, request_under};
@@ -10,7 +11,6 @@ use dia_base::Moment;
 use dia_message::Message;
 use farm_base::{Site, Step};
 use farm_model::Trace;
-use farm_report::report;
 use farm_world::run;
 use std::alloc::Global;
 
@@ -54,22 +54,39 @@ fn fresh_book(alloc: Global, site: &Site) -> anyhow::Result<Book>
     }
 }
 
+/// Has the book take each request of the schedule, and prints what it answers.
+fn take_all(
+    rt: &impl Print,
+    alloc: Global,
+    book: &mut Book,
+    site: &Site,
+    steps: &[Step],
+) -> anyhow::Result<()> {
+    let mut moment = FIRST;
+    for step in steps {
+        if let Step::Send { message, .. } = step {
+            print_message(rt, alloc, book, site, Moment(moment), message)?;
+            moment = moment.saturating_add(1_000);
+        }
+    }
+    Ok(())
+}
+
+/// Prints what the book holds, before a sweep that ends each session and behind it.
+fn print_swept(rt: &impl Print, alloc: Global, book: &mut Book) -> anyhow::Result<()> {
+    print_report(rt, alloc, book)?;
+    let ended = book.sweep(Moment(LAST)).unwrap_or(0);
+    println!(rt; "ended {ended}")?;
+    print_report(rt, alloc, book)
+}
+
 /// Has a fresh book take each request of the schedule, and then sweep, and prints what it answers and holds.
 pub fn print(rt: &impl Print, alloc: Global, site: &Site, steps: &[Step]) -> anyhow::Result<()>
     requires { IsChecked site.now }
 {
     let mut book = fresh_book(alloc, site)?;
-    let mut moment = FIRST;
-    for step in steps {
-        if let Step::Send { message, .. } = step {
-            print_message(rt, alloc, &mut book, site, Moment(moment), message)?;
-            moment = moment.saturating_add(1_000);
-        }
-    }
-    print!(rt; "{}", report(alloc, &book)?)?;
-    let ended = book.sweep(Moment(LAST)).unwrap_or(0);
-    print!(rt; "ended {ended}\n{}", report(alloc, &book)?)?;
-    Ok(())
+    take_all(rt, alloc, &mut book, site, steps)?;
+    print_swept(rt, alloc, &mut book)
 }
 
 fn print_message(
