@@ -228,7 +228,7 @@ def restart(farm, client, kind):
     client.tell("the site file is changed: r1 prefers f2.example")
     check = ROOT / "crates/farm_check/out/farm_check"
     if check.exists():
-        done = subprocess.run([check, "--site", farm.site], capture_output=True, text=True)
+        done = subprocess.run([check, "check", "--site", farm.site], capture_output=True, text=True)
         client.tell(f"farm check: status {done.returncode}")
     old = farm.running["r1"]
     if kind == "under way":

@@ -1,19 +1,22 @@
 //! Who may connect from where.
 
-ghost use Rattle.std.specs.Prelude.{◌≡◌, ◌≤◌, [], IfErr, IfOk, length};
+ghost use Rattle.std.specs.Prelude.{◌≡◌, ◌≤◌, ℕ, List, [], IfErr, IfOk, Some, length};
 ghost use Rattle.std.specs.List.{list_any};
 ghost use Rattle.std.specs.Net.Addr.{MatchIp, IsCanonicalOf};
 ghost use Rattle.farm_access.specs.Prefixes.{contains};
 ghost use Rattle.farm_access.specs.Rules.{barred_from, may_come_from, permits};
 ghost use Rattle.farm_access.specs.Spelling.{IsWhy, Spells};
+ghost use Rattle.toml.specs.Parse.{parse_document};
+ghost use Rattle.toml.specs.View.{table_view};
 
 use crate::fault::AccessFault;
 use crate::prefix::Prefix;
-use crate::reading::rules_of;
+use crate::reading::{rules_in, rules_of};
 use dia_base::{Listing, NodeNo};
 use std::alloc::{AllocError, Global};
 use std::marker::Model;
 use std::net::IpAddr;
+use toml::Table;
 
 /// From where a node may connect.
 #[derive(Drop)]
@@ -96,7 +99,21 @@ impl Access {
         }
     }
 
-    /// What a site file says of its nodes, in its order; or the first fault.
+    /// What the document of a site file says of its nodes, in its order; or the first fault.
+    pub fn of_document(alloc: Global, document: &Table) -> Result<Self, AccessFault>
+        // Of each text of which this is the document.
+        ensures spelled { IfOk result (λ access. (text : List ℕ) →
+            parse_document text ≡ Some (table_view document.now) → Spells text access) }
+        ensures fault { IfErr result (λ fault. (text : List ℕ) →
+            parse_document text ≡ Some (table_view document.now) → IsWhy text fault) }
+    {
+        let rules = rules_in(alloc, document)?;
+        Ok(Access {
+            rules: Listing::from_vec(rules),
+        })
+    }
+
+    /// What the octets of a site file say of its nodes, as [`Access::of_document`] reads their document; or the first fault.
     pub fn read(alloc: Global, octets: &[u8]) -> Result<Self, AccessFault>
         ensures spelled { IfOk result (Spells octets.now) }
         ensures fault { IfErr result (IsWhy octets.now) }

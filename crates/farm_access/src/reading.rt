@@ -63,7 +63,7 @@ fn values_of(value: &Value) -> Option<&[Value]>
 }
 
 /// The rules of a document.
-fn rules_in(alloc: Global, file: &Table) -> Result<Vec<AddressRule>, AccessFault>
+pub(crate) fn rules_in(alloc: Global, file: &Table) -> Result<Vec<AddressRule>, AccessFault>
     ensures spelled { IfOk result (λ rules. SpellsRules (get_member node_key (table_view file.now)) rules.items) }
     ensures count { IfOk result (λ rules. vec_len rules ≤ 64) }
     ensures fault { IfErr result (IsFileFault (get_member node_key (table_view file.now))) }

@@ -7,7 +7,9 @@ use Rattle.farm_base.specs.CheckedSite.{IsChecked}
 use Rattle.farm_base.specs.declared.site.Site.{Site}
 use Rattle.farm_check.specs.declared.fault.CheckFault.{CheckFault}
 use Rattle.farm_check.specs.declared.lines.Lines.{Lines}
-use Rattle.farm_check.specs.declared.fault.CheckFault.TheVariants.{Words, SiteFile, Site as of_site, Access as of_access, Write, OutOfMemory}
+use Rattle.farm_check.specs.declared.fault.CheckFault.TheVariants.{SiteFile, Site as of_site, Access as of_access, Write, OutOfMemory}
+use Rattle.farm_command.specs.declared.status.Status.{Status}
+use Rattle.farm_command.specs.declared.status.Status.TheVariants as status
 use Rattle.farm_site.specs.Faults.{AreWhyOctets}
 use Rattle.farm_site.specs.Spelling.{IsSiteFile}
 
@@ -22,21 +24,19 @@ IsAccepted file = IsOpenFile file × ((site : Site) × IsChecked site × IsSiteF
 -- the octets have the fault of a site file that is told, or the fault in what they say of where nodes connect from; or memory
 -- is missing
 abbrev pub IsRefused : List ℕ → CheckFault → Type 0
-IsRefused file Words = ⊥
 IsRefused file SiteFile = ⊥
 IsRefused file (of_site fault told) = AreWhyOctets file fault
 IsRefused file (of_access fault told) = IsWhy file fault
 IsRefused file Write = ⊥
 IsRefused file OutOfMemory = Unit {0}
 
--- the exit status: 1 for a file or a stream, 2 for other words, 3 for a refused site, 4 for want of memory
-abbrev pub status_of : CheckFault → ℕ
-status_of Words = 2
-status_of SiteFile = 1
-status_of (of_site fault told) = 3
-status_of (of_access fault told) = 3
-status_of Write = 1
-status_of OutOfMemory = 4
+-- how the program ends: a file or a stream has failed, a refused site, want of memory
+abbrev pub status_of : CheckFault → Status
+status_of SiteFile = status.Failed
+status_of (of_site fault told) = status.Refused
+status_of (of_access fault told) = status.Refused
+status_of Write = status.Failed
+status_of OutOfMemory = status.OutOfMemory
 
 -- the lines end with a line feed
 abbrev pub IsEnded : Lines → Type 0

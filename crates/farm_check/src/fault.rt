@@ -5,6 +5,7 @@ ghost use Rattle.farm_check.specs.declared.fault.CheckFault.TheVariants.{OutOfMe
 ghost use Rattle.farm_check.specs.Checking.{status_of};
 
 use farm_access::AccessFault;
+use farm_command::Status;
 use farm_site::SiteFault;
 use std::alloc::{AllocError, AllocFailed};
 use thiserror::Error;
@@ -12,8 +13,6 @@ use thiserror::Error;
 /// Why a site file is not accepted, or not looked at.
 #[derive(Debug, Drop, Error)]
 pub enum CheckFault {
-    #[error("usage: check --site FILE")]
-    Words,
     #[error("the site file cannot be read")]
     SiteFile,
     /// The first fault of the site file, and what is told of it: its own line, its place, and what was expected there.
@@ -29,16 +28,14 @@ pub enum CheckFault {
 }
 
 impl CheckFault {
-    /// The exit status: 1 for a file or a stream, 2 for other words than it knows, 3 for a refused site, 4 for want of
-    /// memory.
-    pub fn status(&self) -> u8
+    /// How the program ends by this fault.
+    pub fn status(&self) -> Status
         ensures { result ≡ status_of self.now }
     {
         match self {
-            CheckFault::SiteFile | CheckFault::Write => 1,
-            CheckFault::Words => 2,
-            CheckFault::Site(_, _) | CheckFault::Access(_, _) => 3,
-            CheckFault::OutOfMemory => 4,
+            CheckFault::SiteFile | CheckFault::Write => Status::Failed,
+            CheckFault::Site(_, _) | CheckFault::Access(_, _) => Status::Refused,
+            CheckFault::OutOfMemory => Status::OutOfMemory,
         }
     }
 }

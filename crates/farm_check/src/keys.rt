@@ -43,14 +43,15 @@ const ENTRY_KEYS: [&[&str]; 5] = [
     &["type", "id", "opening"],
 ];
 
-/// A line for each key of the file that nothing reads, up to a limit.
-pub fn push_unknown_keys(alloc: Global, lines: &mut Lines, file: &[u8]) -> Result<(), AllocError> {
-    let Ok(document) = toml::table_from_slice(alloc, file) else {
-        return Ok(());
-    };
-    let mut count = push_unknown(alloc, lines, "the file", &document, &OWN_KEYS, 0)?;
+/// A line for each key of a document that nothing reads, up to a limit.
+pub fn push_unknown_keys(
+    alloc: Global,
+    lines: &mut Lines,
+    document: &Table,
+) -> Result<(), AllocError> {
+    let mut count = push_unknown(alloc, lines, "the file", document, &OWN_KEYS, 0)?;
     for (table, known) in TABLES.iter().zip(ENTRY_KEYS.iter()) {
-        count = push_of_table(alloc, lines, &document, table, known, count)?;
+        count = push_of_table(alloc, lines, document, table, known, count)?;
     }
     let more = count.saturating_sub(LINE_LIMIT);
     if more > 0 {

@@ -21,22 +21,22 @@ mod places;
 mod summary;
 mod told;
 
-use farm_site::{SITE_LIMIT, SiteFault, site_of_octets};
-use farm_text::{ReadFault, TEXT_LIMIT, read_text, write_text};
+use farm_command::{Check, CliFault, Command, command_of, end, refuse, words_of};
+use farm_site::{SiteFault, site_document_of_octets};
+use farm_text::{ReadFault, file_at, write_text};
 use fault::CheckFault;
 use keys::push_unknown_keys;
 use lines::Lines;
 use origins::{check_origins, push_open_nodes};
 use std::alloc::Global;
-use std::fs::File;
-use std::io::{ErrorKind, Write};
+use std::io;
+use std::io::Write;
 use std::process::ExitCode;
-use std::{env, io};
 use summary::push_summary;
 use told::fault_text;
 
-// A text is read up to one octet above its limit.
-const _: () = prove!(SITE_LIMIT == TEXT_LIMIT);
+/// What is told where the words are others.
+const USAGE: &str = "usage: check --site FILE";
 
 /// What is told of a site file: its summary where it is accepted, else its first fault.
 fn told_of(alloc: Global, file: &[u8]) -> Result<Lines, CheckFault>
@@ -44,13 +44,13 @@ fn told_of(alloc: Global, file: &[u8]) -> Result<Lines, CheckFault>
     ensures ended { IfOk result IsEnded }
     ensures fault { IfErr result (IsRefused file.now) }
 {
-    match site_of_octets(alloc, file) {
-        Ok(site) => {
-            check_origins(alloc, file)?;
+    match site_document_of_octets(alloc, file) {
+        Ok(read) => {
+            check_origins(alloc, file, &read.document)?;
             let mut lines = Lines::new(alloc);
-            push_summary(alloc, &mut lines, &site)?;
-            push_open_nodes(alloc, &mut lines, &site, file)?;
-            push_unknown_keys(alloc, &mut lines, file)?;
+            push_summary(alloc, &mut lines, &read.site)?;
+            push_open_nodes(alloc, &mut lines, &read.site, &read.document)?;
+            push_unknown_keys(alloc, &mut lines, &read.document)?;
             lines.end()?;
             Ok(lines)
         }
@@ -75,46 +75,36 @@ fn check_file<W: Write>(alloc: Global, file: &[u8], writer: &mut W) -> Result<()
     }
 }
 
-/// The words behind the program's name.
-fn words_of(rt: &HostRuntime) -> Result<Vec<String>, CheckFault> {
-    match env::args(rt) {
-        Ok(words) => Ok(words.skip(1).collect(rt.alloc())?),
-        Err(error) if error.kind() == ErrorKind::OutOfMemory => Err(CheckFault::OutOfMemory),
-        Err(_) => Err(CheckFault::Words),
-    }
-}
-
 /// The octets of a site file, up to one above its size limit.
 fn site_file(rt: &HostRuntime, path: &str) -> Result<Vec<u8>, CheckFault> {
-    let Ok(mut file) = File::open(rt, path) else {
-        return Err(CheckFault::SiteFile);
-    };
-    match read_text(rt.alloc(), &mut file) {
+    match file_at(rt, path) {
         Ok(octets) => Ok(octets),
         Err(ReadFault::Failed) => Err(CheckFault::SiteFile),
         Err(ReadFault::OutOfMemory) => Err(CheckFault::OutOfMemory),
     }
 }
 
-/// Checks the site file that the words of the command line name.
-fn check(rt: &HostRuntime) -> Result<(), CheckFault> {
-    let words = words_of(rt)?;
-    match words.as_slice() {
-        [option, path] if option.as_str() == "--site" => {
-            let file = site_file(rt, path.as_str())?;
-            check_file(rt.alloc(), &file, &mut io::writer(rt))
-        }
-        _ => Err(CheckFault::Words),
+/// Checks the site file that a command names.
+fn check(rt: &HostRuntime, command: &Check<'_>) -> Result<(), CheckFault> {
+    let file = site_file(rt, command.site)?;
+    check_file(rt.alloc(), &file, &mut io::writer(rt))
+}
+
+/// Does what the words behind the program's name ask for.
+fn carry_out(rt: &HostRuntime, words: &[String]) -> ExitCode {
+    match command_of(rt.alloc(), words) {
+        Ok(Command::Check(command)) => match check(rt, &command) {
+            Ok(()) => ExitCode::SUCCESS,
+            Err(fault) => end(rt, fault.status(), Some(&fault)),
+        },
+        Ok(_) => refuse(rt, &CliFault::Elsewhere, USAGE),
+        Err(fault) => refuse(rt, &fault, USAGE),
     }
 }
 
 fn main(rt: HostRuntime) -> ExitCode {
-    match check(&rt) {
-        Ok(()) => ExitCode::SUCCESS,
-        Err(fault) => {
-            let status = fault.status();
-            let _ = rt.eprintln(fault);
-            ExitCode::from(status)
-        }
+    match words_of(&rt) {
+        Ok(words) => carry_out(&rt, &words),
+        Err(fault) => refuse(&rt, &fault, USAGE),
     }
 }

@@ -1,6 +1,8 @@
 //! What a site file says of where nodes may connect from: its fault, and what may look wrong.
 
-ghost use Rattle.std.specs.Prelude.{◌≡◌, IfErr, OnOk};
+ghost use Rattle.std.specs.Prelude.{◌≡◌, IfErr, OnOk, Some};
+ghost use Rattle.toml.specs.Parse.{parse_document};
+ghost use Rattle.toml.specs.View.{table_view};
 ghost use Rattle.farm_check.specs.Checking.{IsOpenFile, IsRefused};
 
 use crate::fault::CheckFault;
@@ -12,30 +14,36 @@ use crate::places::place_in_entry;
 use farm_access::{Access, AccessFault};
 use farm_base::Site;
 use std::alloc::{AllocError, Global};
-use toml::Value;
+use toml::{Table, Value};
 
 /// The key that says where a node may connect from.
 const FROM: &str = "from";
 
-/// Whether the file says of each node where it may connect from, or why it does not.
-pub fn check_origins(alloc: Global, file: &[u8]) -> Result<(), CheckFault>
+/// Whether the file of this document says of each node where it may connect from, or why it does not.
+pub fn check_origins(alloc: Global, file: &[u8], document: &Table) -> Result<(), CheckFault>
+    requires { parse_document file.now ≡ Some (table_view document.now) }
     ensures ok { OnOk result (IsOpenFile file.now) }
     ensures fault { IfErr result (IsRefused file.now) }
 {
-    match Access::read(alloc, file) {
+    match Access::of_document(alloc, document) {
         Ok(_) => Ok(()),
         Err(AccessFault::OutOfMemory) => Err(CheckFault::OutOfMemory),
-        Err(fault) => Err(CheckFault::Access(fault, origin_text(alloc, file, fault)?)),
+        Err(fault) => Err(CheckFault::Access(fault, origin_text(alloc, file, document, fault)?)),
     }
 }
 
 /// The lines of a fault: its own, its place with what was expected there, and then the keys that nothing reads.
-fn origin_text(alloc: Global, file: &[u8], fault: AccessFault) -> Result<String, AllocError> {
+fn origin_text(
+    alloc: Global,
+    file: &[u8],
+    document: &Table,
+    fault: AccessFault,
+) -> Result<String, AllocError> {
     let (place, expected) = (place_text(alloc, file)?, expected_at(fault));
     let mut lines = Lines::new(alloc);
     lines.push(format!(in alloc; "{fault}")?.as_str())?;
     lines.push(format!(in alloc; "{place}: expected {expected}")?.as_str())?;
-    push_unknown_keys(alloc, &mut lines, file)?;
+    push_unknown_keys(alloc, &mut lines, document)?;
     Ok(lines.into_text())
 }
 
@@ -86,11 +94,8 @@ pub fn push_open_nodes(
     alloc: Global,
     lines: &mut Lines,
     site: &Site,
-    file: &[u8],
+    document: &Table,
 ) -> Result<(), AllocError> {
-    let Ok(document) = toml::table_from_slice(alloc, file) else {
-        return Ok(());
-    };
     let Some(value) = document.get("node") else {
         return Ok(());
     };

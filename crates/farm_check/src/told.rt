@@ -21,7 +21,9 @@ pub fn fault_text(alloc: Global, file: &[u8], fault: SiteFault) -> Result<String
             lines.push(format!(in alloc; "{place}: expected {expected}")?.as_str())?;
         }
     }
-    push_unknown_keys(alloc, &mut lines, file)?;
+    if let Ok(document) = toml::table_from_slice(alloc, file) {
+        push_unknown_keys(alloc, &mut lines, &document)?;
+    }
     Ok(lines.into_text())
 }
 

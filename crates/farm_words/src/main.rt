@@ -12,13 +12,17 @@ mod names;
 mod streams;
 mod values;
 
+use farm_command::{CliFault, Command, Status, command_of, end, refuse, words_of};
 use farm_text::write_text;
 use lines::in_words;
 use std::alloc::Global;
-use std::io::{ErrorKind, Read, Write};
+use std::io;
+use std::io::{Read, Write};
 use std::process::ExitCode;
-use std::{env, io};
 use streams::{WordsFault, read_all};
+
+/// What is told where the words are others.
+const USAGE: &str = "usage: words < LINES";
 
 /// Reads the text, and writes it with its messages in words.
 fn tell<R: Read, W: Write>(alloc: Global, reader: &mut R, writer: &mut W) -> Result<(), WordsFault>
@@ -30,33 +34,30 @@ fn tell<R: Read, W: Write>(alloc: Global, reader: &mut R, writer: &mut W) -> Res
     Ok(write_text(writer, &told)?)
 }
 
-/// Tells what stands on standard input, where no words stand behind the program's name.
-fn words(rt: &HostRuntime) -> Result<(), WordsFault> {
-    match env::args(rt) {
-        Ok(words) if words.len() > 1 => Err(WordsFault::Words),
-        Ok(_) => tell(rt.alloc(), &mut rt.reader(), &mut io::writer(rt)),
-        Err(error) if error.kind() == ErrorKind::OutOfMemory => Err(WordsFault::OutOfMemory),
-        Err(_) => Err(WordsFault::Words),
+/// How the program ends by a fault.
+fn status_of(fault: WordsFault) -> Status {
+    match fault {
+        WordsFault::Read | WordsFault::Write => Status::Failed,
+        WordsFault::TooLong => Status::Refused,
+        WordsFault::OutOfMemory => Status::OutOfMemory,
     }
 }
 
-/// The exit status of a fault: 1 for a stream, 2 for words, of which it knows none, 3 for a text that is too long, 4 for
-/// want of memory.
-fn status_of(fault: WordsFault) -> u8 {
-    match fault {
-        WordsFault::Read | WordsFault::Write => 1,
-        WordsFault::Words => 2,
-        WordsFault::TooLong => 3,
-        WordsFault::OutOfMemory => 4,
+/// Does what the words behind the program's name ask for.
+fn carry_out(rt: &HostRuntime, words: &[String]) -> ExitCode {
+    match command_of(rt.alloc(), words) {
+        Ok(Command::Words) => match tell(rt.alloc(), &mut rt.reader(), &mut io::writer(rt)) {
+            Ok(()) => ExitCode::SUCCESS,
+            Err(fault) => end(rt, status_of(fault), Some(&fault)),
+        },
+        Ok(_) => refuse(rt, &CliFault::Elsewhere, USAGE),
+        Err(fault) => refuse(rt, &fault, USAGE),
     }
 }
 
 fn main(rt: HostRuntime) -> ExitCode {
-    match words(&rt) {
-        Ok(()) => ExitCode::SUCCESS,
-        Err(fault) => {
-            let _ = rt.eprintln(fault);
-            ExitCode::from(status_of(fault))
-        }
+    match words_of(&rt) {
+        Ok(words) => carry_out(&rt, &words),
+        Err(fault) => refuse(&rt, &fault, USAGE),
     }
 }

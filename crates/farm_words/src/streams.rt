@@ -11,8 +11,6 @@ use thiserror::Error;
 /// Why a text was not told.
 #[derive(Clone, Copy, Debug, PartialEq, Eq, Error)]
 pub enum WordsFault {
-    #[error("usage: words < LINES")]
-    Words,
     #[error("words: the input cannot be read")]
     Read,
     #[error("words: the output cannot be written")]
