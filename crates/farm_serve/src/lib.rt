@@ -4,15 +4,13 @@
 //!   ([`Serving::accept`], [`Serving::connect`]), say which are ready ([`Serving::readable`], [`Serving::writable`]) and
 //!   what time it is ([`Serving::tick`]), and take out those that have ended ([`Serving::take_ended`]).
 //!   What happens is recorded, where they hand in a recorder ([`Serving::begin_record`]).
-//! - [`Fronts`]: all fronts of a site as one node, with one book.
 //! - [`End`]: why a connection has ended; [`Note`]: what an operator may want to read of it.
-//! - [`UNKNOWN_LIMIT`], [`LINGER`], [`NOTE_LIMIT`], [`ROUND_LIMIT`]: the limits.
+//! - [`UNKNOWN_LIMIT`], [`LINGER`], [`NOTE_LIMIT`]: the limits.
 #![tactic(auto)]
 
 mod counting;
 mod desk;
 mod end;
-mod fronts;
 mod laws;
 mod link;
 mod local;
@@ -22,7 +20,6 @@ mod serving;
 
 pub use desk::Desk;
 pub use end::{End, Ended, NotTaken, Refusal};
-pub use fronts::{FrontAt, Fronts, ROUND_LIMIT};
 pub use laws::{connections_stand_in_order, nodes_are_told_in_turn, records_change_nothing};
 pub use link::{LINGER, Link, Standing};
 pub use local::LocalNode;

@@ -1,28 +1,25 @@
-//! A shared account book, called as threads call it: it prints what the calls answer.
+//! What no clause can say of threads, one function for each subject: a shared account book as threads call it, a front's worker
+//! threads at work, and all fronts of a site over their pools of workers. It prints what they answer.
 //!
-//! - `messages`: requests, and a book for them.
-//! - `lines`: how answers are told. `table`: the book as one thread uses it.
-//! - `seats`: what comes of seats and receipts that are handed in, or kept back, and of a sweep through the lock.
-//! - `crowd`: two threads that serve the same requests, and others.
+//! - `shared`: seats and receipts that are handed in, or kept back, a sweep through the lock, and two threads that serve the
+//!   same requests.
+//! - `workers`: two workers, one that wakes, no room, and a stop with jobs that wait; what a repeat, a request that is refused,
+//!   and a session are answered; and a stop while one of two workers holds a job.
+//! - `fronts`: answers of two fronts, many at a time, a session that is due, a full book, and a record. No other program runs
+//!   them so but the one that serves.
+//! - `messages`: requests besides the first debit. `told`: what stands in a book.
 //!
-//! What it must print, `stdout`, was worked out by hand.
+//! What it must print, `stdout`, was worked out by hand, in this order. It is the same however the threads run.
 #![tactic(auto)]
 
-mod crowd;
-mod lines;
+mod fronts;
 mod messages;
-mod seats;
-mod table;
-
-use seats::{Sample, print_sample};
+mod shared;
+mod told;
+mod workers;
 
 fn main(rt: HostRuntime) -> anyhow::Result<()> {
-    let alloc = rt.alloc();
-    print_sample(&rt, alloc, 10, false, Sample::Repeat)?;
-    print_sample(&rt, alloc, 1, false, Sample::Full)?;
-    print_sample(&rt, alloc, 10, false, Sample::Stray)?;
-    print_sample(&rt, alloc, 10, true, Sample::KeptBack)?;
-    print_sample(&rt, alloc, 10, true, Sample::Closed)?;
-    print_sample(&rt, alloc, 10, false, Sample::Sweeps)?;
-    crowd::print_crowd(&rt, alloc)
+    shared::print_all(&rt, rt.alloc())?;
+    workers::print_all(&rt, rt.alloc())?;
+    fronts::print_all(&rt, rt.alloc())
 }

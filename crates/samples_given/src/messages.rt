@@ -1,4 +1,4 @@
-//! Messages in hexadecimal: the first debit.
+//! Messages in hexadecimal: the first debit, and exchanges of capabilities.
 
 use anyhow::Context;
 use dia_message::{Message, whole_message};
@@ -16,6 +16,18 @@ const UP_TO_NUMBER: &str =
 const BEHIND_NUMBER: &str =
     "000001b44000000c00000000000001bb40000028000001c24000000c00000000000001bc40000014343931373030303030303031000001c84000002c000001b540000018000001a5400000100000000000000c80000001b04000000c0000000a";
 
+/// Capabilities-Exchange-Request of the relay r1.example (RFC 6733, section 5.3.1).
+pub const CER: &str =
+    "0100008080000101000000000000000100000001000001084000001272312e6578616d706c65000000000128400000136f63732e6578616d706c6500000001014000000e00017f00000100000000010a4000000c000000000000010d0000001b4469616d657465722072656c6179206661726d00000001024000000cffffffff";
+
+/// Capabilities-Exchange-Request of the client c1.example.
+pub const CLIENT_CER: &str =
+    "0100008080000101000000000000000100000001000001084000001263312e6578616d706c65000000000128400000136f63732e6578616d706c6500000001014000000e00017f00000100000000010a4000000c000000000000010d0000001b4469616d657465722072656c6179206661726d00000001024000000c00000004";
+
+/// Capabilities-Exchange-Answer of the front f1.example to the request of r1.example (RFC 6733, section 5.3.2).
+pub const CEA: &str =
+    "0100008c000001010000000000000001000000010000010c4000000c000007d1000001084000001266312e6578616d706c65000000000128400000136f63732e6578616d706c6500000001014000000e00017f00000100000000010a4000000c000000000000010d0000001b4469616d657465722072656c6179206661726d00000001024000000c00000004";
+
 /// The message that a text spells.
 pub fn message(alloc: Global, text: &str) -> anyhow::Result<Message> {
     let octets = hex::decode(alloc, text)?;
@@ -26,4 +38,19 @@ pub fn message(alloc: Global, text: &str) -> anyhow::Result<Message> {
 pub fn debit(alloc: Global, number: u32) -> anyhow::Result<Message> {
     let text = format!(in alloc; "{UP_TO_NUMBER}{number:08x}{BEHIND_NUMBER}")?;
     message(alloc, text.as_str())
+}
+
+/// Puts the octets of a text behind others.
+fn append(alloc: Global, octets: &mut Vec<u8>, text: &str) -> anyhow::Result<()> {
+    let more = hex::decode(alloc, text)?;
+    Ok(octets.extend_from_slice(&more)?)
+}
+
+/// These texts one behind the other, as octets.
+pub fn octets(alloc: Global, texts: &[&str]) -> anyhow::Result<Vec<u8>> {
+    let mut octets = Vec::new(alloc);
+    for text in texts {
+        append(alloc, &mut octets, text)?;
+    }
+    Ok(octets)
 }

@@ -1,15 +1,10 @@
-//! Connections whose devices fail at a call or behind an octet.
+//! Connections whose streams fail at a call or behind an octet.
 
-use crate::devices::Ways;
-use crate::messages::{ANSWER, CEA, CER, REQUEST, octets};
-use crate::replies::{Exchange, Outcome, serve};
+use crate::connections::{Exchange, Outcome, PIECE, serve};
+use crate::messages::{ANSWER, CEA, REQUEST};
+use samples_given::{CER, Ways, octets};
 use std::alloc::Global;
 use std::io::ErrorKind;
-
-/// The octets of a read, and the turns of a connection.
-const PIECE: usize = 4_096;
-
-const TURNS: usize = 2;
 
 /// What several connections came to.
 #[derive(Clone, Copy)]
@@ -40,11 +35,12 @@ impl Sum {
 
     /// One connection more.
     fn add(&mut self, outcome: Outcome) {
+        let counts = outcome.counts;
         self.connections = self.connections.saturating_add(1);
-        self.ups = self.ups.saturating_add(outcome.ups);
-        self.messages = self.messages.saturating_add(outcome.messages);
-        self.lost = self.lost.saturating_add(outcome.lost);
-        if outcome.lost > outcome.ups || outcome.ups > 1 {
+        self.ups = self.ups.saturating_add(counts.ups);
+        self.messages = self.messages.saturating_add(counts.messages);
+        self.lost = self.lost.saturating_add(counts.lost);
+        if counts.lost > counts.ups || counts.ups > 1 {
             self.twice = self.twice.saturating_add(1);
         }
         if outcome.why.is_some() {
@@ -54,119 +50,115 @@ impl Sum {
             self.octets = self.octets.saturating_add(outcome.written);
         }
     }
-
-    fn print(&self, rt: &impl Print, name: &str) -> anyhow::Result<()> {
-        println!(rt;
-            "{name}: {} connections, {} ended, {} up, {} messages, {} lost, {} twice, {} octets written",
-            self.connections,
-            self.ended,
-            self.ups,
-            self.messages,
-            self.lost,
-            self.twice,
-            self.octets
-        )?;
-        Ok(())
-    }
 }
 
-/// Which of both devices of a connection fails.
+/// Which stream of a connection fails: at one call as this, or behind one octet.
 #[derive(Clone, Copy)]
-enum Half {
-    Reader,
-    Writer,
+enum Failing {
+    Read(ErrorKind),
+    Write(ErrorKind),
+    ReadBehind,
+    WriteBehind,
 }
 
-/// The exchange where one half goes so, and the other one is sound.
-fn with_half<'a>(exchange: &Exchange<'a>, half: Half, ways: Ways) -> Exchange<'a> {
-    match half {
-        Half::Reader => Exchange {
-            reads: ways,
-            ..*exchange
-        },
-        Half::Writer => Exchange {
-            writes: ways,
-            ..*exchange
-        },
+/// The exchange with a failure at this call, or behind so many octets.
+fn failing_at<'a>(exchange: &Exchange<'a>, failing: Failing, place: u32) -> Exchange<'a> {
+    let cut = Ways::cut_behind(place as usize, ErrorKind::ConnectionReset);
+    let mut failed = *exchange;
+    match failing {
+        Failing::Read(kind) => failed.reads = Ways::failing_at(place, kind),
+        Failing::Write(kind) => failed.writes = Ways::failing_at(place, kind),
+        Failing::ReadBehind => failed.reads = cut,
+        Failing::WriteBehind => failed.writes = cut,
     }
+    failed
 }
 
-/// One call of each connection fails as this: from the first on to the last that there is, and one behind that.
-fn print_calls(
-    rt: &impl Print,
+/// So many connections, each of which fails one call or one octet later.
+fn sum_of(
     alloc: Global,
-    name: &str,
     exchange: &Exchange<'_>,
-    half: Half,
-    kind: ErrorKind,
-    calls: u32,
-) -> anyhow::Result<()> {
+    failing: Failing,
+    places: u32,
+) -> anyhow::Result<Sum> {
     let mut sum = Sum::none();
-    for call in 0..calls {
-        let failing = with_half(exchange, half, Ways::failing(call, kind));
-        sum.add(serve(alloc, &failing)?);
+    for place in 0..places {
+        sum.add(serve(alloc, &failing_at(exchange, failing, place))?);
     }
-    sum.print(rt, name)
+    Ok(sum)
 }
 
-/// Each connection is cut behind one octet more, in what is read or in what is written.
-fn print_cuts(
-    rt: &impl Print,
-    alloc: Global,
-    name: &str,
-    exchange: &Exchange<'_>,
-    half: Half,
-    cuts: usize,
-) -> anyhow::Result<()> {
-    let mut sum = Sum::none();
-    for octets in 0..cuts {
-        let cut = with_half(exchange, half, Ways::cut_behind(octets));
-        sum.add(serve(alloc, &cut)?);
-    }
-    sum.print(rt, name)
-}
+/// Each call from the first on to the last that there is, and one behind that; and each octet.
+const CASES: [(&str, Failing, u32); 6] = [
+    (
+        "a read fails",
+        Failing::Read(ErrorKind::ConnectionReset),
+        58,
+    ),
+    (
+        "a read would block",
+        Failing::Read(ErrorKind::WouldBlock),
+        58,
+    ),
+    ("a write fails", Failing::Write(ErrorKind::BrokenPipe), 47),
+    (
+        "a write would block",
+        Failing::Write(ErrorKind::WouldBlock),
+        47,
+    ),
+    ("a read is cut", Failing::ReadBehind, 397),
+    ("a write is cut", Failing::WriteBehind, 321),
+];
 
-/// Each call, and each octet.
-fn print_of(rt: &impl Print, alloc: Global, asked: &[u8], answers: &[u8]) -> anyhow::Result<()> {
-    let exchange = Exchange {
+fn exchange_of<'a>(asked: &'a [u8], answers: &'a [u8]) -> Exchange<'a> {
+    Exchange {
         asked,
         answers,
         reads: Ways::sound(),
         writes: Ways::sound(),
         piece: PIECE,
-        turns: TURNS,
-    };
-    let (reader, writer) = (Half::Reader, Half::Writer);
-    let (reset, later) = (ErrorKind::ConnectionReset, ErrorKind::WouldBlock);
-    let pipe = ErrorKind::BrokenPipe;
-    let (reads, writes) = (58, 47);
-    print_calls(rt, alloc, "a read fails", &exchange, reader, reset, reads)?;
-    print_calls(
-        rt,
-        alloc,
-        "a read would block",
-        &exchange,
-        reader,
-        later,
-        reads,
-    )?;
-    print_calls(rt, alloc, "a write fails", &exchange, writer, pipe, writes)?;
-    print_calls(
-        rt,
-        alloc,
-        "a write would block",
-        &exchange,
-        writer,
-        later,
-        writes,
-    )?;
-    print_cuts(rt, alloc, "a read is cut", &exchange, reader, 397)?;
-    print_cuts(rt, alloc, "a write is cut", &exchange, writer, 321)
+        turns: 2,
+    }
+}
+
+fn print_cases(rt: &impl Print, alloc: Global, exchange: &Exchange<'_>) -> anyhow::Result<()> {
+    for (name, failing, places) in CASES {
+        let sum = sum_of(alloc, exchange, failing, places)?;
+        println!(rt;
+            "{name}: {} connections, {} ended, {} up, {} messages, {} lost, {} twice, {} octets written",
+            sum.connections, sum.ended, sum.ups, sum.messages, sum.lost, sum.twice, sum.octets
+        )?;
+    }
+    Ok(())
 }
 
 /// Capabilities and a debit of 128 and 268 octets, read seven at a time, and their answers of 140 and 180 octets, written so.
 pub fn print_all(rt: &impl Print, alloc: Global) -> anyhow::Result<()> {
     let asked = octets(alloc, &[CER, REQUEST])?;
     let answers = octets(alloc, &[CEA, ANSWER])?;
-    print_of(rt, alloc, &asked, &answers)
+    print_cases(rt, alloc, &exchange_of(&asked, &answers))
+}
+
+/// Each octet of a message: behind 0 to 128 of the 128 of a request, and behind 0 to 139 of the 140 of its answer.
+const CUTS: [(&str, Failing, u32); 2] = [
+    ("128 octets of a request", Failing::ReadBehind, 129),
+    ("139 octets of an answer", Failing::WriteBehind, 140),
+];
+
+fn print_each_cut(rt: &impl Print, alloc: Global, exchange: &Exchange<'_>) -> anyhow::Result<()> {
+    for (name, failing, places) in CUTS {
+        let sum = sum_of(alloc, exchange, failing, places)?;
+        println!(rt;
+            "cut behind 0 to {name}: {} up, {} lost, {} octets written",
+            sum.ups, sum.lost, sum.octets
+        )?;
+    }
+    Ok(())
+}
+
+/// Capabilities alone, cut while they are read, or while their answer is written.
+pub fn print_cuts(rt: &impl Print, alloc: Global) -> anyhow::Result<()> {
+    let asked = octets(alloc, &[CER])?;
+    let answers = octets(alloc, &[CEA])?;
+    print_each_cut(rt, alloc, &exchange_of(&asked, &answers))
 }

@@ -1,20 +1,18 @@
 //! A relay and a front behind it as one node, between which messages go at once: what clients send goes through both.
 
-use cc_book::{Account, Book, Money};
-use cc_rating::{Tariff, Tariffs, UnitKind};
-use dia_avp::{Octets, ViewWire, Wire};
+use crate::sites::{RELAY, watch_site};
+use cc_book::Book;
+use dia_avp::{ViewWire, Wire};
 use dia_base::{ConnId, Identity, Listing, Moment, NodeKind, NodeNo};
 use dia_message::{Message, Out};
 use farm_node::{Node, NodeError, Reaction};
-use farm_serve::{FrontAt, Fronts, LocalNode};
-use farm_watch::{Application, HostAddress, Neighbour, WatchSite};
-use front_core::Front;
+use farm_serve::LocalNode;
+use farm_watch::Application;
 use relay_core::{Relay, RelaySite};
 use relay_peers::LinkedPeer;
 use relay_routes::Route;
+use samples_given::{FrontAt, Fronts, book, front};
 use std::alloc::{AllocError, Global};
-
-pub const RELAY: NodeNo = NodeNo(0);
 
 const CLIENT: NodeNo = NodeNo(1);
 
@@ -33,61 +31,14 @@ pub struct Farm {
     pub lost: u64,
 }
 
-fn account(alloc: Global, id: &[u8], opening: i64) -> Result<Account, AllocError> {
-    Ok(Account {
-        id_kind: 0,
-        id: Octets::copy_of(alloc, id)?,
-        opening,
-    })
-}
-
-/// Five accounts.
-fn accounts(alloc: Global) -> anyhow::Result<Vec<Account>> {
-    let mut accounts = Vec::new(alloc);
-    for (id, opening) in [
-        ("491700000001", 1_000),
-        ("491700000002", 12),
-        ("491700000003", 4),
-        ("491700000004", 27),
-        ("491700000005", 25),
-    ] {
-        accounts.push(account(alloc, id.as_bytes(), opening)?)?;
-    }
-    Ok(accounts)
-}
-
-/// 5 for each 1000 octets of group 10.
-fn tariffs(alloc: Global) -> anyhow::Result<Tariffs> {
-    let tariff = Tariff {
-        group: Some(10),
-        ident: None,
-        kind: UnitKind::Octets,
-        block: 1_000,
-        price: 5,
-        quantum: 5_000,
-        greatest: 10_000,
-    };
-    Ok(Tariffs::new(alloc, vec![in alloc; tariff]?)?)
-}
-
-/// A book of the five accounts.
-fn book(alloc: Global) -> anyhow::Result<Book> {
-    let accounts = accounts(alloc)?;
-    let tariffs = tariffs(alloc)?;
-    let money = Money {
-        currency: 978,
-        exponent: -2,
-    };
-    Ok(Book::new(alloc, accounts, tariffs, 600, money, 100_000)?)
-}
-
-/// The front, with one worker and room for one request.
-fn front(alloc: Global) -> anyhow::Result<Front> {
-    let name = Identity::read(alloc, b"f1.example")?;
-    let realm = Identity::read(alloc, b"ocs.example")?;
-    let vendors = Listing::from_vec(vec![in alloc; 10_415]?);
-    Ok(Front::new(alloc, name, realm, vendors, 1, 1)?)
-}
+/// Five accounts: their Subscription-Id-Data, and what each begins with.
+const ACCOUNTS: [(&str, i64); 5] = [
+    ("491700000001", 1_000),
+    ("491700000002", 12),
+    ("491700000003", 4),
+    ("491700000004", 27),
+    ("491700000005", 25),
+];
 
 /// The front is told that the relay is up, and what time it is.
 fn tell(alloc: Global, fronts: &mut Fronts, moment: Moment) -> Result<(), NodeError> {
@@ -97,9 +48,10 @@ fn tell(alloc: Global, fronts: &mut Fronts, moment: Moment) -> Result<(), NodeEr
 
 /// The front with the book, for which the relay is up.
 fn fronts(alloc: Global, moment: Moment) -> anyhow::Result<Fronts> {
-    let front = front(alloc)?;
+    let vendors = Listing::from_vec(vec![in alloc; 10_415]?);
+    let front = front(alloc, b"f1.example", vendors)?;
     let at = vec![in alloc; FrontAt { node: FRONT, front }]?;
-    let mut fronts = Fronts::new(at, book(alloc)?);
+    let mut fronts = Fronts::new(at, book(alloc, &ACCOUNTS, 100_000)?);
     tell(alloc, &mut fronts, moment)?;
     Ok(fronts)
 }
@@ -147,19 +99,8 @@ fn relay(alloc: Global) -> anyhow::Result<Relay> {
 
 /// What the connections of r1.example know of it.
 pub fn locals(alloc: Global) -> anyhow::Result<Vec<LocalNode>> {
-    let neighbour = Neighbour {
-        name: Identity::read(alloc, b"c1.example")?,
-        node: CLIENT,
-    };
-    let site = WatchSite {
-        name: Identity::read(alloc, b"r1.example")?,
-        realm: Identity::read(alloc, b"ocs.example")?,
-        address: HostAddress::V4([127, 0, 0, 1]),
-        application: Application::Relay,
-        advertised: Listing::empty(alloc),
-        neighbours: Listing::from_vec(vec![in alloc; neighbour]?),
-        interval: 30_000,
-    };
+    let client = (CLIENT, "c1.example");
+    let site = watch_site(alloc, "r1.example", Application::Relay, client)?;
     Ok(vec![in alloc; LocalNode { node: RELAY, site }]?)
 }
 

@@ -1,38 +1,20 @@
 //! Streams of a client, one on a line of standard input in hexadecimal, each on a connection of its own: what is written
 //! back, and why the connection has ended.
 
-use crate::devices::{Reader, Ways, Writer, device_of};
-use crate::farm::{Farm, RELAY, locals};
+use crate::farm::{Farm, locals};
+use crate::sites::RELAY;
 use dia_avp::ViewWire;
 use dia_base::{ConnId, Moment};
-use farm_serve::{Ended, Refusal, Serving};
+use farm_serve::{Ended, Serving};
 use hex::FromHexError;
+use samples_given::{MOMENT, Reader, Served, Ways, Writer, accept};
 use std::alloc::{AllocError, Global};
-
-/// The moment of all that happens, but for the end of a connection.
-const MOMENT: Moment = Moment(1_000);
 
 /// When what has ended is let go, though something waits on it.
 const LATER: Moment = Moment(61_000);
 
-type Served<'a> = Serving<Farm, Reader<'a>, Writer>;
-
-/// A connection on which this comes.
-fn accept<'a>(
-    alloc: Global,
-    serving: &mut Served<'a>,
-    octets: &'a [u8],
-) -> Result<ConnId, Refusal> {
-    let reader = device_of(octets, Ways::ending());
-    let writer = device_of(Vec::new(alloc), Ways::sound());
-    match serving.accept(RELAY, Vec::new(alloc), reader, writer, MOMENT) {
-        Ok(conn) => Ok(conn),
-        Err(refused) => Err(refused.why),
-    }
-}
-
 /// Serves a connection on which so many octets come, `piece` at a time, until all is read or it ends.
-fn serve(serving: &mut Served<'_>, conn: ConnId, octets: usize, piece: &mut [u8]) {
+fn serve(serving: &mut Served<'_, Farm>, conn: ConnId, octets: usize, piece: &mut [u8]) {
     for _ in 0..octets.saturating_add(2) {
         if !piece.is_empty() {
             serving.readable::<ViewWire>(conn, piece, MOMENT);
@@ -52,7 +34,7 @@ fn print_end(
     lost: u64,
     ended: &Ended<Reader<'_>, Writer>,
 ) -> anyhow::Result<()> {
-    let written = ended.streams.writer().device().stream.as_slice();
+    let written = ended.streams.writer().device().inner.as_slice();
     println!(rt;
         "{ups} {lost} {} {}",
         hex::encode(alloc, written)?,
@@ -65,12 +47,13 @@ fn print_end(
 fn print<'a>(
     rt: &impl Print,
     alloc: Global,
-    serving: &mut Served<'a>,
+    serving: &mut Served<'a, Farm>,
     octets: &'a [u8],
     piece: &mut [u8],
 ) -> anyhow::Result<()> {
     let (ups, lost) = (serving.node().ups, serving.node().lost);
-    let Ok(conn) = accept(alloc, serving, octets) else {
+    let (reads, writes) = (Ways::ending(), Ways::sound());
+    let Ok(conn) = accept(alloc, serving, RELAY, octets, reads, writes) else {
         println!(rt; "not taken")?;
         return Ok(());
     };
@@ -105,7 +88,7 @@ fn streams_of(alloc: Global, text: &[u8]) -> anyhow::Result<Vec<Vec<u8>>> {
 }
 
 /// The farm, without connections.
-fn serving<'a>(alloc: Global) -> anyhow::Result<Served<'a>> {
+fn serving<'a>(alloc: Global) -> anyhow::Result<Served<'a, Farm>> {
     let locals = locals(alloc)?;
     Ok(Serving::new(alloc, Farm::new(alloc, MOMENT)?, locals))
 }
@@ -114,7 +97,7 @@ fn serving<'a>(alloc: Global) -> anyhow::Result<Served<'a>> {
 fn print_streams<'a>(
     rt: &impl Print,
     alloc: Global,
-    serving: &mut Served<'a>,
+    serving: &mut Served<'a, Farm>,
     streams: &'a [Vec<u8>],
     piece: &mut [u8],
 ) -> anyhow::Result<()> {

@@ -1,9 +1,10 @@
 //! Two nodes that meet, of which one asks whether the other is still there, and that part.
 
+use crate::sites::{RELAY, watch_site};
 use dia_avp::PlainWire;
-use dia_base::{Identity, Listing, Moment, NodeNo};
+use dia_base::{Moment, NodeNo};
 use dia_message::Message;
-use farm_watch::{Act, Acts, Application, HostAddress, Neighbour, Side, Watch, WatchSite};
+use farm_watch::{Act, Acts, Application, Side, Watch, WatchSite};
 use std::alloc::Global;
 
 /// One end of a connection.
@@ -12,30 +13,6 @@ struct End<'a> {
     name: &'static str,
     site: &'a WatchSite,
     watch: Watch,
-}
-
-/// The relay, which is node 0, may connect.
-fn neighbours(alloc: Global) -> anyhow::Result<Listing<Neighbour>> {
-    let name = Identity::read(alloc, b"r1.example")?;
-    let mut neighbours = Listing::empty(alloc);
-    neighbours.push(Neighbour {
-        name,
-        node: NodeNo(0),
-    })?;
-    Ok(neighbours)
-}
-
-/// What a node of this name knows of itself. It asks after half a minute.
-fn site(alloc: Global, name: &str, application: Application) -> anyhow::Result<WatchSite> {
-    Ok(WatchSite {
-        name: Identity::read(alloc, name.as_bytes())?,
-        realm: Identity::read(alloc, b"ocs.example")?,
-        address: HostAddress::V4([127, 0, 0, 1]),
-        application,
-        advertised: Listing::empty(alloc),
-        neighbours: neighbours(alloc)?,
-        interval: 30_000,
-    })
 }
 
 /// Prints what is done.
@@ -171,12 +148,14 @@ fn print_of(
 
 /// The same of a front of this site.
 fn print_with(rt: &impl Print, alloc: Global, front: &WatchSite) -> anyhow::Result<()> {
-    let relay = site(alloc, "r1.example", Application::Relay)?;
+    let neighbour = (RELAY, "r1.example");
+    let relay = watch_site(alloc, "r1.example", Application::Relay, neighbour)?;
     print_of(rt, alloc, &relay, front)
 }
 
 /// A relay connects with a front, watches it, and disconnects.
 pub fn print_all(rt: &impl Print, alloc: Global) -> anyhow::Result<()> {
-    let front = site(alloc, "f1.example", Application::CreditControl)?;
+    let neighbour = (RELAY, "r1.example");
+    let front = watch_site(alloc, "f1.example", Application::CreditControl, neighbour)?;
     print_with(rt, alloc, &front)
 }

@@ -1,16 +1,16 @@
 //! What the other ends write, in hexadecimal, and what they are answered.
 
-use anyhow::Context;
-use dia_message::{Message, whole_message};
-use std::alloc::Global;
-
-/// Capabilities-Exchange-Request of the relay r1.example (RFC 6733, section 5.3.1).
-pub const CER: &str =
-    "0100008080000101000000000000000100000001000001084000001272312e6578616d706c65000000000128400000136f63732e6578616d706c6500000001014000000e00017f00000100000000010a4000000c000000000000010d0000001b4469616d657465722072656c6179206661726d00000001024000000cffffffff";
-
-/// Its answer, Capabilities-Exchange-Answer of f2.example.
+/// The answer of f2.example to the Capabilities-Exchange-Request of r1.example (RFC 6733, section 5.3.2).
 pub const CEA: &str =
     "0100008c000001010000000000000001000000010000010c4000000c000007d1000001084000001266322e6578616d706c65000000000128400000136f63732e6578616d706c6500000001014000000e00017f00000100000000010a4000000c000000000000010d0000001b4469616d657465722072656c6179206661726d00000001024000000c00000004";
+
+/// Disconnect-Peer-Request of r1.example (RFC 6733, section 5.4.1).
+pub const DPR: &str =
+    "010000488000011a000000000000000100000001000001084000001272312e6578616d706c65000000000128400000136f63732e6578616d706c6500000001114000000c00000000";
+
+/// Device-Watchdog-Request of r1.example (RFC 6733, section 5.5.1).
+pub const DWR: &str =
+    "0100003c80000118000000000000000100000001000001084000001272312e6578616d706c65000000000128400000136f63732e6578616d706c6500";
 
 /// A debit of 3200 octets for group 10 of c1.example (RFC 8506, section 3.1), as r1.example sends it again to another front:
 /// with the flag T, and with a Route-Record behind it.
@@ -20,24 +20,3 @@ pub const REQUEST: &str =
 /// Its answer, of f2.example.
 pub const ANSWER: &str =
     "010000b440000110000000040000000700000064000001074000000e63313b313b3100000000010c4000000c000007d1000001084000001266322e6578616d706c65000000000128400000136f63732e6578616d706c6500000001024000000c00000004000001a04000000c000000040000019f4000000c00000000000001c840000038000001af40000018000001a5400000100000000000000c80000001b04000000c0000000a0000010c4000000c000007d1";
-
-/// Puts the octets of a text behind others.
-fn append(alloc: Global, octets: &mut Vec<u8>, text: &str) -> anyhow::Result<()> {
-    let more = hex::decode(alloc, text)?;
-    Ok(octets.extend_from_slice(&more)?)
-}
-
-/// These texts one behind the other, as octets.
-pub fn octets(alloc: Global, texts: &[&str]) -> anyhow::Result<Vec<u8>> {
-    let mut octets = Vec::new(alloc);
-    for text in texts {
-        append(alloc, &mut octets, text)?;
-    }
-    Ok(octets)
-}
-
-/// The message that a text spells.
-pub fn message(alloc: Global, text: &str) -> anyhow::Result<Message> {
-    let octets = hex::decode(alloc, text)?;
-    whole_message(alloc, &octets)?.context("this is no message")
-}

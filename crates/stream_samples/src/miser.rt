@@ -1,17 +1,15 @@
 //! A writer that takes nothing: octets wait until more would than may, and the connection is lost once.
 
-use crate::devices::Ways;
-use crate::messages::{CER, REQUEST, octets};
-use crate::replies::{Exchange, serve};
+use crate::connections::{Exchange, PIECE, serve};
+use crate::messages::REQUEST;
+use samples_given::{CER, Ways, octets};
 use std::alloc::Global;
 use std::io::ErrorKind;
 
 /// How many debits come: their answers, of 180 octets each, are more than 1,048,576 octets.
 const DEBITS: usize = 6_000;
 
-/// The octets of a read, and the turns: 64 reads each, which is more than all that comes.
-const PIECE: usize = 4_096;
-
+/// The turns: 64 reads each, which is more than all that comes.
 const TURNS: usize = 8;
 
 /// Prints what becomes of a connection on which this comes, and whose writer goes so.
@@ -33,7 +31,11 @@ fn print(
     let outcome = serve(alloc, &exchange)?;
     println!(rt;
         "{name}: {} up, {} messages, {} lost, {} octets written, {} unsent",
-        outcome.ups, outcome.messages, outcome.lost, outcome.written, outcome.unsent
+        outcome.counts.ups,
+        outcome.counts.messages,
+        outcome.counts.lost,
+        outcome.written,
+        outcome.unsent
     )?;
     if let Some(why) = outcome.why {
         println!(rt; "{name}: {why}")?;
@@ -43,14 +45,8 @@ fn print(
 
 /// Writers that take nothing, would block, are interrupted, and one that takes all.
 fn print_of(rt: &impl Print, alloc: Global, asked: &[u8]) -> anyhow::Result<()> {
-    let blocks = Ways {
-        cut: ErrorKind::WouldBlock,
-        ..Ways::cut_behind(0)
-    };
-    let interrupted = Ways {
-        cut: ErrorKind::Interrupted,
-        ..Ways::cut_behind(0)
-    };
+    let blocks = Ways::cut_behind(0, ErrorKind::WouldBlock);
+    let interrupted = Ways::cut_behind(0, ErrorKind::Interrupted);
     print(rt, alloc, "takes nothing", asked, Ways::few(0))?;
     print(rt, alloc, "would block", asked, blocks)?;
     print(rt, alloc, "is interrupted", asked, interrupted)?;

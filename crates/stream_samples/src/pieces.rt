@@ -1,8 +1,8 @@
 //! One stream in pieces of any length, and streams that begin with no message.
 
-use crate::devices::Ways;
-use crate::messages::{ANSWER, CEA, CER, REQUEST, octets};
-use crate::replies::{Exchange, Outcome, serve};
+use crate::connections::{Exchange, Outcome, serve};
+use crate::messages::{ANSWER, CEA, REQUEST};
+use samples_given::{CER, Ways, octets};
 use std::alloc::Global;
 
 /// The longest piece, which is longer than the stream.
@@ -57,7 +57,7 @@ fn beginning(alloc: Global, text: &str) -> anyhow::Result<Outcome> {
 /// Prints what becomes of it.
 fn print_beginning(rt: &impl Print, alloc: Global, text: &str) -> anyhow::Result<()> {
     let outcome = beginning(alloc, text)?;
-    let (ups, lost) = (outcome.ups, outcome.lost);
+    let (ups, lost) = (outcome.counts.ups, outcome.counts.lost);
     match outcome.why {
         Some(why) => println!(rt; "{text}: {ups} up, {lost} lost: {why}")?,
         None => println!(rt; "{text}: {ups} up, {lost} lost")?,

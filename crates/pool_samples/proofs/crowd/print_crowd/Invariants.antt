@@ -1,7 +1,0 @@
-use Rattle.pool_samples.proofs.crowd.print_crowd.Given as goal
-
-abbrev pub ghosts-crowd-L-Sharing : goal.ghosts-crowd-L-Sharing
-ghosts-crowd-L-Sharing g a = record { opened = a.book }
-
-abbrev pub ghosts-crowd-L-Ledger : goal.ghosts-crowd-L-Ledger
-ghosts-crowd-L-Ledger g a = record { name = a.blank.name; parts = a.blank.parts }

@@ -1,7 +1,0 @@
-use Rattle.pool_samples.proofs.seats.print_sample.Given as goal
-
-abbrev pub ghosts-run-L-Sharing : goal.ghosts-run-L-Sharing
-ghosts-run-L-Sharing g a = record { opened = a.book }
-
-abbrev pub ghosts-run-L-Ledger : goal.ghosts-run-L-Ledger
-ghosts-run-L-Ledger g a = record { name = a.blank.name; parts = a.blank.parts }

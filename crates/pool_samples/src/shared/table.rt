@@ -1,0 +1,117 @@
+//! A shared book as one thread uses it, with what it prints of each call.
+
+ghost use Rattle.std.specs.Prelude.{◌≡◌, ◌<◌};
+
+use crate::messages::debit_request;
+use crate::shared::lines::{print_finished, print_served};
+use anyhow::Context;
+use cc_book::Book;
+use cc_shared::{Receipt, Seat, SharedBook, Sharing};
+use cc_view::CcRequest;
+use dia_base::Moment;
+use std::alloc::{AllocError, Global};
+use std::sync::Wait;
+use std::sync::ledger::Blank;
+
+/// A handle on a shared book, seats at it, and the receipts that were given.
+#[derive(Drop)]
+pub struct Table<L: Sharing> {
+    pub shared: SharedBook<L>,
+    pub seats: Vec<Seat<L>>,
+    pub receipts: Vec<Receipt>,
+}
+
+/// A shared book with all its seats.
+pub fn share<L: Sharing>(
+    alloc: Global,
+    blank: Blank,
+    book: Book,
+    seats: u64,
+) -> anyhow::Result<Table<L>>
+    requires name { blank.name ≡ L.name }
+    requires parts { (blank.parts ≡ L.parts) × (blank.parts ≡ seats) }
+    requires some { 0 < seats }
+    requires book { book ≡ L.opened }
+{
+    match SharedBook::<L>::share(alloc, blank, book, seats) {
+        Ok((shared, seats)) => Ok(Table {
+            shared,
+            seats,
+            receipts: Vec::new(alloc),
+        }),
+        Err(_) => Err(AllocError.into()),
+    }
+}
+
+impl<L: Sharing> Table<L> {
+    /// Serves a request through the last seat.
+    pub fn serve<R: Wait + Print>(
+        &mut self,
+        rt: &R,
+        alloc: Global,
+        moment: u64,
+        request: CcRequest,
+    ) -> anyhow::Result<()> {
+        let mut seat = self.seats.pop().context("no seat")?;
+        let served = self
+            .shared
+            .serve(rt, alloc, &mut seat, Moment(moment), request);
+        self.seats.push(seat)?;
+        print_served(rt, &served)?;
+        match served {
+            Ok(receipt) => self.receipts.push(receipt)?,
+            Err(_refused) => {}
+        }
+        Ok(())
+    }
+
+    /// Serves the debit of this number.
+    pub fn debit<R: Wait + Print>(
+        &mut self,
+        rt: &R,
+        alloc: Global,
+        moment: u64,
+        number: u32,
+    ) -> anyhow::Result<()> {
+        let request = debit_request(alloc, number)?;
+        self.serve(rt, alloc, moment, request)
+    }
+
+    /// One more handle on the book, with the last seat of this.
+    pub fn split(&mut self, alloc: Global) -> anyhow::Result<Table<L>> {
+        let seat = self.seats.pop().context("no seat")?;
+        let shared = self.shared.another()?;
+        Ok(Table {
+            shared,
+            seats: vec![in alloc; seat]?,
+            receipts: Vec::new(alloc),
+        })
+    }
+
+    /// Balance and reserved amount of each account.
+    pub fn print_snapshot<R: Wait + Print>(&self, rt: &R, alloc: Global) -> anyhow::Result<()> {
+        let pairs = self.shared.snapshot(rt, alloc)?;
+        println!(rt; "accounts {}", pairs.len())?;
+        for (balance, reserved) in &pairs {
+            println!(rt; "balance {balance} reserved {reserved}")?;
+        }
+        Ok(())
+    }
+
+    pub fn print_sweep<R: Wait + Print>(&self, rt: &R, moment: u64) -> anyhow::Result<()> {
+        let ended = self.shared.sweep(rt, Moment(moment)).ok();
+        println!(rt; "ended {}", ended.context("refused")?)?;
+        Ok(())
+    }
+
+    /// Closes the book with these seats and receipts.
+    pub fn finish<R: Wait + Print>(self, rt: &R, alloc: Global) -> anyhow::Result<()> {
+        let Table {
+            shared,
+            seats,
+            receipts,
+        } = self;
+        let finished = shared.finish(rt, alloc, seats, &receipts);
+        print_finished(rt, &finished)
+    }
+}
