@@ -43,8 +43,8 @@ impl Relay {
     ///
     /// Its identifiers rise: each has the highest bit, and of two requests that go out new under one identifier at
     /// least 2^30 others went out new between them, whatever is pending, and though connections ended or the relay
-    /// was restarted. So whatever answers come, however often, one whose request was answered before is that of no
-    /// other request of the next 2^30.
+    /// was restarted. So an answer that comes again reaches no other request until 2^30 more went out since its
+    /// identifier was given.
     pub fn run<W: Wire>(
         alloc: Global,
         site: &RelaySite,
