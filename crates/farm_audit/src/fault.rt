@@ -1,5 +1,6 @@
 //! Why records are not put in order, or come to something else.
 
+use farm_command::Status;
 use farm_script::LineFault;
 use farm_site::SiteFault;
 use record_reader::{GroupFault, LinesFault};
@@ -61,8 +62,6 @@ pub enum Why {
 /// Why the program does not do what it is asked to do.
 #[derive(Clone, Copy, Debug, Error)]
 pub enum AuditFault {
-    #[error("usage: schedule --site FILE RECORD.., or audit --site FILE RECORD..")]
-    Words,
     #[error("the site file cannot be read")]
     SiteFile,
     #[error("{0}")]
@@ -79,15 +78,14 @@ pub enum AuditFault {
 }
 
 impl AuditFault {
-    /// The exit status: 1 for a file or a stream, 2 for other words than it knows, 3 for a site that is refused and for what
-    /// is found in records, 4 for want of memory.
-    pub fn status(&self) -> u8 {
+    /// How the program ends by this fault.
+    pub fn status(&self) -> Status {
         match self {
-            AuditFault::SiteFile | AuditFault::RecordFile { .. } | AuditFault::Write => 1,
-            AuditFault::Words => 2,
-            AuditFault::Site(SiteFault::OutOfMemory) => 4,
-            AuditFault::Site(_) | AuditFault::Found { .. } => 3,
-            AuditFault::OutOfMemory => 4,
+            AuditFault::SiteFile | AuditFault::RecordFile { .. } | AuditFault::Write =>
+                Status::Failed,
+            AuditFault::Site(SiteFault::OutOfMemory) | AuditFault::OutOfMemory =>
+                Status::OutOfMemory,
+            AuditFault::Site(_) | AuditFault::Found { .. } => Status::Refused,
         }
     }
 
@@ -96,8 +94,7 @@ impl AuditFault {
         match self {
             AuditFault::RecordFile { record } => Some(*record),
             AuditFault::Found { at, .. } => Some(at.record),
-            AuditFault::Words
-            | AuditFault::SiteFile
+            AuditFault::SiteFile
             | AuditFault::Site(_)
             | AuditFault::Write
             | AuditFault::OutOfMemory => None,

@@ -24,34 +24,25 @@ mod steps;
 mod told;
 
 use audit::Audit;
+use farm_command::{
+    Audit as AuditCommand, AuditAction, CliFault, Command, command_of, end, refuse, words_of,
+};
 use farm_report::report;
-use farm_site::{SITE_LIMIT, site_of_octets};
-use farm_text::{ReadFault, TEXT_LIMIT, read_text, write_text};
+use farm_site::site_of_octets;
+use farm_text::{ReadFault, file_at, write_text};
 use farm_world::Site;
 use fault::AuditFault;
 use std::fs::File;
-use std::io::{ErrorKind, Write};
+use std::io;
+use std::io::Write;
 use std::process::ExitCode;
-use std::{env, io};
 
-// A text is read up to one octet above its limit.
-const _: () = prove!(SITE_LIMIT == TEXT_LIMIT);
-
-/// The words behind the program's name.
-fn words_of(rt: &HostRuntime) -> Result<Vec<String>, AuditFault> {
-    match env::args(rt) {
-        Ok(words) => Ok(words.skip(1).collect(rt.alloc())?),
-        Err(error) if error.kind() == ErrorKind::OutOfMemory => Err(AuditFault::OutOfMemory),
-        Err(_) => Err(AuditFault::Words),
-    }
-}
+/// What is told where the words are others.
+const USAGE: &str = "usage: schedule --site FILE RECORD.., or audit --site FILE RECORD..";
 
 /// The octets of a site file, up to one above its size limit.
 fn site_file(rt: &HostRuntime, path: &str) -> Result<Vec<u8>, AuditFault> {
-    let Ok(mut file) = File::open(rt, path) else {
-        return Err(AuditFault::SiteFile);
-    };
-    match read_text(rt.alloc(), &mut file) {
+    match file_at(rt, path) {
         Ok(octets) => Ok(octets),
         Err(ReadFault::Failed) => Err(AuditFault::SiteFile),
         Err(ReadFault::OutOfMemory) => Err(AuditFault::OutOfMemory),
@@ -72,7 +63,7 @@ fn play_files<W: Write>(
     rt: &HostRuntime,
     site: &Site,
     prints: bool,
-    records: &[String],
+    records: &[&str],
     writer: &mut W,
 ) -> Result<(), AuditFault>
     requires { IsChecked site.now }
@@ -86,11 +77,11 @@ fn play<W: Write>(
     rt: &HostRuntime,
     site: &Site,
     audit: &mut Audit<File>,
-    records: &[String],
+    records: &[&str],
     writer: &mut W,
 ) -> Result<(), AuditFault> {
     for (record, path) in records.iter().enumerate() {
-        let Ok(file) = File::open(rt, path.as_str()) else {
+        let Ok(file) = File::open(rt, path) else {
             return Err(AuditFault::RecordFile { record });
         };
         audit.add(site, file)?;
@@ -106,48 +97,44 @@ fn play<W: Write>(
     }
 }
 
-/// Does what the words of the command line ask for.
-fn carry_out(rt: &HostRuntime, words: &[String]) -> Result<(), AuditFault> {
-    let [word, option, path, records @ ..] = words else {
-        return Err(AuditFault::Words);
-    };
-    let prints = word.as_str() == "schedule";
-    if !prints && word.as_str() != "audit" || option.as_str() != "--site" || records.is_empty() {
-        return Err(AuditFault::Words);
-    }
-    let octets = site_file(rt, path.as_str())?;
+/// Puts the records that a command names in order, over its site.
+fn audit_records(rt: &HostRuntime, command: &AuditCommand<'_>) -> Result<(), AuditFault> {
+    let prints = matches!(&command.action, AuditAction::Schedule);
+    let octets = site_file(rt, command.site)?;
     match site_of_octets(rt.alloc(), &octets) {
-        Ok(site) => play_files(rt, &site, prints, records, &mut io::writer(rt)),
+        Ok(site) => play_files(rt, &site, prints, &command.records, &mut io::writer(rt)),
         Err(fault) => Err(AuditFault::Site(fault)),
     }
 }
 
-/// Tells a fault, behind the name of the record where it is found.
-fn tell(rt: &HostRuntime, words: &[String], fault: &AuditFault) {
+/// Ends by a fault, which is told behind the name of the record where it is found.
+fn end_by(rt: &HostRuntime, command: &AuditCommand<'_>, fault: &AuditFault) -> ExitCode {
     let name = match fault.record() {
-        Some(record) => words.get(record.saturating_add(3)),
+        Some(record) => command.records.get(record).copied(),
         None => None,
     };
     if let Some(name) = name {
         let _ = rt.eprint(name);
         let _ = rt.eprint(": ");
     }
-    let _ = rt.eprintln(fault);
+    end(rt, fault.status(), Some(fault))
+}
+
+/// Does what the words behind the program's name ask for.
+fn carry_out(rt: &HostRuntime, words: &[String]) -> ExitCode {
+    match command_of(rt.alloc(), words) {
+        Ok(Command::Audit(command)) => match audit_records(rt, &command) {
+            Ok(()) => ExitCode::SUCCESS,
+            Err(fault) => end_by(rt, &command, &fault),
+        },
+        Ok(_) => refuse(rt, &CliFault::Elsewhere, USAGE),
+        Err(fault) => refuse(rt, &fault, USAGE),
+    }
 }
 
 fn main(rt: HostRuntime) -> ExitCode {
-    let words = match words_of(&rt) {
-        Ok(words) => words,
-        Err(fault) => {
-            let _ = rt.eprintln(&fault);
-            return ExitCode::from(fault.status());
-        }
-    };
-    match carry_out(&rt, &words) {
-        Ok(()) => ExitCode::SUCCESS,
-        Err(fault) => {
-            tell(&rt, &words, &fault);
-            ExitCode::from(fault.status())
-        }
+    match words_of(&rt) {
+        Ok(words) => carry_out(&rt, &words),
+        Err(fault) => refuse(&rt, &fault, USAGE),
     }
 }

@@ -2,10 +2,10 @@
 
 use farm_access::AccessFault;
 use farm_client::LinesFault;
+use farm_command::{CliFault, Status};
 use farm_loop::LoopFault;
 use farm_place::PlaceFault;
 use farm_site::SiteFault;
-use live_command::LiveFault;
 use pool_node::StartFault;
 use std::alloc::{AllocError, AllocFailed};
 use std::io;
@@ -16,7 +16,7 @@ use thiserror::Error;
 pub enum Fault {
     /// The words are no command; or they ask for help or the version, which is no fault.
     #[error("{0}")]
-    Words(LiveFault),
+    Words(CliFault),
     #[error("the site file cannot be read")]
     SiteFile,
     /// What the site file spells is refused, or memory ran out while it was read.
@@ -89,40 +89,36 @@ impl<T: Drop> From<AllocFailed<T>> for Fault {
     }
 }
 
-/// The exit status of a fault: 0 for help and the version, 1 for a file, a stream or a socket, 2 for refused words, 3 for
-/// a refused site or message, 4 for want of memory.
-pub fn status_of(fault: &Fault) -> u8 {
-    match fault {
-        Fault::Words(LiveFault::Asked(_)) => 0,
-        Fault::StatusAddress
-        | Fault::Words(
-            LiveFault::Refused(_)
-            | LiveFault::Missing(_)
-            | LiveFault::Malformed(_)
-            | LiveFault::NotUtf8,
-        ) => 2,
-        Fault::Site(SiteFault::OutOfMemory)
-        | Fault::Access(AccessFault::OutOfMemory)
-        | Fault::Words(LiveFault::OutOfMemory)
-        | Fault::Place(PlaceFault::OutOfMemory)
-        | Fault::Lines(LinesFault::OutOfMemory)
-        | Fault::Loop(LoopFault::OutOfMemory)
-        | Fault::Start(StartFault::OutOfMemory)
-        | Fault::OutOfMemory => 4,
-        Fault::Site(_)
-        | Fault::Access(_)
-        | Fault::Place(PlaceFault::NoAddress | PlaceFault::UnknownName { .. })
-        | Fault::Lines(LinesFault::NoMessage { .. })
-        | Fault::NoToken => 3,
-        Fault::SiteFile
-        | Fault::Read
-        | Fault::Write
-        | Fault::Loop(LoopFault::Sockets(_))
-        | Fault::Start(StartFault::NoWorker | StartFault::NoClock | StartFault::UnknownNode { .. })
-        | Fault::Status(_)
-        | Fault::TokenFile
-        | Fault::TokenSeen
-        | Fault::Record(_)
-        | Fault::Ended => 1,
+impl Fault {
+    /// How the program ends by this fault.
+    pub fn status(&self) -> Status {
+        match self {
+            Fault::Words(fault) => fault.status(),
+            Fault::StatusAddress => Status::Misused,
+            Fault::Site(SiteFault::OutOfMemory)
+            | Fault::Access(AccessFault::OutOfMemory)
+            | Fault::Place(PlaceFault::OutOfMemory)
+            | Fault::Lines(LinesFault::OutOfMemory)
+            | Fault::Loop(LoopFault::OutOfMemory)
+            | Fault::Start(StartFault::OutOfMemory)
+            | Fault::OutOfMemory => Status::OutOfMemory,
+            Fault::Site(_)
+            | Fault::Access(_)
+            | Fault::Place(PlaceFault::NoAddress | PlaceFault::UnknownName { .. })
+            | Fault::Lines(LinesFault::NoMessage { .. })
+            | Fault::NoToken => Status::Refused,
+            Fault::SiteFile
+            | Fault::Read
+            | Fault::Write
+            | Fault::Loop(LoopFault::Sockets(_))
+            | Fault::Start(
+                StartFault::NoWorker | StartFault::NoClock | StartFault::UnknownNode { .. },
+            )
+            | Fault::Status(_)
+            | Fault::TokenFile
+            | Fault::TokenSeen
+            | Fault::Record(_)
+            | Fault::Ended => Status::Failed,
+        }
     }
 }

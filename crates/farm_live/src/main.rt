@@ -23,8 +23,7 @@ mod view;
 mod waker;
 mod watching;
 
-use fault::{Fault, status_of};
-use live_command::LiveFault;
+use farm_command::end;
 use log::Logged;
 use log::sink::Console;
 use program::farm;
@@ -34,15 +33,8 @@ use std::process::ExitCode;
 pub type Logger = Logged<HostRuntime, Console<HostRuntime>>;
 
 fn main(rt: HostRuntime) -> ExitCode {
-    let Err(fault) = farm(&rt, &rt) else {
-        return ExitCode::SUCCESS;
-    };
-    let told = match &fault {
-        Fault::Words(LiveFault::Asked(text)) => rt.println(text),
-        _ => rt.eprintln(&fault),
-    };
-    match told {
-        Ok(()) => ExitCode::from(status_of(&fault)),
-        Err(_) => ExitCode::from(1),
+    match farm(&rt, &rt) {
+        Ok(()) => ExitCode::SUCCESS,
+        Err(fault) => end(&rt, fault.status(), Some(&fault)),
     }
 }

@@ -10,54 +10,25 @@ use crate::sending::send;
 use crate::setting::Setting;
 use farm_access::Access;
 use farm_base::Site;
-use farm_site::site_of_octets;
-use farm_text::{ReadFault, read_text};
-use live_command::{LiveCommand, LiveFault, Task, command_of};
+use farm_command::{CliFault, Command, Process, Task, command_of, words_of};
+use farm_site::site_document_of_octets;
+use farm_text::{ReadFault, file_at};
 use log::Logged;
 use log::sink::Console;
-use std::env;
-use std::fs::File;
-use std::io::ErrorKind;
+use std::alloc::Global;
 use std::net::Net;
 use std::random::RandomSource;
 use std::rt::Clock;
 use std::sync::Wait;
 use std::thread::Threads;
 
-/// The words behind the program's name.
-fn words_of(rt: &HostRuntime) -> Result<Vec<String>, LiveFault> {
-    match env::args(rt) {
-        Ok(words) => match words.skip(1).collect(rt.alloc()) {
-            Ok(words) => Ok(words),
-            Err(_) => Err(LiveFault::OutOfMemory),
-        },
-        Err(error) if error.kind() == ErrorKind::OutOfMemory => Err(LiveFault::OutOfMemory),
-        Err(_) => Err(LiveFault::NotUtf8),
-    }
-}
-
 /// The octets of the site file.
 fn site_file(rt: &HostRuntime, path: &str) -> Result<Vec<u8>, Fault> {
-    let Ok(mut file) = File::open(rt, path) else {
-        return Err(Fault::SiteFile);
-    };
-    match read_text(rt.alloc(), &mut file) {
+    match file_at(rt, path) {
         Ok(octets) => Ok(octets),
         Err(ReadFault::OutOfMemory) => Err(Fault::OutOfMemory),
         Err(ReadFault::Failed) => Err(Fault::SiteFile),
     }
-}
-
-/// The site that a file spells.
-fn site_of(rt: &HostRuntime, file: &[u8]) -> Result<Site, Fault>
-    ensures { IfOk result IsChecked }
-{
-    site_of_octets(rt.alloc(), file).map_err(Fault::Site)
-}
-
-/// Who may connect to the nodes of the site from where, as its file spells it.
-fn access_of(rt: &HostRuntime, file: &[u8]) -> Result<Access, Fault> {
-    Access::read(rt.alloc(), file).map_err(Fault::Access)
 }
 
 /// What a site file spells: the site, and who may connect to its nodes from where.
@@ -71,9 +42,12 @@ struct Spelled {
 fn spelled_in(rt: &HostRuntime, file: &[u8]) -> Result<Spelled, Fault>
     ensures { IfOk result (λ spelled. IsChecked spelled.site) }
 {
-    let site = site_of(rt, file)?;
-    let access = access_of(rt, file)?;
-    Ok(Spelled { site, access })
+    let read = site_document_of_octets(rt.alloc(), file).map_err(Fault::Site)?;
+    let access = Access::of_document(rt.alloc(), &read.document).map_err(Fault::Access)?;
+    Ok(Spelled {
+        site: read.site,
+        access,
+    })
 }
 
 /// What the site file at this path spells.
@@ -85,11 +59,11 @@ fn spelled_at(rt: &HostRuntime, path: &str) -> Result<Spelled, Fault>
 }
 
 /// Carries out a command.
-fn carry_out<O>(os: &O, rt: &HostRuntime, command: &LiveCommand) -> Result<(), Fault>
+fn carry_out<O>(os: &O, rt: &HostRuntime, command: &Process<'_>) -> Result<(), Fault>
 where
     O: Threads + Wait + Net + Clock + RandomSource + Copy + Send + 'static,
 {
-    let spelled = spelled_at(rt, &command.site)?;
+    let spelled = spelled_at(rt, command.site)?;
     let log = Logged::new(*rt, command.level, Console(*rt));
     let setting = Setting {
         os,
@@ -115,12 +89,21 @@ where
     }
 }
 
+/// The process that the words behind the program's name ask for.
+fn process_of<'a>(alloc: Global, words: &'a [String]) -> Result<Process<'a>, Fault> {
+    match command_of(alloc, words) {
+        Ok(Command::Process(process)) => Ok(process),
+        Ok(_) => Err(Fault::Words(CliFault::Elsewhere)),
+        Err(fault) => Err(Fault::Words(fault)),
+    }
+}
+
 /// Does what the words of the command line ask for. Of `os` come the sockets, the threads, and the leave to wait.
 pub fn farm<O>(os: &O, rt: &HostRuntime) -> Result<(), Fault>
 where
     O: Threads + Wait + Net + Clock + RandomSource + Copy + Send + 'static,
 {
     let words = words_of(rt).map_err(Fault::Words)?;
-    let command = command_of(rt.alloc(), &words).map_err(Fault::Words)?;
+    let command = process_of(rt.alloc(), &words)?;
     carry_out(os, rt, &command)
 }

@@ -64,7 +64,7 @@ impl Record {
         is_client: bool,
         live: &mut Live<N>,
     ) -> Result<Record, Fault> {
-        let Some(path) = &setting.command.record_path else {
+        let Some(path) = setting.command.record_path else {
             return Ok(Record { file: None });
         };
         let file = file_at(setting.rt, path)?;

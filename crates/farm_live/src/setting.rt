@@ -3,7 +3,7 @@
 use crate::Logger;
 use farm_access::Access;
 use farm_base::Site;
-use live_command::LiveCommand;
+use farm_command::Process;
 
 /// What a process is started with.
 #[derive(Drop)]
@@ -13,7 +13,7 @@ pub struct Setting<'a, O> {
     /// Of it come files, standard streams and memory.
     pub rt: &'a HostRuntime,
     pub log: &'a Logger,
-    pub command: &'a LiveCommand,
+    pub command: &'a Process<'a>,
     pub site: &'a Site,
     /// Who may connect from where.
     pub access: &'a Access,

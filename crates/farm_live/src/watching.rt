@@ -7,10 +7,10 @@ use crate::token::token_at;
 use crate::view::{Booked, View, open_in};
 use dia_base::NodeNo;
 use farm_base::Site;
+use farm_command::Process;
 use farm_loop::{Live, StatusPort};
 use farm_node::Node;
 use farm_status::Token;
-use live_command::LiveCommand;
 use log::warn;
 use std::net::{IpAddr, Ipv4Addr, Net, SocketAddr};
 use std::random::RandomSource;
@@ -52,8 +52,8 @@ fn filling(entries: u64, limit: u64) -> u64 {
 }
 
 /// The token by which whoever may end the process is known, if the command names its file.
-fn token_of(rt: &HostRuntime, command: &LiveCommand) -> Result<Option<Token>, Fault> {
-    match &command.token {
+fn token_of(rt: &HostRuntime, command: &Process<'_>) -> Result<Option<Token>, Fault> {
+    match command.token {
         Some(path) => Ok(Some(token_at(rt, path)?)),
         None => Ok(None),
     }
@@ -64,7 +64,7 @@ fn port_of<O: Net + Clock + RandomSource>(
     setting: &Setting<'_, O>,
 ) -> Result<Option<StatusPort>, Fault> {
     let token = token_of(setting.rt, setting.command)?;
-    let Some(text) = &setting.command.status else {
+    let Some(text) = setting.command.status else {
         return Ok(None);
     };
     let address = address_of(text)?;

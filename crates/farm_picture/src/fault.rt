@@ -3,7 +3,8 @@
 ghost use Rattle.std.specs.Prelude.{◌≡◌, ◌≢◌};
 ghost use Rattle.farm_picture.specs.declared.fault.PictureFault.TheVariants.{OutOfMemory, Write};
 
-use farm_script::ScriptFault;
+use farm_command::Status;
+use farm_script::{LineFault, ScriptFault};
 use farm_site::SiteFault;
 use farm_text::ReadFault;
 use std::alloc::AllocError;
@@ -18,14 +19,30 @@ pub enum PictureFault {
     Write,
     #[error("{0}")]
     Script(ScriptFault),
-    #[error("usage: picture [--site FILE] [--from STEP] [--to STEP] < SCHEDULE > PICTURE.svg")]
-    Words,
     #[error("the site file cannot be read")]
     SiteFile,
     #[error("{0}")]
     Site(SiteFault),
     #[error("out of memory")]
     OutOfMemory,
+}
+
+impl PictureFault {
+    /// How the program ends by this fault.
+    pub fn status(self) -> Status {
+        match self {
+            PictureFault::Read | PictureFault::Write | PictureFault::SiteFile => Status::Failed,
+            PictureFault::Script(
+                ScriptFault::Line {
+                    fault: LineFault::OutOfMemory,
+                    ..
+                },
+            )
+            | PictureFault::Site(SiteFault::OutOfMemory)
+            | PictureFault::OutOfMemory => Status::OutOfMemory,
+            PictureFault::Script(_) | PictureFault::Site(_) => Status::Refused,
+        }
+    }
 }
 
 impl From<AllocError> for PictureFault {

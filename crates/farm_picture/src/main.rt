@@ -10,7 +10,6 @@ ghost use Rattle.farm_base.specs.RowSite.{the_row_site};
 ghost use Rattle.farm_picture.specs.Painting.{IsSchedule, GivesSchedule, GivesScheduleOfFile};
 
 mod accounts;
-mod asked;
 mod drawing;
 mod ending;
 mod escape;
@@ -24,25 +23,24 @@ mod svg;
 mod timeline;
 mod ways;
 
-use asked::asked_in;
 use dia_avp::ViewWire;
-use dia_base::SCHEDULE_LIMIT;
 use drawing::draw;
-use farm_script::{LineFault, ScriptFault, steps_of};
-use farm_site::{SITE_LIMIT, SiteFault, site_of_octets};
-use farm_text::{ReadFault, TEXT_LIMIT, read_text, write_text};
+use farm_command::{CliFault, Command, Picture, command_of, end, refuse, words_of};
+use farm_script::steps_of;
+use farm_site::site_of_octets;
+use farm_text::{ReadFault, file_at, read_text, write_text};
 use farm_world::{Site, row_site};
 use fault::PictureFault;
 use part::Part;
 use std::alloc::Global;
-use std::fs::File;
-use std::io::{ErrorKind, Read, Write};
+use std::io;
+use std::io::{Read, Write};
 use std::process::ExitCode;
-use std::{env, io};
 use timeline::timeline_of;
 
-// A text of either is read up to one octet above its limit.
-const _: () = prove!(SITE_LIMIT == TEXT_LIMIT && SCHEDULE_LIMIT == TEXT_LIMIT);
+/// What is told where the words are others.
+const USAGE: &str =
+    "usage: picture [--site FILE] [--from STEP] [--to STEP] < SCHEDULE > PICTURE.svg";
 
 /// The picture of a schedule's run over the site, from an empty history.
 fn picture_of(alloc: Global, site: &Site, part: Part, text: &[u8]) -> Result<String, PictureFault>
@@ -115,67 +113,50 @@ fn paint_site_file<R: Read, W: Write>(
     }
 }
 
-/// The words behind the program's name.
-fn words_of(rt: &HostRuntime) -> Result<Vec<String>, PictureFault> {
-    match env::args(rt) {
-        Ok(words) => Ok(words.skip(1).collect(rt.alloc())?),
-        Err(error) if error.kind() == ErrorKind::OutOfMemory => Err(PictureFault::OutOfMemory),
-        Err(_) => Err(PictureFault::Words),
-    }
-}
-
 /// The octets of a site file, up to one above its size limit.
 fn site_file(rt: &HostRuntime, path: &str) -> Result<Vec<u8>, PictureFault> {
-    let Ok(mut file) = File::open(rt, path) else {
-        return Err(PictureFault::SiteFile);
-    };
-    match read_text(rt.alloc(), &mut file) {
+    match file_at(rt, path) {
         Ok(octets) => Ok(octets),
         Err(ReadFault::Failed) => Err(PictureFault::SiteFile),
         Err(ReadFault::OutOfMemory) => Err(PictureFault::OutOfMemory),
     }
 }
 
-/// Draws what the words of the command line ask for.
-fn picture(rt: &HostRuntime) -> Result<(), PictureFault> {
-    let words = words_of(rt)?;
+/// The part of a run that a command asks for.
+fn part_of(command: &Picture<'_>) -> Part {
+    Part {
+        from: command.from.unwrap_or(1),
+        to: command.to.unwrap_or(usize::MAX),
+    }
+}
+
+/// Draws what a command asks for.
+fn picture(rt: &HostRuntime, command: &Picture<'_>) -> Result<(), PictureFault> {
     let (reader, writer) = (&mut rt.reader(), &mut io::writer(rt));
-    let Some(asked) = asked_in(&words) else {
-        return Err(PictureFault::Words);
-    };
-    match asked.site {
-        None => paint_row_site(rt.alloc(), asked.part, reader, writer),
+    match command.site {
+        None => paint_row_site(rt.alloc(), part_of(command), reader, writer),
         Some(path) => {
             let file = site_file(rt, path)?;
-            paint_site_file(rt.alloc(), &file, asked.part, reader, writer)
+            paint_site_file(rt.alloc(), &file, part_of(command), reader, writer)
         }
     }
 }
 
-/// The exit status of a fault: 1 for a file or a stream, 2 for other words than it knows, 3 for a refused
-/// site or schedule, 4 for want of memory.
-fn status_of(fault: PictureFault) -> u8 {
-    match fault {
-        PictureFault::Read | PictureFault::Write | PictureFault::SiteFile => 1,
-        PictureFault::Words => 2,
-        PictureFault::Script(
-            ScriptFault::Line {
-                fault: LineFault::OutOfMemory,
-                ..
-            },
-        )
-        | PictureFault::Site(SiteFault::OutOfMemory)
-        | PictureFault::OutOfMemory => 4,
-        PictureFault::Script(_) | PictureFault::Site(_) => 3,
+/// Does what the words behind the program's name ask for.
+fn carry_out(rt: &HostRuntime, words: &[String]) -> ExitCode {
+    match command_of(rt.alloc(), words) {
+        Ok(Command::Picture(command)) => match picture(rt, &command) {
+            Ok(()) => ExitCode::SUCCESS,
+            Err(fault) => end(rt, fault.status(), Some(&fault)),
+        },
+        Ok(_) => refuse(rt, &CliFault::Elsewhere, USAGE),
+        Err(fault) => refuse(rt, &fault, USAGE),
     }
 }
 
 fn main(rt: HostRuntime) -> ExitCode {
-    match picture(&rt) {
-        Ok(()) => ExitCode::SUCCESS,
-        Err(fault) => {
-            let _ = rt.eprintln(fault);
-            ExitCode::from(status_of(fault))
-        }
+    match words_of(&rt) {
+        Ok(words) => carry_out(&rt, &words),
+        Err(fault) => refuse(&rt, &fault, USAGE),
     }
 }
