@@ -83,13 +83,10 @@ abbrev pub with_lines : App → List Subcommand → App
 with_lines line [] = line
 with_lines line (s ∷ rest) = with_lines (with_subcommand line (line_of s).top) rest
 
--- what runs a schedule or serves
-abbrev pub farm_lines : List Subcommand
-farm_lines = sub.Replay ∷ sub.Report ∷ sub.Relay ∷ sub.Front ∷ sub.Send ∷ []
-
--- what looks at a site, at records, at a run or at messages
-abbrev pub look_lines : List Subcommand
-look_lines = sub.Check ∷ sub.Audit ∷ sub.Schedule ∷ sub.Picture ∷ sub.Words ∷ []
+-- each subcommand, in the order of the help: what runs a schedule or serves, then what looks at a site, at records, at a run or at messages
+abbrev pub subcommands : List Subcommand
+subcommands =
+    sub.Replay ∷ sub.Report ∷ sub.Relay ∷ sub.Front ∷ sub.Send ∷ sub.Check ∷ sub.Audit ∷ sub.Schedule ∷ sub.Picture ∷ sub.Words ∷ []
 
 abbrev pub command_line : App
-command_line = with_lines (with_lines program farm_lines) look_lines
+command_line = with_lines program subcommands

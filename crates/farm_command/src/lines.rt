@@ -2,13 +2,13 @@
 
 ghost use Rattle.std.specs.Prelude.{◌≡◌, ◌∷◌, [], codes, false, IfOk};
 ghost use Rattle.clap.specs.declared.builder.command.Command.TheViews.{out-Command as fields_of};
-ghost use Rattle.clap.specs.Simple.{with_rule};
+ghost use Rattle.clap.specs.Simple.{with_rule, with_subcommand};
 ghost use Rattle.clap.specs.Words.{app_of};
-ghost use Rattle.farm_command.specs.CommandLine.{command_line, farm_lines, line_of, look_lines, option_named, program, records_rule, skipped_option, with_lines, with_options};
+ghost use Rattle.farm_command.specs.CommandLine.{command_line, line_of, option_named, program, records_rule, skipped_option, with_lines, with_options};
 ghost use Rattle.farm_command.specs.declared.word.Word.TheVariants as word;
 ghost use Rattle.farm_command.specs.declared.subcommand.Subcommand.TheVariants as sub;
 
-use crate::word::Word;
+use crate::subcommand::Subcommand;
 use clap::{Arg, ArgAction, Command as Line};
 use std::alloc::{AllocError, Global};
 
@@ -204,41 +204,60 @@ fn program<'a>(alloc: Global) -> Result<Line<'a>, AllocError>
     )
 }
 
-/// The line with `replay`, `report`, `relay`, `front` and `send`.
-fn with_farm<'a>(line: Line<'a>, alloc: Global) -> Result<Line<'a>, AllocError>
-    ensures { IfOk result (λ made. app_of made ≡ with_lines (app_of line.entry) farm_lines) }
+/// A subcommand, with its options and operands.
+fn line_for<'a>(alloc: Global, subcommand: Subcommand) -> Result<Line<'a>, AllocError>
+    ensures shape { IfOk result (λ line. app_of line ≡ line_of subcommand) }
+    ensures local { IfOk result (λ line. (fields_of line).has_globals ≡ false) }
 {
-    let about = "Prints what clients received, an end line, and the report (the default)";
-    let replay = run_line(alloc, "replay", about)?;
-    let report = run_line(alloc, "report", "Prints the report alone")?;
-    let relay = relay_line(alloc)?;
-    let front = front_line(alloc)?;
-    let send = send_line(alloc)?;
-    line.subcommand(replay)?
-        .subcommand(report)?
-        .subcommand(relay)?
-        .subcommand(front)?
-        .subcommand(send)
+    match subcommand {
+        Subcommand::Replay => {
+            let about = "Prints what clients received, an end line, and the report (the default)";
+            run_line(alloc, "replay", about)
+        }
+        Subcommand::Report => run_line(alloc, "report", "Prints the report alone"),
+        Subcommand::Relay => relay_line(alloc),
+        Subcommand::Front => front_line(alloc),
+        Subcommand::Send => send_line(alloc),
+        Subcommand::Check => check_line(alloc),
+        Subcommand::Audit => {
+            let about = "Plays the records of a farm, and says what they come to";
+            audit_line(alloc, "audit", about)
+        }
+        Subcommand::Schedule => {
+            let about = "Prints the order of the records of a farm, as a schedule";
+            audit_line(alloc, "schedule", about)
+        }
+        Subcommand::Picture => picture_line(alloc),
+        Subcommand::Words => Ok(words_line(alloc)),
+    }
 }
 
-/// The line with `check`, `audit`, `schedule`, `picture` and `words`.
-fn with_looks<'a>(line: Line<'a>, alloc: Global) -> Result<Line<'a>, AllocError>
-    ensures { IfOk result (λ made. app_of made ≡ with_lines (app_of line.entry) look_lines) }
+/// The line with one subcommand more.
+fn with_line<'a>(
+    line: Line<'a>,
+    alloc: Global,
+    subcommand: Subcommand,
+) -> Result<Line<'a>, AllocError>
+    ensures { IfOk result (λ made. app_of made
+        ≡ with_subcommand (app_of line.entry) (line_of subcommand).top) }
 {
-    let check = check_line(alloc)?;
-    let audit = audit_line(
-        alloc,
-        "audit",
-        "Plays the records of a farm, and says what they come to",
-    )?;
-    let about = "Prints the order of the records of a farm, as a schedule";
-    let schedule = audit_line(alloc, "schedule", about)?;
-    let picture = picture_line(alloc)?;
-    line.subcommand(check)?
-        .subcommand(audit)?
-        .subcommand(schedule)?
-        .subcommand(picture)?
-        .subcommand(words_line(alloc))
+    let more = line_for(alloc, subcommand)?;
+    line.subcommand(more)
+}
+
+/// The line with these subcommands, in their order.
+fn with_lines<'a>(
+    line: Line<'a>,
+    alloc: Global,
+    subcommands: &[Subcommand],
+) -> Result<Line<'a>, AllocError>
+    ensures { IfOk result (λ made. app_of made ≡ with_lines (app_of line.entry) subcommands.now) }
+{
+    let mut made = line;
+    for subcommand in subcommands {
+        made = with_line(made, alloc, *subcommand)?;
+    }
+    Ok(made)
 }
 
 /// The command line.
@@ -246,6 +265,17 @@ pub fn command_line<'a>(alloc: Global) -> Result<Line<'a>, AllocError>
     ensures { IfOk result (λ line. app_of line ≡ command_line) }
 {
     let bare = program(alloc)?;
-    let some = with_farm(bare, alloc)?;
-    with_looks(some, alloc)
+    let all = [
+        Subcommand::Replay,
+        Subcommand::Report,
+        Subcommand::Relay,
+        Subcommand::Front,
+        Subcommand::Send,
+        Subcommand::Check,
+        Subcommand::Audit,
+        Subcommand::Schedule,
+        Subcommand::Picture,
+        Subcommand::Words,
+    ];
+    with_lines(bare, alloc, &all)
 }
