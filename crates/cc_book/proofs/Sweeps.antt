@@ -1,8 +1,9 @@
 -- What stands after a sweep, and what a book answers to it.
-use Rattle.std.proofs.Common.{◌≡◌, ◌≢◌, ℕ, zero, suc, ◌+◌, ◌<◌, ◌≤◌, Bool, true, false, cond, not, leb, List, [], ◌∷◌, ◌++◌, length, Option, Some, None, Result, Ok, Err, refl, sym, ap, subst, ◌∙◌, arith, rules, find, option_map, length-append, get_or}
+use Rattle.std.proofs.Common.{◌≡◌, ◌≢◌, ℕ, zero, suc, ◌+◌, ◌<◌, ◌≤◌, Bool, true, false, cond, not, leb, List, [], ◌∷◌, ◌++◌, length, Option, Some, None, Result, Ok, Err, inl, inr, refl, sym, ap, subst, ◌∙◌, arith, rules, find, option_map, length-append, get_or}
 use Rattle.std.specs.Prelude.{ℤ, count_by}
 use Rattle.std.specs.List.{AllByRecursion}
 use Rattle.std.specs.Option.{option_and_then}
+use Rattle.std.proofs.lemmas.Bool.{cases_lt}
 use Rattle.std.proofs.lemmas.Int.{ints}
 use Rattle.std.proofs.lemmas.List.{map-append}
 use Rattle.std.proofs.lemmas.List.Elements.{All-filter, recursion_from_All}
@@ -237,6 +238,17 @@ ends_by ledger (suc ended) n answered = omega arith
 
 pub sweep-ends : (ledger : Ledger) (moment : Moment) (n : ℕ) → sweep_answer ledger moment ≡ Ok (suc n) → 0 < ended_sessions ledger.terms ledger.history moment
 sweep-ends ledger moment n answered = ends_by ledger (ended_sessions ledger.terms ledger.history moment) n answered
+
+room_by : (ledger : Ledger) (ended n : ℕ) → answer_to_sweep ledger ended ≡ Ok (suc n) → length ledger.history < ledger.limit
+room_by ledger ended n answered = elim (cases_lt (length ledger.history) ledger.limit) as (λ _. length ledger.history < ledger.limit) [
+  | inl room ↦ room
+  | inr full ↦ absurd (let other = answer_full ledger ended (ends_by ledger ended n answered) full in cc)
+]
+
+-- a sweep that ends sessions has room for its entry
+pub sweep-has_room : (ledger : Ledger) (moment : Moment) (n : ℕ) → (n ≡ 0 → ⊥) → sweep_answer ledger moment ≡ Ok n → length ledger.history < ledger.limit
+sweep-has_room ledger moment zero some answered = absurd (some refl)
+sweep-has_room ledger moment (suc n) some answered = room_by ledger (ended_sessions ledger.terms ledger.history moment) n answered
 
 module _ {terms : Terms} {limit : ℕ} {history : List Entry} {replies : List (Option CcReply)} {balances : List ℤ} {sessions : List OpenSession}
     (book : IsBook terms limit history replies balances sessions) (moment : Moment) where

@@ -154,13 +154,9 @@ impl Book {
         Ok(self.commit(plan))
     }
 
-    /// Ends each session whose deadline is at most the moment: a session lasts for twice its validity from its last
-    /// request on that is no EVENT (RFC 8506, section 13), and what it had reserved is free again. It answers how many
-    /// ended, and appends an entry only where some did. Full where some would and the history is at its limit: the book is
-    /// unchanged then. It takes no memory. Moments need not rise from call to call.
-    pub fn sweep(&mut self, moment: Moment) -> Result<u64, BookRefusal>
-        ensures answer { SweepsWith (sweep_answer self.old moment) result }
-        ensures after { self.new ≡ after_sweep_with self.old moment result }
+    /// What `sweep` would answer now. It changes nothing, and takes no memory.
+    pub fn quote_sweep(&self, moment: Moment) -> Result<u64, BookRefusal>
+        ensures answer { SweepsWith (sweep_answer self.now moment) result }
         ensures memory { result ≢ Err OutOfMemory }
     {
         let ended = self.standing.count_due(self.terms.validity, moment);
@@ -170,10 +166,26 @@ impl Book {
         let Some(_place) = free_place(&self.history, self.limit) else {
             return Err(BookRefusal::Full { limit: self.limit });
         };
+        Ok(ended as u64)
+    }
+
+    /// Ends each session whose deadline is at most the moment: a session lasts for twice its validity from its last
+    /// request on that is no EVENT (RFC 8506, section 13), and what it had reserved is free again. It answers how many
+    /// ended, and appends an entry only where some did. Full where some would and the history is at its limit: the book is
+    /// unchanged then. It takes no memory. Moments need not rise from call to call.
+    pub fn sweep(&mut self, moment: Moment) -> Result<u64, BookRefusal>
+        ensures answer { SweepsWith (sweep_answer self.old moment) result }
+        ensures after { self.new ≡ after_sweep_with self.old moment result }
+        ensures memory { result ≢ Err OutOfMemory }
+    {
+        let ended = self.quote_sweep(moment)?;
+        if ended == 0 {
+            return Ok(0);
+        }
         self.history.push_reserved(Entry::Sweep { moment });
         self.replies.push_reserved(None);
         self.standing.sweep(self.terms.validity, moment);
-        Ok(ended as u64)
+        Ok(ended)
     }
 
     /// The accounts, as they were handed to `new`.

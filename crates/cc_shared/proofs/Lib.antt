@@ -1,3 +1,6 @@
+pub mod Histories
+pub mod Adding
 pub mod Growing
 pub mod Comparing
 pub mod Truth
+pub mod Together

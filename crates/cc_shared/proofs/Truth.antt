@@ -1,11 +1,13 @@
 -- What the book answers makes a true receipt, and which receipts stand in its history.
-use Rattle.std.proofs.Common.{◌≡◌, ℕ, zero, suc, Bool, true, false, not, List, [], ◌∷◌, ◌++◌, length, take, Option, Some, Ok, Err, inl, inr, refl, sym, subst, ap, ◌∙◌, arith, append_assoc}
-use Rattle.std.specs.Prelude.{◌⊎◌, IsTrue, MatchBool, slice_get, unwrap_or}
+use Rattle.std.proofs.Common.{◌≡◌, ℕ, zero, suc, ◌+◌, Bool, true, false, not, List, [], ◌∷◌, ◌++◌, length, take, Option, Some, Ok, Err, inl, inr, refl, sym, subst, ap, ◌∙◌, arith, append_assoc, length-append}
+use Rattle.std.specs.Prelude.{◌⊎◌, IsTrue, MatchBool, if◌then◌else◌, slice_get, unwrap_or}
 use Rattle.std.specs.Bool.{Decides}
 use Rattle.std.specs.List.{list_all, IsDistinct, AllByRecursion}
 use Rattle.std.proofs.lemmas.Bool.{and_from, cases_lt}
 use Rattle.std.proofs.lemmas.List.{length-take-le}
 use Rattle.std.proofs.lemmas.List.Elements.{filter_map-append}
+use Rattle.std.proofs.lemmas.Option.{slice_get_within}
+use Rattle.std.proofs.Math.Seq.{take-append_seam}
 use Rattle.dia_base.specs.declared.number.Moment.{Moment}
 use Rattle.cc_view.specs.declared.reply.CcReply.{CcReply}
 use Rattle.cc_view.specs.declared.request.CcRequest.{CcRequest}
@@ -21,7 +23,11 @@ use Rattle.cc_book.specs.Taking.{Ledger, answer_by, answer_of}
 use Rattle.cc_book.proofs.Keys.{kept_reply-repeat, key-same, repeat_reply-same}
 use Rattle.cc_book.proofs.Replies.{answer_of-fresh, answer_of-full, answer_of-kept}
 use Rattle.cc_shared.specs.declared.receipt.Receipt.{Receipt}
-use Rattle.cc_shared.specs.Receipts.{Fits, IsTakenAt, IsTrueReceipt, Tells}
+use Rattle.cc_shared.specs.Receipts.{Fits, IsEnteredAt, IsReceiptOf, IsTakenAt, IsTrueReceipt, StandsIn, Tells}
+use Rattle.cc_shared.specs.declared.logged.Logged.{Logged}
+use Rattle.cc_shared.specs.declared.logged.Logged.TheVariants.{Entered}
+use Rattle.cc_shared.specs.History.{SharedLedger, book_at}
+use Rattle.cc_shared.proofs.Histories.{book_at-take}
 
 -- ---- the front of a legal history
 
@@ -93,62 +99,143 @@ new_or_kept [] key = inl refl
 new_or_kept (Take moment request ∷ history) key = here_or_later moment request history key (same_key (key_of request) key) refl (new_or_kept history key)
 new_or_kept (Sweep moment ∷ history) key = later (Sweep moment) history key refl (new_or_kept history key)
 
--- ---- what the book answers is true
+-- ---- what the book answers stands in its history
 
-pub record IsTrueAnswer (ledger : Ledger) (request : CcRequest) (answered : Answered) : Type 0 where
-  pub true_receipt : IsTrueReceipt ledger.terms (record { request = request; reply = answered.reply; place = answered.place; fresh = answered.fresh })
-  pub last : answered.fresh ≡ true → answered.place ≡ length ledger.history
+-- A receipt that was made of a book's answer stands in what was seen of the history behind it, and a fresh one's entry is the
+-- take of its request at this moment.
+pub record IsServed (opened : Ledger) (moment : Moment) (receipt : Receipt) : Type 0 where
+  pub stands : StandsIn (book_at opened receipt.seen.log) receipt
+  pub entered : receipt.fresh ≡ true → IsEnteredAt opened moment receipt
+
+abbrev pub answer_in : Receipt → Answered
+answer_in receipt = record { reply = receipt.reply; place = receipt.place; fresh = receipt.fresh }
 
 abbrev answered : CcReply → ℕ → Bool → Answered
 answered reply place fresh = record { reply = reply; place = place; fresh = fresh }
 
+abbrev pub log_behind : List Logged → Moment → CcRequest → Bool → List Logged
+log_behind before moment request fresh = if fresh then before ++ Entered (Take moment request) ∷ [] else before
+
 same_key-self : (request : CcRequest) → same_key (key_of request) (key_of request) ≡ true
 same_key-self request = (key-same request request).1 (refl, refl)
 
-fresh_is_true : (ledger : Ledger) (request : CcRequest) → IsLegal ledger.terms ledger.history → IsTrueAnswer ledger request (answered (reply_to ledger.terms ledger.history request) (length ledger.history) true)
-fresh_is_true ledger request legal = record {
-  true_receipt = record {
-    before = ledger.history;
-    legal = legal;
-    place = refl;
-    taken = request;
-    told = record { same = same_key-self request; reply = sym (repeat_reply-same ledger.terms ledger.history request); own = λ _. refl };
-  };
-  last = λ _. refl;
-}
+slice_get-seam : {A : Type 0} (xs : List A) (y : A) → slice_get (xs ++ y ∷ []) (length xs) ≡ Some y
+slice_get-seam [] y = refl
+slice_get-seam (x ∷ xs) y = slice_get-seam xs y
 
-kept_is_true : (ledger : Ledger) (request : CcRequest) → IsLegal ledger.terms ledger.history → (kept : Kept ledger.history (key_of request))
-    → IsTrueAnswer ledger request (answered (repeat_reply ledger.terms (take kept.place ledger.history) kept.taken request) kept.place false)
-kept_is_true ledger request legal kept = record {
-  true_receipt = record {
-    before = take kept.place ledger.history;
-    legal = legal_take ledger.terms ledger.history kept.place (Take kept.at.moment kept.taken) legal kept.at.entry;
-    place = (let w = kept.at.within in length-take-le kept.place ledger.history (omega (arith, w)));
-    taken = kept.taken;
-    told = record { same = kept.at.same; reply = refl; own = λ e. absurd cc };
-  };
-  last = λ e. absurd cc;
-}
+fresh_stands : (opened : Ledger) (before : List Logged) (moment : Moment) (receipt : Receipt)
+    → IsLegal opened.terms (book_at opened receipt.seen.log).history
+    → answered (reply_to opened.terms (book_at opened before).history receipt.request) (length (book_at opened before).history) true ≡ answer_in receipt
+    → receipt.seen.log ≡ log_behind before moment receipt.request receipt.fresh → IsServed opened moment receipt
+fresh_stands opened before moment receipt legal same behind =
+    let history = (book_at opened before).history in
+    let entry = Take moment receipt.request in
+    let fresh : receipt.fresh ≡ true = ap (λ (a : Answered). a.fresh) (sym same) in
+    let place : receipt.place ≡ length history = ap (λ (a : Answered). a.place) (sym same) in
+    let reply : receipt.reply ≡ reply_to opened.terms history receipt.request = ap (λ (a : Answered). a.reply) (sym same) in
+    let seen : receipt.seen.log ≡ before ++ Entered entry ∷ [] = behind ∙ ap (λ (b : Bool). log_behind before moment receipt.request b) fresh in
+    let whole : (book_at opened receipt.seen.log).history ≡ history ++ entry ∷ [] =
+    ap (λ (l : List Logged). (book_at opened l).history) seen ∙ sym (ap (λ (l : Ledger). l.history) (book_at-take opened before moment receipt.request)) in
+    let at : slice_get (book_at opened receipt.seen.log).history receipt.place ≡ Some entry =
+    ap (λ (h : List Entry). slice_get h receipt.place) whole ∙ ap (λ (n : ℕ). slice_get (history ++ entry ∷ []) n) place ∙ slice_get-seam history entry in
+    let front : take receipt.place (book_at opened receipt.seen.log).history ≡ history =
+    ap (λ (h : List Entry). take receipt.place h) whole ∙ ap (λ (n : ℕ). take n (history ++ entry ∷ [])) place ∙ take-append_seam history (entry ∷ []) in
+    record {
+      stands = record {
+        legal = legal;
+        fits = record {
+          taken = receipt.request;
+          at = record { moment = moment; entry = at };
+          told = record {
+            same = same_key-self receipt.request;
+            reply = reply ∙ sym (repeat_reply-same opened.terms history receipt.request) ∙ ap (λ (h : List Entry). repeat_reply opened.terms h receipt.request receipt.request) (sym front);
+            own = λ _. refl;
+          };
+        };
+        last = λ _. ap length whole ∙ (length-append history (entry ∷ []) ∙ ap (λ (n : ℕ). n + 1) (sym place));
+      };
+      entered = λ _. at;
+    }
 
-new_is_true : (ledger : Ledger) (request : CcRequest) (a : Answered) → IsLegal ledger.terms ledger.history → IsNew ledger.history (key_of request) → answer_of ledger request ≡ Ok a → IsTrueAnswer ledger request a
-new_is_true ledger request a legal new is = elim (cases_lt (length ledger.history) ledger.limit) as (λ _. IsTrueAnswer ledger request a) [
-  | inl room ↦ (let e = answer_of-fresh ledger request (length ledger.history) (reply_to ledger.terms ledger.history request) new refl room refl in
-      let same : answered (reply_to ledger.terms ledger.history request) (length ledger.history) true ≡ a = cc in
-      subst (λ (x : Answered). IsTrueAnswer ledger request x) same (fresh_is_true ledger request legal))
-  | inr reached ↦ absurd (let e = answer_of-full ledger request new reached in cc)
+kept_stands : (opened : Ledger) (before : List Logged) (moment : Moment) (receipt : Receipt)
+    → IsLegal opened.terms (book_at opened receipt.seen.log).history → (kept : Kept (book_at opened before).history (key_of receipt.request))
+    → answered (repeat_reply opened.terms (take kept.place (book_at opened before).history) kept.taken receipt.request) kept.place false ≡ answer_in receipt
+    → receipt.seen.log ≡ log_behind before moment receipt.request receipt.fresh → IsServed opened moment receipt
+kept_stands opened before moment receipt legal kept same behind =
+    let history = (book_at opened before).history in
+    let repeats : receipt.fresh ≡ false = ap (λ (a : Answered). a.fresh) (sym same) in
+    let place : receipt.place ≡ kept.place = ap (λ (a : Answered). a.place) (sym same) in
+    let reply : receipt.reply ≡ repeat_reply opened.terms (take kept.place history) kept.taken receipt.request = ap (λ (a : Answered). a.reply) (sym same) in
+    let seen : receipt.seen.log ≡ before = behind ∙ ap (λ (b : Bool). log_behind before moment receipt.request b) repeats in
+    let whole : (book_at opened receipt.seen.log).history ≡ history = ap (λ (l : List Logged). (book_at opened l).history) seen in
+    let front : take receipt.place (book_at opened receipt.seen.log).history ≡ take kept.place history =
+    ap (λ (h : List Entry). take receipt.place h) whole ∙ ap (λ (n : ℕ). take n history) place in
+    record {
+      stands = record {
+        legal = legal;
+        fits = record {
+          taken = kept.taken;
+          at = record {
+            moment = kept.at.moment;
+            entry = ap (λ (h : List Entry). slice_get h receipt.place) whole ∙ ap (λ (n : ℕ). slice_get history n) place ∙ kept.at.entry;
+          };
+          told = record {
+            same = kept.at.same;
+            reply = reply ∙ ap (λ (h : List Entry). repeat_reply opened.terms h kept.taken receipt.request) (sym front);
+            own = λ fresh. absurd (let no = sym fresh ∙ repeats in cc);
+          };
+        };
+        last = λ fresh. absurd (let no = sym fresh ∙ repeats in cc);
+      };
+      entered = λ fresh. absurd (let no = sym fresh ∙ repeats in cc);
+    }
+
+new_is_served : (opened : Ledger) (before : List Logged) (moment : Moment) (receipt : Receipt)
+    → IsLegal opened.terms (book_at opened receipt.seen.log).history → IsNew (book_at opened before).history (key_of receipt.request)
+    → answer_of (book_at opened before) receipt.request ≡ Ok (answer_in receipt)
+    → receipt.seen.log ≡ log_behind before moment receipt.request receipt.fresh → IsServed opened moment receipt
+new_is_served opened before moment receipt legal new is behind = elim (cases_lt (length (book_at opened before).history) opened.limit) as (λ _. IsServed opened moment receipt) [
+  | inl room ↦ (let book = book_at opened before in
+      let e = answer_of-fresh book receipt.request (length book.history) (reply_to opened.terms book.history receipt.request) new refl room refl in
+      let same : answered (reply_to opened.terms book.history receipt.request) (length book.history) true ≡ answer_in receipt = cc in
+      fresh_stands opened before moment receipt legal same behind)
+  | inr reached ↦ absurd (let e = answer_of-full (book_at opened before) receipt.request new reached in cc)
 ]
 
-old_is_true : (ledger : Ledger) (request : CcRequest) (a : Answered) → IsLegal ledger.terms ledger.history → Kept ledger.history (key_of request) → answer_of ledger request ≡ Ok a → IsTrueAnswer ledger request a
-old_is_true ledger request a legal kept is =
-    let e = answer_of-kept ledger request kept.taken kept.place (repeat_reply ledger.terms (take kept.place ledger.history) kept.taken request) kept.at refl in
-    let same : answered (repeat_reply ledger.terms (take kept.place ledger.history) kept.taken request) kept.place false ≡ a = cc in
-    subst (λ (x : Answered). IsTrueAnswer ledger request x) same (kept_is_true ledger request legal kept)
+old_is_served : (opened : Ledger) (before : List Logged) (moment : Moment) (receipt : Receipt)
+    → IsLegal opened.terms (book_at opened receipt.seen.log).history → Kept (book_at opened before).history (key_of receipt.request)
+    → answer_of (book_at opened before) receipt.request ≡ Ok (answer_in receipt)
+    → receipt.seen.log ≡ log_behind before moment receipt.request receipt.fresh → IsServed opened moment receipt
+old_is_served opened before moment receipt legal kept is behind =
+    let book = book_at opened before in
+    let reply = repeat_reply opened.terms (take kept.place book.history) kept.taken receipt.request in
+    let e = answer_of-kept book receipt.request kept.taken kept.place reply kept.at refl in
+    let same : answered reply kept.place false ≡ answer_in receipt = cc in
+    kept_stands opened before moment receipt legal kept same behind
 
-pub answer_is_true : (ledger : Ledger) (request : CcRequest) (a : Answered) → IsLegal ledger.terms ledger.history → answer_of ledger request ≡ Ok a → IsTrueAnswer ledger request a
-answer_is_true ledger request a legal is = elim (new_or_kept ledger.history (key_of request)) as (λ _. IsTrueAnswer ledger request a) [
-  | inl new ↦ new_is_true ledger request a legal new is
-  | inr kept ↦ old_is_true ledger request a legal kept is
-]
+-- What an open book has answered stands in what was seen of its history behind that.
+pub answer_is_served : (opened : Ledger) (before : List Logged) (moment : Moment) (receipt : Receipt)
+    → IsLegal opened.terms (book_at opened receipt.seen.log).history
+    → answer_of (book_at opened before) receipt.request ≡ Ok (answer_in receipt)
+    → receipt.seen.log ≡ log_behind before moment receipt.request receipt.fresh → IsServed opened moment receipt
+answer_is_served opened before moment receipt legal is behind =
+    elim (new_or_kept (book_at opened before).history (key_of receipt.request)) as (λ _. IsServed opened moment receipt) [
+      | inl new ↦ new_is_served opened before moment receipt legal new is behind
+      | inr kept ↦ old_is_served opened before moment receipt legal kept is behind
+    ]
+
+-- a receipt that stands in a history is true
+pub standing_is_true : (shared : SharedLedger) (receipt : Receipt) → IsReceiptOf shared receipt → IsTrueReceipt shared.opened.terms receipt
+standing_is_true shared receipt is =
+    let opened = shared.opened in
+    let fits = is.stands.fits in
+    let history = (book_at opened receipt.seen.log).history in record {
+      before = take receipt.place history;
+      legal = legal_take opened.terms history receipt.place (Take fits.at.moment fits.taken) is.stands.legal fits.at.entry;
+      place = (let within = slice_get_within history receipt.place (Take fits.at.moment fits.taken) fits.at.entry in length-take-le receipt.place history (omega (arith, within)));
+      taken = fits.taken;
+      told = fits.told;
+    }
 
 -- ---- which receipts stand in the history
 

@@ -1,3 +1,4 @@
+pub mod History
 pub mod Receipts
 pub mod Sharing
 pub mod Serving

@@ -24,6 +24,9 @@
 
 mod checking;
 mod error;
+mod history;
+mod logged;
+mod looks;
 mod open;
 mod receipt;
 mod same;
@@ -32,6 +35,9 @@ mod shared;
 mod sharing;
 
 pub use error::{CloseError, ServeError, ServeRefusal};
+pub use history::{Beginning, BlankHistory, Length, OneHistory, SeenHistory};
+pub use logged::Logged;
+pub use looks::{ClosedBook, Snapshot, Swept};
 pub use receipt::Receipt;
 pub use seat::Seat;
 pub use shared::SharedBook;

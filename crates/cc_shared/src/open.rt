@@ -1,16 +1,23 @@
-//! The value behind the lock: a book, and the count of its takes.
+//! A book that is open: what stands behind the lock until it is closed.
 
-ghost use Rattle.std.specs.Prelude.{◌≡◌, ◌+◌, ◌≤◌, ◌<◌, ◌^◌, IfErr, IfOk, length, sum, vec_len, if◌then◌else◌};
-ghost use Rattle.cc_book.specs.Taking.{AnswersWith, SweepsWith, after_sweep_with, answer_of, is_fresh, sweep_answer, with_take};
-ghost use Rattle.cc_shared.specs.Sharing.{Stood, standings_of};
+ghost use Rattle.std.specs.Prelude.{◌≡◌, ◌+◌, ◌≤◌, ◌<◌, ◌^◌, ◌++◌, ◌∷◌, [], IfErr, IfOk, length, sum, vec_len, true, false, if◌then◌else◌};
+ghost use Rattle.cc_book.specs.declared.entry.Entry.TheVariants.{Take};
+ghost use Rattle.cc_book.specs.History.{IsLegal};
+ghost use Rattle.cc_book.specs.declared.book.BookRefusal.TheVariants.{OutOfMemory};
+ghost use Rattle.cc_book.specs.Planning.{IsGoodFor, after_plan, answer_planned};
+ghost use Rattle.cc_book.specs.Taking.{AnswersWith, SweepsWith, answer_of, is_fresh, sweep_answer, with_take};
+ghost use Rattle.cc_shared.specs.declared.logged.Logged.TheVariants.{Entered};
+ghost use Rattle.cc_shared.specs.Sharing.{log_after_sweep, standings_of};
 ghost use Rattle.cc_shared.specs.Closing.{FinishesWith};
+ghost use Rattle.cc_shared.specs.History.{book_at, is_closed};
 
 use crate::checking::first_stray;
 use crate::error::CloseError;
+use crate::history::{Beginning, Length};
 use crate::receipt::Receipt;
 use crate::seat::Seat;
 use crate::sharing::Sharing;
-use cc_book::{Answered, Book, BookRefusal};
+use cc_book::{Answered, Book, BookRefusal, Plan};
 use cc_view::CcRequest;
 use dia_base::Moment;
 use std::alloc::{AllocError, Global};
@@ -18,7 +25,8 @@ use std::marker::Model;
 use std::sync::ledger;
 use std::sync::ledger::Share;
 
-/// A book that is shared, with the takes that were made since. Contracts see the book.
+/// A book that is shared and not closed. Contracts see its history since it is shared; the book is the replay of it, and as many
+/// takes stand there as the seats have counted.
 #[derive(Drop)]
 pub struct OpenBook<L: Sharing> {
     book: Book,
@@ -26,76 +34,130 @@ pub struct OpenBook<L: Sharing> {
     counted: ledger::Book<L>,
     /// No part of the ledger: what the seats hand back is added to it.
     rest: Share<L>,
+    /// The whole history.
+    seen: Beginning<L>,
 }
 
 impl<L: Sharing> Model for OpenBook<L> {
-    ghost use Rattle.std.specs.Prelude.{◌≡◌};
-    ghost use Rattle.cc_book.specs.Taking.{Ledger as BookState};
-    ghost use Rattle.cc_shared.specs.Sharing.{HasGrown};
+    ghost use Rattle.std.specs.Prelude.{◌≡◌, List, false};
+    ghost use Rattle.cc_shared.specs.declared.logged.Logged.{Logged as Record};
+    ghost use Rattle.cc_shared.specs.History.{book_at, entries_in, is_closed};
+    ghost use Rattle.cc_shared.specs.Sharing.{takes_in};
 
-    ghost Value = { BookState };
+    ghost Value = { List Record };
 
-    ghost view = { λ b. b.book };
+    ghost view = { λ b. b.seen };
 
-    ghost invariant = { λ b. HasGrown L.opened b.book b.takes × (b.counted.total ≡ b.takes) × (b.rest.parts ≡ 0) × (b.rest.amount ≡ 0) };
+    ghost invariant = { λ b. (b.book ≡ book_at L.shared.opened b.seen) × (is_closed b.seen ≡ false) × (takes_in (entries_in b.seen) ≡ b.takes)
+        × (b.counted.total ≡ b.takes) × (b.rest.parts ≡ 0) × (b.rest.amount ≡ 0) };
 }
 
 impl<L: Sharing> OpenBook<L> {
-    /// The book of which the sharing is named, with no take more.
-    pub fn new(book: Book, counted: ledger::Book<L>, rest: Share<L>) -> Self
-        requires book { book ≡ L.opened }
+    /// The book of which the sharing is named, with nothing more.
+    pub fn new(book: Book, counted: ledger::Book<L>, rest: Share<L>, seen: Beginning<L>) -> Self
+        requires book { book ≡ L.shared.opened }
         requires counted { counted.total ≡ 0 }
         requires rest { (rest.parts ≡ 0) × (rest.amount ≡ 0) }
-        ensures { result ≡ book }
+        requires seen { seen ≡ [] }
+        ensures { result ≡ [] }
     {
         OpenBook {
             book,
             takes: 0,
             counted,
             rest,
+            seen,
         }
     }
 
-    /// One take, which the seat counts where the request was appended.
+    /// The whole history.
+    pub fn history(&self) -> &Beginning<L>
+        ensures log { result.now ≡ self.now }
+        ensures open { is_closed self.now ≡ false }
+        ensures legal { IsLegal L.shared.opened.terms (book_at L.shared.opened self.now).history }
+    {
+        let _entries = self.book.history().len();
+        &self.seen
+    }
+
+    /// One take, which the seat counts if the request was appended.
     pub fn take(
         &mut self,
         alloc: Global,
+        word: &Length<L>,
         seat: &mut Seat<L>,
         moment: Moment,
         request: &CcRequest,
     ) -> Result<Answered, BookRefusal>
-        ensures stood { Stood L.opened self.old }
-        ensures answer { AnswersWith (answer_of self.old request.now) result }
-        ensures after { self.new ≡ (if is_fresh result then with_take self.old moment request.now else self.old) }
+        ensures answer { AnswersWith (answer_of (book_at L.shared.opened self.old) request.now) result }
+        ensures after { self.new ≡ (if is_fresh result then self.old ++ Entered (Take moment request.now) ∷ [] else self.old) }
         ensures count { seat.new ≡ (if is_fresh result then seat.old + 1 else seat.old) }
-        ensures place { seat.old ≤ length self.old.history }
+        ensures place { seat.old ≤ length (book_at L.shared.opened self.old).history }
+        ensures legal { IsLegal L.shared.opened.terms (book_at L.shared.opened self.old).history }
     {
         seat.audit(&mut self.counted);
         let _entries = self.book.history().len();
-        let answered = self.book.take(alloc, moment, request)?;
-        if answered.fresh {
-            seat.add_one(&mut self.counted);
-            self.takes += 1;
+        let plan = self.book.plan(alloc, moment, request)?;
+        if !plan.answered().fresh {
+            return Ok(plan.into_answered());
         }
+        self.enter(word, seat, moment, request, plan)
+    }
+
+    /// Does what was planned for a request that is new.
+    fn enter(
+        &mut self,
+        word: &Length<L>,
+        seat: &mut Seat<L>,
+        moment: Moment,
+        request: &CcRequest,
+        plan: Plan,
+    ) -> Result<Answered, BookRefusal>
+        requires good { IsGoodFor (book_at L.shared.opened self.old) plan }
+        requires fresh { (answer_planned plan).fresh ≡ true }
+        requires after { after_plan (book_at L.shared.opened self.old) plan ≡ with_take (book_at L.shared.opened self.old) moment request.now }
+        requires count { seat.old ≤ length self.old }
+        ensures ok { IfOk result (λ answered. answered ≡ answer_planned plan) }
+        ensures err { IfErr result (λ refusal. refusal ≡ OutOfMemory) }
+        ensures after { self.new ≡ (if is_fresh result then self.old ++ Entered (Take moment request.now) ∷ [] else self.old) }
+        ensures count { seat.new ≡ (if is_fresh result then seat.old + 1 else seat.old) }
+    {
+        let mut seen = self.seen.again();
+        if !seen.add_take(word, moment, request) {
+            return Err(BookRefusal::OutOfMemory);
+        }
+        let answered = self.book.commit(plan);
+        seat.add_one(&mut self.counted);
+        self.takes += 1;
+        self.seen = seen;
         Ok(answered)
     }
 
     /// One look at the clock.
-    pub fn sweep(&mut self, moment: Moment) -> Result<u64, BookRefusal>
-        ensures stood { Stood L.opened self.old }
-        ensures answer { SweepsWith (sweep_answer self.old moment) result }
-        ensures after { self.new ≡ after_sweep_with self.old moment result }
+    pub fn sweep(&mut self, word: &Length<L>, moment: Moment) -> Result<u64, BookRefusal>
+        ensures answer { SweepsWith (sweep_answer (book_at L.shared.opened self.old) moment) result }
+        ensures after { self.new ≡ log_after_sweep self.old moment result }
+        ensures legal { IsLegal L.shared.opened.terms (book_at L.shared.opened self.old).history }
+        ensures open { (is_closed self.old ≡ false) × (is_closed self.new ≡ false) }
     {
         let _entries = self.book.history().len();
-        self.book.sweep(moment)
+        let ended = self.book.quote_sweep(moment)?;
+        if ended == 0 {
+            return Ok(0);
+        }
+        let mut seen = self.seen.again();
+        if !seen.add_sweep(word, moment) {
+            return Err(BookRefusal::OutOfMemory);
+        }
+        let swept = self.book.sweep(moment)?;
+        self.seen = seen;
+        Ok(swept)
     }
 
     /// Balance and reserved amount of each account.
     pub fn snapshot(&self, alloc: Global) -> Result<Vec<(i128, i128)>, AllocError>
-        ensures stood { Stood L.opened self.now }
-        ensures pairs { IfOk result (λ pairs. pairs.items ≡ standings_of self.now.terms self.now.history) }
+        ensures pairs { IfOk result (λ pairs. pairs.items ≡ standings_of L.shared.opened.terms (book_at L.shared.opened self.now).history) }
     {
-        let _entries = self.book.history().len();
         standings(alloc, &self.book)
     }
 
@@ -106,13 +168,15 @@ impl<L: Sharing> OpenBook<L> {
         seats: Vec<Seat<L>>,
         receipts: &[Receipt],
     ) -> Result<Book, CloseError>
-        ensures { FinishesWith L.opened L.parts seats.items receipts.now result }
+        ensures finished { FinishesWith L.shared.opened L.parts seats.items receipts.now result }
+        ensures book { IfOk result (λ book. book ≡ book_at L.shared.opened self) }
     {
         let OpenBook {
             book,
             takes,
             mut counted,
             rest,
+            seen: _,
         } = self;
         let _entries = book.history().len();
         match first_stray(alloc, &book, receipts) {

@@ -3,20 +3,23 @@
 use std::marker::Brand;
 use std::sync::ledger::Ledger;
 
-/// Names one sharing of a book: the ledger of its takes, and the book that was handed in. Each call of a program that
-/// shares a book picks it.
+/// Names one sharing of a book: the ledger of its takes, the book that was handed in, and its history from then on. Each call of
+/// a program that shares a book picks it.
 pub trait Sharing: Ledger {
-    ghost use Rattle.cc_book.specs.Taking.{Ledger as BookState};
+    ghost use Rattle.cc_shared.specs.History.{SharedLedger};
 
-    ghost opened: { BookState };
+    ghost shared: { SharedLedger };
 }
 
 impl Sharing for Brand {
     ghost use Rattle.std.specs.Prelude.{[], pos};
 
-    ghost opened = { record {
-      terms = record { accounts = []; tariffs = []; validity = 0; money = record { currency = 0; exponent = pos 0 } };
-      limit = 0;
-      history = [];
+    ghost shared = { record {
+      opened = record {
+        terms = record { accounts = []; tariffs = []; validity = 0; money = record { currency = 0; exponent = pos 0 } };
+        limit = 0;
+        history = [];
+      };
+      log = record { number = 0; log_name = 0; cells_name = 0 };
     } };
 }

@@ -1,6 +1,6 @@
 //! A process that serves as all fronts of the site.
 
-ghost use Rattle.std.specs.Prelude.{◌≡◌, ◌<◌};
+ghost use Rattle.std.specs.Prelude.{◌≡◌, ◌<◌, ◌≤◌, ◌*◌, length};
 ghost use Rattle.dia_base.specs.declared.number.NodeNo.{NodeNo};
 ghost use Rattle.farm_base.specs.CheckedSite.{IsChecked};
 ghost use Rattle.pool_node.specs.Fronts.{site_of};
@@ -10,14 +10,14 @@ use crate::serving::serve_over;
 use crate::setting::Setting;
 use crate::waker::LoopWaker;
 use cc_book::Book;
-use cc_shared::SharedBook;
+use cc_shared::{BlankHistory, SharedBook};
 use dia_avp::ViewWire;
 use dia_base::NodeNo;
 use farm_loop::Sockets;
 use farm_place::{Place, fronts_of, place_of};
 use farm_world::empty_book;
 use front_pool::Pooling;
-use pool_node::{PoolFronts, start_fronts};
+use pool_node::{PoolFronts, seats_for, start_fronts};
 use std::marker::Brand;
 use std::net::Net;
 use std::random::RandomSource;
@@ -45,11 +45,20 @@ where
     let nodes = fronts_of(alloc, site)?;
     let listening = sockets_of(setting, &nodes)?;
     let book = empty_book(alloc, site)?;
-    let workers = (nodes.len() as u64)
-        .saturating_mul(u64::from(site.workers))
-        .max(1);
-    let blank = Blank::new(workers);
-    serve_on::<Brand, O>(setting, nodes, listening, blank, book, workers, answers)
+    let Some(workers) = seats_for(nodes.len(), site.workers) else {
+        return Err(Fault::OutOfMemory);
+    };
+    let workers = workers.max(1);
+    serve_on::<Brand, O>(
+        setting,
+        nodes,
+        listening,
+        Blank::new(workers),
+        BlankHistory::new(),
+        book,
+        workers,
+        answers,
+    )
 }
 
 /// The sockets of these fronts.
@@ -90,6 +99,7 @@ fn serve_on<L, O>(
     nodes: Vec<NodeNo>,
     listening: FrontSockets,
     blank: Blank,
+    history: BlankHistory,
     book: Book,
     workers: u64,
     answers: u64,
@@ -100,8 +110,10 @@ where
     requires checked { IsChecked setting.now.site.now }
     requires name { blank.name ≡ L.name }
     requires parts { (blank.parts ≡ L.parts) × (blank.parts ≡ workers) }
-    requires book { book ≡ L.opened }
+    requires book { book ≡ L.shared.opened }
+    requires history { history ≡ L.shared.log }
     requires some { 0 < workers }
+    requires enough { length nodes.items * setting.now.site.now.workers ≤ workers }
     requires site { (front : NodeNo) → L.site front ≡ site_of setting.now.site.now front }
 {
     let FrontSockets {
@@ -109,7 +121,7 @@ where
         sockets,
         waker,
     } = listening;
-    let fronts = start_on::<L, O>(setting, &nodes, waker, blank, book, workers)?;
+    let fronts = start_on::<L, O>(setting, &nodes, waker, blank, history, book, workers)?;
     serve_over(setting, &nodes, fronts, places, sockets, answers)
 }
 
@@ -119,6 +131,7 @@ fn start_on<L, O>(
     nodes: &[NodeNo],
     waker: LoopWaker,
     blank: Blank,
+    history: BlankHistory,
     book: Book,
     workers: u64,
 ) -> Result<PoolFronts<L, O>, Fault>
@@ -128,12 +141,14 @@ where
     requires checked { IsChecked setting.now.site.now }
     requires name { blank.name ≡ L.name }
     requires parts { (blank.parts ≡ L.parts) × (blank.parts ≡ workers) }
-    requires book { book ≡ L.opened }
+    requires book { book ≡ L.shared.opened }
+    requires history { history ≡ L.shared.log }
     requires some { 0 < workers }
+    requires enough { length nodes.now * setting.now.site.now.workers ≤ workers }
     requires site { (front : NodeNo) → L.site front ≡ site_of setting.now.site.now front }
 {
     let (alloc, site) = (setting.rt.alloc(), setting.site);
-    let Ok((shared, seats)) = SharedBook::<L>::share(alloc, blank, book, workers) else {
+    let Ok((shared, seats)) = SharedBook::<L>::share(alloc, blank, history, book, workers) else {
         return Err(Fault::OutOfMemory);
     };
     let fronts = start_fronts::<ViewWire, L, O, LoopWaker>(

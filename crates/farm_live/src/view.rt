@@ -25,6 +25,9 @@ pub trait Booked: Node + Drop {
 
     fn pending(&self) -> u64;
 
+    /// How many answers were dropped that nobody waited for.
+    fn strangers(&self) -> u64;
+
     /// What only the node can tell of is recorded.
     fn tell(live: &mut Live<Self>);
 
@@ -46,6 +49,10 @@ impl Booked for Relay {
         Relay::pending(self) as u64
     }
 
+    fn strangers(&self) -> u64 {
+        0
+    }
+
     fn tell(_live: &mut Live<Relay>) {}
 
     fn end<O: Threads + Wait + Clock>(
@@ -64,6 +71,10 @@ impl Booked for Sender {
     }
 
     fn pending(&self) -> u64 {
+        0
+    }
+
+    fn strangers(&self) -> u64 {
         0
     }
 
@@ -88,6 +99,10 @@ impl<L: Pooling, R: Wait + Drop> Booked for PoolFronts<L, R> {
         0
     }
 
+    fn strangers(&self) -> u64 {
+        PoolFronts::strangers(self)
+    }
+
     fn tell(live: &mut Live<PoolFronts<L, R>>) {
         live.serving.record_node();
     }
@@ -98,7 +113,10 @@ impl<L: Pooling, R: Wait + Drop> Booked for PoolFronts<L, R> {
         alloc: Global,
         recorder: &mut Recorder,
     ) -> Option<Book> {
-        PoolFronts::end(self, os, alloc, recorder)
+        match PoolFronts::end(self, os, alloc, recorder) {
+            Some(closed) => Some(closed.book),
+            None => None,
+        }
     }
 }
 

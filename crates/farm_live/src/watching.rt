@@ -11,7 +11,7 @@ use farm_command::Process;
 use farm_loop::{Live, StatusPort};
 use farm_node::Node;
 use farm_status::Token;
-use log::warn;
+use log::{error, warn};
 use std::net::{IpAddr, Ipv4Addr, Net, SocketAddr};
 use std::random::RandomSource;
 use std::rt::Clock;
@@ -23,6 +23,8 @@ pub struct Watching {
     nodes: Vec<NodeNo>,
     /// The hundredths of the book that were told of last.
     told: u64,
+    /// How many answers that nobody waited for were told of last.
+    strangers: u64,
 }
 
 /// The hundredths of the book at which its filling is told.
@@ -86,6 +88,7 @@ impl Watching {
             port,
             nodes,
             told: 0,
+            strangers: 0,
         })
     }
 
@@ -97,6 +100,7 @@ impl Watching {
         live: &Live<N>,
     ) -> Result<bool, Fault> {
         self.tell_filling(setting.log, setting.site, live);
+        self.tell_strangers(setting.log, live);
         let Some(port) = &mut self.port else {
             return Ok(false);
         };
@@ -129,6 +133,15 @@ impl Watching {
                 self.told = at;
                 warn!(log; target: "farm", "the book is {now} hundredths full: {entries} of {limit} entries. Once it is full, no request is charged");
             }
+        }
+    }
+
+    /// Tells of answers of workers that were dropped since nobody waited for them.
+    fn tell_strangers<N: Node + Drop + Booked>(&mut self, log: &Logger, live: &Live<N>) {
+        let now = live.serving.node().strangers();
+        if now > self.strangers {
+            self.strangers = now;
+            error!(log; target: "farm", "{now} answers of workers were dropped, for which no front waited");
         }
     }
 }

@@ -12,6 +12,7 @@ use Rattle.cc_view.specs.RequestView.{view_under}
 use Rattle.cc_book.specs.declared.entry.Entry.{Entry}
 use Rattle.cc_book.specs.declared.entry.Entry.TheVariants.{Take}
 use Rattle.cc_book.specs.declared.terms.Terms.{Terms}
+use Rattle.cc_shared.specs.History.{SharedLedger}
 use Rattle.cc_book.specs.AccountMachine.{kept_reply, repeat_reply, reply_to}
 use Rattle.cc_book.specs.Duplicate.{key_of}
 use Rattle.cc_book.specs.History.{IsLegal}
@@ -28,12 +29,12 @@ use Rattle.front_pool.specs.Charging.{IsChargedAt, answer_with, as_of, pool_of}
 
 -- what is read in a message that was served is the request of its receipt
 view_at :
-    (site : PoolSite) (terms : Terms) (message : Message) (answer : Option Message) (given : Option Receipt) (receipt : Receipt)
-    → Answers site terms message answer given → given ≡ Some receipt → view_under site.profile message ≡ Ok receipt.request
-view_at site terms message answer given receipt (serves a r view told written) e =
+    (site : PoolSite) (shared : SharedLedger) (message : Message) (answer : Option Message) (given : Option Receipt) (receipt : Receipt)
+    → Answers site shared message answer given → given ≡ Some receipt → view_under site.profile message ≡ Ok receipt.request
+view_at site shared message answer given receipt (serves a r view told written) e =
     let same : r ≡ receipt = cc in view ∙ ap (λ (x : Receipt). Ok x.request) same
-view_at site terms message answer given receipt (refuses a refusal view written) e = let other : ⊥ = cc in absurd other
-view_at site terms message answer given receipt (is_too_busy a written) e = let other : ⊥ = cc in absurd other
+view_at site shared message answer given receipt (refuses a refusal view written) e = let other : ⊥ = cc in absurd other
+view_at site shared message answer given receipt (is_too_busy a written) e = let other : ⊥ = cc in absurd other
 
 -- what stands behind an entry of a list
 record Around (xs : List Entry) (i : ℕ) (x : Entry) : Type 0 where
@@ -101,17 +102,17 @@ charged site ledger message receipt legal within view fits same =
     record { moment = moment; at = at; charge = subst R (sym reply) (subst Q (sym more) done) }
 
 pub fresh_is_charged :
-    (site : FrontSite) (ledger : Ledger) (message : Message) (answer : Option Message) (given : Option Receipt) (receipt : Receipt)
-    → IsLegal ledger.terms ledger.history → length ledger.history ≤ ledger.limit → Answers (pool_of site) ledger.terms message answer given
+    (site : FrontSite) (shared : SharedLedger) (ledger : Ledger) (message : Message) (answer : Option Message) (given : Option Receipt) (receipt : Receipt)
+    → IsLegal ledger.terms ledger.history → length ledger.history ≤ ledger.limit → Answers (pool_of site) shared message answer given
     → given ≡ Some receipt → Fits ledger.terms ledger.history receipt → receipt.fresh ≡ true → IsChargedAt site ledger message receipt
-fresh_is_charged site ledger message answer given receipt legal within answers is fits fresh =
-    charged site ledger message receipt legal within (view_at (pool_of site) ledger.terms message answer given receipt answers is) fits (fits.told.own fresh)
+fresh_is_charged site shared ledger message answer given receipt legal within answers is fits fresh =
+    charged site ledger message receipt legal within (view_at (pool_of site) shared message answer given receipt answers is) fits (fits.told.own fresh)
 
 pub repeat_is_charged :
-    (site : FrontSite) (ledger : Ledger) (moment : Moment) (message : Message) (answer : Option Message) (given : Option Receipt) (receipt : Receipt)
-    → IsLegal ledger.terms ledger.history → Answers (pool_of site) ledger.terms message answer given → given ≡ Some receipt
+    (site : FrontSite) (shared : SharedLedger) (ledger : Ledger) (moment : Moment) (message : Message) (answer : Option Message) (given : Option Receipt) (receipt : Receipt)
+    → IsLegal ledger.terms ledger.history → Answers (pool_of site) shared message answer given → given ≡ Some receipt
     → Fits ledger.terms ledger.history receipt → IsCharge site ledger moment message (answer_with site message receipt) ledger
-repeat_is_charged site ledger moment message answer given receipt legal answers is fits =
-    let view = view_at (pool_of site) ledger.terms message answer given receipt answers is in
+repeat_is_charged site shared ledger moment message answer given receipt legal answers is fits =
+    let view = view_at (pool_of site) shared message answer given receipt answers is in
     let there = kept_there ledger.terms ledger.history receipt.place fits.at.moment fits.taken receipt.request legal fits.at.entry fits.told.same in
     repeats receipt.request receipt.reply view (there ∙ ap Some (sym fits.told.reply))

@@ -89,6 +89,26 @@ taken_off (first ∷ jobs) (suc place) job below at =
     let rest = taken_off jobs place job (omega arith) at in
     record { before = first ∷ rest.before; behind = rest.behind; was = ap (λ js. first ∷ js) rest.was; is = ap (λ js. first ∷ js) rest.is }
 
+-- ---- a job that cannot be taken off
+
+at_middle : (before : List Job) (job : Job) (behind : List Job) (d : Job) → get_or (before ++ job ∷ behind) (length before) d ≡ job
+at_middle [] job behind d = refl
+at_middle (first ∷ before) job behind d = at_middle before job behind d
+
+in_middle : (before : List Job) (job : Job) (behind : List Job) → length before < length (before ++ job ∷ behind)
+in_middle [] job behind = omega arith
+in_middle (first ∷ before) job behind = let rest = in_middle before job behind in omega (arith, rest)
+
+-- a job that stands at no place
+abbrev pub IsNowhere : List Job → Job → Type 0
+IsNowhere jobs job = (k : ℕ) (d : Job) → k < length jobs → get_or jobs k d ≡ job → ⊥
+
+pub not_taken_off : (jobs : List Job) (job : Job) → IsNowhere jobs job → (rest : List Job) → IsTakenOff job jobs rest → ⊥
+not_taken_off jobs job nowhere rest off =
+    let P : List Job → Type 0 = λ js. (k : ℕ) (d : Job) → k < length js → get_or js k d ≡ job → ⊥ in
+    let there : P (off.before ++ job ∷ off.behind) = subst P off.was nowhere in
+    there (length off.before) job (in_middle off.before job off.behind) (at_middle off.before job off.behind job)
+
 -- A job that is taken off and finished is one of those that are finished or left.
 pub settles :
     (all : List Job) (finished : List Finished) (next : Finished) (left after : List Job) → IsPermutation all (jobs_of finished ++ left)

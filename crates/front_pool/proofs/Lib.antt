@@ -4,3 +4,4 @@ pub mod Refused
 pub mod Serving
 pub mod Comparing
 pub mod Charges
+pub mod Passing

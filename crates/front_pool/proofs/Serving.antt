@@ -2,7 +2,7 @@
 use Rattle.std.proofs.Common.{◌≡◌, ℕ, ◌+◌, List, [], ◌∷◌, ◌++◌, Bool, true, false, Option, Some, None, arith, refl, subst}
 use Rattle.std.proofs.lemmas.List.Sums.{sum_by-append, sum_by-cons}
 use Rattle.dia_base.specs.declared.number.NodeNo.{NodeNo}
-use Rattle.cc_book.specs.declared.terms.Terms.{Terms}
+use Rattle.cc_shared.specs.History.{SharedLedger}
 use Rattle.front_pool.specs.declared.job.Finished.{Finished}
 use Rattle.front_pool.specs.declared.job.Job.{Job}
 use Rattle.front_pool.specs.declared.site.PoolSite.{PoolSite}
@@ -13,19 +13,19 @@ use Rattle.front_pool.specs.Counting.{counted_with, takes_of, takes_told}
 use Rattle.front_pool.specs.Jobs.{job_of}
 
 pub served_append :
-    (sites : NodeNo → PoolSite) (terms : Terms) (jobs : List Job) (done : List Finished) (job : Job) (finished : Finished) → AreServed sites terms jobs done
-    → job ≡ job_of finished → IsAnsweredByOne sites terms finished → AreServed sites terms (jobs ++ job ∷ []) (done ++ finished ∷ [])
-served_append sites terms [] [] job finished served is answered = (is, answered, tt)
-served_append sites terms [] (d ∷ ds) job finished served is answered = absurd served
-served_append sites terms (j ∷ js) [] job finished served is answered = absurd served
-served_append sites terms (j ∷ js) (d ∷ ds) job finished served is answered =
-    (served.0, served.1, served_append sites terms js ds job finished served.2 is answered)
+    (sites : NodeNo → PoolSite) (shared : SharedLedger) (jobs : List Job) (done : List Finished) (job : Job) (finished : Finished) → AreServed sites shared jobs done
+    → job ≡ job_of finished → IsAnsweredByOne sites shared finished → AreServed sites shared (jobs ++ job ∷ []) (done ++ finished ∷ [])
+served_append sites shared [] [] job finished served is answered = (is, answered, tt)
+served_append sites shared [] (d ∷ ds) job finished served is answered = absurd served
+served_append sites shared (j ∷ js) [] job finished served is answered = absurd served
+served_append sites shared (j ∷ js) (d ∷ ds) job finished served is answered =
+    (served.0, served.1, served_append sites shared js ds job finished served.2 is answered)
 
 -- what is answered in the name of the front that it names is answered in the name of this one, which it is
 pub by_front :
-    (front : NodeNo) (sites : NodeNo → PoolSite) (terms : Terms) (finished : Finished) → finished.front ≡ front → IsAnsweredByOne sites terms finished
-    → IsAnsweredBy front sites terms finished
-by_front front sites terms finished is answered = (is, subst (λ (n : NodeNo). IsAnswered (sites n) terms finished) is answered)
+    (front : NodeNo) (sites : NodeNo → PoolSite) (shared : SharedLedger) (finished : Finished) → finished.front ≡ front → IsAnsweredByOne sites shared finished
+    → IsAnsweredBy front sites shared finished
+by_front front sites shared finished is answered = (is, subst (λ (n : NodeNo). IsAnswered (sites n) shared finished) is answered)
 
 -- ---- what a seat counts
 

@@ -1,7 +1,7 @@
 -- What a worker has done.
 use Rattle.std.specs.Prelude.{◌≡◌, ℕ, List, [], ◌∷◌, ◌++◌}
 use Rattle.dia_base.specs.declared.number.NodeNo.{NodeNo}
-use Rattle.cc_book.specs.declared.terms.Terms.{Terms}
+use Rattle.cc_shared.specs.History.{SharedLedger}
 use Rattle.front_pool.specs.declared.job.Finished.{Finished}
 use Rattle.front_pool.specs.declared.job.Job.{Job}
 use Rattle.front_pool.specs.declared.site.PoolSite.{PoolSite}
@@ -26,8 +26,8 @@ abbrev pub with_job_finished : Turns → Finished → Turns
 with_job_finished turns finished = record turns { finished = turns.finished ++ finished ∷ [] }
 
 -- This job was finished, by one answer, and the seat has counted what the receipt tells of.
-pub record WorksOff (sites : NodeNo → PoolSite) (terms : Terms) (job : Job) (old new : Turns) : Type 0 where
+pub record WorksOff (sites : NodeNo → PoolSite) (shared : SharedLedger) (job : Job) (old new : Turns) : Type 0 where
   pub finished : Finished
   pub job_is : job_of finished ≡ job
-  pub answered : IsAnsweredByOne sites terms finished
+  pub answered : IsAnsweredByOne sites shared finished
   pub is : new ≡ with_job_finished (record old { counted = counted_with old.counted finished.receipt }) finished

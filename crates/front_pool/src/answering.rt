@@ -68,7 +68,7 @@ fn charge<W: Wire, L: Pooling, R: Wait + Clock>(
     request: CcRequest,
 ) -> Worked
     requires view { view_under site.now.profile message.now ≡ Ok request }
-    ensures answers { Answers site.now L.opened.terms message.now result.0 result.1 }
+    ensures answers { Answers site.now L.shared message.now result.0 result.1 }
     ensures count { seat.new ≡ counted_with seat.old result.1 }
     ensures moment { IsSome result.1 → IsSome result.2 }
 {
@@ -96,7 +96,7 @@ fn work<W: Wire, L: Pooling, R: Wait + Clock, G: Gate>(
     gate: &G,
     job: &Job,
 ) -> Worked
-    ensures answers { Answers site.now L.opened.terms job.now.request result.0 result.1 }
+    ensures answers { Answers site.now L.shared job.now.request result.0 result.1 }
     ensures count { seat.new ≡ counted_with seat.old result.1 }
     ensures moment { IsSome result.1 → IsSome result.2 }
 {
@@ -126,7 +126,7 @@ pub fn finish<W: Wire, L: Pooling, R: Wait + Clock, G: Gate>(
 ) -> Finished
     requires { site.now ≡ L.site front }
     ensures job { job_of result ≡ job }
-    ensures answered { IsAnsweredByOne L.site L.opened.terms result }
+    ensures answered { IsAnsweredByOne L.site L.shared result }
     ensures count { seat.new ≡ counted_with seat.old result.receipt }
     ensures moment { IsSome result.receipt → IsSome result.moment }
 {

@@ -17,7 +17,7 @@ pub struct Job {
 }
 
 /// A job that a worker has finished.
-#[derive(Debug, Drop)]
+#[derive(Drop)]
 pub struct Finished {
     /// Its number.
     pub job: u64,

@@ -1,12 +1,14 @@
 //! A pool: the jobs that were handed over, and the threads that work on them.
 
-ghost use Rattle.std.specs.Prelude.{◌≡◌, ◌+◌, ◌≤◌, [], ◌++◌, length, All, IfSome, MatchBool, true, vec_len, vec_capacity};
+ghost use Rattle.std.specs.Prelude.{◌≡◌, ◌+◌, ◌≤◌, List, [], ◌∷◌, ◌++◌, length, All, IfNone, IfSome, MatchBool, true, false, vec_len, vec_capacity};
 ghost use Rattle.std.specs.List.Sorted.{IsPermutation};
 ghost use Rattle.std.specs.Arc.{arc_value};
-ghost use Rattle.crossbeam_queue.specs.Passes.{IsPassOf, ruled_capacity};
+ghost use Rattle.crossbeam_queue.specs.Passes.{IsPassOf, ruled_capacity, view};
 ghost use Rattle.front_pool.specs.Answering.{IsAnsweredBy, IsAnsweredByOne};
+ghost use Rattle.front_pool.specs.declared.job.Job.{Job};
 ghost use Rattle.front_pool.specs.Jobs.{job_of, jobs_of};
-ghost use Rattle.front_pool.specs.Keeping.{Balances, Collects, HandsBack, IsAt, IsTakenOff, new_pool};
+ghost use Rattle.front_pool.specs.Keeping.{Balances, Collects, HandsBack, IsAt, IsStranger, IsTakenOff, new_pool};
+ghost use Rattle.front_pool.specs.Moving.{of_pool, with_taken};
 
 use crate::control::Control;
 use crate::desk::Desk;
@@ -29,7 +31,8 @@ use std::time::Duration;
 const NOT_YET: u64 = 1;
 
 /// Worker threads on one shared book. Contracts see how many there are, how many jobs may wait for them, the last number given,
-/// and the jobs that were handed over and not collected.
+/// the jobs that were handed over and not collected, and all that it has put into its queue of jobs and taken out of that of
+/// finished ones.
 #[derive(Drop)]
 pub struct Pool<L: Pooling> {
     front: NodeNo,
@@ -43,22 +46,32 @@ pub struct Pool<L: Pooling> {
     /// Empty, with room for the seat of each worker.
     seats: Vec<Seat<L>>,
     last: u64,
+    strangers: u64,
     unanswered: Vec<Job>,
     /// Empty, with room for each job that is not collected.
     room: Vec<Finished>,
 }
 
 impl<L: Pooling> Model for Pool<L> {
-    ghost use Rattle.std.specs.Prelude.{◌≡◌, ◌≤◌, [], vec_len, vec_capacity};
+    ghost use Rattle.std.specs.Prelude.{◌≡◌, ◌≤◌, [], true, vec_len, vec_capacity};
     ghost use Rattle.std.specs.Arc.{arc_value};
-    ghost use Rattle.crossbeam_queue.specs.Passes.{IsPassOf, ruled_capacity};
+    ghost use Rattle.crossbeam_queue.specs.Passes.{IsPassOf, ruled_capacity, view as known_to};
     ghost use Rattle.front_pool.specs.Keeping.{IsNumbered, PoolState};
 
     ghost Value = { PoolState };
 
-    ghost view = { λ p. record { front = p.front; workers = vec_len p.workers; room = ruled_capacity (arc_value p.jobs); last = p.last; unanswered = p.unanswered.items } };
+    ghost view = { λ p. record {
+      front = p.front;
+      workers = vec_len p.workers;
+      room = ruled_capacity (arc_value p.jobs);
+      last = p.last;
+      unanswered = p.unanswered.items;
+      put = (known_to p.job_pass).put;
+      taken = (known_to p.finished_pass).taken;
+    } };
 
     ghost invariant = { λ p. IsPassOf (arc_value p.jobs) p.job_pass × IsPassOf (arc_value p.finished) p.finished_pass
+        × ((known_to p.job_pass).by_pool ≡ true) × ((known_to p.finished_pass).by_pool ≡ true)
         × (p.seats.items ≡ []) × (vec_len p.workers ≤ vec_capacity p.seats)
         × (p.room.items ≡ []) × (vec_len p.unanswered ≤ vec_capacity p.room) × IsNumbered p.unanswered.items p.last };
 }
@@ -74,8 +87,8 @@ impl<L: Pooling> Pool<L> {
         workers: Vec<JoinHandle<Seat<L>>>,
         seats: Vec<Seat<L>>,
     ) -> Self
-        requires jobs { IsPassOf (arc_value desk.jobs) job_pass }
-        requires finished { IsPassOf (arc_value desk.finished) finished_pass }
+        requires jobs { IsPassOf (arc_value desk.jobs) job_pass × (view job_pass ≡ of_pool) }
+        requires finished { IsPassOf (arc_value desk.finished) finished_pass × (view finished_pass ≡ of_pool) }
         requires seats { (seats.items ≡ []) × (vec_len workers ≤ vec_capacity seats) }
         ensures { result ≡ new_pool desk.front (vec_len workers) (ruled_capacity (arc_value desk.jobs)) }
     {
@@ -99,6 +112,7 @@ impl<L: Pooling> Pool<L> {
             workers,
             seats,
             last: 0,
+            strangers: 0,
             unanswered: Vec::new(alloc),
             room: Vec::new(alloc),
         }
@@ -145,33 +159,54 @@ impl<L: Pooling> Pool<L> {
         Ok(number)
     }
 
-    /// A finished job. None where none is.
+    /// A finished job. None where none that it waits for is there: what else is there is dropped, and counted.
     pub fn collect<R: Wait>(&mut self, rt: &R) -> Option<Finished>
         ensures collects { Collects self.old result self.new }
-        ensures answered { IfSome result (λ finished. IsAnsweredBy self.old.front L.site L.opened.terms finished) }
+        ensures answered { IfSome result (λ finished. IsAnsweredBy self.old.front L.site L.shared finished) }
     {
-        let finished = self.take(rt)?;
-        if take_off(self.front, &mut self.unanswered, &finished) {
-            Some(finished)
-        } else {
-            None
+        for _ in rt.forever() {
+            let finished = self.take(rt)?;
+            match self.own(finished) {
+                Some(own) => return Some(own),
+                None => {}
+            }
         }
+        unreachable!()
+    }
+
+    /// The finished job, if the pool waits for it, from now on no more. Else it is dropped, and counted.
+    fn own(&mut self, finished: Finished) -> Option<Finished>
+        ensures some { IfSome result (λ own. (own ≡ finished) × (own.front ≡ self.old.front)
+            × IsTakenOff (job_of own) self.old.unanswered self.new.unanswered × (self.new ≡ record self.old { unanswered = self.new.unanswered })) }
+        ensures none { IfNone result (IsStranger self.old finished × (self.new ≡ self.old)) }
+    {
+        if take_off(self.front, &mut self.unanswered, &finished) {
+            return Some(finished);
+        }
+        self.strangers = self.strangers.saturating_add(1);
+        None
     }
 
     /// What a worker has put among the finished jobs. None where nothing is.
     fn take<R: Wait>(&mut self, rt: &R) -> Option<Finished>
-        ensures same { self.new ≡ self.old }
-        ensures answered { IfSome result (λ finished. IsAnsweredByOne L.site L.opened.terms finished) }
+        ensures some { IfSome result (λ finished. self.new ≡ record self.old { taken = self.old.taken ++ finished ∷ [] }) }
+        ensures none { IfNone result (self.new ≡ self.old) }
+        ensures answered { IfSome result (λ finished. IsAnsweredByOne L.site L.shared finished) }
     {
         self.finished
             .pop_as::<TakesAnswered<L>, R>(rt, &mut self.finished_pass)
+    }
+
+    /// How many finished jobs it has dropped that it did not wait for. There is none as long as its workers finish what they take.
+    pub fn strangers(&self) -> u64 {
+        self.strangers
     }
 
     /// Ends all workers, each after the job that it holds, and joins them. Each job that was handed over and not collected
     /// is there once: finished, or, where no worker has finished it, unserved. It takes no memory.
     pub fn stop<R: Threads + Wait + Clock>(self, rt: &R) -> Stopped<L>
         ensures balances { Balances self (length result.seats.items) result.finished.items result.unserved.items }
-        ensures answered { All (IsAnsweredBy self.front L.site L.opened.terms) result.finished.items }
+        ensures answered { All (IsAnsweredBy self.front L.site L.shared) result.finished.items }
     {
         let Pool {
             front,
@@ -184,6 +219,7 @@ impl<L: Pooling> Pool<L> {
             workers,
             seats,
             last: _,
+            strangers: _,
             unanswered,
             room,
         } = self;
@@ -210,7 +246,8 @@ impl<L: Pooling> Pool<L> {
 
 /// The place of the job that is finished. None where it is not among these.
 fn place_of(jobs: &[Job], finished: &Finished) -> Option<usize>
-    ensures { IfSome result (λ place. IsAt jobs.now place (job_of finished.now)) }
+    ensures some { IfSome result (λ place. IsAt jobs.now place (job_of finished.now)) }
+    ensures none { IfNone result ((rest : List Job) → IsTakenOff (job_of finished.now) jobs.now rest → ⊥) }
 {
     for place in 0..jobs.len() {
         if is_of(&jobs[place], finished) {
@@ -224,6 +261,7 @@ fn place_of(jobs: &[Job], finished: &Finished) -> Option<usize>
 fn take_off(front: NodeNo, jobs: &mut Vec<Job>, finished: &Finished) -> bool
     ensures front { result ≡ true → finished.now.front ≡ front }
     ensures taken { MatchBool result (IsTakenOff (job_of finished.now) jobs.old.items jobs.new.items) (jobs.new.items ≡ jobs.old.items) }
+    ensures stranger { result ≡ false → finished.now.front ≡ front → (rest : List Job) → IsTakenOff (job_of finished.now) jobs.old.items rest → ⊥ }
     ensures len { MatchBool result (vec_len jobs.new + 1 ≡ vec_len jobs.old) (vec_len jobs.new ≡ vec_len jobs.old) }
 {
     if finished.front != front {
@@ -247,11 +285,11 @@ fn drain<L: Pooling, R: Wait + Clock>(
     unanswered: Vec<Job>,
     room: Vec<Finished>,
 ) -> (Vec<Finished>, Vec<Job>)
-    requires pass { IsPassOf queue.now pass }
+    requires pass { IsPassOf queue.now pass × ((view pass).by_pool ≡ true) }
     requires empty { room.items ≡ [] }
     requires room { vec_len unanswered ≤ vec_capacity room }
     ensures jobs { IsPermutation unanswered.items (jobs_of result.0.items ++ result.1.items) }
-    ensures answered { All (IsAnsweredBy front L.site L.opened.terms) result.0.items }
+    ensures answered { All (IsAnsweredBy front L.site L.shared) result.0.items }
 {
     let mut pass = pass;
     let mut left = unanswered;

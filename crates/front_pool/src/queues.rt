@@ -4,40 +4,53 @@ ghost use Rattle.std.specs.Prelude.{◌≡◌, ⊤};
 
 use crate::job::{Finished, Job};
 use crate::site::Pooling;
-use crossbeam_queue::protocol::{Lesson, Outcome, Protocol};
+use crossbeam_queue::protocol::{Lesson, Outcome, Protocol, Split};
 use crossbeam_queue::{Pass, RuledArrayQueue};
 use std::collections::LinkedList;
 use std::marker::PhantomData;
 
-/// What has been put into a queue by one who uses it, and taken out. No value of it is made.
+/// Who uses a queue, a pool or one of its workers, and what it has put into it and taken out. No value of it is made.
 pub struct Moves<T> {
+    pub by_pool: bool,
     pub put: LinkedList<T>,
     pub taken: LinkedList<T>,
 }
 
-/// The rule of the jobs: what was put was taken, or is there still.
+/// The rule of the jobs: what was put was taken, or is there still. The pool alone puts, and its workers take.
 pub struct JobRule;
 
 impl Protocol<Job, Moves<Job>> for JobRule {
-    ghost use Rattle.front_pool.specs.Moving.{Anything, Balanced, no_moves};
+    ghost use Rattle.front_pool.specs.Moving.{Anything, Balanced, GivesJobs, of_pool};
 
-    ghost holds = { Balanced Anything };
+    ghost holds = { Balanced GivesJobs Anything };
 
-    ghost first = { no_moves };
+    ghost first = { of_pool };
 }
 
-/// The rule of the finished answers: besides, each of them is what its job is answered.
+/// The rule of the finished jobs: what was put was taken, or is there still, and each is what its job is answered. Workers alone
+/// put, and their pool takes.
 pub struct FinishedRule<L> {
     pool: PhantomData<L>,
 }
 
 impl<L: Pooling> Protocol<Finished, Moves<Finished>> for FinishedRule<L> {
     ghost use Rattle.front_pool.specs.Answering.{IsAnsweredByOne};
-    ghost use Rattle.front_pool.specs.Moving.{Balanced, no_moves};
+    ghost use Rattle.front_pool.specs.Moving.{Balanced, GivesFinished, of_pool};
 
-    ghost holds = { Balanced (IsAnsweredByOne L.site L.opened.terms) };
+    ghost holds = { Balanced GivesFinished (IsAnsweredByOne L.site L.shared) };
 
-    ghost first = { no_moves };
+    ghost first = { of_pool };
+}
+
+/// A worker more, which has not used the queue yet.
+pub struct Hires;
+
+impl<T> Split<Moves<T>> for Hires {
+    ghost use Rattle.front_pool.specs.Moving.{of_worker};
+
+    ghost left = { λ v. v };
+
+    ghost right = { λ v. of_worker };
 }
 
 /// One put.
@@ -50,7 +63,14 @@ impl<T> Outcome<T, Moves<T>> for Puts {
     ghost then = { λ v x w. w ≡ with_put v x };
 }
 
-impl<T> Lesson<T, Moves<T>> for Puts {
+/// The queue holds no more than the pool has put.
+impl Lesson<Job, Moves<Job>> for Puts {
+    ghost use Rattle.std.specs.Prelude.{◌≤◌, length};
+
+    ghost fact = { λ v items. length items ≤ length v.put };
+}
+
+impl Lesson<Finished, Moves<Finished>> for Puts {
     ghost use Rattle.std.specs.Prelude.{⊤};
 
     ghost fact = { λ v items. ⊤ };
@@ -82,7 +102,7 @@ impl<L: Pooling> Outcome<Finished, Moves<Finished>> for TakesAnswered<L> {
     ghost use Rattle.front_pool.specs.Answering.{IsAnsweredByOne};
     ghost use Rattle.front_pool.specs.Moving.{with_taken};
 
-    ghost then = { λ v x w. IsAnsweredByOne L.site L.opened.terms x × (w ≡ with_taken v x) };
+    ghost then = { λ v x w. IsAnsweredByOne L.site L.shared x × (w ≡ with_taken v x) };
 }
 
 impl<L: Pooling> Lesson<Finished, Moves<Finished>> for TakesAnswered<L> {

@@ -2,12 +2,15 @@
 
 ghost use Rattle.std.specs.Prelude.{◌≡◌, ◌<◌, length, IfErr, IfOk};
 ghost use Rattle.std.specs.Arc.{arc_value};
+ghost use Rattle.crossbeam_queue.specs.Passes.{IsPassOf, view};
 ghost use Rattle.front_pool.specs.Keeping.{new_pool};
+ghost use Rattle.front_pool.specs.Moving.{of_pool};
 
 use crate::desk::Desk;
 use crate::error::StartFailed;
 use crate::gate::Gate;
 use crate::pool::{Pool, joined};
+use crate::queues::{FinishedPass, JobPass};
 use crate::site::{PoolQueue, Pooling};
 use crate::worker::Worker;
 use cc_shared::{Seat, SharedBook};
@@ -23,6 +26,8 @@ fn hire<W, L, R, G>(
     rt: &R,
     alloc: Global,
     desk: &Desk<L, G>,
+    job_pass: &mut JobPass,
+    finished_pass: &mut FinishedPass,
     shared: &SharedBook<L>,
     seat: Seat<L>,
 ) -> Result<JoinHandle<Seat<L>>, Seat<L>>
@@ -31,7 +36,11 @@ where
     L: Pooling + Send + Sync + 'static,
     R: Threads + Wait + Clock + Copy + Send + 'static,
     G: Gate + Drop + Send + Sync + 'static,
-    requires { arc_value desk.now.site ≡ L.site desk.now.front }
+    requires site { arc_value desk.now.site ≡ L.site desk.now.front }
+    requires jobs { IsPassOf (arc_value desk.now.jobs) job_pass.old × (view job_pass.old ≡ of_pool) }
+    requires finished { IsPassOf (arc_value desk.now.finished) finished_pass.old × (view finished_pass.old ≡ of_pool) }
+    ensures jobs { IsPassOf (arc_value desk.now.jobs) job_pass.new × (view job_pass.new ≡ of_pool) }
+    ensures finished { IsPassOf (arc_value desk.now.finished) finished_pass.new × (view finished_pass.new ≡ of_pool) }
 {
     let Ok(own) = desk.another() else {
         return Err(seat);
@@ -39,7 +48,8 @@ where
     let Ok(handle) = shared.another() else {
         return Err(seat);
     };
-    let worker = Worker::new(own, handle, seat);
+    let (to_take, to_put) = desk.passes(job_pass, finished_pass);
+    let worker = Worker::new(own, to_take, to_put, handle, seat);
     let runtime = *rt;
     match thread::spawn(rt, move || worker.run::<W, R>(&runtime, alloc)) {
         Ok(thread) => Ok(thread),
@@ -78,11 +88,19 @@ impl<L: Pooling + Send + Sync + 'static> Pool<L> {
         let Ok(mut back) = Vec::with_capacity(alloc, seats.len()) else {
             return Err(StartFailed { shared, seats });
         };
-        let Ok((desk, job_pass, finished_pass)) = Desk::new(alloc, gate, queue) else {
+        let Ok((desk, mut job_pass, mut finished_pass)) = Desk::new(alloc, gate, queue) else {
             return Err(StartFailed { shared, seats });
         };
         for seat in seats {
-            match hire::<W, L, R, G>(rt, alloc, &desk, &shared, seat) {
+            match hire::<W, L, R, G>(
+                rt,
+                alloc,
+                &desk,
+                &mut job_pass,
+                &mut finished_pass,
+                &shared,
+                seat,
+            ) {
                 Ok(thread) => workers.push_reserved(thread),
                 Err(seat) => back.push_reserved(seat),
             }

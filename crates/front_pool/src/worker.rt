@@ -6,7 +6,7 @@ ghost use Rattle.crossbeam_queue.specs.Passes.{IsPassOf, view};
 ghost use Rattle.front_pool.specs.Answering.{AreServed, IsAnsweredByOne};
 ghost use Rattle.front_pool.specs.Counting.{takes_told};
 ghost use Rattle.front_pool.specs.Jobs.{job_of};
-ghost use Rattle.front_pool.specs.Moving.{no_moves};
+ghost use Rattle.front_pool.specs.Moving.{of_worker};
 ghost use Rattle.front_pool.specs.Working.{WorksOff, no_turns, with_job_finished, with_job_taken};
 
 use crate::answering::finish;
@@ -39,7 +39,7 @@ pub struct Worker<L: Pooling, G> {
 }
 
 impl<L: Pooling, G> Model for Worker<L, G> {
-    ghost use Rattle.std.specs.Prelude.{◌≡◌};
+    ghost use Rattle.std.specs.Prelude.{◌≡◌, false};
     ghost use Rattle.std.specs.Arc.{arc_value};
     ghost use Rattle.crossbeam_queue.specs.Passes.{IsPassOf, view as known_to};
     ghost use Rattle.front_pool.specs.Working.{Turns};
@@ -49,17 +49,24 @@ impl<L: Pooling, G> Model for Worker<L, G> {
     ghost view = { λ w. record { taken = (known_to w.job_pass).taken; finished = (known_to w.finished_pass).put; counted = w.seat } };
 
     ghost invariant = { λ w. (arc_value w.desk.site ≡ L.site w.desk.front) × IsPassOf (arc_value w.desk.jobs) w.job_pass
-        × IsPassOf (arc_value w.desk.finished) w.finished_pass };
+        × IsPassOf (arc_value w.desk.finished) w.finished_pass
+        × ((known_to w.job_pass).by_pool ≡ false) × ((known_to w.finished_pass).by_pool ≡ false) };
 }
 
 impl<L: Pooling, G: Gate + Drop> Worker<L, G> {
     /// A worker that has done nothing yet.
-    pub fn new(desk: Desk<L, G>, shared: SharedBook<L>, seat: Seat<L>) -> Self
-        requires { arc_value desk.site ≡ L.site desk.front }
+    pub fn new(
+        desk: Desk<L, G>,
+        job_pass: JobPass,
+        finished_pass: FinishedPass,
+        shared: SharedBook<L>,
+        seat: Seat<L>,
+    ) -> Self
+        requires site { arc_value desk.site ≡ L.site desk.front }
+        requires jobs { IsPassOf (arc_value desk.jobs) job_pass × (view job_pass ≡ of_worker) }
+        requires finished { IsPassOf (arc_value desk.finished) finished_pass × (view finished_pass ≡ of_worker) }
         ensures { result ≡ no_turns seat }
     {
-        let job_pass = desk.jobs.pass();
-        let finished_pass = desk.finished.pass();
         Worker {
             desk,
             job_pass,
@@ -79,7 +86,7 @@ impl<L: Pooling, G: Gate + Drop> Worker<L, G> {
 
     /// Puts a finished job where it is collected. One for which there is no room comes back.
     fn put<R: Wait>(&mut self, rt: &R, finished: Finished) -> Result<(), Finished>
-        requires { IsAnsweredByOne L.site L.opened.terms finished }
+        requires { IsAnsweredByOne L.site L.shared finished }
         ensures ok { OnOk result (self.new ≡ with_job_finished self.old finished) }
         ensures err { IfErr result (λ back. (back ≡ finished) × (self.new ≡ self.old)) }
     {
@@ -90,7 +97,7 @@ impl<L: Pooling, G: Gate + Drop> Worker<L, G> {
 
     /// Puts a finished job where it is collected, and waits for room.
     fn hand_in<R: Wait + Clock>(&mut self, rt: &R, finished: Finished)
-        requires { IsAnsweredByOne L.site L.opened.terms finished }
+        requires { IsAnsweredByOne L.site L.shared finished }
         ensures { self.new ≡ with_job_finished self.old finished }
     {
         let mut finished = finished;
@@ -106,7 +113,7 @@ impl<L: Pooling, G: Gate + Drop> Worker<L, G> {
 
     /// Finishes a job.
     fn serve<W: Wire, R: Wait + Clock>(&mut self, rt: &R, alloc: Global, job: Job)
-        ensures { WorksOff L.site L.opened.terms job self.old self.new }
+        ensures { WorksOff L.site L.shared job self.old self.new }
     {
         let number = job.number;
         let done = finish::<W, L, R, G>(
@@ -128,7 +135,7 @@ impl<L: Pooling, G: Gate + Drop> Worker<L, G> {
     /// among what it has finished.
     fn work<W: Wire, R: Wait + Clock>(&mut self, rt: &R, alloc: Global)
         requires { self.old ≡ no_turns self.old.counted }
-        ensures served { AreServed L.site L.opened.terms self.new.taken self.new.finished }
+        ensures served { AreServed L.site L.shared self.new.taken self.new.finished }
         ensures count { self.new.counted ≡ self.old.counted + takes_told self.new.finished }
     {
         for _ in rt.forever() {

@@ -94,7 +94,7 @@ module _ (site : Site) (node : NodeNo) (worker : ℕ) (front : FrontState) (idle
       → slice_get book.history place ≡ Some (Take moment receipt.request)
       → IsCharge front.site w.book moment finished.request (answer_with front.site finished.request receipt) (as_of book (place + 1))
   taken w place finished receipt moment is has fresh here entry =
-      let charged = fresh_is_charged front.site book finished.request finished.answer finished.receipt receipt legal within has.answered has.receipt_is
+      let charged = fresh_is_charged front.site has.shared book finished.request finished.answer finished.receipt receipt legal within has.answered has.receipt_is
       has.fits fresh in
       let P : ℕ → Type 0 = λ p. slice_get book.history p ≡ Some (Take charged.moment receipt.request) in
       let moments : charged.moment ≡ moment = same_moment place receipt.request charged.moment moment (subst P here charged.at) entry in
@@ -111,7 +111,7 @@ module _ (site : Site) (node : NodeNo) (worker : ℕ) (front : FrontState) (idle
   repeated w place finished receipt moment is has less =
       let answer = answer_with front.site finished.request receipt in
       let charge : IsCharge front.site (as_of book place) moment finished.request answer (as_of book place) =
-      repeat_is_charged front.site (as_of book place) moment finished.request finished.answer finished.receipt receipt
+      repeat_is_charged front.site has.shared (as_of book place) moment finished.request finished.answer finished.receipt receipt
       (legal_before book.terms book.history place legal) has.answered has.receipt_is (fits_before book.terms book.history receipt place less has.fits) in
       subst (λ (b : Ledger). IsCharge front.site b moment finished.request answer (as_of book place)) (sym is) charge
 

@@ -6,6 +6,7 @@ use Rattle.dia_message.specs.Traffic.{Traffic}
 use Rattle.cc_book.specs.declared.entry.Entry.TheVariants.{Take}
 use Rattle.cc_book.specs.Taking.{Ledger}
 use Rattle.cc_shared.specs.declared.receipt.Receipt.{Receipt}
+use Rattle.cc_shared.specs.History.{SharedLedger}
 use Rattle.cc_shared.specs.Receipts.{Fits}
 use Rattle.front_core.specs.declared.site.FrontSite.{FrontSite}
 use Rattle.front_core.specs.declared.worker.Job.{Job}
@@ -29,7 +30,8 @@ pub data BookEvent : Type 0 where
 
 -- A finished job has this receipt, which stands in the history, and is answered by it.
 pub record HasReceipt (site : FrontSite) (book : Ledger) (finished : Finished) (receipt : Receipt) : Type 0 where
-  pub answered : IsAnswered (pool_of site) book.terms finished
+  pub shared : SharedLedger
+  pub answered : IsAnswered (pool_of site) shared finished
   pub receipt_is : finished.receipt ≡ Some receipt
   pub fits : Fits book.terms book.history receipt
 

@@ -1,5 +1,5 @@
 -- The fronts of a process, each with its workers, and what they do at each event of a node.
-use Rattle.std.specs.Prelude.{◌≡◌, ◌==◌, ◌<◌, ◌-◌, ℕ, min, Bool, true, not, List, [], ◌∷◌, ◌++◌, filter, length, position, Option, Some, None, Result, Ok, Err, MatchOption, get_or, slice_get, slice_set, if◌then◌else◌}
+use Rattle.std.specs.Prelude.{◌≡◌, ◌==◌, ◌<◌, ℕ, Bool, true, not, List, [], ◌∷◌, ◌++◌, filter, length, map, position, Option, Some, None, Result, Ok, Err, MatchOption, get_or, slice_get, slice_set, if◌then◌else◌}
 use Rattle.dia_base.specs.declared.number.ConnId.{ConnId}
 use Rattle.dia_base.specs.declared.number.Moment.{Moment}
 use Rattle.dia_base.specs.declared.number.NodeNo.{NodeNo}
@@ -8,9 +8,9 @@ use Rattle.dia_message.specs.declared.message.Out.{Out}
 use Rattle.dia_message.specs.Traffic.{Traffic}
 use Rattle.cc_book.specs.declared.book.BookRefusal.{BookRefusal}
 use Rattle.cc_book.specs.declared.book.BookRefusal.TheVariants as refused
-use Rattle.cc_book.specs.declared.terms.Terms.{Terms}
-use Rattle.cc_book.specs.Taking.{Ledger}
-use Rattle.cc_shared.specs.Sharing.{Sweeps}
+use Rattle.cc_shared.specs.declared.looks.Swept.{Swept}
+use Rattle.cc_shared.specs.History.{SharedLedger}
+use Rattle.cc_shared.specs.Sharing.{IsSweep}
 use Rattle.farm_base.specs.declared.site.Node.{Node}
 use Rattle.farm_base.specs.declared.site.Site.{Site}
 use Rattle.front_core.specs.FrontState.{is_among}
@@ -23,7 +23,7 @@ use Rattle.front_pool.specs.declared.job.Finished.{Finished}
 use Rattle.farm_base.specs.FrontProfile.{front_profile}
 use Rattle.front_pool.specs.declared.site.PoolSite.{PoolSite}
 use Rattle.front_pool.specs.Answering.{IsAnsweredBy, too_busy}
-use Rattle.front_pool.specs.Keeping.{Collects, PoolState, new_pool, with_job}
+use Rattle.front_pool.specs.Keeping.{Collected, FoundNone, PoolState, new_pool, next_job, with_job}
 use Rattle.pool_node.specs.Measure.{IsFew}
 
 abbrev pub name_of : Option Node → List ℕ
@@ -43,10 +43,9 @@ pub record FrontState : Type 0 where
 abbrev pub new_front : NodeNo → ℕ → ℕ → FrontState
 new_front node workers room = record { connections = []; pool = new_pool node workers room }
 
--- These fronts, each with so many workers, for which there are so many seats: the first to come have as many as there are left.
-abbrev pub new_fronts : List NodeNo → ℕ → ℕ → ℕ → List FrontState
-new_fronts [] workers room seats = []
-new_fronts (node ∷ nodes) workers room seats = new_front node (min workers seats) room ∷ new_fronts nodes workers room (seats - workers)
+-- these fronts, each with so many workers
+abbrev pub new_fronts : List NodeNo → ℕ → ℕ → List FrontState
+new_fronts nodes workers room = map (λ node. new_front node workers room) nodes
 
 abbrev pub with_connection : FrontState → ConnId → FrontState
 with_connection front conn = if is_among front.connections conn then front else record front { connections = front.connections ++ conn ∷ [] }
@@ -56,7 +55,7 @@ without_connection front conn = record front { connections = filter (λ c. not (
 
 -- A request is a job more. What is no request is ignored.
 abbrev pub with_message : FrontState → ConnId → Message → FrontState
-with_message front conn m = if m.header.request then record front { pool = with_job front.pool conn m } else front
+with_message front conn m = if m.header.request then record front { pool = with_job front.pool (next_job front.pool conn m) } else front
 
 -- what a front does with a message: it answers nothing yet, or DIAMETER_TOO_BUSY at once, or has no memory even for that
 abbrev pub OnMessage : (NodeNo → PoolSite) → FrontState → ConnId → Message → Result (Option Out) NodeError → FrontState → Type 0
@@ -92,27 +91,35 @@ pub record AtOne (old : List FrontState) (place : ℕ) (Step : FrontState → Fr
   pub is : new ≡ slice_set old place next
 
 -- A finished job is collected at a front: it was handed over there, and is answered in its name.
-pub record CollectsOne (sites : NodeNo → PoolSite) (terms : Terms) (finished : Finished) (old new : FrontState) : Type 0 where
-  pub collects : Collects old.pool (Some finished) new.pool
-  pub answered : IsAnsweredBy old.pool.front sites terms finished
+pub record CollectsOne (sites : NodeNo → PoolSite) (shared : SharedLedger) (finished : Finished) (old new : FrontState) : Type 0 where
+  pub collects : Collected old.pool finished new.pool
+  pub answered : IsAnsweredBy old.pool.front sites shared finished
+  pub connections_are : new.connections ≡ old.connections
+
+-- No finished job that a front waits for is there.
+pub record FindsNone (old new : FrontState) : Type 0 where
+  pub found : FoundNone old.pool new.pool
   pub connections_are : new.connections ≡ old.connections
 
 -- Finished jobs are collected, one after the other, at any of these fronts, and what goes out for each goes behind what went out
 -- for those before it. It ends where memory is missing, for a job more or for the answer of one that is collected, and says so.
-pub data Collecting (sites : NodeNo → PoolSite) (terms : Terms) (old : List FrontState) :
+pub data Collecting (sites : NodeNo → PoolSite) (shared : SharedLedger) (old : List FrontState) :
     Traffic → Result (Unit {0}) NodeError → List FrontState → Type 0 where
-  begins : (sent : Traffic) (new : List FrontState) → sent ≡ [] → new ≡ old → Collecting sites terms old sent (Ok tt) new
+  begins : (sent : Traffic) (new : List FrontState) → sent ≡ [] → new ≡ old → Collecting sites shared old sent (Ok tt) new
   goes_on :
       (sent : Traffic) (mid : List FrontState) (place : ℕ) (finished : Finished) (all : Traffic) (outcome : Result (Unit {0}) NodeError) (new : List FrontState)
-      → Collecting sites terms old sent (Ok tt) mid → (one : AtOne mid place (CollectsOne sites terms finished) new)
-      → all ≡ sent ++ sent_for one.next finished → outcome ≡ outcome_for one.next finished → Collecting sites terms old all outcome new
+      → Collecting sites shared old sent (Ok tt) mid → (one : AtOne mid place (CollectsOne sites shared finished) new)
+      → all ≡ sent ++ sent_for one.next finished → outcome ≡ outcome_for one.next finished → Collecting sites shared old all outcome new
+  finds_none :
+      (sent : Traffic) (mid : List FrontState) (place : ℕ) (new : List FrontState)
+      → Collecting sites shared old sent (Ok tt) mid → AtOne mid place FindsNone new → Collecting sites shared old sent (Ok tt) new
   wants_memory :
-      (sent : Traffic) (new : List FrontState) → Collecting sites terms old sent (Ok tt) new → Collecting sites terms old sent (Err fault.OutOfMemory) new
+      (sent : Traffic) (new : List FrontState) → Collecting sites shared old sent (Ok tt) new → Collecting sites shared old sent (Err fault.OutOfMemory) new
 
 -- what was collected before, and more: wherever the collecting began
-abbrev pub CollectsMore : (NodeNo → PoolSite) → Terms → List FrontState → Traffic → Traffic → Result (Unit {0}) NodeError → List FrontState → Type 0
-CollectsMore sites terms old sent all outcome new =
-    (before : List FrontState) → Collecting sites terms before sent (Ok tt) old → Collecting sites terms before all outcome new
+abbrev pub CollectsMore : (NodeNo → PoolSite) → SharedLedger → List FrontState → Traffic → Traffic → Result (Unit {0}) NodeError → List FrontState → Type 0
+CollectsMore sites shared old sent all outcome new =
+    (before : List FrontState) → Collecting sites shared before sent (Ok tt) old → Collecting sites shared before all outcome new
 
 -- what is told where a job more was looked for or its answer put behind what is sent, however many octets that were
 abbrev pub told_of_one : {A : Type 0} → Result A NodeError → Result (Unit {0}) NodeError
@@ -147,28 +154,34 @@ told_of_tick (Ok done) (Ok ended) = Ok tt
 told_of_tick (Ok done) (Err (refused.Full limit)) = Err (fault.BookFull limit)
 told_of_tick (Ok done) (Err refused.OutOfMemory) = Err fault.OutOfMemory
 
+-- The book was swept at this moment, or was not to be swept yet, or has refused.
+pub data SweepsOrWaits (shared : SharedLedger) (moment : Moment) (result : Result ℕ BookRefusal) : Type 0 where
+  waits : result ≡ Ok 0 → SweepsOrWaits shared moment result
+  sweeps : (swept : Swept) → IsSweep shared moment swept → result ≡ Ok swept.ended → SweepsOrWaits shared moment result
+  refuses : (refusal : BookRefusal) → result ≡ Err refusal → SweepsOrWaits shared moment result
+
 -- Time has passed: what is finished is collected, a few octets of each front, and the book swept, whatever came of the collecting.
-pub record Ticks (sites : NodeNo → PoolSite) (opened : Ledger) (moment : Moment) (old : List FrontState) (sent : Traffic)
+pub record Ticks (sites : NodeNo → PoolSite) (shared : SharedLedger) (moment : Moment) (old : List FrontState) (sent : Traffic)
     (outcome : Result (Unit {0}) NodeError) (new : List FrontState) : Type 0 where
   pub collected : Result (Unit {0}) NodeError
-  pub collecting : Collecting sites opened.terms old sent collected new
+  pub collecting : Collecting sites shared old sent collected new
   pub swept : Result ℕ BookRefusal
-  pub sweeps : Sweeps opened moment swept
+  pub sweeps : SweepsOrWaits shared moment swept
   pub told : outcome ≡ told_of_tick collected swept
   pub few : IsFew (length old) sent
 
 -- What happens to a node that is these fronts. Each front has its own pool of workers, and all share one book, which went on from
--- the one that was opened.
-abbrev pub OnFrontsEvent : (NodeNo → PoolSite) → Ledger → List FrontState → NodeEvent → Traffic → Result (Unit {0}) NodeError → List FrontState → Type 0
-OnFrontsEvent sites opened old (up local peer conn) sent outcome new =
+-- the one that was shared.
+abbrev pub OnFrontsEvent : (NodeNo → PoolSite) → SharedLedger → List FrontState → NodeEvent → Traffic → Result (Unit {0}) NodeError → List FrontState → Type 0
+OnFrontsEvent sites shared old (up local peer conn) sent outcome new =
     MatchOption (position (is_node local) old) (Refuses old (fault.UnknownNode local) sent outcome new)
     (λ place. Does old (λ out next. (out ≡ []) × AtOne old place (λ front after. after ≡ with_connection front conn) next) sent outcome new)
-OnFrontsEvent sites opened old (message conn m) sent outcome new =
+OnFrontsEvent sites shared old (message conn m) sent outcome new =
     MatchOption (position (is_up conn) old) (Refuses old (fault.UnknownConn conn) sent outcome new)
     (λ place. AtOne old place (Handles sites conn m sent outcome) new)
 -- What came on it stays, and may still be charged.
-OnFrontsEvent sites opened old (lost conn) sent outcome new =
+OnFrontsEvent sites shared old (lost conn) sent outcome new =
     (sent ≡ []) × (outcome ≡ Ok tt)
     × MatchOption (position (is_up conn) old) (new ≡ old) (λ place. AtOne old place (λ front after. after ≡ without_connection front conn) new)
-OnFrontsEvent sites opened old (tick moment) sent outcome new = Ticks sites opened moment old sent outcome new
-OnFrontsEvent sites opened old wake sent outcome new = Collecting sites opened.terms old sent outcome new × IsFew (length old) sent
+OnFrontsEvent sites shared old (tick moment) sent outcome new = Ticks sites shared moment old sent outcome new
+OnFrontsEvent sites shared old wake sent outcome new = Collecting sites shared old sent outcome new × IsFew (length old) sent

@@ -3,7 +3,7 @@
 ghost use Rattle.std.specs.Prelude.{◌≡◌, [], ◌∷◌, ◌++◌, ◌<◌, length, All, IfOk, IfSome, IfNone, OnOk, OnErr, vec_len, vec_capacity};
 ghost use Rattle.front_pool.specs.Answering.{IsAnsweredBy, too_busy};
 ghost use Rattle.front_pool.specs.Keeping.{Balances};
-ghost use Rattle.pool_node.specs.Fronts.{CollectsOne, OnMessage, is_node, is_up, outcome_for, sent_for, told_of_one, with_connection, without_connection};
+ghost use Rattle.pool_node.specs.Fronts.{CollectsOne, FindsNone, OnMessage, is_node, is_up, outcome_for, sent_for, told_of_one, with_connection, without_connection};
 ghost use Rattle.pool_node.specs.Measure.{message_length, octets_in};
 
 use cc_view::{Refusal, ResultCode, refusal_bytes};
@@ -136,18 +136,23 @@ impl<L: Pooling> PoolFront<L> {
         }
     }
 
-    /// A finished job. None where none is.
+    /// A finished job. None where none that it waits for is there.
     pub fn collect<R: Wait>(&mut self, rt: &R) -> Option<Finished>
-        ensures some { IfSome result (λ finished. CollectsOne L.site L.opened.terms finished self.old self.new) }
-        ensures none { IfNone result (self.new ≡ self.old) }
+        ensures some { IfSome result (λ finished. CollectsOne L.site L.shared finished self.old self.new) }
+        ensures none { IfNone result (FindsNone self.old self.new) }
     {
         self.pool.collect(rt)
+    }
+
+    /// How many finished jobs it has dropped that it did not wait for.
+    pub fn strangers(&self) -> u64 {
+        self.pool.strangers()
     }
 
     /// Ends all workers. Each job that was handed over and not collected is there once.
     pub fn stop<R: Threads + Wait + Clock>(self, rt: &R) -> Stopped<L>
         ensures balances { Balances self.pool (length result.seats.items) result.finished.items result.unserved.items }
-        ensures answered { All (IsAnsweredBy self.pool.front L.site L.opened.terms) result.finished.items }
+        ensures answered { All (IsAnsweredBy self.pool.front L.site L.shared) result.finished.items }
     {
         let PoolFront {
             node: _,

@@ -1,9 +1,9 @@
 //! All fronts of a site as one node.
 
-ghost use Rattle.std.specs.Prelude.{◌≡◌, ◌<◌, length, position, IfSome};
+ghost use Rattle.std.specs.Prelude.{◌≡◌, ◌<◌, length, position, IfSome, MatchResult, Ok, Err};
 ghost use Rattle.cc_book.specs.History.{IsLegal};
-ghost use Rattle.cc_shared.specs.Sharing.{Sweeps};
-ghost use Rattle.pool_node.specs.Fronts.{CollectsMore, OnFrontsEvent, is_node, is_up, told_of_one, told_of_tick};
+ghost use Rattle.cc_shared.specs.Closing.{IsWhole};
+ghost use Rattle.pool_node.specs.Fronts.{CollectsMore, OnFrontsEvent, SweepsOrWaits, is_node, is_up, told_of_one, told_of_tick};
 ghost use Rattle.pool_node.specs.Measure.{AddsFew, AddsOne};
 
 use crate::ending::stop_all;
@@ -11,8 +11,8 @@ use crate::events::BookEvents;
 use crate::figures::BookFigures;
 use crate::front::PoolFront;
 use crate::sweeping::NextSweep;
-use cc_book::{Book, BookRefusal};
-use cc_shared::SharedBook;
+use cc_book::BookRefusal;
+use cc_shared::{ClosedBook, SharedBook, Swept};
 use dia_avp::Wire;
 use dia_base::{ConnId, Listing, Moment, NodeNo};
 use dia_message::{Message, Out};
@@ -91,6 +91,16 @@ fn outcome_of_tick(
     }
 }
 
+/// How many sessions a sweep has ended, or why it was refused.
+fn ended_by(swept: Result<Swept, BookRefusal>) -> Result<u64, BookRefusal>
+    ensures { MatchResult swept (λ swept. result ≡ Ok swept.ended) (λ refusal. result ≡ Err refusal) }
+{
+    match swept {
+        Ok(swept) => Ok(swept.ended),
+        Err(refusal) => Err(refusal),
+    }
+}
+
 impl<L: Pooling, R: Wait> PoolFronts<L, R> {
     /// These fronts, whose workers serve on this book.
     pub fn new(rt: R, alloc: Global, shared: SharedBook<L>, fronts: Vec<PoolFront<L>>) -> Self
@@ -117,13 +127,13 @@ impl<L: Pooling, R: Wait> PoolFronts<L, R> {
 
     /// Sweeps the book, where that is due. How many sessions it has ended.
     fn sweep(&mut self, moment: Moment) -> Result<u64, BookRefusal>
-        ensures swept { Sweeps L.opened moment result }
+        ensures swept { SweepsOrWaits L.shared moment result }
         ensures fronts { self.new ≡ self.old }
     {
         if !self.next_sweep.is_due(moment) {
             return Ok(0);
         }
-        let swept = self.shared.sweep(&self.rt, moment);
+        let swept = ended_by(self.shared.sweep(&self.rt, moment));
         self.book_swept(moment, &swept);
         swept
     }
@@ -140,6 +150,15 @@ impl<L: Pooling, R: Wait> PoolFronts<L, R> {
         self.figures
     }
 
+    /// How many finished jobs were dropped that no front waited for. There is none as long as workers finish what they take.
+    pub fn strangers(&self) -> u64 {
+        let mut count: u64 = 0;
+        for front in &self.fronts {
+            count = count.saturating_add(front.strangers());
+        }
+        count
+    }
+
     /// Collects a finished job of a front and puts its answer behind what is sent. How many octets were put there; none
     /// where no job is finished. It is a fault where there is no room for its answer, and nothing is collected then, or
     /// where it has none, for want of memory.
@@ -149,7 +168,7 @@ impl<L: Pooling, R: Wait> PoolFronts<L, R> {
         sent: &mut Vec<(ConnId, Message)>,
     ) -> Result<Option<usize>, NodeError>
         requires { place < length self.old }
-        ensures collects { CollectsMore L.site L.opened.terms self.old sent.old.items sent.new.items (told_of_one result) self.new }
+        ensures collects { CollectsMore L.site L.shared self.old sent.old.items sent.new.items (told_of_one result) self.new }
         ensures places { length self.new ≡ length self.old }
         ensures adds { AddsOne result sent.old.items sent.new.items }
     {
@@ -175,7 +194,7 @@ impl<L: Pooling, R: Wait> PoolFronts<L, R> {
         sent: &mut Vec<(ConnId, Message)>,
     ) -> Result<(), NodeError>
         requires { place < length self.old }
-        ensures collects { CollectsMore L.site L.opened.terms self.old sent.old.items sent.new.items result self.new }
+        ensures collects { CollectsMore L.site L.shared self.old sent.old.items sent.new.items result self.new }
         ensures places { length self.new ≡ length self.old }
         ensures few { AddsFew 1 sent.old.items sent.new.items }
     {
@@ -194,7 +213,7 @@ impl<L: Pooling, R: Wait> PoolFronts<L, R> {
 
     /// Collects what is finished at all fronts.
     fn collect_all(&mut self, sent: &mut Vec<(ConnId, Message)>) -> Result<(), NodeError>
-        ensures collects { CollectsMore L.site L.opened.terms self.old sent.old.items sent.new.items result self.new }
+        ensures collects { CollectsMore L.site L.shared self.old sent.old.items sent.new.items result self.new }
         ensures few { AddsFew (length self.old) sent.old.items sent.new.items }
     {
         for place in 0..self.fronts.len() {
@@ -205,15 +224,16 @@ impl<L: Pooling, R: Wait> PoolFronts<L, R> {
 }
 
 impl<L: Pooling, R: Drop> PoolFronts<L, R> {
-    /// Ends all workers, and closes the book. What they have finished and nobody has collected is told. The book; none where
-    /// memory was missing.
+    /// Ends all workers, and closes the book. What they have finished and nobody has collected is told. The book, with all of its
+    /// history; none where memory was missing.
     pub fn end<T: Threads + Wait + Clock>(
         self,
         rt: &T,
         alloc: Global,
         recorder: &mut Recorder,
-    ) -> Option<Book>
-        ensures { IfSome result (λ book. IsLegal book.terms book.history) }
+    ) -> Option<ClosedBook>
+        ensures legal { IfSome result (λ closed. IsLegal closed.book.terms closed.book.history) }
+        ensures whole { IfSome result (λ closed. IsWhole L.shared closed.book closed.seen.book closed.seen.log) }
     {
         let PoolFronts {
             rt: _,
@@ -228,15 +248,15 @@ impl<L: Pooling, R: Drop> PoolFronts<L, R> {
         let Ok(seats) = stopped else {
             return None;
         };
-        match shared.finish(rt, alloc, seats, &[]) {
-            Ok(book) => Some(book),
+        match shared.close(rt, alloc, seats, &[]) {
+            Ok(closed) => Some(closed),
             Err(_) => None,
         }
     }
 }
 
 impl<L: Pooling, R: Wait> Node for PoolFronts<L, R> {
-    ghost on_event = { OnFrontsEvent L.site L.opened };
+    ghost on_event = { OnFrontsEvent L.site L.shared };
 
     fn on_up(&mut self, alloc: Global, local: NodeNo, _peer: NodeNo, conn: ConnId) -> Reaction {
         let Some(place) = place_of_node(&self.fronts, local) else {

@@ -26,5 +26,5 @@ pub use events::BookEvents;
 pub use figures::BookFigures;
 pub use front::PoolFront;
 pub use fronts::{COLLECT_LIMIT, COLLECT_OCTETS, PoolFronts};
-pub use start::{Bell, StartFault, start_fronts};
+pub use start::{Bell, StartFault, seats_for, start_fronts};
 pub use sweeping::{NextSweep, SWEEP_INTERVAL};

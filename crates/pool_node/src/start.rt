@@ -1,6 +1,6 @@
 //! How the fronts of a process are started.
 
-ghost use Rattle.std.specs.Prelude.{◌≡◌, ◌<◌, ◌-◌, length, min, IfOk};
+ghost use Rattle.std.specs.Prelude.{◌≡◌, ◌<◌, ◌≤◌, ◌-◌, ◌*◌, length, IfOk, IfSome};
 ghost use Rattle.dia_base.specs.declared.number.NodeNo.{NodeNo};
 ghost use Rattle.pool_node.specs.Fronts.{new_front, new_fronts, site_of};
 
@@ -70,9 +70,10 @@ fn site_of(alloc: Global, site: &Site, node: NodeNo) -> Result<PoolSite, StartFa
     })
 }
 
-/// Takes so many seats, or all, where there are not as many. Where memory is refused none is taken.
+/// Takes so many seats. Where memory is refused none is taken.
 fn take_seats<L: Pooling>(seats: &mut Vec<Seat<L>>, count: u32) -> Result<Vec<Seat<L>>, AllocError>
-    ensures taken { IfOk result (λ taken. length taken.items ≡ min count (length seats.old.items)) }
+    requires { count ≤ length seats.old.items }
+    ensures taken { IfOk result (λ taken. length taken.items ≡ count) }
     ensures left { IfOk result (λ taken. length seats.new.items ≡ length seats.old.items - count) }
 {
     let left = seats.len().saturating_sub(count as usize);
@@ -123,7 +124,14 @@ where
     }
 }
 
-/// Starts the next front, with as many workers as the site says for which there is a seat.
+/// How many seats so many fronts take, with so many workers each. None where there are too many to count.
+pub fn seats_for(fronts: usize, workers: u32) -> Option<u64>
+    ensures { IfSome result (λ seats. seats ≡ fronts * workers) }
+{
+    (fronts as u64).checked_mul(u64::from(workers))
+}
+
+/// Starts the next front, with as many workers as the site says.
 fn start_next<W, L, R, K>(
     rt: &R,
     alloc: Global,
@@ -141,7 +149,8 @@ where
     K: Wake + Drop + Send + Sync + 'static,
     requires site { (front : NodeNo) → L.site front ≡ site_of site.now front }
     requires queue { 0 < site.now.queue }
-    ensures front { IfOk result (λ front. front ≡ new_front node (min site.now.workers (length seats.old.items)) site.now.queue) }
+    requires seats { site.now.workers ≤ length seats.old.items }
+    ensures front { IfOk result (λ front. front ≡ new_front node site.now.workers site.now.queue) }
     ensures left { IfOk result (λ front. length seats.new.items ≡ length seats.old.items - site.now.workers) }
 {
     let own = take_seats(seats, site.workers)?;
@@ -167,7 +176,8 @@ where
     K: Wake + Drop + Send + Sync + 'static,
     requires site { (front : NodeNo) → L.site front ≡ site_of site.now front }
     requires queue { 0 < site.now.queue }
-    ensures { IfOk result (λ fronts. fronts.items ≡ new_fronts nodes.now site.now.workers site.now.queue (length seats.old.items)) }
+    requires seats { length nodes.now * site.now.workers ≤ length seats.old.items }
+    ensures { IfOk result (λ fronts. fronts.items ≡ new_fronts nodes.now site.now.workers site.now.queue) }
 {
     let mut fronts = Vec::with_capacity(alloc, nodes.len())?;
     for node in nodes {
@@ -177,8 +187,8 @@ where
     Ok(fronts)
 }
 
-/// Starts these fronts of a site, on one book, each with as many workers as the site says, for which there is a seat. The
-/// workers wake by `waker` when they have an answer. Where that fails, the process has no use for those that were started.
+/// Starts these fronts of a site, on one book, each with as many workers as the site says, for each of which there is a seat
+/// ([`seats_for`]). The workers wake by `waker` when they have an answer. Where that fails, the process has no use for those that were started.
 pub fn start_fronts<W, L, R, K>(
     rt: R,
     alloc: Global,
@@ -195,7 +205,8 @@ where
     K: Wake + Drop + Send + Sync + 'static,
     requires site { (front : NodeNo) → L.site front ≡ site_of site.now front }
     requires queue { 0 < site.now.queue }
-    ensures { IfOk result (λ fronts. fronts ≡ new_fronts nodes.now site.now.workers site.now.queue (length seats.items)) }
+    requires seats { length nodes.now * site.now.workers ≤ length seats.items }
+    ensures { IfOk result (λ fronts. fronts ≡ new_fronts nodes.now site.now.workers site.now.queue) }
 {
     let mut seats = seats;
     let timer = Timer::start(&rt).map_err(|_| StartFault::NoClock)?;

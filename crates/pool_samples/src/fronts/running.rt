@@ -3,7 +3,7 @@
 use crate::fronts::site::CLIENT;
 use crate::told::print_book;
 use anyhow::Context;
-use cc_book::Book;
+use cc_shared::ClosedBook;
 use dia_avp::ViewWire;
 use dia_base::{ConnId, Identity, Moment, NodeNo};
 use dia_message::Message;
@@ -145,16 +145,16 @@ impl<L: Pooling, R: Threads + Wait + Clock + Print + Copy> Running<'_, L, R> {
     /// Ends all workers. Prints what is recorded then, and what the book has come to.
     pub fn end(self, rt: &R, alloc: Global) -> anyhow::Result<()> {
         let mut recorder = self.recorder;
-        let book = self.fronts.end(rt, alloc, &mut recorder);
-        print_end(rt, recorder.lines(), book.as_ref())
+        let closed = self.fronts.end(rt, alloc, &mut recorder);
+        print_end(rt, recorder.lines(), closed.as_ref())
     }
 }
 
 /// Prints what is recorded, and what the book has come to.
-fn print_end(rt: &impl Print, lines: &[u8], book: Option<&Book>) -> anyhow::Result<()> {
+fn print_end(rt: &impl Print, lines: &[u8], closed: Option<&ClosedBook>) -> anyhow::Result<()> {
     print_record(rt, lines)?;
-    let book = book.context("no book")?;
-    print_book(rt, "", book)
+    let closed = closed.context("no book")?;
+    print_book(rt, "", &closed.book)
 }
 
 /// Prints the short words of each line: no moments, and no messages.

@@ -8,7 +8,7 @@ use crate::fronts::running::{Rings, Running};
 use crate::fronts::site::{CLIENT, FIRST, SECOND, site};
 use crate::messages::INITIAL;
 use cc_book::Book;
-use cc_shared::SharedBook;
+use cc_shared::{BlankHistory, SharedBook};
 use dia_avp::ViewWire;
 use dia_base::Identity;
 use farm_base::Site;
@@ -138,18 +138,21 @@ fn start<L, R>(
     site: &Site,
     waker: Rings,
     blank: Blank,
+    history: BlankHistory,
     book: Book,
 ) -> anyhow::Result<PoolFronts<L, R>>
 where
     L: Pooling + Send + Sync + 'static,
     R: Threads + Wait + Clock + Copy + Send + 'static,
     requires queue { 0 < site.now.queue }
+    requires workers { site.now.workers ≡ 1 }
     requires name { blank.name ≡ L.name }
     requires parts { (blank.parts ≡ L.parts) × (blank.parts ≡ 2) }
-    requires book { book ≡ L.opened }
+    requires book { book ≡ L.shared.opened }
+    requires history { history ≡ L.shared.log }
     requires site { (front : NodeNo) → L.site front ≡ site_of site.now front }
 {
-    match SharedBook::<L>::share(alloc, blank, book, 2) {
+    match SharedBook::<L>::share(alloc, blank, history, book, 2) {
         Ok((shared, seats)) => Ok(start_fronts::<ViewWire, L, R, Rings>(
             *rt,
             alloc,
@@ -204,6 +207,7 @@ fn print_on<L, R>(
     site: &Site,
     rings: &Arc<AtomicU64>,
     blank: Blank,
+    history: BlankHistory,
     book: Book,
     sample: Sample,
 ) -> anyhow::Result<()>
@@ -211,13 +215,15 @@ where
     L: Pooling + Send + Sync + 'static,
     R: Threads + Wait + Clock + Print + Copy + Send + 'static,
     requires queue { 0 < site.now.queue }
+    requires workers { site.now.workers ≡ 1 }
     requires name { blank.name ≡ L.name }
     requires parts { (blank.parts ≡ L.parts) × (blank.parts ≡ 2) }
-    requires book { book ≡ L.opened }
+    requires book { book ≡ L.shared.opened }
+    requires history { history ≡ L.shared.log }
     requires site { (front : NodeNo) → L.site front ≡ site_of site.now front }
 {
     let waker = Rings(Arc::try_clone(rings)?);
-    let fronts = start::<L, R>(rt, alloc, site, waker, blank, book)?;
+    let fronts = start::<L, R>(rt, alloc, site, waker, blank, history, book)?;
     print_fronts(rt, alloc, fronts, &**rings, sample)
 }
 
@@ -230,5 +236,14 @@ where
     let rings = Arc::new(alloc, AtomicU64::new(0))?;
     let site = site(alloc, limit)?;
     let book = book(alloc, &ONE_ACCOUNT, limit)?;
-    print_on::<Brand, R>(rt, alloc, &site, &rings, Blank::new(2), book, sample)
+    print_on::<Brand, R>(
+        rt,
+        alloc,
+        &site,
+        &rings,
+        Blank::new(2),
+        BlankHistory::new(),
+        book,
+        sample,
+    )
 }

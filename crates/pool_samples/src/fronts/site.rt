@@ -1,6 +1,6 @@
 //! A site with two fronts.
 
-ghost use Rattle.std.specs.Prelude.{◌<◌, IfOk};
+ghost use Rattle.std.specs.Prelude.{◌≡◌, ◌<◌, IfOk};
 
 use dia_base::{Identity, Listing, NodeKind, NodeNo};
 use farm_base::{Node, Site};
@@ -32,7 +32,7 @@ fn fronts(alloc: Global) -> anyhow::Result<Vec<Node>> {
 
 /// A site with the two fronts. Each has one worker, and eight requests may wait at it.
 pub fn site(alloc: Global, limit: u64) -> anyhow::Result<Site>
-    ensures { IfOk result (λ site. 0 < site.queue) }
+    ensures { IfOk result (λ site. (0 < site.queue) × (site.workers ≡ 1)) }
 {
     let realm = Identity::read(alloc, b"ocs.example")?;
     let nodes = Listing::from_vec(fronts(alloc)?);

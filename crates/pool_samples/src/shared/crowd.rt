@@ -5,7 +5,7 @@ ghost use Rattle.std.specs.Prelude.{◌≡◌};
 use crate::messages::debit_request;
 use crate::shared::table::{Table, share};
 use cc_book::Book;
-use cc_shared::Sharing;
+use cc_shared::{BlankHistory, Sharing};
 use dia_base::Moment;
 use samples_given::book;
 use std::alloc::Global;
@@ -78,13 +78,15 @@ fn crowd<L: Sharing + Send + Sync, R: Threads + Wait + Print + Sync>(
     rt: &R,
     alloc: Global,
     blank: Blank,
+    history: BlankHistory,
     book: Book,
 ) -> anyhow::Result<()>
     requires name { blank.name ≡ L.name }
     requires parts { (blank.parts ≡ L.parts) × (blank.parts ≡ 2) }
-    requires book { book ≡ L.opened }
+    requires book { book ≡ L.shared.opened }
+    requires history { history ≡ L.shared.log }
 {
-    let mut one = share::<L>(alloc, blank, book, 2)?;
+    let mut one = share::<L>(alloc, blank, history, book, 2)?;
     let two = one.split(alloc)?;
     let (left, right) = thread::join(
         rt,
@@ -98,5 +100,5 @@ fn crowd<L: Sharing + Send + Sync, R: Threads + Wait + Print + Sync>(
 
 pub fn print_crowd<R: Threads + Wait + Print + Sync>(rt: &R, alloc: Global) -> anyhow::Result<()> {
     let book = book(alloc, &[("491700000001", 6_000)], 1_000)?;
-    crowd::<Brand, R>(rt, alloc, Blank::new(2), book)
+    crowd::<Brand, R>(rt, alloc, Blank::new(2), BlankHistory::new(), book)
 }

@@ -7,7 +7,7 @@ use crate::shared::lines::print_answers;
 use crate::shared::table::{Table, share};
 use anyhow::Context;
 use cc_book::Book;
-use cc_shared::{Receipt, Sharing};
+use cc_shared::{BlankHistory, Receipt, Sharing};
 use samples_given::{ONE_ACCOUNT, book};
 use std::alloc::Global;
 use std::marker::Brand;
@@ -55,13 +55,15 @@ fn sixth<L: Sharing, R: Wait + Print>(
     rt: &R,
     alloc: Global,
     blank: Blank,
+    history: BlankHistory,
     book: Book,
 ) -> anyhow::Result<Receipt>
     requires name { blank.name ≡ L.name }
     requires parts { (blank.parts ≡ L.parts) × (blank.parts ≡ 1) }
-    requires book { book ≡ L.opened }
+    requires book { book ≡ L.shared.opened }
+    requires history { history ≡ L.shared.log }
 {
-    let mut table = share::<L>(alloc, blank, book, 1)?;
+    let mut table = share::<L>(alloc, blank, history, book, 1)?;
     for number in 0..6 {
         table.debit(rt, alloc, 1_000, number)?;
     }
@@ -70,7 +72,7 @@ fn sixth<L: Sharing, R: Wait + Print>(
 
 fn another_receipt<R: Wait + Print>(rt: &R, alloc: Global) -> anyhow::Result<Receipt> {
     let book = book(alloc, &ONE_ACCOUNT, 10)?;
-    sixth::<Brand, R>(rt, alloc, Blank::new(1), book)
+    sixth::<Brand, R>(rt, alloc, Blank::new(1), BlankHistory::new(), book)
 }
 
 /// A receipt of another book, which has no place in this one.
@@ -164,6 +166,7 @@ fn run<L: Sharing, R: Wait + Print>(
     rt: &R,
     alloc: Global,
     blank: Blank,
+    history: BlankHistory,
     book: Book,
     seats: u64,
     sample: Sample,
@@ -171,9 +174,10 @@ fn run<L: Sharing, R: Wait + Print>(
     requires name { blank.name ≡ L.name }
     requires parts { (blank.parts ≡ L.parts) × (blank.parts ≡ seats) }
     requires some { 0 < seats }
-    requires book { book ≡ L.opened }
+    requires book { book ≡ L.shared.opened }
+    requires history { history ≡ L.shared.log }
 {
-    let table = share::<L>(alloc, blank, book, seats)?;
+    let table = share::<L>(alloc, blank, history, book, seats)?;
     match sample {
         Sample::Closed => print_closed(rt, alloc, table),
         _ => print(rt, alloc, table, sample),
@@ -192,5 +196,13 @@ pub fn print_sample<R: Wait + Print>(
 {
     let seats = if two { 2 } else { 1 };
     let book = book(alloc, &ONE_ACCOUNT, limit)?;
-    run::<Brand, R>(rt, alloc, Blank::new(seats), book, seats, sample)
+    run::<Brand, R>(
+        rt,
+        alloc,
+        Blank::new(seats),
+        BlankHistory::new(),
+        book,
+        seats,
+        sample,
+    )
 }

@@ -6,7 +6,7 @@ use crate::messages::debit_request;
 use crate::shared::lines::{print_finished, print_served};
 use anyhow::Context;
 use cc_book::Book;
-use cc_shared::{Receipt, Seat, SharedBook, Sharing};
+use cc_shared::{BlankHistory, Receipt, Seat, SharedBook, Sharing};
 use cc_view::CcRequest;
 use dia_base::Moment;
 use std::alloc::{AllocError, Global};
@@ -25,15 +25,17 @@ pub struct Table<L: Sharing> {
 pub fn share<L: Sharing>(
     alloc: Global,
     blank: Blank,
+    history: BlankHistory,
     book: Book,
     seats: u64,
 ) -> anyhow::Result<Table<L>>
     requires name { blank.name ≡ L.name }
     requires parts { (blank.parts ≡ L.parts) × (blank.parts ≡ seats) }
     requires some { 0 < seats }
-    requires book { book ≡ L.opened }
+    requires book { book ≡ L.shared.opened }
+    requires history { history ≡ L.shared.log }
 {
-    match SharedBook::<L>::share(alloc, blank, book, seats) {
+    match SharedBook::<L>::share(alloc, blank, history, book, seats) {
         Ok((shared, seats)) => Ok(Table {
             shared,
             seats,
@@ -90,17 +92,17 @@ impl<L: Sharing> Table<L> {
 
     /// Balance and reserved amount of each account.
     pub fn print_snapshot<R: Wait + Print>(&self, rt: &R, alloc: Global) -> anyhow::Result<()> {
-        let pairs = self.shared.snapshot(rt, alloc)?;
-        println!(rt; "accounts {}", pairs.len())?;
-        for (balance, reserved) in &pairs {
+        let standings = self.shared.snapshot(rt, alloc)?.standings;
+        println!(rt; "accounts {}", standings.len())?;
+        for (balance, reserved) in &standings {
             println!(rt; "balance {balance} reserved {reserved}")?;
         }
         Ok(())
     }
 
     pub fn print_sweep<R: Wait + Print>(&self, rt: &R, moment: u64) -> anyhow::Result<()> {
-        let ended = self.shared.sweep(rt, Moment(moment)).ok();
-        println!(rt; "ended {}", ended.context("refused")?)?;
+        let swept = self.shared.sweep(rt, Moment(moment)).ok();
+        println!(rt; "ended {}", swept.context("refused")?.ended)?;
         Ok(())
     }
 

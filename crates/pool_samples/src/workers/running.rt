@@ -4,7 +4,7 @@ ghost use Rattle.std.specs.Prelude.{◌≡◌, ◌<◌, IfOk};
 
 use anyhow::{Context, bail};
 use cc_book::Book;
-use cc_shared::{Receipt, Seat, SharedBook};
+use cc_shared::{BlankHistory, Receipt, Seat, SharedBook};
 use dia_avp::ViewWire;
 use dia_base::{ConnId, Identity, Listing, Moment, NodeNo};
 use dia_grammar::SiteProfile;
@@ -72,6 +72,7 @@ pub fn start<L, R, G>(
     rt: &R,
     alloc: Global,
     blank: Blank,
+    history: BlankHistory,
     book: Book,
     queue: PoolQueue,
     workers: u64,
@@ -83,12 +84,13 @@ where
     G: Gate + Drop + Send + Sync + 'static,
     requires name { blank.name ≡ L.name }
     requires parts { (blank.parts ≡ L.parts) × (blank.parts ≡ workers) }
-    requires book { book ≡ L.opened }
+    requires book { book ≡ L.shared.opened }
+    requires history { history ≡ L.shared.log }
     requires jobs { 0 < queue.jobs }
     requires site { L.site queue.front ≡ record { name = queue.name; realm = queue.realm; profile = queue.profile } }
     requires some { 0 < workers }
 {
-    let Ok((shared, seats)) = SharedBook::<L>::share(alloc, blank, book, workers) else {
+    let Ok((shared, seats)) = SharedBook::<L>::share(alloc, blank, history, book, workers) else {
         return Err(AllocError.into());
     };
     let handle = shared.another()?;

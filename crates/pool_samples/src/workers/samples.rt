@@ -10,6 +10,7 @@ use crate::workers::lines::{
 };
 use crate::workers::running::{Ended, Running, front, start};
 use cc_book::Book;
+use cc_shared::BlankHistory;
 use front_pool::{Gate, PoolQueue, Pooling, Wakes};
 use samples_given::{ONE_ACCOUNT, book, debit, message};
 use std::alloc::Global;
@@ -209,6 +210,7 @@ fn run<L, R, G>(
     rt: &R,
     alloc: Global,
     blank: Blank,
+    history: BlankHistory,
     book: Book,
     queue: PoolQueue,
     workers: u64,
@@ -222,12 +224,13 @@ where
     G: Gate + Drop + Send + Sync + 'static,
     requires name { blank.name ≡ L.name }
     requires parts { (blank.parts ≡ L.parts) × (blank.parts ≡ workers) }
-    requires book { book ≡ L.opened }
+    requires book { book ≡ L.shared.opened }
+    requires history { history ≡ L.shared.log }
     requires jobs { 0 < queue.jobs }
     requires site { L.site queue.front ≡ record { name = queue.name; realm = queue.realm; profile = queue.profile } }
     requires some { 0 < workers }
 {
-    let running = start::<L, R, G>(rt, alloc, blank, book, queue, workers, gate)?;
+    let running = start::<L, R, G>(rt, alloc, blank, history, book, queue, workers, gate)?;
     print(rt, alloc, running, signs, sample)
 }
 
@@ -253,6 +256,7 @@ where
         rt,
         alloc,
         Blank::new(workers),
+        BlankHistory::new(),
         book,
         queue,
         workers,

@@ -5,7 +5,7 @@ abbrev pub ghosts-serve_on-L-Pooling : goal.ghosts-serve_on-L-Pooling
 ghosts-serve_on-L-Pooling g a = record { site = site_of a.setting.now.site.now }
 
 abbrev pub ghosts-serve_on-L-Sharing : goal.ghosts-serve_on-L-Sharing
-ghosts-serve_on-L-Sharing g a = record { opened = a.book }
+ghosts-serve_on-L-Sharing g a = record { shared = record { opened = a.book; log = a.history } }
 
 abbrev pub ghosts-serve_on-L-Ledger : goal.ghosts-serve_on-L-Ledger
 ghosts-serve_on-L-Ledger g a = record { name = a.blank.name; parts = a.blank.parts }

@@ -3,8 +3,8 @@ use Rattle.front_pool.proofs.laws.fresh_receipts_are_charges.Goals as goal
 
 pub returns : goal.returns
 returns c = record {
-  fresh = λ site ledger finished receipt legal within answered is fits fresh.
-      fresh_is_charged site ledger finished.request finished.answer finished.receipt receipt legal within answered is fits fresh;
-  repeated = λ site ledger moment finished receipt legal answered is fits.
-      repeat_is_charged site ledger moment finished.request finished.answer finished.receipt receipt legal answered is fits;
+  fresh = λ site shared ledger finished receipt legal within answered is fits fresh.
+      fresh_is_charged site shared ledger finished.request finished.answer finished.receipt receipt legal within answered is fits fresh;
+  repeated = λ site shared ledger moment finished receipt legal answered is fits.
+      repeat_is_charged site shared ledger moment finished.request finished.answer finished.receipt receipt legal answered is fits;
 }

@@ -1,7 +1,7 @@
-use Rattle.std.proofs.Common.{◌+◌, ◌≤◌, ◌++◌, vec_len, vec_capacity}
+use Rattle.std.proofs.Common.{◌≡◌, true, ◌+◌, ◌≤◌, ◌++◌, vec_len, vec_capacity}
 use Rattle.std.specs.Prelude.{All}
 use Rattle.std.specs.List.Sorted.{IsPermutation}
-use Rattle.crossbeam_queue.specs.Passes.{IsPassOf}
+use Rattle.crossbeam_queue.specs.Passes.{IsPassOf, view}
 use Rattle.front_pool.specs.Answering.{IsAnsweredBy}
 use Rattle.front_pool.specs.Jobs.{jobs_of}
 use Rattle.front_pool.proofs.pool.drain.Given as goal
@@ -11,7 +11,8 @@ invariant-loop g l = record {
   next : (goal.iterator-loop g).can_next l.iterator';
   finite : (goal.iterator-loop g).is_finite l.iterator';
   pass : IsPassOf l.queue l.pass;
+  by_pool : (view l.pass).by_pool ≡ true;
   jobs : IsPermutation l.fn.unanswered.items (jobs_of l.finished.items ++ l.left.items);
-  answered : All (IsAnsweredBy l.fn.front g.L.Pooling.site g.L.Sharing.opened.terms) l.finished.items;
+  answered : All (IsAnsweredBy l.fn.front g.L.Pooling.site g.L.Sharing.shared) l.finished.items;
   room : vec_len l.left + vec_len l.finished ≤ vec_capacity l.finished;
 }

@@ -1,18 +1,19 @@
-use Rattle.std.proofs.Common.{[], sym, ap, ◌∙◌, refl}
+use Rattle.std.proofs.Common.{◌≡◌, [], List, ap, sym, ◌∙◌, refl, false}
 use Rattle.std.proofs.lemmas.List.{append-nil}
-use Rattle.cc_book.specs.Taking.{Ledger}
+use Rattle.cc_book.specs.declared.entry.Entry.{Entry}
+use Rattle.cc_shared.specs.declared.logged.Logged.{Logged}
+use Rattle.cc_shared.specs.History.{book_at, entries_in, is_closed}
+use Rattle.cc_shared.specs.Sharing.{takes_in}
 use Rattle.cc_shared.proofs.open.OpenBook.new.Goals as goal
 
 pub invariant_of-result : goal.invariant_of-result
-invariant_of-result g c = (
-  record {
-    terms = ap (λ (l : Ledger). l.terms) c.requires.book;
-    limit = ap (λ (l : Ledger). l.limit) c.requires.book;
-    more = [];
-    grown = ap (λ (l : Ledger). l.history) c.requires.book ∙ sym (append-nil _);
-    takes = refl;
-  },
-  c.requires.counted,
-  c.requires.rest.0,
-  c.requires.rest.1,
-)
+invariant_of-result g c =
+    let opened = g.L.Sharing.shared.opened in
+    let empty : c.args.seen ≡ [] = c.requires.seen in (
+      c.requires.book ∙ ap (λ (h : List Entry). record opened { history = h }) (sym (append-nil opened.history)) ∙ ap (λ (l : List Logged). book_at opened l) (sym empty),
+      ap is_closed empty,
+      ap (λ (l : List Logged). takes_in (entries_in l)) empty,
+      c.requires.counted,
+      c.requires.rest.0,
+      c.requires.rest.1,
+    )

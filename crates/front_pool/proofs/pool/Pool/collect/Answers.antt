@@ -1,14 +1,10 @@
-use Rattle.std.proofs.Common.{rules}
-use Rattle.front_pool.proofs.Jobs.{no_longer, numbered_either}
+use Rattle.front_pool.proofs.Passing.{passes_over}
 use Rattle.front_pool.proofs.pool.Pool.collect.Goals as goal
 
-pub invariant_of-self : goal.invariant_of-self
-invariant_of-self g c = (
-  search rules,
-  search rules,
-  search rules,
-  search rules,
-  search rules,
-  no_longer c.take_off.result _ _ _ c.take_off.ensures.len c.self.invariant.5,
-  numbered_either c.take_off.result _ _ _ _ c.take_off.ensures.taken c.self.invariant.6,
-)
+pub loop-preserved : goal.loop-preserved
+loop-preserved g c = record {
+  next = tt;
+  finite = tt;
+  found = passes_over c.args.self.now c.loop.self c.take.new.self c.own.new.self c.in_ok-finished.finished c.loop.invariant.found
+      c.in_ok-finished.ensures.some c.in-None-own.ensures.none.0 c.in-None-own.ensures.none.1;
+}

@@ -7,6 +7,6 @@ abbrev pub invariant-loop : goal.invariant-loop
 invariant-loop g l = record {
   next : (goal.iterator-loop g).can_next l.iterator';
   finite : (goal.iterator-loop g).is_finite l.iterator';
-  served : AreServed g.L.Pooling.site g.L.Sharing.opened.terms l.self.taken l.self.finished;
+  served : AreServed g.L.Pooling.site g.L.Sharing.shared l.self.taken l.self.finished;
   count : l.self.counted ≡ l.fn.self.counted + takes_told l.self.finished;
 }

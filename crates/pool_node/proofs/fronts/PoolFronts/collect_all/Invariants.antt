@@ -5,7 +5,7 @@ use Rattle.pool_node.proofs.fronts.PoolFronts.collect_all.Given as goal
 
 abbrev pub invariant-loop-place : goal.invariant-loop-place
 invariant-loop-place g l = record {
-  collects : CollectsMore g.L.Pooling.site g.L.Sharing.opened.terms l.fn.self l.fn.sent.items l.sent.items (Ok tt) l.self;
+  collects : CollectsMore g.L.Pooling.site g.L.Sharing.shared l.fn.self l.fn.sent.items l.sent.items (Ok tt) l.self;
   places : length l.self ≡ length l.fn.self;
   few : AddsFew l.place l.fn.sent.items l.sent.items;
 }

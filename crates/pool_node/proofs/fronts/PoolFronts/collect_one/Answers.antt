@@ -1,5 +1,5 @@
 use Rattle.std.proofs.Common.{refl, rules}
-use Rattle.pool_node.proofs.Collecting.{collects_more, no_room}
+use Rattle.pool_node.proofs.Collecting.{collects_more, finds_no_more, no_room}
 use Rattle.pool_node.proofs.fronts.PoolFronts.collect_one.Goals as goal
 
 pub returns-in_err-octets-clause-collects : goal.returns-in_err-octets-clause-collects
@@ -17,3 +17,9 @@ returns-clause-collects g c =
 pub returns-then-is_err-clause-collects : goal.returns-then-is_err-clause-collects
 returns-then-is_err-clause-collects g c =
     no_room _ _ c.args.self.now c.args.self.now c.args.sent.now.items c.reserve.new.self.items refl c.reserve.ensures.items
+
+pub returns-in_default-clause-collects : goal.returns-in_default-clause-collects
+returns-in_default-clause-collects g c =
+    let fronts = c.self.inside.fronts.items in let front = c.index_mut-front.result.now in let next = c.collect.new.self in
+    rw (← c.self.view_is) (finds_no_more _ _ fronts c.args.place front next c.args.sent.now.items c.reserve.new.self.items
+    (search rules) c.index_mut-front.ensures.value c.in_default.ensures.none c.reserve.ensures.items)

@@ -4,7 +4,7 @@ abbrev pub ghosts-run-L-Pooling : goal.ghosts-run-L-Pooling
 ghosts-run-L-Pooling g a = record { site = λ front. record { name = a.queue.name; realm = a.queue.realm; profile = a.queue.profile } }
 
 abbrev pub ghosts-run-L-Sharing : goal.ghosts-run-L-Sharing
-ghosts-run-L-Sharing g a = record { opened = a.book }
+ghosts-run-L-Sharing g a = record { shared = record { opened = a.book; log = a.history } }
 
 abbrev pub ghosts-run-L-Ledger : goal.ghosts-run-L-Ledger
 ghosts-run-L-Ledger g a = record { name = a.blank.name; parts = a.blank.parts }

@@ -1,0 +1,29 @@
+//! What a shared book shows, and gives back, with what was seen of its history.
+
+use crate::history::SeenHistory;
+use cc_book::Book;
+
+/// A sweep of a shared book.
+#[derive(Drop)]
+pub struct Swept {
+    /// How many sessions it has ended.
+    pub ended: u64,
+    /// What was seen of the history behind it.
+    pub seen: SeenHistory,
+}
+
+/// All accounts of a shared book at one moment of its history.
+#[derive(Drop)]
+pub struct Snapshot {
+    /// Balance and reserved amount of each account, in their order. None of a book that is closed.
+    pub standings: Vec<(i128, i128)>,
+    /// What was seen of the history then.
+    pub seen: SeenHistory,
+}
+
+/// A book that was closed, with all of its history.
+#[derive(Drop)]
+pub struct ClosedBook {
+    pub book: Book,
+    pub seen: SeenHistory,
+}
