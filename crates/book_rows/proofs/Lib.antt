@@ -1,0 +1,10 @@
+pub mod Octets
+pub mod Exact
+pub mod PartsExact
+pub mod RowExact
+pub mod Written
+pub mod WithinLimits
+pub mod Repeated
+pub mod RequestWritten
+pub mod ReplyWritten
+pub mod RowWritten

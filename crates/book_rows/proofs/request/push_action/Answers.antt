@@ -1,0 +1,7 @@
+use Rattle.std.proofs.Common.{ℕ, subst}
+use Rattle.book_rows.specs.Form.{Adds, number}
+use Rattle.book_rows.proofs.RequestWritten.{action_added}
+use Rattle.book_rows.proofs.request.push_action.Goals as goal
+
+pub returns : goal.returns
+returns c = action_added c.args.value _ _ (subst (λ (n : ℕ). Adds (number 1) n c.args.out.now.items c.push_u8.new.out.items) c.action_octet.ensures c.in_ok-push_u8.ensures)

@@ -1,0 +1,3 @@
+pub mod Form
+pub mod Parts
+pub mod Row
