@@ -1,0 +1,4 @@
+pub mod Tables
+pub mod Batched
+pub mod Scanned
+pub mod Chained

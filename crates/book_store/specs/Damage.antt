@@ -1,0 +1,36 @@
+-- What an opening finds, and what it refuses.
+use Rattle.std.specs.Prelude.{◌≡◌, ℕ, ◌<◌, List, [], ◌++◌, length, take, slice_index_or, Some, IsTrue, false}
+use Rattle.sqlite_value.specs.Order.{Row}
+use Rattle.sqlite_trees.specs.View.{View}
+use Rattle.book_store.specs.Table.{IsInOrder, rows_in, stored, table_from}
+
+-- The rows before a place are those of their places, and the row that stands behind them is not that of this place.
+pub record IsDamagedAt (table : List Row) (place : ℕ) : Type 0 where
+  pub within : place < length table
+  pub before : take place table ≡ table_from 0 (take place (rows_in table))
+  pub here : (octets : List ℕ) → slice_index_or table place [] ≡ stored place octets → ⊥
+
+-- only the cursors may differ
+abbrev pub IsAlike : View → View → Type 0
+IsAlike old new = new ≡ record old { cursors = new.cursors }
+
+-- The rows before a place have been read of the table, and a cursor has the others left.
+pub record HasRead (first now : View) (place : ℕ) : Type 0 where
+  pub alike : IsAlike first now
+  pub rows : List (List ℕ)
+  pub left : List Row
+  pub cursor : now.cursors 0 ≡ Some left
+  pub table : first.trees 0 ≡ table_from 0 rows ++ left
+  pub count : length rows ≡ place
+
+-- all rows of the table have been read, and each is that of its place
+pub record HasReadAll (first now : View) (place : ℕ) : Type 0 where
+  pub alike : IsAlike first now
+  pub order : IsInOrder (first.trees 0)
+  pub count : place ≡ length (rows_in (first.trees 0))
+
+-- nothing is under way in a store that is open
+pub record IsFresh (view : View) : Type 0 where
+  pub is_open : IsTrue view.is_open
+  pub sound : view.is_broken ≡ false
+  pub settled : view.trees 0 ≡ view.committed 0

@@ -1,0 +1,4 @@
+pub mod Table
+pub mod Batches
+pub mod Damage
+pub mod Chain

@@ -1,0 +1,37 @@
+//! Batches of rows, one commit each.
+
+ghost use Rattle.std.specs.Prelude.{◌≡◌, ◌≤◌, ◌++◌, ℕ, List, OnOk, length, take};
+ghost use Rattle.book_store.specs.Batches.{rows_of};
+
+use crate::error::AppendError;
+use crate::store::RowStore;
+use std::alloc::Global;
+
+/// Rows that are stored together.
+#[derive(Debug, Drop)]
+pub struct Batch {
+    /// The octets of each row.
+    pub rows: Vec<Vec<u8>>,
+}
+
+/// Appends these batches, one commit each. A crash at any moment leaves the rows with some of the batches, in their
+/// order, none skipped and none in part; after `Ok` with all. After an error the store has to be opened again.
+#[tactic(auto, using(crate::proofs::Batched::one_more_batch, crate::proofs::Batched::no_batch, crate::proofs::Batched::all_batches))]
+pub fn append_all<L: RowStore>(
+    store: &mut L,
+    alloc: Global,
+    batches: &[Batch],
+) -> Result<(), AppendError>
+    requires { L.is_clean store.old → L.is_ready store.old }
+    ensures clean { L.is_clean store.new → L.is_clean store.old }
+    ensures ready { OnOk result (L.is_clean store.new → L.is_ready store.new) }
+    ensures appended { OnOk result (L.is_clean store.new → L.rows store.new ≡ L.rows store.old ++ rows_of batches.now) }
+    ensures crash { L.is_clean store.new → (left : List (List ℕ)) → L.may_leave store.new left
+        → (n : ℕ) × (n ≤ length batches.now) × (left ≡ L.rows store.old ++ rows_of (take n batches.now)) }
+{
+    for batch in batches {
+        let place = store.count();
+        store.append(alloc, place, &batch.rows)?;
+    }
+    Ok(())
+}

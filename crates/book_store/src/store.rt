@@ -1,0 +1,56 @@
+//! What a book is stored in.
+
+use crate::error::{AppendError, RowError};
+use std::alloc::Global;
+
+/// Rows of a book in the order of their places, on something that outlasts the process. A row is its octets.
+pub trait RowStore {
+    ghost use Rattle.std.specs.Prelude.{◌≡◌, ◌≢◌, ◌⊎◌, ◌<◌, ◌+◌, ◌^◌, ◌++◌, [], ℕ, List, IfOk, OnOk, OnErr, length, map, slice_index_or};
+    ghost use Rattle.book_store.specs.Table.{octets_in};
+    ghost use Rattle.book_store.specs.declared.error.AppendError.TheVariants.{NoPlace, NotBehind};
+
+    // No wrong answer of what lies below has been taken as true. Each clause on values is hedged by it, and by it alone.
+    ghost is_clean: { Self → Type 0 };
+
+    // No call has failed since it was opened.
+    ghost is_ready: { Self → Type 0 };
+
+    // The rows that it holds, the first at place 0.
+    ghost rows: { Self → List (List ℕ) };
+
+    // Which rows an opening after a crash at this moment may find.
+    ghost may_leave: { Self → List (List ℕ) → Type 0 };
+
+    /// How many rows there are.
+    fn count(&self) -> u64
+        requires { is_clean self.now → is_ready self.now }
+        ensures { is_clean self.now → result ≡ length (rows self.now) };
+
+    /// Adds rows behind the last one, where the first of them has this place, all in one commit. `NotBehind` is told
+    /// where it has another place, and `NoPlace` behind place 2^62; both leave everything as it was. After another error
+    /// whether the batch is stored is not known, and the store has to be opened again.
+    fn append(&mut self, alloc: Global, place: u64, batch: &[Vec<u8>]) -> Result<(), AppendError>
+        requires { is_clean self.old → is_ready self.old }
+        ensures clean { is_clean self.new → is_clean self.old }
+        ensures ready { OnOk result (is_clean self.new → is_ready self.new) }
+        ensures place { OnOk result (is_clean self.new → place ≡ length (rows self.old)) }
+        ensures appended { OnOk result (is_clean self.new → rows self.new ≡ rows self.old ++ octets_in batch.now) }
+        ensures not_behind { result ≡ Err NotBehind → self.new ≡ self.old }
+        ensures no_place { result ≡ Err NoPlace → (self.new ≡ self.old) × (2 ^ 62 < place + length batch.now) }
+        ensures elsewhere { is_clean self.old → place ≢ length (rows self.old) → result ≡ Err NotBehind }
+        ensures crash { is_clean self.new → (left : List (List ℕ)) → may_leave self.new left
+            → may_leave self.old left ⊎ (left ≡ rows self.old ++ octets_in batch.now) };
+
+    /// The octets of the row at a place.
+    fn row(&mut self, alloc: Global, place: u64) -> Result<Vec<u8>, RowError>
+        requires ready { is_clean self.old → is_ready self.old }
+        requires within { is_clean self.old → place < length (rows self.old) }
+        ensures clean { is_clean self.new → is_clean self.old }
+        ensures ready { OnOk result (is_clean self.new → is_ready self.new) }
+        ensures octets { IfOk result (λ octets. is_clean self.new → octets.items ≡ slice_index_or (rows self.old) place []) }
+        ensures same { OnOk result (is_clean self.new → rows self.new ≡ rows self.old) }
+        ensures crash { (left : List (List ℕ)) → may_leave self.new left → may_leave self.old left };
+
+    // While it is ready, a crash leaves the rows that it holds and nothing else.
+    ghost at_rest: { (s : Self) (left : List (List ℕ)) → is_clean s → is_ready s → may_leave s left → left ≡ rows s };
+}
