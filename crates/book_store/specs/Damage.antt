@@ -2,6 +2,7 @@
 use Rattle.std.specs.Prelude.{◌≡◌, ℕ, ◌<◌, List, [], ◌++◌, length, take, slice_index_or, Some, IsTrue, false}
 use Rattle.sqlite_value.specs.Order.{Row}
 use Rattle.sqlite_trees.specs.View.{View}
+use Rattle.sqlite_trees.specs.declared.store.Shape.TheVariants.{Table}
 use Rattle.book_store.specs.Table.{IsInOrder, rows_in, stored, table_from}
 
 -- The rows before a place are those of their places, and the row that stands behind them is not that of this place.
@@ -34,3 +35,8 @@ pub record IsFresh (view : View) : Type 0 where
   pub is_open : IsTrue view.is_open
   pub sound : view.is_broken ≡ false
   pub settled : view.trees 0 ≡ view.committed 0
+
+-- the table is there, and no tree was made or dropped since the last commit
+pub record IsUnaltered (view : View) : Type 0 where
+  pub shape : view.shape 0 ≡ Table
+  pub committed : view.shape ≡ view.committed_shape

@@ -3,7 +3,8 @@
 //! - [`RowStore`] is what the book rests on: rows are appended behind the last one, all of a batch in one commit, and
 //!   read by their places. A row is its octets.
 //! - [`TreeStore`] is one over any `Store` of the kit: table 0 of a database, in memory or in a file. [`open_tree`]
-//!   opens it, and refuses a table whose rows are not those of places 0, 1, 2 and so on.
+//!   opens it, and refuses a table whose rows are not those of places 0, 1, 2 and so on; [`reopen_tree`] does so after
+//!   a crash, and finds what `may_leave` says.
 //! - [`append_all`] appends batches: a crash at any moment leaves the rows with some of the batches, in their order,
 //!   none in part, and after `Ok` with all.
 //! - [`check_rows`] reads all rows, and refuses the first that is no row, has another place or a sum that does not chain.
@@ -26,4 +27,4 @@ pub use batches::{Batch, append_all};
 pub use book::{FIRST_SUM, check_rows};
 pub use error::{AppendError, CheckError, OpenError, RowError};
 pub use store::RowStore;
-pub use tree::{TABLE, TreeStore, open_tree};
+pub use tree::{TABLE, TreeStore, open_tree, reopen_tree};

@@ -6,19 +6,19 @@ ghost use Rattle.sqlite_value.specs.declared.value.Value.TheVariants.{Blob};
 ghost use Rattle.sqlite_trees.specs.Tree.{Trees, put_row};
 ghost use Rattle.sqlite_trees.specs.View.{IsClean};
 ghost use Rattle.sqlite_trees.specs.declared.store.Shape.TheVariants.{Table};
-ghost use Rattle.book_store.specs.Damage.{IsDamagedAt, IsFresh};
-ghost use Rattle.book_store.specs.Table.{octets_in, put_from, rows_in, stored, IsReady};
+ghost use Rattle.book_store.specs.Damage.{IsDamagedAt, IsFresh, IsUnaltered};
+ghost use Rattle.book_store.specs.Table.{octets_in, put_from, rows_in, stored, IsReady, Leaves};
 
 use crate::error::{AppendError, OpenError, RowError};
 use crate::opening::count_rows;
 use crate::store::RowStore;
 use sqlite_trees::error::StoreError;
-use sqlite_trees::store::Store;
+use sqlite_trees::store::{Reopen, Store};
 use sqlite_value::row::Row;
 use sqlite_value::value::ValueRef;
 use std::alloc::{AllocError, Global};
 
-/// The number of the table.
+/// The number of the table. It has one column, with the octets of a row of the book; the rowid is the place.
 pub const TABLE: u32 = 0;
 
 /// How many places a table has.
@@ -52,6 +52,25 @@ pub fn open_tree<S: Store>(alloc: Global, store: S) -> Result<TreeStore<S>, (Ope
     match count_rows(&mut store, alloc) {
         Ok(count) => Ok(TreeStore { store, count }),
         Err(error) => Err((error, store)),
+    }
+}
+
+/// Has the database crash, and opens it again. It finds one of the lists of rows that a crash may leave, as
+/// `may_leave` of [`RowStore`] names them.
+pub fn reopen_tree<S: Reopen>(
+    alloc: Global,
+    opened: TreeStore<S>,
+) -> Result<TreeStore<S>, (OpenError, S)>
+    requires { IsClean (S.Store.view opened.store) → IsUnaltered (S.Store.view opened.store) }
+    ensures clean { IfOk result (λ again. IsClean (S.Store.view again.store) → IsClean (S.Store.view opened.store)) }
+    ensures ready { IfOk result (λ again. IsClean (S.Store.view again.store) → IsReady (S.Store.view again.store) again.count) }
+    ensures found { IfOk result (λ again. IsClean (S.Store.view again.store) → Leaves (S.Store.recovers opened.store) (rows_in ((S.Store.view again.store).committed 0))) }
+{
+    let TreeStore { store, .. } = opened;
+    let mut store = store;
+    match store.crash_and_reopen() {
+        Ok(()) => open_tree(alloc, store),
+        Err(error) => Err((OpenError::Store(error), store)),
     }
 }
 
@@ -141,7 +160,7 @@ fn octets_of(alloc: Global, row: &Row) -> Result<Vec<u8>, RowError>
 }
 
 impl<S: Store> RowStore for TreeStore<S> {
-    ghost use Rattle.book_store.specs.Table.{Leaves, left_at_rest};
+    ghost use Rattle.book_store.specs.Table.{left_at_rest};
 
     ghost is_clean = { λ t. IsClean (S.Store.view t.store) };
 
