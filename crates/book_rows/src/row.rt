@@ -8,7 +8,7 @@ use dia_base::Moment;
 pub struct Sum(pub u128);
 
 /// A request that was taken, what it was answered, and what it debited its account.
-#[derive(Debug, Drop)]
+#[derive(Drop)]
 pub struct Taken {
     pub request: CcRequest,
     pub reply: CcReply,
@@ -16,7 +16,7 @@ pub struct Taken {
 }
 
 /// What an entry of the book is.
-#[derive(Debug, Drop)]
+#[derive(Drop)]
 pub enum Step {
     /// A request that was taken.
     Take(Taken),
@@ -25,7 +25,7 @@ pub enum Step {
 }
 
 /// One entry of the book as it is stored.
-#[derive(Debug, Drop)]
+#[derive(Drop)]
 pub struct Row {
     /// Which entry it is: the first has place 0.
     pub place: u64,

@@ -4,7 +4,7 @@ use Rattle.std.specs.Global.{Vec}
 use Rattle.sqlite_value.specs.declared.value.Value.{Value}
 use Rattle.sqlite_value.specs.declared.value.Value.TheVariants.{Null, Int, Real, Text, Blob}
 use Rattle.sqlite_value.specs.Order.{Row, column}
-use Rattle.std.proofs.Common.{ap, ◌∙◌}
+use Rattle.std.proofs.Common.{ap, refl, ◌∙◌}
 use Rattle.sqlite_trees.specs.Tree.{Trees, put_row}
 use Rattle.sqlite_trees.specs.View.{View}
 use Rattle.sqlite_trees.specs.declared.store.Shape.TheVariants.{Table}
@@ -65,3 +65,6 @@ pub record Leaves (recovers : Trees → Type 0) (left : List (List ℕ)) : Type 
 pub left_at_rest : (recovers : Trees → Type 0) (committed : Trees) (left : List (List ℕ)) → ((db : Trees) → recovers db → db ≡ committed) → Leaves recovers left → left ≡ rows_in (committed 0)
 left_at_rest recovers committed left settled leaves =
     leaves.rows ∙ ap (λ (db : Trees). rows_in (db 0)) (settled leaves.database leaves.found)
+
+pub committed_may_stay : (recovers : Trees → Type 0) (committed : Trees) → recovers committed → Leaves recovers (rows_in (committed 0))
+committed_may_stay recovers committed stays = record { database = committed; found = stays; rows = refl }

@@ -8,7 +8,7 @@ use crate::store::RowStore;
 use std::alloc::Global;
 
 /// Rows that are stored together.
-#[derive(Debug, Drop)]
+#[derive(Drop)]
 pub struct Batch {
     /// The octets of each row.
     pub rows: Vec<Vec<u8>>,

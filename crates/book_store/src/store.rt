@@ -5,7 +5,7 @@ use std::alloc::Global;
 
 /// Rows of a book in the order of their places, on something that outlasts the process. A row is its octets.
 pub trait RowStore {
-    ghost use Rattle.std.specs.Prelude.{◌≡◌, ◌≢◌, ◌⊎◌, ◌<◌, ◌+◌, ◌^◌, ◌++◌, [], ℕ, List, IfOk, OnOk, OnErr, length, map, slice_index_or};
+    ghost use Rattle.std.specs.Prelude.{◌≡◌, ◌≢◌, ◌⊎◌, ◌<◌, ◌+◌, ◌^◌, ◌++◌, [], ℕ, List, IfOk, OnOk, length, slice_index_or};
     ghost use Rattle.book_store.specs.Table.{octets_in};
     ghost use Rattle.book_store.specs.declared.error.AppendError.TheVariants.{NoPlace, NotBehind};
 
@@ -53,4 +53,7 @@ pub trait RowStore {
 
     // While it is ready, a crash leaves the rows that it holds and nothing else.
     ghost at_rest: { (s : Self) (left : List (List ℕ)) → is_clean s → is_ready s → may_leave s left → left ≡ rows s };
+
+    // A crash may leave the rows that it holds.
+    ghost may_stay: { (s : Self) → is_clean s → is_ready s → may_leave s (rows s) };
 }

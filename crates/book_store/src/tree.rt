@@ -25,7 +25,7 @@ pub const TABLE: u32 = 0;
 pub const PLACES: u64 = 1 << 62;
 
 /// A store of rows in table 0 of a database.
-#[derive(Debug, Drop)]
+#[derive(Drop)]
 pub struct TreeStore<S> {
     /// The database.
     pub store: S,
@@ -160,7 +160,7 @@ fn octets_of(alloc: Global, row: &Row) -> Result<Vec<u8>, RowError>
 }
 
 impl<S: Store> RowStore for TreeStore<S> {
-    ghost use Rattle.book_store.specs.Table.{left_at_rest};
+    ghost use Rattle.book_store.specs.Table.{committed_may_stay, left_at_rest};
 
     ghost is_clean = { λ t. IsClean (S.Store.view t.store) };
 
@@ -171,6 +171,8 @@ impl<S: Store> RowStore for TreeStore<S> {
     ghost may_leave = { λ t. Leaves (S.Store.recovers t.store) };
 
     ghost at_rest = { λ t left clean ready leaves. left_at_rest (S.Store.recovers t.store) ((S.Store.view t.store).committed) left (λ db. S.Store.settled t.store db ready.rest.is_open) leaves };
+
+    ghost may_stay = { λ t clean ready. committed_may_stay (S.Store.recovers t.store) ((S.Store.view t.store).committed) (S.Store.stays t.store ready.rest.is_open) };
 
     fn count(&self) -> u64 {
         self.count
