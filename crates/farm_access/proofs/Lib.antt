@@ -1,2 +1,3 @@
+pub mod Barring
 pub mod Lengths
 pub mod Telling

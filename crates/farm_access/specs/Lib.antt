@@ -1,3 +1,4 @@
 pub mod Prefixes
+pub mod Strictness
 pub mod Rules
 pub mod Spelling

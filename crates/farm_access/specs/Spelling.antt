@@ -1,22 +1,29 @@
--- What a site file says of who may connect from where, and why a text says nothing.
-use Rattle.std.specs.Prelude.{◌≡◌, ◌⊎◌, ◌<◌, ◌≤◌, ℕ, List, [], Option, Some, None, codes, length}
+-- What a site file says of who may come up, and why a text says nothing.
+use Rattle.std.specs.Prelude.{◌≡◌, ◌⊎◌, ◌<◌, ◌≤◌, ℕ, true, false, List, [], ◌∷◌, ◌++◌, Option, Some, None, codes, length}
 use Rattle.std.specs.List.{AllZip, Contains}
 use Rattle.std.specs.Str.{IsUtf8}
 use Rattle.toml.specs.Data.{Data, Members, array, string, table, as_array, as_str, as_table, get_member}
 use Rattle.toml.specs.Parse.{parse_document}
 use Rattle.toml.specs.View.{items_of}
-use Rattle.farm_access.specs.declared.access.AddressRule.{AddressRule}
-use Rattle.farm_access.specs.declared.access.AddressRule.TheVariants.{Any, Within}
+use Rattle.farm_access.specs.declared.coming.AddressRule.{AddressRule}
+use Rattle.farm_access.specs.declared.coming.AddressRule.TheVariants.{Any, Within}
 use Rattle.farm_access.specs.declared.fault.AccessFault.{AccessFault}
-use Rattle.farm_access.specs.declared.fault.AccessFault.TheVariants.{NotToml, NoTables, TooManyNodes, NoTexts, NoPrefix, TooManyPrefixes, OutOfMemory}
+use Rattle.farm_access.specs.declared.fault.AccessFault.TheVariants.{NotToml, NoTables, TooManyNodes, NoTexts, NoPrefix, TooManyPrefixes, NoWords, UnknownWord, WordTwice, OutOfMemory}
 use Rattle.farm_access.specs.declared.prefix.Prefix.{Prefix}
+use Rattle.farm_access.specs.declared.strict.Strict.{Strict}
+use Rattle.farm_access.specs.declared.strict.Strictness.{Strictness}
 use Rattle.farm_access.specs.Prefixes.{IsPrefixText}
+use Rattle.farm_access.specs.Rules.{Policy}
+use Rattle.farm_access.specs.Strictness.{is_on, lenient, with_word, word_of}
 
 abbrev pub node_key : List ℕ
 node_key = codes "node"
 
 abbrev pub from_key : List ℕ
 from_key = codes "from"
+
+abbrev pub strict_key : List ℕ
+strict_key = codes "strict"
 
 -- ---- what a file spells
 
@@ -48,10 +55,32 @@ abbrev pub SpellsRules : Option Data → List AddressRule → Type 0
 SpellsRules None rules = rules ≡ []
 SpellsRules (Some value) rules = SpellsAll SpellsRule value rules
 
-pub record Spells (text : List ℕ) (rules : List AddressRule) : Type 0 where
+-- the value is this word
+abbrev pub SpellsWord : Data → Strict → Type 0
+SpellsWord value word = value ≡ string (word_of word)
+
+-- Words are asked for one after another, and none twice.
+pub data Asks : List Data → Strictness → Type 0 where
+  for_nothing : Asks [] lenient
+  for_more : (values : List Data) (value : Data) (word : Strict) (before : Strictness) → Asks values before → SpellsWord value word
+      → is_on before word ≡ false → Asks (values ++ value ∷ []) (with_word before word)
+
+-- the value is an array of words, which ask for this
+pub record SpellsWords (value : Data) (strictness : Strictness) : Type 0 where
+  pub values : List Data
+  pub stand : value ≡ array (items_of values)
+  pub asks : Asks values strictness
+
+-- by what stands at `strict`
+abbrev pub SpellsStrictness : Option Data → Strictness → Type 0
+SpellsStrictness None strictness = strictness ≡ lenient
+SpellsStrictness (Some value) strictness = SpellsWords value strictness
+
+pub record Spells (text : List ℕ) (policy : Policy) : Type 0 where
   pub file : Members
   pub document : parse_document text ≡ Some file
-  pub nodes : SpellsRules (get_member node_key file) rules
+  pub nodes : SpellsRules (get_member node_key file) policy.rules
+  pub strict : SpellsStrictness (get_member strict_key file) policy.strict
 
 -- ---- why a text spells nothing
 
@@ -87,6 +116,9 @@ IsFromFault value TooManyNodes = ⊥
 IsFromFault value NoTexts = (as_array value ≡ None) ⊎ HasOne IsNoText value
 IsFromFault value NoPrefix = HasOne IsNoPrefix value
 IsFromFault value TooManyPrefixes = HasMore value
+IsFromFault value NoWords = ⊥
+IsFromFault value UnknownWord = ⊥
+IsFromFault value WordTwice = ⊥
 IsFromFault value OutOfMemory = Unit {0}
 
 -- of an entry
@@ -108,6 +140,9 @@ IsNodesFault value TooManyNodes = HasMore value
 IsNodesFault value NoTexts = HasOne (λ entry. IsAtFrom entry NoTexts) value
 IsNodesFault value NoPrefix = HasOne (λ entry. IsAtFrom entry NoPrefix) value
 IsNodesFault value TooManyPrefixes = HasOne (λ entry. IsAtFrom entry TooManyPrefixes) value
+IsNodesFault value NoWords = ⊥
+IsNodesFault value UnknownWord = ⊥
+IsNodesFault value WordTwice = ⊥
 IsNodesFault value OutOfMemory = Unit {0}
 
 -- of a document
@@ -115,9 +150,44 @@ abbrev pub IsFileFault : Option Data → AccessFault → Type 0
 IsFileFault None fault = fault ≡ OutOfMemory
 IsFileFault (Some value) fault = IsNodesFault value fault
 
--- the text is a document, of which the fault is told
+-- a text that is no word
+abbrev pub IsNoWord : Data → Type 0
+IsNoWord value = (text : List ℕ) × (value ≡ string text) × ((word : Strict) → ¬ (text ≡ word_of word))
+
+abbrev pub IsWordFault : Data → AccessFault → Type 0
+IsWordFault value fault = ((fault ≡ NoWords) × IsNoText value) ⊎ ((fault ≡ UnknownWord) × IsNoWord value)
+
+-- a word that those before it have asked for
+pub record HasTwice (value : Data) : Type 0 where
+  pub front : List Data
+  pub word : Strict
+  pub back : List Data
+  pub stand : value ≡ array (items_of (front ++ string (word_of word) ∷ back))
+  pub before : Strictness
+  pub asks : Asks front before
+  pub twice : is_on before word ≡ true
+
+-- of what stands at `strict`
+abbrev pub IsStrictFault : Data → AccessFault → Type 0
+IsStrictFault value NotToml = ⊥
+IsStrictFault value NoTables = ⊥
+IsStrictFault value TooManyNodes = ⊥
+IsStrictFault value NoTexts = ⊥
+IsStrictFault value NoPrefix = ⊥
+IsStrictFault value TooManyPrefixes = ⊥
+IsStrictFault value NoWords = (as_array value ≡ None) ⊎ HasOne IsNoText value
+IsStrictFault value UnknownWord = HasOne IsNoWord value
+IsStrictFault value WordTwice = HasTwice value
+IsStrictFault value OutOfMemory = ⊥
+
+abbrev pub IsAtStrict : Option Data → AccessFault → Type 0
+IsAtStrict None fault = ⊥
+IsAtStrict (Some value) fault = IsStrictFault value fault
+
+-- the text is a document, of whose nodes the fault is told, or of what stands at `strict`
 abbrev pub IsToldOf : List ℕ → AccessFault → Type 0
-IsToldOf text fault = (file : Members) × (parse_document text ≡ Some file) × IsFileFault (get_member node_key file) fault
+IsToldOf text fault =
+    (file : Members) × (parse_document text ≡ Some file) × (IsAtStrict (get_member strict_key file) fault ⊎ IsFileFault (get_member node_key file) fault)
 
 -- why octets spell nothing, unless memory ran out
 abbrev pub IsWhy : List ℕ → AccessFault → Type 0

@@ -1,4 +1,4 @@
-//! Why a text does not say who may connect from where.
+//! Why a text does not say who may come up.
 
 ghost use Rattle.std.specs.Prelude.{◌≡◌};
 ghost use Rattle.farm_access.specs.declared.fault.AccessFault.TheVariants.{OutOfMemory};
@@ -6,7 +6,7 @@ ghost use Rattle.farm_access.specs.declared.fault.AccessFault.TheVariants.{OutOf
 use std::alloc::{AllocError, AllocFailed};
 use thiserror::Error;
 
-/// Why a text does not say who may connect from where.
+/// Why a text does not say who may come up.
 #[derive(Clone, Copy, Debug, PartialEq, Eq, Error)]
 pub enum AccessFault {
     /// The text is no TOML document.
@@ -27,6 +27,15 @@ pub enum AccessFault {
     /// More than 64 values stand at `from`.
     #[error("site: TooMany from")]
     TooManyPrefixes,
+    /// What stands at `strict` is no array of texts.
+    #[error("site: WrongType strict")]
+    NoWords,
+    /// A text at `strict` is no word of [`Strict`](crate::Strict).
+    #[error("site: UnknownName strict")]
+    UnknownWord,
+    /// A word stands twice at `strict`.
+    #[error("site: Twice strict")]
+    WordTwice,
     #[error("out of memory")]
     OutOfMemory,
 }

@@ -1,14 +1,15 @@
-//! The key `from` of the nodes of a site file.
+//! What a site file says of who may come up.
 
 ghost use Rattle.std.specs.Prelude.{◌≡◌, ◌≤◌, ◌⊎◌, IfErr, IfNone, IfOk, IfSome, None, Some, option_map, vec_len};
-ghost use Rattle.farm_access.specs.Spelling.{IsEntryFault, IsFileFault, IsFromFault, IsNodesFault, IsPrefixFault, IsWhy, Spells, SpellsAll, SpellsPrefix, SpellsRule, SpellsRules, node_key};
+ghost use Rattle.farm_access.specs.Spelling.{IsAtStrict, IsEntryFault, IsFileFault, IsFromFault, IsNodesFault, IsPrefixFault, IsStrictFault, IsWhy, IsWordFault, SpellsAll, SpellsPrefix, SpellsRule, SpellsRules, SpellsStrictness, SpellsWord, SpellsWords, node_key, strict_key};
 ghost use Rattle.toml.specs.Data.{array, as_array, get_member};
 ghost use Rattle.toml.specs.Parse.{parse_document};
 ghost use Rattle.toml.specs.View.{items_view, table_view, view};
 
-use crate::access::AddressRule;
+use crate::coming::AddressRule;
 use crate::fault::AccessFault;
 use crate::prefix::Prefix;
+use crate::strict::{Strict, Strictness};
 use dia_base::Listing;
 use std::alloc::Global;
 use std::str;
@@ -20,25 +21,23 @@ const NODE_LIMIT: usize = 64;
 /// The most prefixes of a node.
 const PREFIX_LIMIT: usize = 64;
 
-/// What a file says of its nodes, in its order; or the first fault.
-pub(crate) fn rules_of(alloc: Global, octets: &[u8]) -> Result<Vec<AddressRule>, AccessFault>
-    ensures spelled { IfOk result (λ rules. Spells octets.now rules.items) }
-    ensures count { IfOk result (λ rules. vec_len rules ≤ 64) }
+/// The document of a site file.
+pub(crate) fn table_of(alloc: Global, octets: &[u8]) -> Result<Table, AccessFault>
+    ensures document { IfOk result (λ table. parse_document octets.now ≡ Some (table_view table)) }
     ensures fault { IfErr result (IsWhy octets.now) }
 {
     match str::from_utf8(octets) {
-        Ok(text) => rules_of_text(alloc, text),
+        Ok(text) => table_of_text(alloc, text),
         Err(_) => Err(AccessFault::NotToml),
     }
 }
 
-fn rules_of_text(alloc: Global, text: &str) -> Result<Vec<AddressRule>, AccessFault>
-    ensures spelled { IfOk result (λ rules. Spells text.now rules.items) }
-    ensures count { IfOk result (λ rules. vec_len rules ≤ 64) }
+fn table_of_text(alloc: Global, text: &str) -> Result<Table, AccessFault>
+    ensures document { IfOk result (λ table. parse_document text.now ≡ Some (table_view table)) }
     ensures fault { IfErr result (IsWhy text.now) }
 {
     match toml::table_from_str(alloc, text) {
-        Ok(file) => rules_in(alloc, &file),
+        Ok(table) => Ok(table),
         Err(fault) if fault.is_memory() => Err(AccessFault::OutOfMemory),
         Err(_) => Err(AccessFault::NotToml),
     }
@@ -59,6 +58,48 @@ fn values_of(value: &Value) -> Option<&[Value]>
     match value.as_array() {
         Some(values) => Some(values.as_slice()),
         None => None,
+    }
+}
+
+/// What a document asks for beyond what a peer meets by default.
+pub(crate) fn strictness_in(file: &Table) -> Result<Strictness, AccessFault>
+    ensures spelled { IfOk result (SpellsStrictness (get_member strict_key (table_view file.now))) }
+    ensures fault { IfErr result (IsAtStrict (get_member strict_key (table_view file.now))) }
+{
+    match find(file, "strict") {
+        Some(value) => strictness_at(value),
+        None => Ok(Strictness::lenient()),
+    }
+}
+
+/// What the words of an array ask for.
+fn strictness_at(value: &Value) -> Result<Strictness, AccessFault>
+    ensures spelled { IfOk result (SpellsWords (view value.now)) }
+    ensures fault { IfErr result (IsStrictFault (view value.now)) }
+{
+    let Some(words) = values_of(value) else {
+        return Err(AccessFault::NoWords);
+    };
+    let mut strictness = Strictness::lenient();
+    for entry in words {
+        let word = word_of(entry)?;
+        let Some(more) = strictness.with(word) else {
+            return Err(AccessFault::WordTwice);
+        };
+        strictness = more;
+    }
+    Ok(strictness)
+}
+
+/// The word that a value is.
+fn word_of(value: &Value) -> Result<Strict, AccessFault>
+    ensures spelled { IfOk result (SpellsWord (view value.now)) }
+    ensures fault { IfErr result (IsWordFault (view value.now)) }
+{
+    match value.as_str() {
+        Some("names") => Ok(Strict::Names),
+        Some(_) => Err(AccessFault::UnknownWord),
+        None => Err(AccessFault::NoWords),
     }
 }
 

@@ -1,7 +1,7 @@
 -- What is told of a site file.
 use Rattle.std.specs.Prelude.{◌≡◌, ◌∷◌, ◌++◌, [], ℕ, List, Option, string_bytes}
 use Rattle.std.specs.Io.KnownBytes.{Appends}
-use Rattle.farm_access.specs.declared.access.AddressRule.{AddressRule}
+use Rattle.farm_access.specs.Rules.{Policy}
 use Rattle.farm_access.specs.Spelling.{IsWhy, Spells}
 use Rattle.farm_base.specs.CheckedSite.{IsChecked}
 use Rattle.farm_base.specs.declared.site.Site.{Site}
@@ -13,16 +13,15 @@ use Rattle.farm_command.specs.declared.status.Status.TheVariants as status
 use Rattle.farm_site.specs.Faults.{AreWhyOctets}
 use Rattle.farm_site.specs.Spelling.{IsSiteFile}
 
--- the octets say of each node where it may connect from
+-- the octets say who may come up
 abbrev pub IsOpenFile : List ℕ → Type 0
-IsOpenFile file = (rules : List AddressRule) × Spells file rules
+IsOpenFile file = (policy : Policy) × Spells file policy
 
--- the octets are the file of a checked site, and say of each node where it may connect from
+-- the octets are the file of a checked site, and say who may come up
 abbrev pub IsAccepted : List ℕ → Type 0
 IsAccepted file = IsOpenFile file × ((site : Site) × IsChecked site × IsSiteFile file site)
 
--- the octets have the fault of a site file that is told, or the fault in what they say of where nodes connect from; or memory
--- is missing
+-- the octets have the fault of a site file that is told, or the fault in what they say of who may come up; or memory is missing
 abbrev pub IsRefused : List ℕ → CheckFault → Type 0
 IsRefused file SiteFile = ⊥
 IsRefused file (of_site fault told) = AreWhyOctets file fault

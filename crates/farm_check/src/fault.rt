@@ -18,7 +18,7 @@ pub enum CheckFault {
     /// The first fault of the site file, and what is told of it: its own line, its place, and what was expected there.
     #[error("{1}")]
     Site(SiteFault, String),
-    /// What the file says of where a node may connect from is refused; and what is told of it, likewise.
+    /// What the file says of who may come up is refused; and what is told of it, likewise.
     #[error("{1}")]
     Access(AccessFault, String),
     #[error("the output cannot be written")]

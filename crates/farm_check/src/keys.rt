@@ -12,7 +12,7 @@ const LINE_LIMIT: usize = 20;
 const KEY_LIMIT: usize = 64;
 
 /// The keys of the file itself.
-const OWN_KEYS: [&str; 17] = [
+const OWN_KEYS: [&str; 18] = [
     "realm",
     "validity",
     "limit",
@@ -30,6 +30,7 @@ const OWN_KEYS: [&str; 17] = [
     "known",
     "tolerate",
     "advertise",
+    "strict",
 ];
 
 /// The keys of the entries of each table, in the order of [`TABLES`].

@@ -1,17 +1,19 @@
-//! What a site file says of where nodes may connect from: its fault, and what may look wrong.
+//! What a site file says of who may come up: its fault, and what may look wrong.
 
-ghost use Rattle.std.specs.Prelude.{◌≡◌, IfErr, OnOk, Some};
+ghost use Rattle.std.specs.Prelude.{◌≡◌, IfErr, IfOk, OnOk, Some};
 ghost use Rattle.toml.specs.Parse.{parse_document};
 ghost use Rattle.toml.specs.View.{table_view};
-ghost use Rattle.farm_check.specs.Checking.{IsOpenFile, IsRefused};
+ghost use Rattle.farm_access.specs.Spelling.{Spells};
+ghost use Rattle.farm_check.specs.Checking.{IsRefused};
+ghost use Rattle.farm_check.specs.Doubts.{IsToldIf, is_lax};
 
 use crate::fault::CheckFault;
 use crate::keys::push_unknown_keys;
 use crate::lines::{Lines, identity_text};
 use crate::nodes::kind_word;
 use crate::parts::{Entry, beginning_of};
-use crate::places::place_in_entry;
-use farm_access::{Access, AccessFault};
+use crate::places::{place_in_entry, place_of_value};
+use farm_access::{Access, AccessFault, Strictness};
 use farm_base::Site;
 use std::alloc::{AllocError, Global};
 use toml::{Table, Value};
@@ -19,14 +21,17 @@ use toml::{Table, Value};
 /// The key that says where a node may connect from.
 const FROM: &str = "from";
 
-/// Whether the file of this document says of each node where it may connect from, or why it does not.
-pub fn check_origins(alloc: Global, file: &[u8], document: &Table) -> Result<(), CheckFault>
+/// The key that says what the site asks for beyond what a peer meets by default.
+const STRICT: &str = "strict";
+
+/// What the file of this document says of who may come up, or why it does not.
+pub fn check_origins(alloc: Global, file: &[u8], document: &Table) -> Result<Access, CheckFault>
     requires { parse_document file.now ≡ Some (table_view document.now) }
-    ensures ok { OnOk result (IsOpenFile file.now) }
+    ensures ok { IfOk result (Spells file.now) }
     ensures fault { IfErr result (IsRefused file.now) }
 {
     match Access::of_document(alloc, document) {
-        Ok(_) => Ok(()),
+        Ok(access) => Ok(access),
         Err(AccessFault::OutOfMemory) => Err(CheckFault::OutOfMemory),
         Err(fault) => Err(CheckFault::Access(fault, origin_text(alloc, file, document, fault)?)),
     }
@@ -39,7 +44,7 @@ fn origin_text(
     document: &Table,
     fault: AccessFault,
 ) -> Result<String, AllocError> {
-    let (place, expected) = (place_text(alloc, file)?, expected_at(fault));
+    let (place, expected) = (place_text(alloc, file, fault)?, expected_at(fault));
     let mut lines = Lines::new(alloc);
     lines.push(format!(in alloc; "{fault}")?.as_str())?;
     lines.push(format!(in alloc; "{place}: expected {expected}")?.as_str())?;
@@ -47,11 +52,29 @@ fn origin_text(
     Ok(lines.into_text())
 }
 
-/// The place of the first node that has such a fault.
-fn place_text(alloc: Global, file: &[u8]) -> Result<String, AllocError> {
+/// The place of what stands at `strict`, or of the first node that has such a fault.
+fn place_text(alloc: Global, file: &[u8], fault: AccessFault) -> Result<String, AllocError> {
     let Ok(text) = std::str::from_utf8(file) else {
         return String::from_str(alloc, "the file");
     };
+    match fault {
+        AccessFault::NoWords | AccessFault::UnknownWord | AccessFault::WordTwice => {
+            place_of_strict(alloc, text)
+        }
+        _ => place_of_node(alloc, text),
+    }
+}
+
+/// The place of what stands at `strict`.
+fn place_of_strict(alloc: Global, text: &str) -> Result<String, AllocError> {
+    match place_of_value(text, 0, STRICT) {
+        Some(place) => format!(in alloc; "{place}"),
+        None => String::from_str(alloc, "above the tables of the file"),
+    }
+}
+
+/// The place of the first node that has a fault.
+fn place_of_node(alloc: Global, text: &str) -> Result<String, AllocError> {
     let Some(entry) = node_at_fault(alloc, text) else {
         return String::from_str(alloc, "the file");
     };
@@ -83,10 +106,24 @@ fn expected_at(fault: AccessFault) -> &'static str {
         AccessFault::NoTexts => "a list of texts, each an IP address or a prefix",
         AccessFault::TooManyPrefixes => "at most 64 addresses and prefixes",
         AccessFault::TooManyNodes => "at most 64 nodes",
+        AccessFault::NoWords | AccessFault::UnknownWord => "a list of texts, each names",
+        AccessFault::WordTwice => "each word once",
         AccessFault::NoTables => "a list of tables, with a header in two brackets for each entry",
         AccessFault::NotToml => "TOML in UTF-8",
         AccessFault::OutOfMemory => "memory",
     }
+}
+
+/// A line where the site does not hold to names.
+pub fn push_laxity(lines: &mut Lines, strictness: Strictness) -> Result<(), AllocError>
+    ensures { OnOk result (IsToldIf (is_lax strictness) lines.old lines.new) }
+{
+    if strictness.names {
+        return Ok(());
+    }
+    lines.push(
+        "look: strict: names is off, so that another node may answer, or connect, under a node's name",
+    )
 }
 
 /// A line for each node that may connect from anywhere, where another one may not.

@@ -1,5 +1,5 @@
 //! The loop of a process that is nodes of a site: sockets, the time, and its node with its connections. It decides nothing:
-//! what a node does is its own, and what becomes of connections is `farm_serve`'s.
+//! what a node does is its own, what becomes of connections is `farm_serve`'s, and who may come up on them `farm_access`'s.
 //!
 //! - [`Live`]: such a process. A turn has two halves: [`Live::hear`] waits 100 milliseconds at most, reads what is ready, and
 //!   ends with one tick; [`Live::answer`] writes. Between the two, what happened may be recorded. [`Live::turn`] is both. Who
@@ -15,6 +15,7 @@
 //! by its rule, and the rest is tested.
 #![tactic(auto)]
 
+mod coming;
 mod dial;
 mod fault;
 mod half;

@@ -4,6 +4,7 @@ ghost use Rattle.std.specs.Prelude.{◌≡◌};
 ghost use Rattle.std.specs.List.{list_all};
 ghost use Rattle.farm_loop.specs.Dialing.{is_tried};
 
+use crate::coming::{barred_on, names_for};
 use crate::dial::{Dial, DialState, are_tried};
 use crate::fault::LoopFault;
 use crate::half::{Half, halves};
@@ -219,8 +220,9 @@ impl<N: Node + Drop> Live<N> {
     }
 
     /// The first half of a turn: waits 100 milliseconds at most, reads what is ready and need not wait for others, takes
-    /// connections from where nodes may come, makes those that are due, and ends with one tick. Nothing is written to a
-    /// connection, so that what is recorded can be written before. The moment of the turn.
+    /// connections from where nodes may come, makes those that are due, and ends with one tick. Which nodes may come up on
+    /// them is what the site says ([`Access::may_come_up`]). Nothing is written to a connection, so that what is recorded can
+    /// be written before. The moment of the turn.
     pub fn hear<O: Net + Clock, L: Log>(
         &mut self,
         os: &O,
@@ -238,7 +240,7 @@ impl<N: Node + Drop> Live<N> {
         self.read_again(site, moment)?;
         self.serve_ready(site, moment)?;
         self.accept_all(log, site, access, moment);
-        self.dial_all(os, log, site, moment);
+        self.dial_all(os, log, site, access, moment);
         self.serving.tick::<ViewWire>(moment);
         Ok(moment)
     }
@@ -488,7 +490,7 @@ impl<N: Node + Drop> Live<N> {
             tell::not_admitted(log, site, local, address);
             return;
         }
-        let Ok(barred) = access.barred(self.alloc, address) else {
+        let Ok(barred) = barred_on(self.alloc, site, access, local, address) else {
             tell::not_taken(log, site, local, Refusal::OutOfMemory);
             return;
         };
@@ -526,14 +528,21 @@ impl<N: Node + Drop> Live<N> {
     }
 
     /// Makes the connections that are due.
-    fn dial_all<O: Net, L: Log>(&mut self, os: &O, log: &L, site: &Site, moment: Moment) {
+    fn dial_all<O: Net, L: Log>(
+        &mut self,
+        os: &O,
+        log: &L,
+        site: &Site,
+        access: &Access,
+        moment: Moment,
+    ) {
         for place in 0..self.dials.len() {
             let Some(dial) = self.dials.get(place) else {
                 continue;
             };
             let dial = *dial;
             if dial.is_due(moment) {
-                let state = self.dial_one(os, log, site, dial, moment);
+                let state = self.dial_one(os, log, site, access, dial, moment);
                 if let Some(dial) = self.dials.get_mut(place) {
                     match state {
                         Some(conn) => dial.make(conn),
@@ -550,6 +559,7 @@ impl<N: Node + Drop> Live<N> {
         os: &O,
         log: &L,
         site: &Site,
+        access: &Access,
         dial: Dial,
         moment: Moment,
     ) -> Option<ConnId> {
@@ -564,6 +574,7 @@ impl<N: Node + Drop> Live<N> {
         match self.serving.connect(
             dial.local,
             dial.peer,
+            names_for(access, dial.peer),
             Counted::new(reader),
             Counted::new(writer),
             moment,

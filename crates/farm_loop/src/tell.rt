@@ -1,6 +1,6 @@
 //! What an operator reads of what happens.
 
-use dia_base::{ConnId, NodeNo};
+use dia_base::{ConnId, Identity, NodeNo};
 use farm_base::Site;
 use farm_serve::{End, Note, Refusal};
 use log::{Log, info, warn};
@@ -17,15 +17,28 @@ pub struct Named<'a> {
 impl fmt::Display for Named<'_> {
     fn fmt<W: fmt::Write>(&self, f: &mut fmt::Formatter<W>) -> fmt::Result {
         match self.site.nodes.as_slice().get(self.node.0 as usize) {
-            Some(node) => {
-                for octet in node.name.as_slice() {
-                    f.write_char(char::from(*octet))?;
-                }
-                Ok(())
-            }
+            Some(node) => write_name(f, &node.name),
             None => write!(f, "node {}", self.node.0),
         }
     }
+}
+
+/// A name as a message says it.
+#[derive(Clone, Copy)]
+struct Said<'a>(&'a Identity);
+
+impl fmt::Display for Said<'_> {
+    fn fmt<W: fmt::Write>(&self, f: &mut fmt::Formatter<W>) -> fmt::Result {
+        write_name(f, self.0)
+    }
+}
+
+/// Writes a name, which is visible ASCII.
+fn write_name<W: fmt::Write>(f: &mut fmt::Formatter<W>, name: &Identity) -> fmt::Result {
+    for octet in name.as_slice() {
+        f.write_char(char::from(*octet))?;
+    }
+    Ok(())
 }
 
 /// A node listens.
@@ -69,6 +82,20 @@ fn lost<L: Log>(log: &L, site: &Site, conn: ConnId, peer: NodeNo, why: End) {
     info!(log; target: "farm", "connection {}: {peer} is lost: {why}", conn.0);
 }
 
+/// A node that was connected to does not come up, since its answer says this name, or none.
+fn misnamed<L: Log>(log: &L, site: &Site, conn: ConnId, peer: NodeNo, name: Option<&Identity>) {
+    let peer = Named { site, node: peer };
+    match name {
+        Some(name) => {
+            let name = Said(name);
+            warn!(log; target: "farm", "connection {}: {peer} was connected to, and {name} answers", conn.0);
+        }
+        None => {
+            warn!(log; target: "farm", "connection {}: {peer} was connected to, and the answer says no name", conn.0);
+        }
+    }
+}
+
 /// A connection has ended on which no node was up.
 fn refused<L: Log>(log: &L, conn: ConnId, why: End) {
     info!(log; target: "farm", "connection {}: ended with nobody up: {why}", conn.0);
@@ -99,6 +126,7 @@ pub fn note<L: Log>(log: &L, site: &Site, note: Note) {
     match note {
         Note::Up { conn, local, peer } => up(log, site, conn, local, peer),
         Note::Lost { conn, peer, why } => lost(log, site, conn, peer, why),
+        Note::Misnamed { conn, peer, name } => misnamed(log, site, conn, peer, name.as_ref()),
         Note::Refused { conn, why } => refused(log, conn, why),
         Note::FailedOver { lost, to } => failed_over(log, lost, to),
         Note::GivenUp { lost, to, code } => given_up(log, lost, to, code),

@@ -68,6 +68,10 @@ HasNone site node = (address : SocketAddr) → ¬ HasAddress site node address
 abbrev pub called_by : Site → NodeNo → List NodeNo
 called_by site node = map (λ link. link.to) (filter (λ link. is_node link.from node) site.links)
 
+-- the nodes that connect to this one
+abbrev pub callers_of : Site → NodeNo → List NodeNo
+callers_of site node = map (λ link. link.from) (filter (λ link. is_node link.to node) site.links)
+
 -- ---- what its connections know (RFC 6733, section 5.3)
 
 -- a relay advertises that it relays; the others speak Credit-Control

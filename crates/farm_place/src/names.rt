@@ -2,7 +2,7 @@
 
 ghost use Rattle.std.specs.Prelude.{◌≡◌, ◌≤◌, length, IfOk};
 ghost use Rattle.farm_base.specs.Nodes.{is_linked, is_node, joins};
-ghost use Rattle.farm_place.specs.Places.{application_of, called_by, is_called, is_kind, connects, neighbours_from, place_named, place_of_name};
+ghost use Rattle.farm_place.specs.Places.{application_of, called_by, callers_of, is_called, is_kind, connects, neighbours_from, place_named, place_of_name};
 
 use dia_base::{Identity, Listing, NodeKind, NodeNo};
 use farm_base::{Link, Node, Site};
@@ -55,6 +55,18 @@ pub(crate) fn called_by(alloc: Global, site: &Site, node: NodeNo) -> Result<Vec<
         .iter()
         .filter(|link| link.from.0 == node.0)
         .map(|link| link.to)
+        .collect(alloc)
+}
+
+/// The nodes that the site has connect to this one, in the order of its links.
+pub fn callers_of(alloc: Global, site: &Site, node: NodeNo) -> Result<Vec<NodeNo>, AllocError>
+    ensures { IfOk result (λ callers. callers.items ≡ callers_of site.now node) }
+{
+    site.links
+        .as_slice()
+        .iter()
+        .filter(|link| link.to.0 == node.0)
+        .map(|link| link.from)
         .collect(alloc)
 }
 

@@ -16,6 +16,7 @@ use Rattle.farm_serve.specs.declared.end.End.{End}
 use Rattle.farm_serve.specs.declared.link.Link.{Link}
 use Rattle.farm_serve.specs.Desks.{kept_by}
 use Rattle.farm_serve.specs.Doing.{AtPlace, Becomes, DoesAct, Heard, IsStill, IsToldOnly, Lived, Lives, Performs, Says, goes_on}
+use Rattle.farm_serve.specs.Naming.{IsKeptOut, misnamed}
 use Rattle.farm_serve.specs.Sending.{AllGoOut}
 use Rattle.farm_serve.specs.Turns.{Kept, Mark}
 use Rattle.farm_serve.proofs.Placing.{keeping}
@@ -106,12 +107,12 @@ lived_at {N} {R} {W} result effect_of here link next place old new same read is 
 -- what it says to a message
 pub heard_at : {N R W : Type 0} (result : Result (List Act) End) (site : WatchSite) (nodes : List NodeNo) (moment : Moment) (m : Message)
     (here link next : Link R W) (place : ℕ) (old new : Desk N R W) → here ≡ link → here ≡ get_or old.links.items place here
-    → IfOk result (λ acts. acts ≡ (after_message site nodes moment m here.watch).acts)
+    → IsKeptOut (misnamed here site m) nodes → IfOk result (λ acts. acts ≡ (after_message site nodes moment m here.watch).acts)
     → OnOk result (next ≡ record here { watch = (after_message site nodes moment m here.watch).next }) → OnErr result (next ≡ here) → new.node ≡ old.node
     → new.links.items ≡ slice_set old.links.items place next → Heard moment m place link old new result
-heard_at (Ok acts) site nodes moment m here link next place old new same read is on still node links =
-    (site, nodes, lived_at {E = End} (Ok acts) (λ (conn : Connection). after_message site nodes moment m conn) here link next place old new same read is on still node links)
-heard_at (Err why) site nodes moment m here link next place old new same read is on still node links =
+heard_at {N} {R} {W} (Ok acts) site nodes moment m here link next place old new same read out is on still node links =
+    (site, nodes, subst (λ (l : Link R W). IsKeptOut (misnamed l site m) nodes) same out, lived_at {E = End} (Ok acts) (λ (conn : Connection). after_message site nodes moment m conn) here link next place old new same read is on still node links)
+heard_at (Err why) site nodes moment m here link next place old new same read out is on still node links =
     lived_at {E = End} (Err why) (λ (conn : Connection). after_message site nodes moment m conn) here link next place old new same read is on still node links
 
 -- and that it is done

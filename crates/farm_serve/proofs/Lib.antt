@@ -4,3 +4,4 @@ pub mod Turning
 pub mod Ordering
 pub mod Sending
 pub mod Doing
+pub mod Misnaming

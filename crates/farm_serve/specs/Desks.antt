@@ -1,5 +1,6 @@
 -- A node with its connections as turns see it.
-use Rattle.std.specs.Prelude.{◌≡◌, ◌<◌, ℕ, ◌&&◌, Bool, true, false, is_some, length, position, ◌+◌, [], ◌∷◌, if◌then◌else◌, get_or, List, map, None}
+use Rattle.std.specs.Prelude.{◌≡◌, ◌<◌, ℕ, ◌&&◌, Bool, true, false, is_some, length, position, ◌+◌, [], ◌∷◌, ◌++◌, if◌then◌else◌, get_or, List, map, None}
+use Rattle.dia_base.specs.declared.number.ConnId.{ConnId}
 use Rattle.dia_base.specs.declared.number.NodeNo.{NodeNo}
 use Rattle.dia_base.specs.declared.number.Moment.{Moment}
 use Rattle.dia_message.specs.declared.message.Message.{Message}
@@ -14,13 +15,19 @@ use Rattle.farm_serve.specs.declared.desk.Desk.{Desk}
 use Rattle.farm_serve.specs.declared.link.Link.{Link}
 use Rattle.farm_serve.specs.declared.link.Standing.{Standing}
 use Rattle.farm_serve.specs.declared.link.Standing.TheVariants.{Waiting, Up, Over}
+use Rattle.farm_serve.specs.declared.naming.NameRule.{NameRule}
 use Rattle.farm_serve.specs.Turns.{Goes, IsDown, Kept, Mark, Told, may_come_up}
 
 abbrev pub mark_of : {R W : Type 0} → Link R W → Mark
-mark_of link = record { id = link.id; local = link.local; standing = link.standing; barred = link.barred.items }
+mark_of link = record { id = link.id; local = link.local; standing = link.standing; barred = link.barred.items; names = link.names }
 
 abbrev pub marks_of : {R W : Type 0} → List (Link R W) → List Mark
 marks_of links = map mark_of links
+
+-- There is one connection more, under this number, of this node: nobody is up on it, and these may come up.
+abbrev pub IsMade : {R W : Type 0} → ConnId → NodeNo → List NodeNo → NameRule → List (Link R W) → List (Link R W) → Type 0
+IsMade conn local barred names old new =
+    marks_of new ≡ marks_of old ++ record { id = conn; local = local; standing = Waiting; barred = barred; names = names } ∷ []
 
 abbrev pub kept_by : {N R W : Type 0} → Desk N R W → Kept N
 kept_by desk = record { node = desk.node; marks = marks_of desk.links.items; made = desk.made }

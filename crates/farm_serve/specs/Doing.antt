@@ -18,6 +18,7 @@ use Rattle.farm_serve.specs.declared.link.Link.{Link}
 use Rattle.farm_serve.specs.declared.link.Standing.{Standing}
 use Rattle.farm_serve.specs.declared.link.Standing.TheVariants.{Waiting, Up, Over}
 use Rattle.farm_serve.specs.Desks.{mark_of}
+use Rattle.farm_serve.specs.Naming.{IsKeptOut, misnamed}
 use Rattle.farm_serve.specs.Sending.{AllGoOut, AreInOrder, HasNone, IsSentOn}
 use Rattle.farm_serve.specs.Turns.{may_come_up}
 
@@ -168,15 +169,17 @@ pub data Closes {N R W : Type 0} (On : N → NodeEvent → Traffic → Result (U
   is_over : IsStill old new → Closes On moment place link old new
   breaks : (mid : Desk N R W) → IsStill old mid → Becomes (HasEnded link) place mid new → Closes On moment place link old new
 
--- What a message says to the life of a connection, where some nodes are not welcome. Where memory is missing, nothing.
+-- What a message says to the life of a connection, where some nodes are not welcome: also the node that was connected to, where
+-- the message is its answer and does not name it, and it comes up by its own name alone. Where memory is missing, nothing.
 abbrev pub Heard : {N R W : Type 0} → Moment → Message → ℕ → Link R W → Desk N R W → Desk N R W → Result (List Act) End → Type 0
 Heard moment m place link old new (Ok acts) =
-    (site : WatchSite) × (nodes : List NodeNo) × Lived (after_message site nodes moment m link.watch) acts place link old new
+    (site : WatchSite) × (nodes : List NodeNo) × IsKeptOut (misnamed link site m) nodes × Lived (after_message site nodes moment m link.watch) acts place link old new
 Heard moment m place link old new (Err why) = IsStill old new
 
 -- A message came: what the table says is done. Where memory is missing, the connection ends.
 pub data Hears {N R W : Type 0} (On : N → NodeEvent → Traffic → Result (Unit {0}) NodeError → N → Type 0) (moment : Moment) (m : Message) (place : ℕ)
     (link : Link R W) (old new : Desk N R W) : Type 0 where
-  hears : (site : WatchSite) (nodes : List NodeNo) → Lives On (after_message site nodes moment m link.watch) place link old new → Hears On moment m place link old new
+  hears : (site : WatchSite) (nodes : List NodeNo) → IsKeptOut (misnamed link site m) nodes
+      → Lives On (after_message site nodes moment m link.watch) place link old new → Hears On moment m place link old new
   is_deaf : IsSome link.end → IsStill old new → Hears On moment m place link old new
   breaks : (mid : Desk N R W) → IsStill old mid → Becomes (HasEnded link) place mid new → Hears On moment m place link old new

@@ -2,3 +2,4 @@ pub mod Turns
 pub mod Desks
 pub mod Sending
 pub mod Doing
+pub mod Naming

@@ -10,16 +10,18 @@ use Rattle.farm_node.specs.Events.{NodeEvent, up, message, lost, tick, wake}
 use Rattle.farm_node.specs.declared.error.NodeError.{NodeError}
 use Rattle.farm_serve.specs.declared.link.Standing.{Standing}
 use Rattle.farm_serve.specs.declared.link.Standing.TheVariants.{Waiting, Up, Over}
+use Rattle.farm_serve.specs.declared.naming.NameRule.{NameRule}
 
 -- ---- what a process keeps
 
--- a connection: its number, the node of this process whose it is, what that was told of it, and the nodes that may not come up
--- on it, from where its other end is
+-- a connection: its number, the node of this process whose it is, what that was told of it, the nodes that may not come up on
+-- it, and by which name one comes up that was connected to
 pub record Mark : Type 0 where
   pub id : ConnId
   pub local : NodeNo
   pub standing : Standing
   pub barred : List NodeNo
+  pub names : NameRule
 
 abbrev pub may_come_up : Mark → NodeNo → Bool
 may_come_up mark peer = not (list_any (λ node. node.0 == peer.0) mark.barred)
@@ -98,12 +100,12 @@ pub data Goes {N : Type 0} (On : N → NodeEvent → Traffic → Result (Unit {0
       Goes On first told (record { node = node; marks = marks; made = made }) → IsOfNone event → On node event sent outcome next →
       Goes On first (told ++ told_of event outcome) (record { node = next; marks = marks; made = made })
   -- A connection is made, with a number that none had.
-  makes : (told : List Told) (node : N) (marks : List Mark) (made : ℕ) (local : NodeNo) (barred : List NodeNo) →
+  makes : (told : List Told) (node : N) (marks : List Mark) (made : ℕ) (local : NodeNo) (barred : List NodeNo) (names : NameRule) →
       Goes On first told (record { node = node; marks = marks; made = made }) →
       Goes On first told
       (record {
         node = node;
-        marks = marks ++ record { id = record { 0 = made + 1 }; local = local; standing = Waiting; barred = barred } ∷ [];
+        marks = marks ++ record { id = record { 0 = made + 1 }; local = local; standing = Waiting; barred = barred; names = names } ∷ [];
         made = made + 1;
       })
   -- One that is not up is let go.

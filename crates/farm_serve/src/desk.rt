@@ -1,11 +1,12 @@
 //! A node with its connections: what it is told, and in which order, and what is sent.
 
-ghost use Rattle.std.specs.Prelude.{◌≡◌, ◌<◌, ◌+◌, length, vec_capacity, IfNone, IfSome, MatchResult, OnErr, Err, true, false};
+ghost use Rattle.std.specs.Prelude.{◌≡◌, ◌<◌, ◌+◌, ◌∷◌, ◌++◌, [], length, vec_capacity, IfNone, IfOk, IfSome, MatchResult, OnErr, Err, true, false};
 ghost use Rattle.farm_node.specs.Events as event;
 ghost use Rattle.farm_watch.specs.Table.{after_close, after_tick};
 ghost use Rattle.farm_watch.specs.declared.acts.Act.TheVariants as life;
 ghost use Rattle.farm_serve.specs.Doing.{AtPlace, Becomes, Closes, DoesAct, EndsOne, EndsUnanswered, EndsWhereRefused, FailsWhereRefused, GoesAndEnds, Greets, HasEnded, Heard, Hears, IsStill, Lived, Performs, Reacts, Says, Ticks, unanswered_by};
 ghost use Rattle.farm_serve.specs.Desks.{AreSettled, IsDownAt, IsPlaceOf, MayComeUpAt, NeverAsks, StandsAt, Tells, is_to_be_told, kept_by, mark_of, marks_of, ups};
+ghost use Rattle.farm_serve.specs.Naming.{IsKeptOut};
 ghost use Rattle.farm_serve.specs.Sending.{AllGoOut, AreInOrder, GoesOut, HasNone, IsNumberedAt, IsSentOn};
 
 use crate::counting::{count_failovers, count_passed, count_sent};
@@ -15,6 +16,7 @@ use crate::link::{
     hear_at, is_waiting, loss_of, may_come_up, open_peer, post_at, receive_at, send_at, tick_at,
 };
 use crate::local::{LocalNode, site_of};
+use crate::naming::misnamed;
 use crate::note::Notes;
 use crate::recording::{record_lost, record_message, record_refusal, record_sent, record_up};
 use dia_avp::Wire;
@@ -119,6 +121,31 @@ fn unwelcome_on<R, W>(
     }
     let mut nodes = peers_of(alloc, links, link.local)?;
     nodes.extend_from_slice(&link.barred)?;
+    Ok(nodes)
+}
+
+/// The same with the node that was connected to and does not come up, if there is one.
+fn unwelcome_with<R, W>(
+    alloc: Global,
+    links: &[Link<R, W>],
+    link: &Link<R, W>,
+    misnamed: Option<NodeNo>,
+) -> Result<Vec<NodeNo>, AllocError>
+    ensures { IfOk result (λ nodes. IsKeptOut misnamed nodes.items) }
+{
+    let nodes = unwelcome_on(alloc, links, link)?;
+    match misnamed {
+        Some(node) => with_node(nodes, node),
+        None => Ok(nodes),
+    }
+}
+
+/// These nodes and one more.
+fn with_node(nodes: Vec<NodeNo>, node: NodeNo) -> Result<Vec<NodeNo>, AllocError>
+    ensures { IfOk result (λ more. more.items ≡ nodes.items ++ node ∷ []) }
+{
+    let mut nodes = nodes;
+    nodes.push(node)?;
     Ok(nodes)
 }
 
@@ -258,6 +285,7 @@ impl<N: Node, R: Read + Device, W: Write + Device> Desk<N, R, W> {
         requires room { length self.old.links.items < vec_capacity self.old.links }
         requires number { link.id.0 ≡ self.old.made + 1 }
         requires waits { link.standing ≡ Standing.Waiting }
+        ensures made { marks_of self.new.links.items ≡ marks_of self.old.links.items ++ mark_of link ∷ [] }
         ensures tells { Tells N.on_event self.old self.new }
         ensures settled { AreSettled self.old.links.items → AreSettled self.new.links.items }
     {
@@ -465,10 +493,14 @@ impl<N: Node, R: Read + Device, W: Write + Device> Desk<N, R, W> {
         let Some(site) = site_of(locals, link.local) else {
             return Err(End::Closed);
         };
-        let Ok(unwelcome) = unwelcome_on(self.alloc, &self.links, link) else {
+        let Ok(misnamed) = misnamed::<P, R, W>(self.alloc, link, site, &message) else {
             return Err(End::OutOfMemory);
         };
-        let alloc = self.alloc;
+        let Ok(unwelcome) = unwelcome_with(self.alloc, &self.links, link, misnamed) else {
+            return Err(End::OutOfMemory);
+        };
+        let (alloc, conn) = (self.alloc, link.id);
+        self.notes.misnamed::<P>(alloc, conn, misnamed, &message);
         hear_at::<P, R, W>(
             alloc,
             &mut self.links[place],

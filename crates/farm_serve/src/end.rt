@@ -10,7 +10,8 @@ use thiserror::Error;
 pub enum End {
     #[error("{0}")]
     Loss(Loss),
-    /// What came first was no exchange of capabilities with a node that may connect here, from where it is, and is not up.
+    /// What came first was no exchange of capabilities with a node that may come up here, from where it is and by the name
+    /// that it gives itself, and is not up.
     #[error("the other end is not welcome")]
     Unwelcome,
     /// The other end has said nothing, or has not answered, for an interval.

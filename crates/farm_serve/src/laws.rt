@@ -1,9 +1,16 @@
 //! Laws. Each is the contract of a function without a body.
 
-ghost use Rattle.std.specs.Prelude.{◌≡◌, List};
+ghost use Rattle.std.specs.Prelude.{◌≡◌, List, Some};
+ghost use Rattle.dia_base.specs.declared.number.Moment.{Moment};
+ghost use Rattle.dia_base.specs.declared.number.NodeNo.{NodeNo};
+ghost use Rattle.dia_message.specs.declared.message.Message.{Message};
 ghost use Rattle.farm_serve.specs.declared.desk.Desk.{Desk};
+ghost use Rattle.farm_serve.specs.declared.link.Link.{Link};
 ghost use Rattle.farm_serve.specs.Desks.{IsRecordedOnly, kept_by};
+ghost use Rattle.farm_serve.specs.Naming.{IsKeptOut, misnamed};
 ghost use Rattle.farm_serve.specs.Turns.{AreRising, Goes, IsInTurn, Kept, Told, beginning};
+ghost use Rattle.farm_watch.specs.Table.{after_message, drops};
+ghost use Rattle.farm_watch.specs.declared.site.WatchSite.{WatchSite};
 
 use farm_node::Node;
 
@@ -23,4 +30,12 @@ pub fn connections_stand_in_order<N: Node>()
 pub fn records_change_nothing<N, R, W>()
     ensures kept { (old new : Desk N R W) → IsRecordedOnly old new → kept_by new ≡ kept_by old }
     ensures links { (old new : Desk N R W) → IsRecordedOnly old new → new.links ≡ old.links }
+{}
+
+/// An answer that does not name the node which was connected to ends the connection, where that comes up by its own name
+/// alone, and nothing is sent: the node does not come up by it.
+pub fn misnamed_nodes_are_dropped<R, W>()
+    ensures { (link : Link R W) (site : WatchSite) (nodes : List NodeNo) (moment : Moment) (m : Message) (node : NodeNo)
+        → misnamed link site m ≡ Some node → IsKeptOut (misnamed link site m) nodes
+        → after_message site nodes moment m link.watch ≡ drops link.watch }
 {}

@@ -5,6 +5,7 @@
 //!   what time it is ([`Serving::tick`]), and take out those that have ended ([`Serving::take_ended`]).
 //!   What happens is recorded, where they hand in a recorder ([`Serving::begin_record`]).
 //! - [`End`]: why a connection has ended; [`Note`]: what an operator may want to read of it.
+//! - [`NameRule`]: by which name a node comes up that was connected to.
 //! - [`UNKNOWN_LIMIT`], [`LINGER`], [`NOTE_LIMIT`]: the limits.
 #![tactic(auto)]
 
@@ -14,14 +15,19 @@ mod end;
 mod laws;
 mod link;
 mod local;
+mod naming;
 mod note;
 mod recording;
 mod serving;
 
 pub use desk::Desk;
 pub use end::{End, Ended, NotTaken, Refusal};
-pub use laws::{connections_stand_in_order, nodes_are_told_in_turn, records_change_nothing};
+pub use laws::{
+    connections_stand_in_order, misnamed_nodes_are_dropped, nodes_are_told_in_turn,
+    records_change_nothing,
+};
 pub use link::{LINGER, Link, Standing};
 pub use local::LocalNode;
+pub use naming::NameRule;
 pub use note::{NOTE_LIMIT, Note, Notes};
 pub use serving::{Serving, UNKNOWN_LIMIT};

@@ -9,6 +9,7 @@ ghost use Rattle.farm_serve.specs.Turns.{may_come_up, standing_as};
 ghost use Rattle.farm_watch.specs.Table.{after_close, after_message, after_tick};
 
 use crate::end::End;
+use crate::naming::NameRule;
 use dia_avp::Wire;
 use dia_base::{ConnId, Moment, NodeNo};
 use dia_message::Message;
@@ -52,6 +53,8 @@ pub struct Link<R, W> {
     pub accepted: bool,
     /// The nodes that may not come up on it, from where its other end is.
     pub barred: Vec<NodeNo>,
+    /// By which name the node at its other end comes up, where that was connected to.
+    pub names: NameRule,
     pub watch: Watch,
     pub conn: Conn<R, W>,
     pub standing: Standing,

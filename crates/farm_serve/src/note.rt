@@ -4,17 +4,18 @@ use crate::end::End;
 use crate::link::Standing;
 use dia_avp::Wire;
 use dia_base::codes::RESULT_CODE;
-use dia_base::{ConnId, NodeNo};
+use dia_base::{ConnId, Identity, NodeNo};
 use dia_message::{Message, Out};
 use farm_node::NodeError;
+use farm_watch::name_in;
 use std::alloc::Global;
 use std::collections::VecDeque;
 
 /// The most notes that are kept. Further ones are counted.
 pub const NOTE_LIMIT: usize = 1_024;
 
-/// Something that has happened. It is small, and whoever writes a log chooses the words.
-#[derive(Clone, Copy, Debug, PartialEq, Eq)]
+/// Something that has happened. Whoever writes a log chooses the words.
+#[derive(Debug, Drop)]
 pub enum Note {
     /// The node at the other end of a connection is up.
     Up {
@@ -27,6 +28,13 @@ pub enum Note {
         conn: ConnId,
         peer: NodeNo,
         why: End,
+    },
+    /// A node that was connected to does not come up, since its answer does not name it: the name that the answer says, if it
+    /// says one.
+    Misnamed {
+        conn: ConnId,
+        peer: NodeNo,
+        name: Option<Identity>,
     },
     /// A connection has ended on which no node was up.
     Refused {
@@ -96,6 +104,20 @@ impl Notes {
     ) {
         if outcome.is_ok() {
             self.add(Note::Up { conn, local, peer });
+        }
+    }
+
+    /// A node that was connected to is not welcome, where there is one: this answer does not name it.
+    pub(crate) fn misnamed<P: Wire>(
+        &mut self,
+        alloc: Global,
+        conn: ConnId,
+        node: Option<NodeNo>,
+        answer: &Message,
+    ) {
+        if let Some(peer) = node {
+            let name = name_in::<P>(alloc, &answer.body);
+            self.add(Note::Misnamed { conn, peer, name });
         }
     }
 

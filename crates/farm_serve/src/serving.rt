@@ -1,13 +1,14 @@
 //! A node with its connections, for those who have sockets.
 
-ghost use Rattle.std.specs.Prelude.{◌≡◌, ◌<◌, ◌+◌, length, true, IfOk, IfSome, IsNone};
-ghost use Rattle.farm_serve.specs.Desks.{AreSettled, IsDownAt, IsRecordedOnly, Tells, kept_by};
+ghost use Rattle.std.specs.Prelude.{◌≡◌, ◌<◌, ◌+◌, [], length, true, IfOk, IfSome, IsNone};
+ghost use Rattle.farm_serve.specs.Desks.{AreSettled, IsDownAt, IsMade, IsRecordedOnly, Tells, kept_by};
 ghost use Rattle.farm_serve.specs.Turns.{IsDown, beginning};
 
 use crate::desk::{Desk, flush_all, greet, place_of};
 use crate::end::{End, Ended, NotTaken, Refusal};
 use crate::link::{Link, Standing, is_overdue};
 use crate::local::{LocalNode, site_of};
+use crate::naming::NameRule;
 use crate::note::{Note, Notes};
 use dia_avp::Wire;
 use dia_base::{ConnId, Moment, NodeNo};
@@ -81,8 +82,8 @@ impl<N: Node, R: Read + Device, W: Write + Device> Serving<N, R, W> {
         }
     }
 
-    /// Some node has connected to the node `local`, and it is none of `barred`, which may not come from where it is. It has
-    /// an interval to say who it is.
+    /// Some node has connected to the node `local`, and it is none of `barred`, which may not come up that connect from where
+    /// it is. It has an interval to say who it is.
     pub fn accept(
         &mut self,
         local: NodeNo,
@@ -91,6 +92,7 @@ impl<N: Node, R: Read + Device, W: Write + Device> Serving<N, R, W> {
         writer: W,
         moment: Moment,
     ) -> Result<ConnId, NotTaken<R, W>>
+        ensures made { IfOk result (λ conn. IsMade conn local barred.items NameRule.Any self.old.desk.links.items self.new.desk.links.items) }
         ensures tells { Tells N.on_event self.old.desk self.new.desk }
         ensures settled { AreSettled self.old.desk.links.items → AreSettled self.new.desk.links.items }
     {
@@ -109,23 +111,42 @@ impl<N: Node, R: Read + Device, W: Write + Device> Serving<N, R, W> {
                 why,
             });
         }
-        self.add(local, Side::Accepts, barred, reader, writer, moment)
+        self.add(
+            local,
+            Side::Accepts,
+            barred,
+            NameRule::Any,
+            reader,
+            writer,
+            moment,
+        )
     }
 
-    /// The node `local` has connected to the node `peer`: its Capabilities-Exchange-Request waits to be written.
+    /// The node `local` has connected to the node `peer`, which comes up by a name of `names`: its
+    /// Capabilities-Exchange-Request waits to be written.
     pub fn connect(
         &mut self,
         local: NodeNo,
         peer: NodeNo,
+        names: NameRule,
         reader: R,
         writer: W,
         moment: Moment,
     ) -> Result<ConnId, NotTaken<R, W>>
+        ensures made { IfOk result (λ conn. IsMade conn local [] names self.old.desk.links.items self.new.desk.links.items) }
         ensures tells { Tells N.on_event self.old.desk self.new.desk }
         ensures settled { AreSettled self.old.desk.links.items → AreSettled self.new.desk.links.items }
     {
         let barred = Vec::new(self.desk.alloc);
-        self.add(local, Side::Connects(peer), barred, reader, writer, moment)
+        self.add(
+            local,
+            Side::Connects(peer),
+            barred,
+            names,
+            reader,
+            writer,
+            moment,
+        )
     }
 
     /// A new connection, or why there is none.
@@ -134,10 +155,12 @@ impl<N: Node, R: Read + Device, W: Write + Device> Serving<N, R, W> {
         local: NodeNo,
         side: Side,
         barred: Vec<NodeNo>,
+        names: NameRule,
         reader: R,
         writer: W,
         moment: Moment,
     ) -> Result<ConnId, NotTaken<R, W>>
+        ensures made { IfOk result (λ conn. IsMade conn local barred.items names self.old.desk.links.items self.new.desk.links.items) }
         ensures tells { Tells N.on_event self.old.desk self.new.desk }
         ensures settled { AreSettled self.old.desk.links.items → AreSettled self.new.desk.links.items }
     {
@@ -162,6 +185,7 @@ impl<N: Node, R: Read + Device, W: Write + Device> Serving<N, R, W> {
             local,
             accepted: side == Side::Accepts,
             barred,
+            names,
             watch,
             conn: Conn::new(self.desk.alloc, reader, writer),
             standing: Standing::Waiting,

@@ -44,6 +44,18 @@ abbrev pub neighbour_of : WatchSite → List RawAvp → Option NodeNo
 neighbour_of site avps =
     option_map (λ neighbour. neighbour.node) (option_and_then (λ origin. neighbour_named site.neighbours origin.value) (find (is_of origin_host) avps))
 
+abbrev pub is_node : NodeNo → Option NodeNo → Bool
+is_node node None = false
+is_node node (Some other) = other.0 == node.0
+
+-- the first Origin-Host names this neighbour
+abbrev pub is_named : WatchSite → NodeNo → List RawAvp → Bool
+is_named site node avps = is_node node (neighbour_of site avps)
+
+-- the octets of the first Origin-Host
+abbrev pub name_in : List RawAvp → Option (List ℕ)
+name_in avps = option_map (λ avp. avp.value) (find (is_of origin_host) avps)
+
 abbrev pub is_up : List NodeNo → NodeNo → Bool
 is_up up node = list_any (λ other. other.0 == node.0) up
 

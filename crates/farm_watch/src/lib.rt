@@ -7,6 +7,7 @@
 //! - [`WatchSite`]: what a node knows of itself and of its neighbours, for all of its connections. Which
 //!   nodes are up is told with each message by those who keep the connections, so that a node comes up once.
 //! - [`kind_of`]: which messages are of the connection, and which are the node's.
+//! - [`is_named_in`], [`name_in`]: whom a message names as the one who writes it.
 //! - [`codes`]: the numbers of these messages.
 //!
 //! `specs/Table` is the table, `specs/PeerMessages` the messages octet for octet, `specs/Capabilities` what
@@ -54,5 +55,6 @@ pub use laws::{
     only_linked_nodes_are_welcome, peer_codes_are_defined,
     peers_come_up_once_and_nothing_follows_the_end, watchdogs_ask_and_then_drop,
 };
+pub use reading::{is_named_in, name_in};
 pub use site::{Application, HostAddress, Neighbour, Side, WatchSite};
 pub use watch::{Waits, Watch};

@@ -1,16 +1,16 @@
 //! What a node reads in the capabilities of a neighbour (RFC 6733, section 5.3).
 
-ghost use Rattle.std.specs.Prelude.{◌≡◌, ℕ, List, IfOk, find};
+ghost use Rattle.std.specs.Prelude.{◌≡◌, ℕ, List, IfOk, IfSome, Some, find};
 ghost use Rattle.std.specs.List.{list_any};
 ghost use Rattle.std.specs.Option.{option_copied};
 ghost use Rattle.dia_avp.specs.AvpList.{Answers, Reads};
-ghost use Rattle.farm_watch.specs.Capabilities.{advertises, avps_in, greeting_to, has_number, is_advertised, is_of, is_shared, is_success, is_up, neighbour_named, neighbour_of};
+ghost use Rattle.farm_watch.specs.Capabilities.{advertises, avps_in, greeting_to, has_number, is_advertised, is_named, is_of, is_shared, is_success, is_up, name_in, neighbour_named, neighbour_of};
 
 use crate::codes::{RELAY_APPLICATION, SUCCESS, VENDOR_SPECIFIC_APPLICATION_ID};
 use crate::site::{Application, Neighbour, WatchSite};
 use dia_avp::{AvpFault, Octets, RawAvp, Wire, u32_of};
-use dia_base::NodeNo;
 use dia_base::codes::{AUTH_APPLICATION_ID, CREDIT_CONTROL_APPLICATION, ORIGIN_HOST, RESULT_CODE};
+use dia_base::{Identity, NodeNo};
 use std::alloc::{AllocError, Global};
 
 /// What becomes of a node that has connected and says who it is.
@@ -55,6 +55,36 @@ pub(crate) fn is_success<W: Wire>(alloc: Global, body: &Octets) -> Result<bool, 
     match first_of(&avps, RESULT_CODE) {
         Some(avp) => Ok(has_number(avp, SUCCESS)),
         None => Ok(false),
+    }
+}
+
+/// Whether the first Origin-Host of a body names this neighbour, without ASCII case.
+pub fn is_named_in<W: Wire>(
+    alloc: Global,
+    site: &WatchSite,
+    body: &Octets,
+    node: NodeNo,
+) -> Result<bool, AllocError>
+    ensures { IfOk result (λ b. b ≡ is_named site.now node (avps_in body.now)) }
+{
+    let avps = readable(W::split(alloc, body), alloc)?;
+    match neighbour_of(site, &avps) {
+        Some(other) => Ok(other.0 == node.0),
+        None => Ok(false),
+    }
+}
+
+/// The name that the first Origin-Host of a body says; none where it says no identity, or memory is missing.
+pub fn name_in<W: Wire>(alloc: Global, body: &Octets) -> Option<Identity>
+    ensures { IfSome result (λ name. name_in (avps_in body.now) ≡ Some name) }
+{
+    let Ok(avps) = readable(W::split(alloc, body), alloc) else {
+        return None;
+    };
+    let origin = first_of(&avps, ORIGIN_HOST)?;
+    match Identity::read(alloc, origin.value.as_slice()) {
+        Ok(name) => Some(name),
+        Err(_) => None,
     }
 }
 

@@ -9,7 +9,7 @@ use dia_base::ConnId;
 use farm_base::Site;
 use farm_loop::{Outgoing, PIECE};
 use farm_place::place_of_relay;
-use farm_serve::{LocalNode, Refusal, Serving};
+use farm_serve::{LocalNode, NameRule, Refusal, Serving};
 use relay_core::Relay;
 use samples_given::{
     CEA, CLIENT_CER, DEBIT, MOMENT, Served, Ways, accept, end_of, octets, stream_of, unsent,
@@ -119,7 +119,7 @@ fn connect<'a>(
 ) -> Result<ConnId, Refusal> {
     let reader = stream_of(greeted, Ways::sound());
     let writer = stream_of(Vec::new(alloc), Ways::few(CALL));
-    match serving.connect(RELAY, FRONT, reader, writer, MOMENT) {
+    match serving.connect(RELAY, FRONT, NameRule::Any, reader, writer, MOMENT) {
         Ok(conn) => Ok(conn),
         Err(refused) => Err(refused.why),
     }

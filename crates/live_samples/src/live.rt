@@ -32,7 +32,7 @@ struct Farm<'a> {
 }
 
 /// A process of one node.
-fn live<N: Node + Drop>(
+pub fn live<N: Node + Drop>(
     rt: &HostRuntime,
     site: &Site,
     node: N,
@@ -87,7 +87,8 @@ fn front_of(rt: &HostRuntime, site: &Site) -> anyhow::Result<Live<Fronts>>
     live(rt, site, fronts, place)
 }
 
-fn relay_of(rt: &HostRuntime, site: &Site) -> anyhow::Result<Live<Relay>>
+/// The relay r1.example of a site.
+pub fn relay_of(rt: &HostRuntime, site: &Site) -> anyhow::Result<Live<Relay>>
     requires { IsChecked site.now }
 {
     let place = place_of_relay(rt.alloc(), site, b"r1.example")?;

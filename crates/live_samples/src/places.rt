@@ -1,7 +1,7 @@
-//! Who may connect from where, by what a site file says.
+//! Who may come up, by what a site file says.
 
 use dia_base::NodeNo;
-use farm_access::{Access, canonical};
+use farm_access::{Access, Coming, canonical};
 use std::alloc::Global;
 use std::net::IpAddr;
 
@@ -22,6 +22,20 @@ node = [
 /// A file whose nodes come from one half of a network, or from nowhere.
 const CLOSED: &str = r#"node = [{ from = ["192.0.2.128/25"] }, { from = [] }]"#;
 
+/// A file that holds to names. The site has the first and the third node connect ([`CALLERS`]).
+const STRICT: &str = r#"
+strict = ["names"]
+node = [
+  { name = "caller.example" },
+  { name = "called.example" },
+  { name = "part.example", from = ["192.0.2.128/25"] },
+  { name = "own.example", from = ["192.0.2.7"] },
+]
+"#;
+
+/// The nodes that connect.
+const CALLERS: [NodeNo; 2] = [NodeNo(0), NodeNo(2)];
+
 /// Addresses: on both sides of each border.
 const ADDRESSES: [&str; 10] = [
     "192.0.2.7",
@@ -36,8 +50,8 @@ const ADDRESSES: [&str; 10] = [
     "2001:dba::",
 ];
 
-/// Texts that no node may have there, and two files that are none.
-const REFUSED: [&str; 14] = [
+/// Texts that may not stand there, and two files that are none.
+const REFUSED: [&str; 21] = [
     "node = [{ from = [\"192.0.2.0/33\"] }]",
     "node = [{ from = [\"2001:db8::/129\"] }]",
     "node = [{ from = [\"192.0.2.0/\"] }]",
@@ -50,6 +64,13 @@ const REFUSED: [&str; 14] = [
     "node = [{ from = [\"[::1]\"] }]",
     "node = [{ from = \"192.0.2.0/24\" }]",
     "node = [{ from = [192] }]",
+    "strict = \"names\"",
+    "strict = [\"names\", 7]",
+    "strict = [\"name\"]",
+    "strict = [\"Names\"]",
+    "strict = [\"end-to-end\"]",
+    "strict = [\"names\", \"goodbyes\"]",
+    "strict = [\"names\", \"names\"]",
     "node = [7]",
     "node = [",
 ];
@@ -74,7 +95,7 @@ fn print_addresses(rt: &impl Print, alloc: Global, access: &Access) -> anyhow::R
     for text in ADDRESSES {
         if let Ok(address) = text.parse::<IpAddr>() {
             let address = canonical(address);
-            let barred = access.barred(alloc, address)?;
+            let barred = access.barred(alloc, &CALLERS, address)?;
             print_address(rt, text, access.admits(address), &barred)?;
         }
     }
@@ -92,19 +113,32 @@ fn print_refused(rt: &impl Print, alloc: Global) -> anyhow::Result<()> {
     Ok(())
 }
 
-/// Prints whether the ninth node may come from an address.
+/// Prints whether the ninth node may come up, of which the site says nothing, where it connects as the site has it.
 fn print_ninth(rt: &impl Print, access: &Access) -> anyhow::Result<()> {
     if let Ok(address) = "192.0.2.128".parse::<IpAddr>() {
-        let ninth = access.may_come_from(NodeNo(8), address);
+        let coming = Coming::Connects {
+            address,
+            is_caller: true,
+        };
+        let ninth = access.may_come_up(NodeNo(8), coming);
         println!(rt; "the ninth node: {ninth}")?;
     }
     Ok(())
 }
 
-/// Prints who may come from where, and whether the ninth node may come from an address.
+/// Prints whether a node may come up that was connected to, by the name that it answers with.
+fn print_answers(rt: &impl Print, access: &Access) -> anyhow::Result<()> {
+    let own = access.may_come_up(NodeNo(0), Coming::Answers { is_named: true });
+    let other = access.may_come_up(NodeNo(0), Coming::Answers { is_named: false });
+    println!(rt; "answers under its own name: {own}, under another one: {other}")?;
+    Ok(())
+}
+
+/// Prints who may come from where, whether the ninth node may, and under which name a node may answer.
 fn print_access(rt: &impl Print, alloc: Global, access: &Access) -> anyhow::Result<()> {
     print_addresses(rt, alloc, access)?;
-    print_ninth(rt, access)
+    print_ninth(rt, access)?;
+    print_answers(rt, access)
 }
 
 /// The same by a file.
@@ -113,9 +147,10 @@ fn print_file(rt: &impl Print, alloc: Global, text: &str) -> anyhow::Result<()> 
     print_access(rt, alloc, &access)
 }
 
-/// Who may come from where.
+/// Who may come up.
 pub fn print_all(rt: &impl Print, alloc: Global) -> anyhow::Result<()> {
     print_file(rt, alloc, FILE)?;
     print_file(rt, alloc, CLOSED)?;
+    print_file(rt, alloc, STRICT)?;
     print_refused(rt, alloc)
 }

@@ -29,8 +29,8 @@ link = [{ from = "c1.example", to = "r1.example" }, { from = "r1.example", to = 
 route = [{ at = "r1.example", realm = "ocs.example", app = 4, peers = ["f1.example"] }]
 "#;
 
-/// The site, with addresses on this machine which another run of this program has not at the same time.
-pub fn site_text(rt: &HostRuntime) -> anyhow::Result<String> {
+/// An address on this machine which another run of this program has not at the same time.
+pub fn host(rt: &HostRuntime) -> anyhow::Result<String> {
     let nanos = match SystemTime::now(rt)?.duration_since(UNIX_EPOCH) {
         Ok(since) => since.subsec_nanos(),
         Err(_) => 0,
@@ -40,7 +40,12 @@ pub fn site_text(rt: &HostRuntime) -> anyhow::Result<String> {
         1 + nanos / 256 % 254,
         1 + nanos % 254,
     );
-    let host = format!(in rt.alloc(); "127.{high}.{middle}.{low}")?;
+    Ok(format!(in rt.alloc(); "127.{high}.{middle}.{low}")?)
+}
+
+/// The site, with such addresses.
+pub fn site_text(rt: &HostRuntime) -> anyhow::Result<String> {
+    let host = host(rt)?;
     Ok(format!(in rt.alloc();
         "{SITE}node = [\n\
         {{ name = \"r1.example\", kind = \"relay\", address = \"{host}:3868\" }},\n\

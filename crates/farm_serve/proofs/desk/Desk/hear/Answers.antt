@@ -20,7 +20,7 @@ returns-then-is_some-clause-hears g c = λ link read.
 pub returns-in-Ok-clause-hears : goal.returns-in-Ok-clause-hears
 returns-in-Ok-clause-hears g c = λ link read.
     let heard = c.in-Ok.ensures.heard link read in
-    hears heard.0 heard.1 (lives_so _ _ _ _ _ _ _ heard.2 c.perform.ensures.performs)
+    hears heard.0 heard.1 heard.2 (lives_so _ _ _ _ _ _ _ heard.3 c.perform.ensures.performs)
 
 pub returns-in-Err-clause-hears : goal.returns-in-Err-clause-hears
 returns-in-Err-clause-hears g c = λ link read.

@@ -1,0 +1,49 @@
+//! What a site asks for beyond what a peer meets by default.
+
+ghost use Rattle.std.specs.Prelude.{◌≡◌, IfNone, IfSome, false, true};
+ghost use Rattle.farm_access.specs.Strictness.{is_on, lenient, with_word};
+
+/// A rule that a site file may ask for at `strict`, by its word there.
+#[derive(Clone, Copy)]
+pub enum Strict {
+    /// `names`: a node comes up only under its own name ([`Access::may_come_up`](crate::Access::may_come_up)).
+    Names,
+}
+
+/// Which of these rules a site asks for.
+#[derive(Clone, Copy)]
+pub struct Strictness {
+    pub names: bool,
+}
+
+impl Strictness {
+    /// None of them.
+    pub fn lenient() -> Self
+        ensures { result ≡ lenient }
+    {
+        Strictness { names: false }
+    }
+
+    /// Whether the site asks for this one.
+    pub fn is_on(self, word: Strict) -> bool
+        ensures { result ≡ is_on self word }
+    {
+        match word {
+            Strict::Names => self.names,
+        }
+    }
+
+    /// These and one more. None where the site asks for that one already.
+    pub(crate) fn with(self, word: Strict) -> Option<Self>
+        ensures some { IfSome result (λ more. more ≡ with_word self word) }
+        ensures fresh { IfSome result (λ _. is_on self word ≡ false) }
+        ensures none { IfNone result (is_on self word ≡ true) }
+    {
+        if self.is_on(word) {
+            return None;
+        }
+        match word {
+            Strict::Names => Some(Strictness { names: true }),
+        }
+    }
+}
