@@ -13,7 +13,7 @@ use Rattle.toml.specs.declared.value.Value.{Value}
 use Rattle.farm_access.specs.declared.fault.AccessFault.{AccessFault}
 use Rattle.farm_access.specs.declared.fault.AccessFault.TheVariants.{NotToml, NoTables, TooManyNodes, NoTexts, NoPrefix, TooManyPrefixes, NoWords, UnknownWord, WordTwice, OutOfMemory}
 use Rattle.farm_access.specs.Spelling.{Asks, HasMore, HasOne, HasTwice, IsAtFrom, IsAtStrict, IsEntryFault, IsFileFault, IsFromFault, IsNoPrefix, IsNoText}
-use Rattle.farm_access.specs.Spelling.{IsNoWord, IsNodesFault, IsPrefixFault, IsStrictFault, IsWhy, IsWordFault, SpellsAll, SpellsWord, SpellsWords}
+use Rattle.farm_access.specs.Spelling.{IsNoWord, IsNodesFault, IsPrefixFault, IsStrictFault, IsWhy, IsWordFault, SpellsAll, SpellsWord}
 use Rattle.farm_access.specs.Spelling.{for_more, node_key, strict_key}
 use Rattle.farm_access.specs.Strictness.{is_on, with_word}
 use Rattle.farm_access.specs.declared.strict.Strict.{Strict}
@@ -122,15 +122,6 @@ asks_more values i value word before more h is asks one fresh e =
     subst (λ (s : Strictness). Asks (map view (take (i + 1) values)) s) (sym e)
     (subst (λ (ys : List Data). Asks ys (with_word before word)) (sym (views_more values i value h is))
     (for_more (map view (take i values)) (view value) word before asks one fresh))
-
--- all words of the array
-pub asks_all : (value : Data) (values : List Value) (i : ℕ) (strictness : Strictness) → value ≡ array (items_view values) → length values ≤ i
-    → Asks (map view (take i values)) strictness → SpellsWords value strictness
-asks_all value values i strictness stand h asks = record {
-  values = map view values;
-  stand = stand;
-  asks = subst (λ (zs : List Value). Asks (map view zs) strictness) (take_all i values h) asks;
-}
 
 -- the values of an array round a place
 views_split : (values : List Value) (i : ℕ) (value : Value) → i < length values → value ≡ get_or values i value

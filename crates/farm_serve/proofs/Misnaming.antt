@@ -7,7 +7,7 @@ use Rattle.std.specs.declared.alloc.Global.{Global}
 use Rattle.dia_base.specs.declared.number.Moment.{Moment}
 use Rattle.dia_base.specs.declared.number.NodeNo.{NodeNo}
 use Rattle.dia_message.specs.declared.message.Message.{Message}
-use Rattle.farm_watch.specs.Capabilities.{avps_in, is_named, is_success, is_up}
+use Rattle.farm_watch.specs.Capabilities.{avps_in, is_named, is_up}
 use Rattle.farm_watch.specs.Table.{Connection, Effect, drops, on_cea, on_kind}
 use Rattle.farm_watch.specs.declared.kind.MessageKind.{MessageKind}
 use Rattle.farm_watch.specs.declared.kind.MessageKind.TheVariants.{Cer, Cea, Dwr, Dwa, Dpr, Dpa, Other}

@@ -2,7 +2,7 @@ use Rattle.std.proofs.Common.{[], sym, subst}
 use Rattle.toml.specs.View.{view}
 use Rattle.farm_access.specs.Spelling.{Asks, IsStrictFault, for_nothing}
 use Rattle.farm_access.specs.declared.strict.Strictness.{Strictness}
-use Rattle.farm_access.proofs.Telling.{asks_all, asks_more, handed_on, twice_told, word_told}
+use Rattle.farm_access.proofs.Telling.{asks_more, handed_on, twice_told, word_told}
 use Rattle.farm_access.proofs.reading.strictness_at.Goals as goal
 
 pub loop-entry-init : goal.loop-entry-init
