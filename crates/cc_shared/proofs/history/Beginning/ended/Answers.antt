@@ -1,5 +1,4 @@
-use Rattle.std.proofs.Common.{◌≡◌, ◌++◌, ◌∷◌, [], List, ap, ◌∙◌, rules}
-use Rattle.cc_shared.specs.declared.logged.Logged.{Logged}
+use Rattle.std.proofs.Common.{◌≡◌, ◌++◌, ◌∷◌, [], ap, ◌∙◌, rules}
 use Rattle.cc_shared.specs.declared.logged.Logged.TheVariants.{Closed}
 use Rattle.cc_shared.specs.History.{is_closed}
 use Rattle.cc_shared.proofs.Histories.{ended_is_closed}

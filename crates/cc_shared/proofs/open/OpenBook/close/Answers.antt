@@ -1,5 +1,5 @@
 use Rattle.std.proofs.Common.{◌∙◌, rules}
-use Rattle.cc_shared.specs.Sharing.{HasGrown, Stood}
+use Rattle.cc_shared.specs.Sharing.{Stood}
 use Rattle.cc_shared.proofs.Growing.{same_takes}
 use Rattle.cc_shared.proofs.Histories.{replay_has_grown}
 use Rattle.cc_shared.proofs.open.OpenBook.close.Goals as goal

@@ -1,4 +1,4 @@
-use Rattle.std.proofs.Common.{◌≡◌, [], List, ap, sym, ◌∙◌, refl, false}
+use Rattle.std.proofs.Common.{◌≡◌, [], List, ap, sym, ◌∙◌}
 use Rattle.std.proofs.lemmas.List.{append-nil}
 use Rattle.cc_book.specs.declared.entry.Entry.{Entry}
 use Rattle.cc_shared.specs.declared.logged.Logged.{Logged}

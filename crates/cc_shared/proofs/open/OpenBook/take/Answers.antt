@@ -1,4 +1,4 @@
-use Rattle.std.proofs.Common.{ap, arith}
+use Rattle.std.proofs.Common.{arith}
 use Rattle.cc_shared.proofs.Histories.{takes_are_few}
 use Rattle.cc_shared.proofs.open.OpenBook.take.Goals as goal
 

@@ -1,7 +1,7 @@
 use Rattle.std.proofs.Common.{◌≡◌, Result, Ok, subst}
 use Rattle.std.specs.Prelude.{IfOk}
 use Rattle.cc_shared.specs.declared.receipt.Receipt.{Receipt}
-use Rattle.cc_shared.proofs.Truth.{IsServed, answer_is_served}
+use Rattle.cc_shared.proofs.Truth.{answer_is_served}
 use Rattle.cc_shared.proofs.shared.SharedBook.serve.Goals as goal
 
 of_ok : {A E : Type 0} (P : A → Type 0) (r : Result A E) (x : A) → r ≡ Ok x → IfOk r P → P x
