@@ -1,11 +1,10 @@
 //! What a process that serves does, one function for each subject: who may come up, who is read while others wait, a front, a
-//! relay and a client over TCP, who comes up under which name, and what a node says of itself.
+//! relay and a client over TCP, and what a node says of itself.
 //!
 //! - `places`: who may come up, by what a site file says.
 //! - `site`: a site for processes on this machine.
 //! - `burst`: a relay whose client sends 4 MB at once, to a front that takes less.
 //! - `live`: a front, a relay and a client in one process, over TCP.
-//! - `names`: who comes up at a relay over TCP, under its own name or another one.
 //! - `status`: what two fronts say of themselves after a few requests, and what requests over HTTP are answered.
 //!
 //! What it must print, `stdout`, was worked out by hand, in this order.
@@ -13,7 +12,6 @@
 
 mod burst;
 mod live;
-mod names;
 mod places;
 mod site;
 mod status;
@@ -22,6 +20,5 @@ fn main(rt: HostRuntime) -> anyhow::Result<()> {
     places::print_all(&rt, rt.alloc())?;
     burst::print(&rt)?;
     live::print(&rt)?;
-    names::print_all(&rt)?;
     status::print_all(&rt, rt.alloc())
 }
