@@ -5,6 +5,7 @@
 //! - `site`: a site for processes on this machine.
 //! - `burst`: a relay whose client sends 4 MB at once, to a front that takes less.
 //! - `live`: a front, a relay and a client in one process, over TCP.
+//! - `names`: who comes up over TCP, where a site holds to names and where it does not.
 //! - `status`: what two fronts say of themselves after a few requests, and what requests over HTTP are answered.
 //!
 //! What it must print, `stdout`, was worked out by hand, in this order.
@@ -12,6 +13,7 @@
 
 mod burst;
 mod live;
+mod names;
 mod places;
 mod site;
 mod status;
@@ -20,5 +22,6 @@ fn main(rt: HostRuntime) -> anyhow::Result<()> {
     places::print_all(&rt, rt.alloc())?;
     burst::print(&rt)?;
     live::print(&rt)?;
+    names::print_all(&rt)?;
     status::print_all(&rt, rt.alloc())
 }
