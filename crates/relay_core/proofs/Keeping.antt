@@ -79,14 +79,14 @@ loop_step before event items after step = λ conn request is flag up loop.
 
 -- ---- an event
 
-record Stands (name realm : List ℕ) (past : List RelayStep) (relay : RelayState) : Type 0 where
-  name_is : relay.node.name ≡ name
-  realm_is : relay.node.realm ≡ realm
-  kept : Kept name realm (acts_of past) relay.pending.rows
-  unanswered : Unanswered relay.node (acts_of past) relay.pending.rows
-  failovers : FailOverOnce name realm past
-  waits : LoseNoRequests past
-  loops : RefusesLoops past
+pub record Stands (name realm : List ℕ) (past : List RelayStep) (relay : RelayState) : Type 0 where
+  pub name_is : relay.node.name ≡ name
+  pub realm_is : relay.node.realm ≡ realm
+  pub kept : Kept name realm (acts_of past) relay.pending.rows
+  pub unanswered : Unanswered relay.node (acts_of past) relay.pending.rows
+  pub failovers : FailOverOnce name realm past
+  pub waits : LoseNoRequests past
+  pub loops : RefusesLoops past
 
 record After (name realm : List ℕ) (acts : List Act) (relay : RelayState) : Type 0 where
   name_is : relay.node.name ≡ name
@@ -220,7 +220,7 @@ begins site start = record {
   loops = tt;
 }
 
-goes_on : (site : RelaySite) (start : ℕ) {events : List RelayEvent} {outs : List Out} {past : List RelayStep} {last : RelayState} → IsRun (relay_at site start) events outs past last → Stands site.name site.realm past last
+pub goes_on : (site : RelaySite) (start : ℕ) {events : List RelayEvent} {outs : List Out} {past : List RelayStep} {last : RelayState} → IsRun (relay_at site start) events outs past last → Stands site.name site.realm past last
 goes_on site start not_begun = begins site start
 goes_on site start (one_more events event outs out past before after run step) =
     let s = goes_on site start run in

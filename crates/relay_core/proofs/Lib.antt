@@ -18,3 +18,4 @@ pub mod Walking
 pub mod Giving
 pub mod Laps
 pub mod Rising
+pub mod MatchedRuns

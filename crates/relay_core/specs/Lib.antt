@@ -15,3 +15,5 @@ pub mod FirstForwarding
 pub mod RuleExample
 pub mod StepExample
 pub mod Giving
+pub mod AnswerMatching
+pub mod MatchedRun

@@ -7,8 +7,10 @@ use Rattle.cc_view.specs.FirstDebit.{debit_header}
 use Rattle.relay_hops.specs.declared.row.Origin.{Origin}
 use Rattle.relay_hops.specs.declared.row.Row.{Row}
 use Rattle.relay_hops.specs.PendingTable.{again, under}
+use Rattle.relay_core.specs.declared.matching.Matching.{Matching}
 use Rattle.relay_core.specs.declared.run.RelayEvent.{RelayEvent}
 use Rattle.relay_core.specs.declared.run.RelayEvent.TheVariants.{Received, Lost}
+use Rattle.relay_core.specs.AnswerMatching.{OnMatchedEvent}
 use Rattle.relay_core.specs.FirstForwarding.{forwarded_debit}
 use Rattle.relay_core.specs.RelayRun.{OnEvent}
 use Rattle.relay_core.specs.RelayState.{RelayState, with_next}
@@ -19,6 +21,10 @@ use Rattle.relay_core.specs.RuleExample.{avp, conn, session}
 -- these are sent and these requests are pending afterwards, and nothing else may be done
 abbrev pub DoesOnly : RelayState → RelayEvent → Traffic → RelayState → Type 0
 DoesOnly relay event sent next = (items : Traffic) (after : RelayState) → OnEvent relay event items after ↔ ((items ≡ sent) × (after ≡ next))
+
+-- the same of a relay that matches answers so
+abbrev pub DoesOnlyBy : Matching → RelayState → RelayEvent → Traffic → RelayState → Type 0
+DoesOnlyBy matching relay event sent next = (items : Traffic) (after : RelayState) → OnMatchedEvent matching relay event items after ↔ ((items ≡ sent) × (after ≡ next))
 
 -- the same where the relay chooses a Hop-by-Hop Identifier
 abbrev pub DoesUnder : RelayState → RelayEvent → (ℕ → Traffic) → (ℕ → RelayState) → Type 0
@@ -36,6 +42,10 @@ refused_with code = record {
   header = record debit_header { request = false; error = true };
   body = written_list (session ∷ avp 264 (codes "r1.example") ∷ avp 296 (codes "ocs.example") ∷ avp 268 code ∷ []);
 }
+
+-- a message with this End-to-End Identifier
+abbrev pub of_end : ℕ → Message → Message
+of_end end message = record { header = record message.header { end = end }; body = message.body }
 
 -- ---- what is pending
 

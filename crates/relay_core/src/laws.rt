@@ -1,7 +1,7 @@
 //! Laws of what relays pass on: what a server reads in a request, and what it is answered, does not depend
 //! on the relays on its way (RFC 6733, section 6.1.9); and of their runs.
 
-ghost use Rattle.std.specs.Prelude.{◌≡◌, ◌+◌, ℕ, List, length, false, Ok};
+ghost use Rattle.std.specs.Prelude.{◌≡◌, ◌↔◌, ◌+◌, ℕ, List, length, false, Ok};
 ghost use Rattle.dia_base.specs.declared.number.ConnId.{ConnId};
 ghost use Rattle.dia_avp.specs.declared.avp.RawAvp.{RawAvp};
 ghost use Rattle.dia_avp.specs.AvpList.{HasSpelling};
@@ -24,11 +24,14 @@ ghost use Rattle.relay_core.specs.Connecting.{relay_at};
 ghost use Rattle.relay_core.specs.FirstForwarding.{client_name, forwarded_debit};
 ghost use Rattle.relay_core.specs.Forwarding.{with_record, Descends};
 ghost use Rattle.relay_core.specs.Giving.{GiveInTurn, GivesRising};
+ghost use Rattle.relay_core.specs.MatchedRun.{AnswerOwn, IsMatchedRun};
 ghost use Rattle.relay_core.specs.Promise.{KeepsPromise};
 ghost use Rattle.relay_core.specs.RelayRun.{IsRun, RelayStep};
 ghost use Rattle.relay_core.specs.RelayState.{RelayState};
 ghost use Rattle.relay_core.specs.RelayStep.{OnRequest, refusal_to};
 ghost use Rattle.relay_core.specs.Verdict.{decision};
+ghost use Rattle.relay_core.specs.declared.matching.Matching.{Matching};
+ghost use Rattle.relay_core.specs.declared.matching.Matching.TheVariants.{EndToEnd, HopByHop};
 ghost use Rattle.relay_core.specs.declared.node.RelaySite.{RelaySite};
 ghost use Rattle.relay_core.specs.declared.run.RelayEvent.{RelayEvent};
 
@@ -93,6 +96,25 @@ pub fn relays_keep_their_promise()
 pub fn identifiers_come_back_late()
     ensures { (site : RelaySite) (start : ℕ) (events : List RelayEvent) (outs : List Out) (past : List RelayStep) (last : RelayState) →
         IsRun (relay_at site start) events outs past last → GiveInTurn past → GivesRising past }
+{}
+
+/// A run of a relay that matches answers so is, but for what it drops, a run of every relay with the same steps.
+pub fn matched_runs_are_runs()
+    ensures { (matching : Matching) (first : RelayState) (events : List RelayEvent) (outs : List Out) (past : List RelayStep) (last : RelayState) →
+        IsMatchedRun matching first events outs past last → (taken : List RelayEvent) × (told : List Out) × IsRun first taken told past last }
+{}
+
+/// A relay that does not compare End-to-End Identifiers drops nothing: its runs are those of every relay.
+pub fn runs_by_hop_are_runs()
+    ensures { (first : RelayState) (events : List RelayEvent) (outs : List Out) (past : List RelayStep) (last : RelayState) →
+        IsMatchedRun HopByHop first events outs past last ↔ IsRun first events outs past last }
+{}
+
+/// Where End-to-End Identifiers are compared, each answer that goes back has that of the request under whose Hop-by-Hop
+/// Identifier it came, and goes to the connection on which that request came (RFC 6733, sections 3 and 6.2).
+pub fn answers_have_the_end_of_their_request()
+    ensures { (site : RelaySite) (start : ℕ) (events : List RelayEvent) (outs : List Out) (past : List RelayStep) (last : RelayState) →
+        IsMatchedRun EndToEnd (relay_at site start) events outs past last → AnswerOwn past }
 {}
 
 /// The worked example: the first debit, as a relay forwards it that has it from `c1.example`, has the

@@ -1,9 +1,10 @@
 //! A relay and its events.
 
-ghost use Rattle.std.specs.Prelude.{◌≡◌, ◌%◌, ◌^◌, IsSome, IsNone, IsOk, IfOk, IfSome, None, OnOk, OnErr, IsOkUnless, MatchOption, false, length};
+ghost use Rattle.std.specs.Prelude.{◌≡◌, ◌%◌, ◌^◌, IsSome, IsNone, is_some, IsOk, IfOk, IfSome, None, OnOk, OnErr, IsOkUnless, MatchOption, false, length};
 ghost use Rattle.relay_peers.specs.PeerTable.{peer_in};
 ghost use Rattle.relay_core.specs.Connecting.{new_relay, relay_at, up_fault, after_up, after_restart};
 ghost use Rattle.relay_core.specs.Giving.{GivesOne, SendsAgain};
+ghost use Rattle.relay_core.specs.AnswerMatching.{is_mismatched};
 ghost use Rattle.relay_core.specs.RelayState.{peer_on, with_next};
 ghost use Rattle.relay_core.specs.RelayStep.{OnMessage, asker_of};
 ghost use Rattle.relay_core.specs.Failover.{OnConnLost};
@@ -130,6 +131,27 @@ impl Relay {
         self.node.peers.down(conn);
         self.pending.orphan(conn);
         Ok(fail_over(&mut self.pending, conn, plan, room))
+    }
+
+    /// Whether a peer is up on a connection.
+    pub(crate) fn is_up_on(&self, conn: ConnId) -> bool
+        ensures { result ≡ is_some (peer_on self.now.node conn) }
+    {
+        self.node.peer_on(conn).is_some()
+    }
+
+    /// Whether a message that came on a connection is an answer, and the request that is pending there under its
+    /// Hop-by-Hop Identifier has another End-to-End Identifier. It takes no memory.
+    pub(crate) fn is_mismatched(&self, conn: ConnId, message: &Message) -> bool
+        ensures { result ≡ is_mismatched self.now.pending.rows conn message.now }
+    {
+        if message.header.request {
+            return false;
+        }
+        match self.pending.held(conn, message.header.hop) {
+            Some(held) => held.request.header.end != message.header.end,
+            None => false,
+        }
     }
 
     /// How many requests are pending: those too whose connection is gone, which wait for their answer all the same.

@@ -63,7 +63,7 @@ impl Relay {
     }
 }
 
-fn on_event<W: Wire>(
+pub(crate) fn on_event<W: Wire>(
     relay: &mut Relay,
     alloc: Global,
     event: &RelayEvent,
@@ -123,7 +123,7 @@ fn on_lost<W: Wire>(relay: &mut Relay, alloc: Global, conn: ConnId) -> Result<Ou
 }
 
 /// What is sent where a call is refused for another reason than memory.
-fn nothing_unless_memory(alloc: Global, fault: RelayError) -> Result<Out, RelayError>
+pub(crate) fn nothing_unless_memory(alloc: Global, fault: RelayError) -> Result<Out, RelayError>
     ensures refused { IfOk result (λ out. (out.items ≡ []) × (fault ≢ RelayError.OutOfMemory)) }
     ensures memory { IsOkUnless result RelayError.OutOfMemory }
 {

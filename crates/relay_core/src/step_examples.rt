@@ -1,15 +1,17 @@
 //! Worked examples: what a relay does at one event (RFC 6733, sections 5.5.4, 6.1 and 6.2). Nothing else may be done.
 
-ghost use Rattle.std.specs.Prelude.{◌≡◌, ◌∷◌, [], None, Some};
+ghost use Rattle.std.specs.Prelude.{◌≡◌, ◌∷◌, [], None, Some, true};
 ghost use Rattle.cc_view.specs.FirstDebit.{answer_message, debit_message};
 ghost use Rattle.relay_hops.specs.PendingTable.{again, under};
 ghost use Rattle.relay_routes.specs.RouteExample.{node};
 ghost use Rattle.relay_core.specs.declared.error.RelayError.TheVariants.{PeerUp, UnknownPeer};
+ghost use Rattle.relay_core.specs.declared.matching.Matching.TheVariants.{EndToEnd, HopByHop};
+ghost use Rattle.relay_core.specs.AnswerMatching.{is_dropped};
 ghost use Rattle.relay_core.specs.Connecting.{after_restart, new_relay, up_fault};
 ghost use Rattle.relay_core.specs.FirstForwarding.{forwarded_debit};
 ghost use Rattle.relay_core.specs.RelayState.{with_rows};
 ghost use Rattle.relay_core.specs.RuleExample.{all_up, but_for, c1, client_up, conn, request_with, site_of_r1};
-ghost use Rattle.relay_core.specs.StepExample.{DoesOnly, DoesUnder, DoesUnderNew, debit_again_on, debit_on, lost, of_c1, received, refused_with};
+ghost use Rattle.relay_core.specs.StepExample.{DoesOnly, DoesOnlyBy, DoesUnder, DoesUnderNew, of_end, debit_again_on, debit_on, lost, of_c1, received, refused_with};
 
 /// A request that is refused is answered where it came from, with E and the relay's name, and is not pending. The first
 /// names nobody, DIAMETER_APPLICATION_UNSUPPORTED; the second meets no candidate, DIAMETER_UNABLE_TO_DELIVER.
@@ -39,6 +41,26 @@ pub fn answers_go_to_the_origin_under_its_identifier()
         [] (with_rows (debit_on 2 5 of_c1 ∷ []) all_up) }
     ensures other_connection { DoesOnly (with_rows (debit_on 2 5 of_c1 ∷ []) all_up) (received 3 (under 5 answer_message))
         [] (with_rows (debit_on 2 5 of_c1 ∷ []) all_up) }
+{}
+
+/// Where End-to-End Identifiers are compared, an answer under the Hop-by-Hop Identifier of a pending request goes nowhere
+/// that has another End-to-End Identifier, and the request waits on, whether somebody waits for its answer or nobody. With its
+/// own it goes back. Under another Hop-by-Hop Identifier or on another connection that does not help. Where they are not
+/// compared, any of them goes back.
+pub fn answers_of_another_end_are_dropped()
+    ensures another { DoesOnlyBy EndToEnd (with_rows (debit_on 2 5 of_c1 ∷ []) all_up) (received 2 (of_end 101 (under 5 answer_message)))
+        [] (with_rows (debit_on 2 5 of_c1 ∷ []) all_up) }
+    ensures counted { is_dropped EndToEnd (with_rows (debit_on 2 5 of_c1 ∷ []) all_up) (conn 2) (of_end 101 (under 5 answer_message)) ≡ true }
+    ensures orphaned { DoesOnlyBy EndToEnd (with_rows (debit_on 2 5 None ∷ []) all_up) (received 2 (of_end 101 (under 5 answer_message)))
+        [] (with_rows (debit_on 2 5 None ∷ []) all_up) }
+    ensures own { DoesOnlyBy EndToEnd (with_rows (debit_on 2 5 of_c1 ∷ []) all_up) (received 2 (under 5 answer_message))
+        ((conn 1, answer_message) ∷ []) (with_rows [] all_up) }
+    ensures other_identifier { DoesOnlyBy EndToEnd (with_rows (debit_on 2 5 of_c1 ∷ []) all_up) (received 2 (under 7 answer_message))
+        [] (with_rows (debit_on 2 5 of_c1 ∷ []) all_up) }
+    ensures other_connection { DoesOnlyBy EndToEnd (with_rows (debit_on 2 5 of_c1 ∷ []) all_up) (received 3 (under 5 answer_message))
+        [] (with_rows (debit_on 2 5 of_c1 ∷ []) all_up) }
+    ensures not_compared { DoesOnlyBy HopByHop (with_rows (debit_on 2 5 of_c1 ∷ []) all_up) (received 2 (of_end 101 (under 5 answer_message)))
+        ((conn 1, of_end 101 answer_message) ∷ []) (with_rows [] all_up) }
 {}
 
 /// Where a connection is lost, a request that was sent on it goes to the next candidate that is up, with T and no second
