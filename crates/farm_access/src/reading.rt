@@ -98,6 +98,7 @@ fn word_of(value: &Value) -> Result<Strict, AccessFault>
 {
     match value.as_str() {
         Some("names") => Ok(Strict::Names),
+        Some("end-to-end") => Ok(Strict::EndToEnd),
         Some(_) => Err(AccessFault::UnknownWord),
         None => Err(AccessFault::NoWords),
     }

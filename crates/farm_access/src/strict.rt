@@ -8,12 +8,15 @@ ghost use Rattle.farm_access.specs.Strictness.{is_on, lenient, with_word};
 pub enum Strict {
     /// `names`: a node comes up only under its own name ([`Access::may_come_up`](crate::Access::may_come_up)).
     Names,
+    /// `end-to-end`: a relay drops an answer that has another End-to-End Identifier than its request (RFC 6733, section 3).
+    EndToEnd,
 }
 
 /// Which of these rules a site asks for.
 #[derive(Clone, Copy)]
 pub struct Strictness {
     pub names: bool,
+    pub end_to_end: bool,
 }
 
 impl Strictness {
@@ -21,7 +24,10 @@ impl Strictness {
     pub fn lenient() -> Self
         ensures { result ≡ lenient }
     {
-        Strictness { names: false }
+        Strictness {
+            names: false,
+            end_to_end: false,
+        }
     }
 
     /// Whether the site asks for this one.
@@ -30,6 +36,7 @@ impl Strictness {
     {
         match word {
             Strict::Names => self.names,
+            Strict::EndToEnd => self.end_to_end,
         }
     }
 
@@ -42,8 +49,16 @@ impl Strictness {
         if self.is_on(word) {
             return None;
         }
+        let Strictness { names, end_to_end } = self;
         match word {
-            Strict::Names => Some(Strictness { names: true }),
+            Strict::Names => Some(Strictness {
+                names: true,
+                end_to_end,
+            }),
+            Strict::EndToEnd => Some(Strictness {
+                names,
+                end_to_end: true,
+            }),
         }
     }
 }

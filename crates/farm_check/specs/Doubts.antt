@@ -3,7 +3,9 @@ use Rattle.std.specs.Prelude.{◌≡◌, ◌==◌, ◌++◌, ◌∷◌, ◌&&◌
 use Rattle.std.specs.List.{list_any}
 use Rattle.dia_base.specs.declared.node.NodeKind.{NodeKind}
 use Rattle.dia_base.specs.declared.node.NodeKind.TheVariants as kind
+use Rattle.farm_access.specs.declared.strict.Strict.{Strict}
 use Rattle.farm_access.specs.declared.strict.Strictness.{Strictness}
+use Rattle.farm_access.specs.Strictness.{is_on}
 use Rattle.farm_base.specs.declared.site.Node.{Node}
 use Rattle.farm_base.specs.declared.site.Site.{Site}
 use Rattle.farm_base.specs.Nodes.{is_relay}
@@ -19,9 +21,9 @@ abbrev pub IsToldIf : Bool → Lines → Lines → Type 0
 IsToldIf true old new = (line : List ℕ) × (string_bytes new.text ≡ with_line (string_bytes old.text) line)
 IsToldIf false old new = string_bytes new.text ≡ string_bytes old.text
 
--- the site does not hold to names, so that a node may come up under the name of another one
-abbrev pub is_lax : Strictness → Bool
-is_lax strictness = not strictness.names
+-- the site does not ask for this
+abbrev pub is_off : Strictness → Strict → Bool
+is_off strictness word = not (is_on strictness word)
 
 -- a link between this node and a relay
 abbrev pub is_linked_with_relay : Site → ℕ → Bool

@@ -27,7 +27,7 @@ use farm_text::{ReadFault, file_at, write_text};
 use fault::CheckFault;
 use keys::push_unknown_keys;
 use lines::Lines;
-use origins::{check_origins, push_laxity, push_open_nodes};
+use origins::{check_origins, push_ends_off, push_names_off, push_open_nodes};
 use std::alloc::Global;
 use std::io;
 use std::io::Write;
@@ -50,7 +50,8 @@ fn told_of(alloc: Global, file: &[u8]) -> Result<Lines, CheckFault>
             let mut lines = Lines::new(alloc);
             push_summary(alloc, &mut lines, &read.site)?;
             push_open_nodes(alloc, &mut lines, &read.site, &read.document)?;
-            push_laxity(&mut lines, access.strictness())?;
+            push_names_off(&mut lines, access.strictness())?;
+            push_ends_off(&mut lines, access.strictness())?;
             push_unknown_keys(alloc, &mut lines, &read.document)?;
             lines.end()?;
             Ok(lines)

@@ -5,7 +5,7 @@ ghost use Rattle.toml.specs.Parse.{parse_document};
 ghost use Rattle.toml.specs.View.{table_view};
 ghost use Rattle.farm_access.specs.Spelling.{Spells};
 ghost use Rattle.farm_check.specs.Checking.{IsRefused};
-ghost use Rattle.farm_check.specs.Doubts.{IsToldIf, is_lax};
+ghost use Rattle.farm_check.specs.Doubts.{IsToldIf, is_off};
 
 use crate::fault::CheckFault;
 use crate::keys::push_unknown_keys;
@@ -13,7 +13,7 @@ use crate::lines::{Lines, identity_text};
 use crate::nodes::kind_word;
 use crate::parts::{Entry, beginning_of};
 use crate::places::{place_in_entry, place_of_value};
-use farm_access::{Access, AccessFault, Strictness};
+use farm_access::{Access, AccessFault, Strict, Strictness};
 use farm_base::Site;
 use std::alloc::{AllocError, Global};
 use toml::{Table, Value};
@@ -106,7 +106,8 @@ fn expected_at(fault: AccessFault) -> &'static str {
         AccessFault::NoTexts => "a list of texts, each an IP address or a prefix",
         AccessFault::TooManyPrefixes => "at most 64 addresses and prefixes",
         AccessFault::TooManyNodes => "at most 64 nodes",
-        AccessFault::NoWords | AccessFault::UnknownWord => "a list of texts, each names",
+        AccessFault::NoWords | AccessFault::UnknownWord =>
+            "a list of texts, each names or end-to-end",
         AccessFault::WordTwice => "each word once",
         AccessFault::NoTables => "a list of tables, with a header in two brackets for each entry",
         AccessFault::NotToml => "TOML in UTF-8",
@@ -115,14 +116,26 @@ fn expected_at(fault: AccessFault) -> &'static str {
 }
 
 /// A line where the site does not hold to names.
-pub fn push_laxity(lines: &mut Lines, strictness: Strictness) -> Result<(), AllocError>
-    ensures { OnOk result (IsToldIf (is_lax strictness) lines.old lines.new) }
+pub fn push_names_off(lines: &mut Lines, strictness: Strictness) -> Result<(), AllocError>
+    ensures { OnOk result (IsToldIf (is_off strictness Strict.Names) lines.old lines.new) }
 {
-    if strictness.names {
+    if strictness.is_on(Strict::Names) {
         return Ok(());
     }
     lines.push(
         "look: strict: names is off, so that another node may answer, or connect, under a node's name",
+    )
+}
+
+/// A line where relays do not compare End-to-End Identifiers.
+pub fn push_ends_off(lines: &mut Lines, strictness: Strictness) -> Result<(), AllocError>
+    ensures { OnOk result (IsToldIf (is_off strictness Strict.EndToEnd) lines.old lines.new) }
+{
+    if strictness.is_on(Strict::EndToEnd) {
+        return Ok(());
+    }
+    lines.push(
+        "look: strict: end-to-end is off, so that a relay takes an answer whose End-to-End Identifier its request has not",
     )
 }
 

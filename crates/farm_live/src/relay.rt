@@ -1,15 +1,18 @@
 //! A process that serves as a relay.
 
+ghost use Rattle.std.specs.Prelude.{◌≡◌, IfOk};
 ghost use Rattle.farm_base.specs.CheckedSite.{IsChecked};
+ghost use Rattle.relay_core.specs.AnswerMatching.{compares_end};
 
 use crate::fault::Fault;
 use crate::serving::{alone, serve_alone};
 use crate::setting::Setting;
 use dia_base::{NodeKind, NodeNo};
+use farm_access::Strictness;
 use farm_base::Site;
 use farm_place::{Place, PlaceFault, place_of_relay};
 use farm_world::relay_starting_at;
-use relay_core::Relay;
+use relay_core::{Matching, MatchingRelay, Relay};
 use std::net::Net;
 use std::random::RandomSource;
 use std::rt::Clock;
@@ -28,6 +31,31 @@ fn relay_at(rt: &HostRuntime, site: &Site, node: NodeNo) -> Result<Relay, Fault>
         }
         Some(_) | None => Err(Fault::Place(PlaceFault::NoAddress)),
     }
+}
+
+/// By which identifiers a relay matches answers, by what its site asks for.
+fn matching_for(strictness: Strictness) -> Matching
+    ensures { compares_end result ≡ strictness.end_to_end }
+{
+    if strictness.end_to_end {
+        Matching::EndToEnd
+    } else {
+        Matching::HopByHop
+    }
+}
+
+/// The same relay, as its site asks for.
+fn matching_relay_at(
+    rt: &HostRuntime,
+    site: &Site,
+    strictness: Strictness,
+    node: NodeNo,
+) -> Result<MatchingRelay, Fault>
+    requires { IsChecked site.now }
+    ensures { IfOk result (λ relay. compares_end relay.matching ≡ strictness.end_to_end) }
+{
+    let relay = relay_at(rt, site, node)?;
+    Ok(MatchingRelay::new(relay, matching_for(strictness)))
 }
 
 /// Any number, from the system's source of random octets; 0 where it gives none.
@@ -61,7 +89,8 @@ fn serve_at<O: Threads + Wait + Net + Clock + RandomSource>(
     requires { IsChecked setting.now.site.now }
 {
     let node = place.node;
-    let relay = relay_at(setting.rt, setting.site, node)?;
+    let strictness = setting.access.strictness();
+    let relay = matching_relay_at(setting.rt, setting.site, strictness, node)?;
     let places = alone(setting.rt.alloc(), place)?;
     serve_alone(setting, node, relay, places, answers)
 }

@@ -12,7 +12,7 @@ use farm_status::{BookStatus, Connections, FrontStatus, Peer, PeerState, Source,
 use farm_text::read_text;
 use front_pool::Pooling;
 use pool_node::{BookFigures, PoolFronts};
-use relay_core::Relay;
+use relay_core::MatchingRelay;
 use std::alloc::{AllocError, Global};
 use std::fs::File;
 use std::rt::Clock;
@@ -28,6 +28,9 @@ pub trait Booked: Node + Drop {
     /// How many answers were dropped that nobody waited for.
     fn strangers(&self) -> u64;
 
+    /// How many answers were dropped since their request has another End-to-End Identifier.
+    fn mismatched(&self) -> u64;
+
     /// What only the node can tell of is recorded.
     fn tell(live: &mut Live<Self>);
 
@@ -40,20 +43,24 @@ pub trait Booked: Node + Drop {
     ) -> Option<Book>;
 }
 
-impl Booked for Relay {
+impl Booked for MatchingRelay {
     fn book(&self) -> Option<BookFigures> {
         None
     }
 
     fn pending(&self) -> u64 {
-        Relay::pending(self) as u64
+        self.relay.pending() as u64
     }
 
     fn strangers(&self) -> u64 {
         0
     }
 
-    fn tell(_live: &mut Live<Relay>) {}
+    fn mismatched(&self) -> u64 {
+        self.mismatched
+    }
+
+    fn tell(_live: &mut Live<MatchingRelay>) {}
 
     fn end<O: Threads + Wait + Clock>(
         self,
@@ -75,6 +82,10 @@ impl Booked for Sender {
     }
 
     fn strangers(&self) -> u64 {
+        0
+    }
+
+    fn mismatched(&self) -> u64 {
         0
     }
 
@@ -101,6 +112,10 @@ impl<L: Pooling, R: Wait + Drop> Booked for PoolFronts<L, R> {
 
     fn strangers(&self) -> u64 {
         PoolFronts::strangers(self)
+    }
+
+    fn mismatched(&self) -> u64 {
+        0
     }
 
     fn tell(live: &mut Live<PoolFronts<L, R>>) {
@@ -300,6 +315,7 @@ impl<N: Node + Drop + Booked> View<'_, N> {
             None => Ok(Work::Relay {
                 pending: self.live.serving.node().pending(),
                 limit: u64::from(PENDING_LIMIT),
+                mismatched: self.live.serving.node().mismatched(),
             }),
         }
     }

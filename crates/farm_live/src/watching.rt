@@ -25,6 +25,8 @@ pub struct Watching {
     told: u64,
     /// How many answers that nobody waited for were told of last.
     strangers: u64,
+    /// How many answers whose request has another End-to-End Identifier were told of last.
+    mismatched: u64,
 }
 
 /// The hundredths of the book at which its filling is told.
@@ -89,6 +91,7 @@ impl Watching {
             nodes,
             told: 0,
             strangers: 0,
+            mismatched: 0,
         })
     }
 
@@ -101,6 +104,7 @@ impl Watching {
     ) -> Result<bool, Fault> {
         self.tell_filling(setting.log, setting.site, live);
         self.tell_strangers(setting.log, live);
+        self.tell_mismatched(setting.log, live);
         let Some(port) = &mut self.port else {
             return Ok(false);
         };
@@ -142,6 +146,15 @@ impl Watching {
         if now > self.strangers {
             self.strangers = now;
             error!(log; target: "farm", "{now} answers of workers were dropped, for which no front waited");
+        }
+    }
+
+    /// Tells of answers that were dropped since their request has another End-to-End Identifier.
+    fn tell_mismatched<N: Node + Drop + Booked>(&mut self, log: &Logger, live: &Live<N>) {
+        let now = live.serving.node().mismatched();
+        if now > self.mismatched {
+            self.mismatched = now;
+            warn!(log; target: "farm", "{now} answers were dropped, whose request has another End-to-End Identifier");
         }
     }
 }

@@ -1,5 +1,5 @@
 -- What a relay and a front do as nodes: the step of the crate that each is of, and why they refuse.
-use Rattle.std.specs.Prelude.{◌≡◌, [], Result, Ok, Err, MatchBool, MatchOption}
+use Rattle.std.specs.Prelude.{◌≡◌, [], Bool, true, false, Result, Ok, Err, MatchBool, MatchOption}
 use Rattle.dia_message.specs.Traffic.{Traffic}
 use Rattle.farm_node.specs.Events.{NodeEvent}
 use Rattle.farm_node.specs.Events.{up, message, lost, tick, wake}
@@ -12,6 +12,8 @@ use Rattle.front_core.specs.FrontStep.{with_connection, without_connection, afte
 use Rattle.relay_peers.specs.PeerTable.{peer_in}
 use Rattle.relay_core.specs.declared.error.RelayError.{RelayError}
 use Rattle.relay_core.specs.declared.error.RelayError.TheVariants as of_relay
+use Rattle.relay_core.specs.declared.matching.MatchingRelay.{MatchingRelay}
+use Rattle.relay_core.specs.AnswerMatching.{is_dropped, mismatched_after}
 use Rattle.relay_core.specs.Connecting.{up_fault, after_up}
 use Rattle.relay_core.specs.Failover.{OnConnLost}
 use Rattle.relay_core.specs.RelayState.{RelayState, peer_on}
@@ -63,6 +65,25 @@ OnRelayEvent relay (lost conn) sent outcome next =
 -- It keeps no time, and nothing works for it elsewhere.
 OnRelayEvent relay (tick moment) sent outcome next = Becomes relay sent outcome next
 OnRelayEvent relay wake sent outcome next = Becomes relay sent outcome next
+
+-- ---- a relay that may compare End-to-End Identifiers (RFC 6733, section 3)
+
+-- it drops what came
+abbrev pub drops : MatchingRelay → NodeEvent → Bool
+drops relay (up local peer conn) = false
+drops relay (message conn m) = is_dropped relay.matching relay.relay conn m
+drops relay (lost conn) = false
+drops relay (tick moment) = false
+drops relay wake = false
+
+abbrev pub one_dropped_more : MatchingRelay → MatchingRelay
+one_dropped_more relay = record relay { mismatched = mismatched_after true relay.mismatched }
+
+-- An answer that it drops is counted, and changes nothing else; at every other event it does what every relay does.
+abbrev pub OnMatchingEvent : MatchingRelay → NodeEvent → Traffic → Result (Unit {0}) NodeError → MatchingRelay → Type 0
+OnMatchingEvent old event sent outcome new =
+    MatchBool (drops old event) (Becomes (one_dropped_more old) sent outcome new)
+    (OnRelayEvent old.relay event sent outcome new.relay × (new ≡ record old { relay = new.relay }))
 
 -- ---- a front (RFC 8506, section 8): what its workers do is no event of a node
 

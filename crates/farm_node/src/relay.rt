@@ -1,14 +1,14 @@
 //! A relay as a node.
 
 ghost use Rattle.std.specs.Prelude.{◌≡◌, [], Ok, Err, IfOk, IfErr};
-ghost use Rattle.farm_node.specs.Nodes.{OnRelayEvent, error_of_relay};
+ghost use Rattle.farm_node.specs.Nodes.{OnMatchingEvent, OnRelayEvent, error_of_relay};
 
 use crate::error::NodeError;
 use crate::node::{Node, Reaction};
 use dia_avp::Wire;
 use dia_base::{ConnId, Moment, NodeNo};
 use dia_message::{Message, Out};
-use relay_core::{Relay, RelayError};
+use relay_core::{MatchingRelay, Relay, RelayError};
 use std::alloc::Global;
 
 /// What a relay sends, or why it does nothing.
@@ -47,5 +47,33 @@ impl Node for Relay {
 
     fn on_wake<W: Wire>(&mut self, alloc: Global) -> Reaction {
         Reaction::nothing(alloc)
+    }
+}
+
+/// The same, with the answers that it drops.
+impl Node for MatchingRelay {
+    ghost on_event = { OnMatchingEvent };
+
+    fn on_up(&mut self, alloc: Global, local: NodeNo, peer: NodeNo, conn: ConnId) -> Reaction {
+        self.relay.on_up(alloc, local, peer, conn)
+    }
+
+    fn on_message<W: Wire>(&mut self, alloc: Global, conn: ConnId, message: Message) -> Reaction {
+        reaction(
+            alloc,
+            MatchingRelay::on_message::<W>(self, alloc, conn, message),
+        )
+    }
+
+    fn on_lost<W: Wire>(&mut self, alloc: Global, conn: ConnId) -> Reaction {
+        self.relay.on_lost::<W>(alloc, conn)
+    }
+
+    fn on_tick<W: Wire>(&mut self, alloc: Global, moment: Moment) -> Reaction {
+        self.relay.on_tick::<W>(alloc, moment)
+    }
+
+    fn on_wake<W: Wire>(&mut self, alloc: Global) -> Reaction {
+        self.relay.on_wake::<W>(alloc)
     }
 }

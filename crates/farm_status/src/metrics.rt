@@ -208,11 +208,24 @@ fn push_book(out: &mut String, book: &BookStatus) -> Result<(), AllocError> {
 /// What the process does.
 fn push_work(out: &mut String, work: &Work) -> Result<(), AllocError> {
     match work {
-        Work::Relay { pending, limit } => {
+        Work::Relay {
+            pending,
+            limit,
+            mismatched,
+        } => {
             let help = "Requests that wait for their answer.";
             single(out, "farm_pending_requests", Kind::Gauge, help, *pending)?;
             let help = "How many requests may wait for their answer.";
-            single(out, "farm_pending_limit", Kind::Gauge, help, *limit)
+            single(out, "farm_pending_limit", Kind::Gauge, help, *limit)?;
+            let help =
+                "Answers that were dropped, since their request has another End-to-End Identifier.";
+            single(
+                out,
+                "farm_answers_mismatched_total",
+                Kind::Counter,
+                help,
+                *mismatched,
+            )
         }
         Work::Fronts { fronts, book } => {
             push_fronts(out, fronts)?;

@@ -166,13 +166,20 @@ fn push_tiles(out: &mut String, status: &Status<'_>) -> Result<(), AllocError> {
 /// What is under way, and what the book has come to.
 fn push_work_tiles(out: &mut String, work: &Work) -> Result<(), AllocError> {
     match work {
-        Work::Relay { pending, limit } => tile_of(
-            out,
-            pending >= limit,
-            *pending,
-            *limit,
-            "requests under way",
-        ),
+        Work::Relay {
+            pending,
+            limit,
+            mismatched,
+        } => {
+            tile_of(
+                out,
+                pending >= limit,
+                *pending,
+                *limit,
+                "requests under way",
+            )?;
+            tile(out, *mismatched > 0, *mismatched, "answers mismatched")
+        }
         Work::Fronts { fronts, book } => {
             let mut waiting: u64 = 0;
             for front in fronts {

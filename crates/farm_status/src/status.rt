@@ -62,10 +62,12 @@ pub struct BookStatus {
 /// What the process does.
 #[derive(Debug, Drop)]
 pub enum Work {
-    /// It is a relay: how many requests wait for their answer, and how many may.
+    /// It is a relay: how many requests wait for their answer, how many may, and how many answers were dropped since their
+    /// request has another End-to-End Identifier.
     Relay {
         pending: u64,
         limit: u64,
+        mismatched: u64,
     },
     /// It is all fronts of the site. The book is missing once it is closed.
     Fronts {

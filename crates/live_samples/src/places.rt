@@ -22,9 +22,9 @@ node = [
 /// A file whose nodes come from one half of a network, or from nowhere.
 const CLOSED: &str = r#"node = [{ from = ["192.0.2.128/25"] }, { from = [] }]"#;
 
-/// A file that holds to names. The site has the first and the third node connect ([`CALLERS`]).
+/// A file that holds to names, and compares End-to-End Identifiers, which is of no account here. The site has the first and the third node connect ([`CALLERS`]).
 const STRICT: &str = r#"
-strict = ["names"]
+strict = ["end-to-end", "names"]
 node = [
   { name = "caller.example" },
   { name = "called.example" },
@@ -51,7 +51,7 @@ const ADDRESSES: [&str; 10] = [
 ];
 
 /// Texts that may not stand there, and two files that are none.
-const REFUSED: [&str; 21] = [
+const REFUSED: [&str; 22] = [
     "node = [{ from = [\"192.0.2.0/33\"] }]",
     "node = [{ from = [\"2001:db8::/129\"] }]",
     "node = [{ from = [\"192.0.2.0/\"] }]",
@@ -68,9 +68,10 @@ const REFUSED: [&str; 21] = [
     "strict = [\"names\", 7]",
     "strict = [\"name\"]",
     "strict = [\"Names\"]",
-    "strict = [\"end-to-end\"]",
+    "strict = [\"end\"]",
     "strict = [\"names\", \"goodbyes\"]",
     "strict = [\"names\", \"names\"]",
+    "strict = [\"end-to-end\", \"names\", \"end-to-end\"]",
     "node = [7]",
     "node = [",
 ];

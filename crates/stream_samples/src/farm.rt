@@ -14,12 +14,12 @@ use relay_routes::Route;
 use samples_given::{FrontAt, Fronts, book, front};
 use std::alloc::{AllocError, Global};
 
-const CLIENT: NodeNo = NodeNo(1);
+pub const CLIENT: NodeNo = NodeNo(1);
 
 const FRONT: NodeNo = NodeNo(2);
 
 /// The connection of the relay and the front, which no connection of a client has.
-const BETWEEN: ConnId = ConnId(u64::MAX);
+pub const BETWEEN: ConnId = ConnId(u64::MAX);
 
 /// The relay r1.example and the front f1.example.
 #[derive(Drop)]
@@ -81,7 +81,7 @@ fn routes(alloc: Global) -> anyhow::Result<Vec<Route>> {
 }
 
 /// The relay between the client and the front, which is up for it.
-fn relay(alloc: Global) -> anyhow::Result<Relay> {
+pub fn relay(alloc: Global) -> anyhow::Result<Relay> {
     let name = Identity::read(alloc, b"r1.example")?;
     let realm = Identity::read(alloc, b"ocs.example")?;
     let peers = Listing::from_vec(peers(alloc)?);

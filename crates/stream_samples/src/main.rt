@@ -12,6 +12,7 @@
 //! - `lists`: lists of AVPs that end too early, and groups that are too deep. `long`: a long stream in pieces. `texts`: those of
 //!   faults.
 //! - `lives`: the life of a connection from both of its ends.
+//! - `matching`: a relay whose server answers under identifiers that it chooses.
 //! - `farm`: a relay and a front as one node. `lines`: a client's streams through both.
 //!
 //! With a number behind its name it reads so many octets at a time of each line, and prints nothing else: `bench/fuzz.py` runs
@@ -29,6 +30,7 @@ mod lists;
 mod lives;
 mod long;
 mod losses;
+mod matching;
 mod messages;
 mod miser;
 mod pieces;
@@ -64,7 +66,8 @@ fn print_samples(rt: &HostRuntime) -> anyhow::Result<()> {
     debit::print_all(rt, alloc)?;
     refusing::print_all(rt, alloc)?;
     waiting::print_all(rt, alloc)?;
-    elsewhere::print_all(rt, alloc)
+    elsewhere::print_all(rt, alloc)?;
+    matching::print_all(rt, alloc)
 }
 
 fn main(rt: HostRuntime) -> anyhow::Result<()> {
