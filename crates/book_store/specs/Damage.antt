@@ -1,7 +1,7 @@
 -- What an opening finds, and what it refuses.
 use Rattle.std.specs.Prelude.{◌≡◌, ℕ, ◌<◌, List, [], ◌++◌, length, take, slice_index_or, Some, IsTrue, false}
 use Rattle.sqlite_value.specs.Order.{Row}
-use Rattle.sqlite_trees.specs.View.{View}
+use Rattle.sqlite_trees.specs.View.{IsClean, View}
 use Rattle.sqlite_trees.specs.declared.store.Shape.TheVariants.{Table}
 use Rattle.book_store.specs.Table.{IsInOrder, rows_in, stored, table_from}
 
@@ -40,3 +40,12 @@ pub record IsFresh (view : View) : Type 0 where
 pub record IsUnaltered (view : View) : Type 0 where
   pub shape : view.shape 0 ≡ Table
   pub committed : view.shape ≡ view.committed_shape
+
+-- the table can be found after a crash
+abbrev pub MayReopen : View → Type 0
+MayReopen view = IsClean view → IsUnaltered view
+
+-- no tree was made or dropped
+pub record KeepsShapes (old new : View) : Type 0 where
+  pub shape : new.shape ≡ old.shape
+  pub committed : new.committed_shape ≡ old.committed_shape

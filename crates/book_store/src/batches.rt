@@ -28,6 +28,7 @@ pub fn append_all<L: RowStore>(
     ensures appended { OnOk result (L.is_clean store.new → L.rows store.new ≡ L.rows store.old ++ rows_of batches.now) }
     ensures crash { L.is_clean store.new → (left : List (List ℕ)) → L.may_leave store.new left
         → (n : ℕ) × (n ≤ length batches.now) × (left ≡ L.rows store.old ++ rows_of (take n batches.now)) }
+    ensures reopens { L.may_reopen store.old → L.may_reopen store.new }
 {
     for batch in batches {
         let place = store.count();

@@ -49,6 +49,7 @@ fn sum_at<L: RowStore>(
     ensures next { IfOk result (λ sum. L.is_clean store.new → next_sum place before.0 (slice_index_or (L.rows store.old) place []) ≡ Some sum.0) }
     ensures wrong { (p : ℕ) → result ≡ Err (CheckError.Wrong p) → L.is_clean store.new → (p ≡ place) × (next_sum place before.0 (slice_index_or (L.rows store.old) place []) ≡ None) }
     ensures crash { (left : List (List ℕ)) → L.may_leave store.new left → L.may_leave store.old left }
+    ensures reopens { L.may_reopen store.old → L.may_reopen store.new }
 {
     let octets = match store.row(alloc, place) {
         Ok(octets) => octets,
@@ -71,6 +72,7 @@ pub fn check_rows<L: RowStore>(alloc: Global, store: &mut L) -> Result<Sum, Chec
     ensures sum { IfOk result (λ sum. L.is_clean store.new → sum_of 0 0 (L.rows store.old) ≡ Some sum.0) }
     ensures wrong { (place : ℕ) → result ≡ Err (CheckError.Wrong place) → L.is_clean store.new → IsWrongAt (L.rows store.old) place }
     ensures crash { (left : List (List ℕ)) → L.may_leave store.new left → L.may_leave store.old left }
+    ensures reopens { L.may_reopen store.old → L.may_reopen store.new }
 {
     let mut sum = FIRST_SUM;
     let count = store.count();

@@ -21,6 +21,9 @@ pub trait RowStore {
     // Which rows an opening after a crash at this moment may find.
     ghost may_leave: { Self → List (List ℕ) → Type 0 };
 
+    // It can be opened after a crash. Each call keeps this, also one that fails.
+    ghost may_reopen: { Self → Type 0 };
+
     /// How many rows there are.
     fn count(&self) -> u64
         requires { is_clean self.now → is_ready self.now }
@@ -39,7 +42,8 @@ pub trait RowStore {
         ensures no_place { result ≡ Err NoPlace → (self.new ≡ self.old) × (2 ^ 62 < place + length batch.now) }
         ensures elsewhere { is_clean self.old → place ≢ length (rows self.old) → result ≡ Err NotBehind }
         ensures crash { is_clean self.new → (left : List (List ℕ)) → may_leave self.new left
-            → may_leave self.old left ⊎ (left ≡ rows self.old ++ octets_in batch.now) };
+            → may_leave self.old left ⊎ (left ≡ rows self.old ++ octets_in batch.now) }
+        ensures reopens { may_reopen self.old → may_reopen self.new };
 
     /// The octets of the row at a place.
     fn row(&mut self, alloc: Global, place: u64) -> Result<Vec<u8>, RowError>
@@ -49,7 +53,8 @@ pub trait RowStore {
         ensures ready { OnOk result (is_clean self.new → is_ready self.new) }
         ensures octets { IfOk result (λ octets. is_clean self.new → octets.items ≡ slice_index_or (rows self.old) place []) }
         ensures same { OnOk result (is_clean self.new → rows self.new ≡ rows self.old) }
-        ensures crash { (left : List (List ℕ)) → may_leave self.new left → may_leave self.old left };
+        ensures crash { (left : List (List ℕ)) → may_leave self.new left → may_leave self.old left }
+        ensures reopens { may_reopen self.old → may_reopen self.new };
 
     // While it is ready, a crash leaves the rows that it holds and nothing else.
     ghost at_rest: { (s : Self) (left : List (List ℕ)) → is_clean s → is_ready s → may_leave s left → left ≡ rows s };

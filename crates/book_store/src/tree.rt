@@ -6,7 +6,7 @@ ghost use Rattle.sqlite_value.specs.declared.value.Value.TheVariants.{Blob};
 ghost use Rattle.sqlite_trees.specs.Tree.{Trees, put_row};
 ghost use Rattle.sqlite_trees.specs.View.{IsClean};
 ghost use Rattle.sqlite_trees.specs.declared.store.Shape.TheVariants.{Table};
-ghost use Rattle.book_store.specs.Damage.{IsDamagedAt, IsFresh, IsUnaltered};
+ghost use Rattle.book_store.specs.Damage.{IsDamagedAt, IsFresh, KeepsShapes, MayReopen};
 ghost use Rattle.book_store.specs.Table.{octets_in, put_from, rows_in, stored, IsReady, Leaves};
 
 use crate::error::{AppendError, OpenError, RowError};
@@ -44,6 +44,7 @@ pub fn open_tree<S: Store>(alloc: Global, store: S) -> Result<TreeStore<S>, (Ope
     ensures ready { IfOk result (λ opened. IsClean (S.Store.view opened.store) → IsReady (S.Store.view opened.store) opened.count) }
     ensures found { IfOk result (λ opened. IsClean (S.Store.view opened.store) → (S.Store.view opened.store).committed 0 ≡ (S.Store.view store).committed 0) }
     ensures crash { IfOk result (λ opened. (db : Trees) → S.Store.recovers opened.store db → S.Store.recovers store db) }
+    ensures reopens { IfOk result (λ opened. MayReopen (S.Store.view store) → MayReopen (S.Store.view opened.store)) }
 
     ensures damaged { (place : ℕ) → IfErr result (λ refused. refused.0 ≡ OpenError.Damaged place → IsClean (S.Store.view refused.1) → IsDamagedAt ((S.Store.view store).committed 0) place) }
     ensures unharmed { IfErr result (λ refused. (db : Trees) → S.Store.recovers refused.1 db → S.Store.recovers store db) }
@@ -61,10 +62,11 @@ pub fn reopen_tree<S: Reopen>(
     alloc: Global,
     opened: TreeStore<S>,
 ) -> Result<TreeStore<S>, (OpenError, S)>
-    requires { IsClean (S.Store.view opened.store) → IsUnaltered (S.Store.view opened.store) }
+    requires { MayReopen (S.Store.view opened.store) }
     ensures clean { IfOk result (λ again. IsClean (S.Store.view again.store) → IsClean (S.Store.view opened.store)) }
     ensures ready { IfOk result (λ again. IsClean (S.Store.view again.store) → IsReady (S.Store.view again.store) again.count) }
     ensures found { IfOk result (λ again. IsClean (S.Store.view again.store) → Leaves (S.Store.recovers opened.store) (rows_in ((S.Store.view again.store).committed 0))) }
+    ensures reopens { IfOk result (λ again. MayReopen (S.Store.view again.store)) }
 {
     let TreeStore { store, .. } = opened;
     let mut store = store;
@@ -99,6 +101,7 @@ fn put_one<S: Store>(
     ensures shape { OnOk result (IsClean (S.Store.view store.new) → (S.Store.view store.new).shape 0 ≡ Table) }
     ensures stays_open { OnOk result (IsClean (S.Store.view store.new) → (S.Store.view store.new).is_open ≡ (S.Store.view store.old).is_open) }
     ensures quiet { (db : Trees) → S.Store.recovers store.new db → S.Store.recovers store.old db }
+    ensures reopens { KeepsShapes (S.Store.view store.old) (S.Store.view store.new) }
 {
     let row = stored(alloc, place, octets)?;
     store.put(TABLE, &row)
@@ -118,6 +121,7 @@ fn put_all<S: Store>(
     ensures shape { OnOk result (IsClean (S.Store.view store.new) → (S.Store.view store.new).shape 0 ≡ Table) }
     ensures stays_open { OnOk result (IsClean (S.Store.view store.new) → (S.Store.view store.new).is_open ≡ (S.Store.view store.old).is_open) }
     ensures quiet { (db : Trees) → S.Store.recovers store.new db → S.Store.recovers store.old db }
+    ensures reopens { KeepsShapes (S.Store.view store.old) (S.Store.view store.new) }
 {
     let mut next = place;
     for octets in batch {
@@ -144,6 +148,7 @@ fn commit_all<S: Store>(
     ensures stays_open { OnOk result (IsClean (S.Store.view store.new) → (S.Store.view store.new).is_open ≡ (S.Store.view store.old).is_open) }
     ensures crash { IsClean (S.Store.view store.new) → (db : Trees) → S.Store.recovers store.new db
         → S.Store.recovers store.old db ⊎ (db 0 ≡ put_from place (octets_in batch.now) ((S.Store.view store.old).trees 0)) }
+    ensures reopens { MayReopen (S.Store.view store.old) → MayReopen (S.Store.view store.new) }
 {
     put_all(store, alloc, place, batch)?;
     store.commit()
@@ -169,6 +174,8 @@ impl<S: Store> RowStore for TreeStore<S> {
     ghost rows = { λ t. rows_in ((S.Store.view t.store).committed 0) };
 
     ghost may_leave = { λ t. Leaves (S.Store.recovers t.store) };
+
+    ghost may_reopen = { λ t. MayReopen (S.Store.view t.store) };
 
     ghost at_rest = { λ t left clean ready leaves. left_at_rest (S.Store.recovers t.store) ((S.Store.view t.store).committed) left (λ db. S.Store.settled t.store db ready.rest.is_open) leaves };
 

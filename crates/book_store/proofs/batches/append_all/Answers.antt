@@ -19,4 +19,5 @@ loop-batch-preserved g c =
       λ clean left leaves.
           has_some_more rows (g.L.RowStore.rows c.loop-batch.store) left c.args.batches.now c.loop-batch.batch-index c.batch-item.result c.deref.result.now c.loop-batch-test.true c.batch-item.is c.deref.ensures.value (c.loop-batch.invariant.2 (c.in_ok-append.ensures.clean clean))
           (some_or_whole rows (g.L.RowStore.rows c.loop-batch.store) c.args.batches.now c.loop-batch.batch-index c.deref.result.now left (g.L.RowStore.may_leave c.loop-batch.store left) (c.loop-batch.invariant.3 (c.in_ok-append.ensures.clean clean) left) (c.in_ok-append.ensures.crash clean left leaves)),
+      λ may. c.in_ok-append.ensures.reopens (c.loop-batch.invariant.4 may),
     )

@@ -9,3 +9,4 @@ invariant-loop-batch g l =
     × (g.L.RowStore.is_clean l.store → g.L.RowStore.rows l.store ≡ g.L.RowStore.rows l.fn.store ++ rows_of (take l.batch-index l.batches))
     × (g.L.RowStore.is_clean l.store → (left : List (List ℕ)) → g.L.RowStore.may_leave l.store left
     → (n : ℕ) × (n ≤ l.batch-index) × (left ≡ g.L.RowStore.rows l.fn.store ++ rows_of (take n l.batches)))
+    × (g.L.RowStore.may_reopen l.fn.store → g.L.RowStore.may_reopen l.store)

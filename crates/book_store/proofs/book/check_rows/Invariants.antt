@@ -10,3 +10,4 @@ invariant-loop-place g l =
     × (g.L.RowStore.is_clean l.store → l.count ≡ length (g.L.RowStore.rows l.fn.store))
     × (g.L.RowStore.is_clean l.store → sum_of 0 0 (take l.place (g.L.RowStore.rows l.fn.store)) ≡ Some l.sum.0)
     × ((left : List (List ℕ)) → g.L.RowStore.may_leave l.store left → g.L.RowStore.may_leave l.fn.store left)
+    × (g.L.RowStore.may_reopen l.fn.store → g.L.RowStore.may_reopen l.store)

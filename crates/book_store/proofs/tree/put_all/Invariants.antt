@@ -2,6 +2,7 @@ use Rattle.std.proofs.Common.{◌≡◌, ◌+◌, drop}
 use Rattle.sqlite_trees.specs.Tree.{Trees}
 use Rattle.sqlite_trees.specs.View.{IsClean}
 use Rattle.sqlite_trees.specs.declared.store.Shape.TheVariants.{Table}
+use Rattle.book_store.specs.Damage.{KeepsShapes}
 use Rattle.book_store.specs.Table.{octets_in, put_from}
 use Rattle.book_store.proofs.tree.put_all.Given as goal
 
@@ -13,3 +14,4 @@ invariant-loop-octets g l =
     × (IsClean (g.S.Store.view l.store) → (g.S.Store.view l.store).is_open ≡ (g.S.Store.view l.fn.store).is_open)
     × (IsClean (g.S.Store.view l.store) → IsClean (g.S.Store.view l.fn.store))
     × ((db : Trees) → g.S.Store.recovers l.store db → g.S.Store.recovers l.fn.store db)
+    × KeepsShapes (g.S.Store.view l.fn.store) (g.S.Store.view l.store)
