@@ -1,0 +1,28 @@
+//! A book that is stored, without the book: rows as octets, and stores of them over trees in memory, one function for each
+//! subject. It prints what they answer.
+//!
+//! - `given`: what rows are made of, one request of each kind with its reply and debit, and a sweep.
+//! - `spelling`: the octets of each row, which are read back, and what is wrong with octets that are no row.
+//! - `appending`: an empty store, batches that are appended and read back, and batches that are refused.
+//! - `crashes`: a crash between two commits, and one behind a commit.
+//! - `damage`: a table that is not one of rows, and rows that are not those that were written.
+//! - `tables`: tables in memory.
+//!
+//! What it must print, `stdout`, is what `examples/models/stored_rows.py` prints, in this order.
+#![tactic(auto)]
+
+mod appending;
+mod crashes;
+mod damage;
+mod given;
+mod spelling;
+mod tables;
+
+fn main(rt: HostRuntime) -> anyhow::Result<()> {
+    let alloc = rt.alloc();
+    let rows = given::rows(alloc)?;
+    spelling::print_all(&rt, alloc, &rows)?;
+    appending::print_all(&rt, alloc, &rows)?;
+    crashes::print_all(&rt, alloc, &rows)?;
+    damage::print_all(&rt, alloc, &rows)
+}
