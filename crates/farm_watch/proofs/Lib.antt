@@ -1,3 +1,4 @@
 pub mod Adding
 pub mod Lives
 pub mod Splits
+pub mod Passed

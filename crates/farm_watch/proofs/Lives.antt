@@ -20,7 +20,7 @@ use Rattle.farm_watch.specs.declared.site.WatchSite.{WatchSite}
 use Rattle.farm_watch.specs.declared.watch.Waits.{Waits}
 use Rattle.farm_watch.specs.declared.watch.Waits.TheVariants.{ForCer, ForCea, ForMessage, ForDwa, ForDpa, ForNothing}
 
-abbrev phase_of : Waits → Phase
+abbrev pub phase_of : Waits → Phase
 phase_of (ForCer since) = before_up
 phase_of (ForCea node since) = before_up
 phase_of (ForMessage since) = while_up
@@ -28,7 +28,7 @@ phase_of (ForDwa since) = while_up
 phase_of (ForDpa since) = while_up
 phase_of ForNothing = after_end
 
-abbrev conn_with : Waits → ℕ → Connection
+abbrev pub conn_with : Waits → ℕ → Connection
 conn_with waits sent = record { waits = waits; sent = sent }
 
 -- what follows the effect is a life from there on, so that the whole is one from here on

@@ -4,3 +4,4 @@ pub mod Numbers
 pub mod PeerMessages
 pub mod Table
 pub mod WatchExample
+pub mod Passing

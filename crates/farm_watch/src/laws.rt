@@ -11,6 +11,7 @@ ghost use Rattle.farm_watch.specs.Life.{Event, IsLife, before_up, life_of};
 ghost use Rattle.farm_watch.specs.declared.site.Side.{Side};
 ghost use Rattle.farm_watch.specs.declared.site.WatchSite.{WatchSite};
 ghost use Rattle.farm_watch.specs.Numbers.{capabilities_exchange, common_messages, device_watchdog, disconnect_cause, disconnect_peer, host_ip_address, no_common_application, relay_application, success, supported_vendor_id, vendor_id, vendor_specific_application_id};
+ghost use Rattle.farm_watch.specs.Passing.{brought_by, passed};
 ghost use Rattle.farm_watch.specs.PeerMessages.{answer_header, cea, cer, dpr, dwr, message_of, own_part, request_header, result_part, success_to};
 ghost use Rattle.farm_watch.specs.Table.{after_close, after_message, after_tick, beginning, drops, identifier_after, stays};
 ghost use Rattle.farm_watch.specs.WatchExample.{application_of_vendor_text, asked, at, c1, cea_of_vendor_text, cea_text, cer_of_client_text, cer_of_vendors_text, cer_text, dpa_text, dpr_text, dwa_text, dwr_of_front_text, dwr_text, f1, f1_of_vendor, greeting_at_front, heard, message, node, other_application_text, r1, r1_of_vendors, refusing_cea_text, waiting};
@@ -37,6 +38,13 @@ pub fn peer_codes_are_defined()
 /// while that is up, and nothing comes behind the end.
 pub fn peers_come_up_once_and_nothing_follows_the_end()
     ensures { (site : WatchSite) (moment : Moment) (side : Side) (events : List Event) → IsLife before_up (life_of site moment side events) }
+{}
+
+/// Of a whole life of a connection: what the node here is passed are the messages that come while the other end is up, but those
+/// of the connection's own life, each once, and in their order. None is kept back, while it says goodbye neither.
+pub fn what_comes_while_up_is_passed()
+    ensures { (site : WatchSite) (moment : Moment) (side : Side) (events : List Event) →
+        passed (life_of site moment side events) ≡ brought_by site (beginning site moment side).next before_up events }
 {}
 
 /// A node that advertises credit control for no vendor writes what it can do for whatever vendor, and nothing behind it.

@@ -12,11 +12,12 @@
 //!
 //! `specs/Table` is the table, `specs/PeerMessages` the messages octet for octet, `specs/Capabilities` what
 //! is read of a neighbour, and `specs/Numbers` the numbers for definitions. `specs/Life` says what the acts of a
-//! whole life are.
+//! whole life are, and `specs/Passing` what a node is passed in it.
 //!
 //! The functions of `laws` have no body: their contracts are laws of these definitions. Of a whole life, a node
 //! comes up once, messages are passed only while it is up, and nothing comes behind the end
-//! ([`peers_come_up_once_and_nothing_follows_the_end`]). A site that advertises no vendor changes no octet of what its nodes
+//! ([`peers_come_up_once_and_nothing_follows_the_end`]); what comes while it is up and is not of the connection's own life is passed,
+//! each once and in order ([`what_comes_while_up_is_passed`]). A site that advertises no vendor changes no octet of what its nodes
 //! write ([`no_vendor_adds_no_octet`]). A connection's own requests have no identifier that a relay gives
 //! ([`connections_and_relays_number_apart`]). Worked examples are laws too ([`neighbours_write_their_octets`], [`only_linked_nodes_are_welcome`], [`connections_begin_with_capabilities`],
 //! [`watchdogs_ask_and_then_drop`], [`connections_end_with_disconnect_peer`]).
@@ -54,6 +55,7 @@ pub use laws::{
     connections_end_with_disconnect_peer, neighbours_write_their_octets, no_vendor_adds_no_octet,
     only_linked_nodes_are_welcome, peer_codes_are_defined,
     peers_come_up_once_and_nothing_follows_the_end, watchdogs_ask_and_then_drop,
+    what_comes_while_up_is_passed,
 };
 pub use reading::{is_named_in, name_in};
 pub use site::{Application, HostAddress, Neighbour, Side, WatchSite};
