@@ -4,3 +4,4 @@ pub mod Growing
 pub mod Comparing
 pub mod Truth
 pub mod Together
+pub mod Each

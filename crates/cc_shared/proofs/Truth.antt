@@ -1,6 +1,6 @@
 -- What the book answers makes a true receipt, and which receipts stand in its history.
 use Rattle.std.proofs.Common.{◌≡◌, ℕ, zero, suc, ◌+◌, Bool, true, false, not, List, [], ◌∷◌, ◌++◌, length, take, Option, Some, Ok, Err, inl, inr, refl, sym, subst, ap, ◌∙◌, arith, append_assoc, length-append}
-use Rattle.std.specs.Prelude.{◌⊎◌, IsTrue, MatchBool, if◌then◌else◌, slice_get, unwrap_or}
+use Rattle.std.specs.Prelude.{◌⊎◌, IsTrue, MatchBool, slice_get, unwrap_or}
 use Rattle.std.specs.Bool.{Decides}
 use Rattle.std.specs.List.{list_all, IsDistinct, AllByRecursion}
 use Rattle.std.proofs.lemmas.Bool.{and_from, cases_lt}
@@ -27,6 +27,7 @@ use Rattle.cc_shared.specs.Receipts.{Fits, IsEnteredAt, IsReceiptOf, IsTakenAt, 
 use Rattle.cc_shared.specs.declared.logged.Logged.{Logged}
 use Rattle.cc_shared.specs.declared.logged.Logged.TheVariants.{Entered}
 use Rattle.cc_shared.specs.History.{SharedLedger, book_at}
+use Rattle.cc_shared.specs.Serving.{answer_in, log_behind}
 use Rattle.cc_shared.proofs.Histories.{book_at-take}
 
 -- ---- the front of a legal history
@@ -107,14 +108,8 @@ pub record IsServed (opened : Ledger) (moment : Moment) (receipt : Receipt) : Ty
   pub stands : StandsIn (book_at opened receipt.seen.log) receipt
   pub entered : receipt.fresh ≡ true → IsEnteredAt opened moment receipt
 
-abbrev pub answer_in : Receipt → Answered
-answer_in receipt = record { reply = receipt.reply; place = receipt.place; fresh = receipt.fresh }
-
 abbrev answered : CcReply → ℕ → Bool → Answered
 answered reply place fresh = record { reply = reply; place = place; fresh = fresh }
-
-abbrev pub log_behind : List Logged → Moment → CcRequest → Bool → List Logged
-log_behind before moment request fresh = if fresh then before ++ Entered (Take moment request) ∷ [] else before
 
 same_key-self : (request : CcRequest) → same_key (key_of request) (key_of request) ≡ true
 same_key-self request = (key-same request request).1 (refl, refl)

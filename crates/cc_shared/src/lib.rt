@@ -1,11 +1,12 @@
 //! One account book that threads share, behind one lock.
 //!
 //! - [`SharedBook`]: a handle on the book. [`SharedBook::serve`] takes a request and answers a [`Receipt`];
-//!   [`SharedBook::finish`] gives the book back, once it has seen that every receipt stands in its one history.
+//!   [`SharedBook::serve_all`] takes several, one behind the other, while it holds the lock once; [`SharedBook::finish`] gives
+//!   the book back, once it has seen that every receipt stands in its one history.
 //! - [`Seat`]: what a thread serves through. It counts its takes, in a ledger whose total stands beside the book.
 //! - [`Sharing`]: names one sharing.
 //!
-//! The lock is held for one call of the book and no longer: requests are read and answers are spelled outside it.
+//! The lock is held for one call and no longer: requests are read and answers are spelled outside it.
 //!
 //! What receipts say stands in `specs/Receipts`, what a shared book is in `specs/Sharing`, what a call of `serve` answers
 //! in `specs/Serving`, and when a book is finished in `specs/Closing`.
@@ -22,6 +23,7 @@
 //! ```
 #![tactic(auto)]
 
+mod asking;
 mod checking;
 mod error;
 mod history;
@@ -34,6 +36,7 @@ mod seat;
 mod shared;
 mod sharing;
 
+pub use asking::{Asked, Served};
 pub use error::{CloseError, ServeError, ServeRefusal};
 pub use history::{Beginning, BlankHistory, Length, OneHistory, SeenHistory};
 pub use logged::Logged;

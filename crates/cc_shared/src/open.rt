@@ -1,18 +1,20 @@
 //! A book that is open: what stands behind the lock until it is closed.
 
-ghost use Rattle.std.specs.Prelude.{◌≡◌, ◌+◌, ◌≤◌, ◌<◌, ◌^◌, ◌++◌, ◌∷◌, [], IfErr, IfOk, length, sum, vec_len, true, false, if◌then◌else◌};
+ghost use Rattle.std.specs.Prelude.{◌≡◌, ◌+◌, ◌≤◌, ◌<◌, ◌^◌, ◌++◌, ◌∷◌, [], IfErr, IfOk, length, sum, vec_capacity, vec_len, true, false, if◌then◌else◌};
 ghost use Rattle.cc_book.specs.declared.entry.Entry.TheVariants.{Take};
 ghost use Rattle.cc_book.specs.History.{IsLegal};
 ghost use Rattle.cc_book.specs.declared.book.BookRefusal.TheVariants.{OutOfMemory};
 ghost use Rattle.cc_book.specs.Planning.{IsGoodFor, after_plan, answer_planned};
 ghost use Rattle.cc_book.specs.Taking.{AnswersWith, SweepsWith, answer_of, is_fresh, sweep_answer, with_take};
 ghost use Rattle.cc_shared.specs.declared.logged.Logged.TheVariants.{Entered};
+ghost use Rattle.cc_shared.specs.Serving.{ServesEach, ServesOne, count_after, why_of};
 ghost use Rattle.cc_shared.specs.Sharing.{log_after_sweep, standings_of};
 ghost use Rattle.cc_shared.specs.Closing.{FinishesWith};
 ghost use Rattle.cc_shared.specs.History.{book_at, is_closed};
 
+use crate::asking::{Asked, Served};
 use crate::checking::first_stray;
-use crate::error::CloseError;
+use crate::error::{CloseError, ServeError, ServeRefusal};
 use crate::history::{Beginning, Length};
 use crate::receipt::Receipt;
 use crate::seat::Seat;
@@ -104,6 +106,63 @@ impl<L: Sharing> OpenBook<L> {
         self.enter(word, seat, moment, request, plan)
     }
 
+    /// Serves a request: it is taken, and its receipt is made behind that.
+    pub fn serve(
+        &mut self,
+        alloc: Global,
+        word: &Length<L>,
+        seat: &mut Seat<L>,
+        moment: Moment,
+        request: CcRequest,
+    ) -> Result<Receipt, ServeError>
+        ensures served { ServesOne L.shared seat.old moment request self.old result self.new }
+        ensures count { seat.new ≡ count_after seat.old result }
+    {
+        match self.take(alloc, word, seat, moment, &request) {
+            Ok(answered) => Ok(Receipt {
+                request,
+                reply: answered.reply,
+                place: answered.place,
+                fresh: answered.fresh,
+                seen: self.history().seen(),
+            }),
+            Err(refusal) => Err(ServeError {
+                why: why_of(refusal),
+                request,
+            }),
+        }
+    }
+
+    /// Serves these requests, one behind the other.
+    pub fn serve_each<J: Drop>(
+        &mut self,
+        alloc: Global,
+        word: &Length<L>,
+        seat: &mut Seat<L>,
+        asked: Vec<Asked<J>>,
+        served: Vec<Served<J>>,
+    ) -> Vec<Served<J>>
+        requires none { served.items ≡ [] }
+        requires room { length asked.items ≤ vec_capacity served }
+        ensures { ServesEach L.shared seat.old self.old asked.items result.items self.new seat.new }
+    {
+        let mut served = served;
+        for next in asked {
+            let Asked {
+                job,
+                moment,
+                request,
+            } = next;
+            let result = self.serve(alloc, word, seat, moment, request);
+            served.push_reserved(Served {
+                job,
+                moment,
+                result,
+            });
+        }
+        served
+    }
+
     /// Does what was planned for a request that is new.
     fn enter(
         &mut self,
@@ -188,6 +247,16 @@ impl<L: Sharing> OpenBook<L> {
             return Err(CloseError::CountsDiffer { book });
         }
         Ok(book)
+    }
+}
+
+/// Why a request is not served that the book has refused.
+fn why_of(refusal: BookRefusal) -> ServeRefusal
+    ensures { result ≡ why_of refusal }
+{
+    match refusal {
+        BookRefusal::Full { limit } => ServeRefusal::Full { limit },
+        BookRefusal::OutOfMemory => ServeRefusal::OutOfMemory,
     }
 }
 

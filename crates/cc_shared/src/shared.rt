@@ -1,12 +1,13 @@
 //! A book that threads share.
 
-ghost use Rattle.std.specs.Prelude.{◌≡◌, ◌≤◌, ◌<◌, [], ◌∷◌, ◌++◌, IfErr, IfOk, IfSome, MatchOption, MatchResult, replicate, true};
+ghost use Rattle.std.specs.Prelude.{◌≡◌, ◌≤◌, ◌<◌, [], ◌∷◌, ◌++◌, IfErr, IfOk, IfSome, MatchResult, length, map, replicate, true, vec_capacity};
 ghost use Rattle.cc_shared.specs.Receipts.{IsEnteredAt, IsReceiptOf};
 ghost use Rattle.cc_shared.specs.Sharing.{IsSnapshot, IsSweep};
-ghost use Rattle.cc_shared.specs.Serving.{TakesFor, count_after, count_by_take};
+ghost use Rattle.cc_shared.specs.Serving.{IsRefused, ServesAll, count_after, refused_closed};
 ghost use Rattle.cc_shared.specs.Closing.{FinishesWith, HasCause, IsFinished, IsWhole};
 ghost use Rattle.cc_shared.specs.declared.logged.Logged.TheVariants.{Closed};
 
+use crate::asking::{Asked, Served};
 use crate::error::{CloseError, ServeError, ServeRefusal};
 use crate::history::{BlankHistory, ClosedHistory, Length, SeenHistory};
 use crate::looks::{ClosedBook, Snapshot, Swept};
@@ -14,7 +15,7 @@ use crate::open::OpenBook;
 use crate::receipt::Receipt;
 use crate::seat::Seat;
 use crate::sharing::Sharing;
-use cc_book::{Answered, Book, BookRefusal};
+use cc_book::{Book, BookRefusal};
 use cc_view::CcRequest;
 use dia_base::Moment;
 use std::alloc::{AllocError, Global};
@@ -44,6 +45,30 @@ struct Inside<L: Sharing> {
 #[derive(Drop)]
 pub struct SharedBook<L: Sharing> {
     inside: Arc<Inside<L>>,
+}
+
+/// Refuses these requests, since the book is closed.
+fn refuse_each<J: Drop>(asked: Vec<Asked<J>>, served: Vec<Served<J>>) -> Vec<Served<J>>
+    requires none { served.items ≡ [] }
+    requires room { length asked.items ≤ vec_capacity served }
+    ensures { result.items ≡ map refused_closed asked.items }
+{
+    let mut served = served;
+    for next in asked {
+        let Asked {
+            job,
+            moment,
+            request,
+        } = next;
+        let why = ServeRefusal::Closed;
+        let result = Err(ServeError { why, request });
+        served.push_reserved(Served {
+            job,
+            moment,
+            result,
+        });
+    }
+    served
 }
 
 impl<L: Sharing> SharedBook<L> {
@@ -103,46 +128,42 @@ impl<L: Sharing> SharedBook<L> {
     ) -> Result<Receipt, ServeError>
         ensures receipt { IfOk result (λ receipt. IsReceiptOf L.shared receipt) }
         ensures request { MatchResult result (λ receipt. receipt.request ≡ request) (λ error. error.request ≡ request) }
+        ensures refusal { IfErr result (λ error. IsRefused L.shared request error.why) }
         ensures place { IfOk result (λ receipt. receipt.fresh ≡ true → seat.old ≤ receipt.place) }
         ensures moment { IfOk result (λ receipt. receipt.fresh ≡ true → IsEnteredAt L.shared.opened moment receipt) }
         ensures count { seat.new ≡ count_after seat.old result }
     {
-        let why = match self.take(rt, alloc, seat, moment, &request) {
-            Some(Ok((answered, seen))) => {
-                return Ok(Receipt {
-                    request,
-                    reply: answered.reply,
-                    place: answered.place,
-                    fresh: answered.fresh,
-                    seen,
-                });
-            }
-            Some(Err(BookRefusal::Full { limit })) => ServeRefusal::Full { limit },
-            Some(Err(BookRefusal::OutOfMemory)) => ServeRefusal::OutOfMemory,
-            None => ServeRefusal::Closed,
-        };
-        Err(ServeError { why, request })
+        let mut guard = self.inside.lock.lock(rt);
+        match &mut *guard {
+            Behind::Open(open) => open.serve(alloc, &self.inside.length, seat, moment, request),
+            Behind::Closed(_) | Behind::Nothing => Err(ServeError {
+                why: ServeRefusal::Closed,
+                request,
+            }),
+        }
     }
 
-    /// One take behind the lock, with what was seen of the history behind it. None if there is no open book.
-    fn take<R: Wait>(
+    /// Serves these requests, one behind the other in this order, while it holds the lock once: no other entry stands between
+    /// theirs. Without memory for as many answers they are handed back, and the book and the seat are as they were.
+    pub fn serve_all<J: Drop, R: Wait>(
         &self,
         rt: &R,
         alloc: Global,
         seat: &mut Seat<L>,
-        moment: Moment,
-        request: &CcRequest,
-    ) -> Option<Result<(Answered, SeenHistory), BookRefusal>>
-        ensures taken { IfSome result (λ answer. IfOk answer (λ taken. TakesFor L.shared.opened L.shared.log seat.old moment request.now taken.0 taken.1.book taken.1.log)) }
-        ensures count { seat.new ≡ count_by_take seat.old result }
+        asked: Vec<Asked<J>>,
+    ) -> Result<Vec<Served<J>>, Vec<Asked<J>>>
+        ensures served { IfOk result (λ served. ServesAll L.shared seat.old asked.items served.items seat.new) }
+        ensures back { IfErr result (λ back. (back ≡ asked) × (seat.new ≡ seat.old)) }
     {
-        let mut guard = self.inside.lock.lock(rt);
-        let Behind::Open(open) = &mut *guard else {
-            return None;
+        let Ok(served) = Vec::with_capacity(alloc, asked.len()) else {
+            return Err(asked);
         };
-        match open.take(alloc, &self.inside.length, seat, moment, request) {
-            Ok(answered) => Some(Ok((answered, open.history().seen()))),
-            Err(refusal) => Some(Err(refusal)),
+        let mut guard = self.inside.lock.lock(rt);
+        match &mut *guard {
+            Behind::Open(open) => {
+                Ok(open.serve_each(alloc, &self.inside.length, seat, asked, served))
+            }
+            Behind::Closed(_) | Behind::Nothing => Ok(refuse_each(asked, served)),
         }
     }
 

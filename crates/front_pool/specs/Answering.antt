@@ -1,5 +1,6 @@
 -- What a job is answered.
-use Rattle.std.specs.Prelude.{◌≡◌, List, [], ◌∷◌, Option, Some, None, IfSome, Ok, Err}
+use Rattle.std.specs.Prelude.{◌≡◌, ℕ, List, All, sum_by, Option, Some, None, IfOk, IfSome, Ok, Err}
+use Rattle.dia_base.specs.declared.number.Moment.{Moment}
 use Rattle.dia_base.specs.declared.number.NodeNo.{NodeNo}
 use Rattle.dia_message.specs.declared.message.Message.{Message}
 use Rattle.cc_view.specs.declared.code.ResultCode.TheVariants.{TooBusy}
@@ -7,9 +8,13 @@ use Rattle.cc_view.specs.declared.refusal.Refusal.{Refusal}
 use Rattle.cc_view.specs.Answer.{answer_to, refusal_of}
 use Rattle.cc_view.specs.Refusal.{refusal_with}
 use Rattle.cc_view.specs.RequestView.{view_under}
+use Rattle.cc_shared.specs.declared.asking.Asked.{Asked}
+use Rattle.cc_shared.specs.declared.asking.Served.{Served}
 use Rattle.cc_shared.specs.declared.receipt.Receipt.{Receipt}
 use Rattle.cc_shared.specs.Receipts.{IsReceiptOf}
 use Rattle.cc_shared.specs.History.{SharedLedger}
+use Rattle.front_pool.specs.declared.answering.Reading.{Reading}
+use Rattle.front_pool.specs.declared.answering.Reading.TheVariants.{Answered, Asks}
 use Rattle.front_pool.specs.declared.job.Finished.{Finished}
 use Rattle.front_pool.specs.declared.job.Job.{Job}
 use Rattle.front_pool.specs.declared.site.PoolSite.{PoolSite}
@@ -46,9 +51,34 @@ IsAnsweredByOne sites shared finished = IsAnswered (sites finished.front) shared
 abbrev pub IsAnsweredBy : NodeNo → (NodeNo → PoolSite) → SharedLedger → Finished → Type 0
 IsAnsweredBy front sites shared finished = (finished.front ≡ front) × IsAnswered (sites front) shared finished
 
--- these jobs, one after the other, were finished as these, each by one answer
-abbrev pub AreServed : (NodeNo → PoolSite) → SharedLedger → List Job → List Finished → Type 0
-AreServed sites shared [] [] = Unit {0}
-AreServed sites shared [] (finished ∷ more) = ⊥
-AreServed sites shared (job ∷ jobs) [] = ⊥
-AreServed sites shared (job ∷ jobs) (finished ∷ more) = (job ≡ job_of finished) × IsAnsweredByOne sites shared finished × AreServed sites shared jobs more
+-- a job of a front that is answered so
+abbrev pub answered : NodeNo → Job → Option Message → Option Receipt → Option Moment → Finished
+answered front job answer receipt moment = record {
+  job = job.number;
+  front = front;
+  conn = job.conn;
+  request = job.request;
+  answer = answer;
+  receipt = receipt;
+  moment = moment;
+}
+
+-- ---- before the book is asked, and behind that
+
+-- what is asked is what is read in the message
+abbrev pub IsAskedOf : PoolSite → Asked Job → Type 0
+IsAskedOf site asked = view_under site.profile asked.job.request ≡ Ok asked.request
+
+-- What is served is what is read in the message, and its receipt stands in the book's history.
+abbrev pub IsServedAt : PoolSite → SharedLedger → Served Job → Type 0
+IsServedAt site shared served = IfOk served.result (λ receipt. (view_under site.profile served.job.request ≡ Ok receipt.request) × IsReceiptOf shared receipt)
+
+-- The message of a job of this front was read: it is answered without the book, or the book is asked.
+abbrev pub Reads : (NodeNo → PoolSite) → SharedLedger → NodeNo → Job → Reading → Type 0
+Reads sites shared front job (Answered finished) = (job_of finished ≡ job) × IsAnsweredByOne sites shared finished × (finished.receipt ≡ None)
+Reads sites shared front job (Asks asked) = (asked.job ≡ job) × IsAskedOf (sites front) asked
+
+-- These jobs were finished as these, each once, by one answer: however jobs are weighed, both sides weigh the same.
+pub record AreServed (sites : NodeNo → PoolSite) (shared : SharedLedger) (jobs : List Job) (finished : List Finished) : Type 0 where
+  pub same : (weight : Job → ℕ) → sum_by weight jobs ≡ sum_by (λ done. weight (job_of done)) finished
+  pub answered : All (IsAnsweredByOne sites shared) finished

@@ -1,16 +1,16 @@
 //! What a worker does with a message: it reads the request, has it served, and spells the answer.
 
-ghost use Rattle.std.specs.Prelude.{◌≡◌, IfSome, IsSome, Ok};
+ghost use Rattle.std.specs.Prelude.{◌≡◌, IfSome, None, Ok, Some};
 ghost use Rattle.cc_view.specs.Answer.{answer_to};
 ghost use Rattle.cc_view.specs.RequestView.{view_under};
-ghost use Rattle.front_pool.specs.Answering.{Answers, IsAnsweredByOne, too_busy};
-ghost use Rattle.front_pool.specs.Counting.{counted_with};
+ghost use Rattle.front_pool.specs.Answering.{IsAnsweredByOne, IsServedAt, Reads, answered, too_busy};
+ghost use Rattle.front_pool.specs.Counting.{takes_of, takes_served};
 ghost use Rattle.front_pool.specs.Jobs.{job_of};
 
 use crate::gate::Gate;
 use crate::job::{Finished, Job};
 use crate::site::{PoolSite, Pooling};
-use cc_shared::{Receipt, Seat, SharedBook};
+use cc_shared::{Asked, Receipt, Served};
 use cc_view::{CcRequest, Refusal, ResultCode, answer_bytes, refusal_bytes};
 use dia_avp::Wire;
 use dia_base::{Moment, NodeNo};
@@ -52,87 +52,24 @@ fn answer<W: Wire>(
     .ok()
 }
 
-/// What a worker does with a message: its answer, the receipt of the book, and the moment with which the book was asked.
-type Worked = (Option<Message>, Option<Receipt>, Option<Moment>);
-
-/// Has a request served that was read in a message, and answers it. One that is not served, or for which no moment can be
-/// read, is answered DIAMETER_TOO_BUSY.
-fn charge<W: Wire, L: Pooling, R: Wait + Clock>(
-    rt: &R,
-    alloc: Global,
-    shared: &SharedBook<L>,
-    seat: &mut Seat<L>,
-    site: &PoolSite,
-    timer: Timer,
-    message: &Message,
-    request: CcRequest,
-) -> Worked
-    requires view { view_under site.now.profile message.now ≡ Ok request }
-    ensures answers { Answers site.now L.shared message.now result.0 result.1 }
-    ensures count { seat.new ≡ counted_with seat.old result.1 }
-    ensures moment { IsSome result.1 → IsSome result.2 }
-{
-    let Some(moment) = timer.now(rt).ok() else {
-        return (too_busy::<W>(alloc, site, message), None, None);
-    };
-    match shared.serve(rt, alloc, seat, moment, request) {
-        Ok(receipt) => {
-            let written = answer::<W>(alloc, site, message, &receipt);
-            (written, Some(receipt), Some(moment))
-        }
-        Err(_) => (too_busy::<W>(alloc, site, message), None, Some(moment)),
-    }
+/// A job of a front whose message was read.
+pub enum Reading {
+    /// It is answered without the book.
+    Answered { finished: Finished },
+    /// The book is asked.
+    Asks { asked: Asked<Job> },
 }
 
-/// The answer to a message, and the receipt of the book where the book was asked. The message passes the gate once it is
-/// read, and the clock is read behind it.
-fn work<W: Wire, L: Pooling, R: Wait + Clock, G: Gate>(
-    rt: &R,
-    alloc: Global,
-    shared: &SharedBook<L>,
-    seat: &mut Seat<L>,
-    site: &PoolSite,
-    timer: Timer,
-    gate: &G,
-    job: &Job,
-) -> Worked
-    ensures answers { Answers site.now L.shared job.now.request result.0 result.1 }
-    ensures count { seat.new ≡ counted_with seat.old result.1 }
-    ensures moment { IsSome result.1 → IsSome result.2 }
-{
-    let profile = site.profile.as_profile();
-    let prepared = prepare::<W>(alloc, &site.name, &site.realm, profile, &job.request);
-    gate.before_book(rt, job.number);
-    match prepared {
-        Ok(Prepared::Refused(refusal)) => (Some(refusal), None, None),
-        Ok(Prepared::Ask(request)) => {
-            charge::<W, L, R>(rt, alloc, shared, seat, site, timer, &job.request, request)
-        }
-        Err(_) => (too_busy::<W>(alloc, site, &job.request), None, None),
-    }
-}
-
-/// Finishes a job in the name of a front, which is this one.
-pub fn finish<W: Wire, L: Pooling, R: Wait + Clock, G: Gate>(
-    rt: &R,
-    alloc: Global,
-    shared: &SharedBook<L>,
-    seat: &mut Seat<L>,
+/// A job of a front that is answered so.
+fn answered(
     front: NodeNo,
-    site: &PoolSite,
-    timer: Timer,
-    gate: &G,
     job: Job,
+    answer: Option<Message>,
+    receipt: Option<Receipt>,
+    moment: Option<Moment>,
 ) -> Finished
-    requires { site.now ≡ L.site front }
-    ensures job { job_of result ≡ job }
-    ensures answered { IsAnsweredByOne L.site L.shared result }
-    ensures count { seat.new ≡ counted_with seat.old result.receipt }
-    ensures moment { IsSome result.receipt → IsSome result.moment }
+    ensures { result ≡ answered front job answer receipt moment }
 {
-    let (written, receipt, moment) = work::<W, L, R, G>(
-        rt, alloc, shared, seat, site, timer, gate, &job,
-    );
     let Job {
         number,
         conn,
@@ -143,8 +80,112 @@ pub fn finish<W: Wire, L: Pooling, R: Wait + Clock, G: Gate>(
         front,
         conn,
         request,
-        answer: written,
+        answer,
         receipt,
         moment,
+    }
+}
+
+/// A job of this front of which the book was not asked: DIAMETER_TOO_BUSY.
+pub fn refuse<W: Wire, L: Pooling>(
+    alloc: Global,
+    front: NodeNo,
+    site: &PoolSite,
+    job: Job,
+) -> Finished
+    requires site { site.now ≡ L.site front }
+    ensures job { job_of result ≡ job }
+    ensures answered { IsAnsweredByOne L.site L.shared result }
+    ensures receipt { result.receipt ≡ None }
+{
+    let busy = too_busy::<W>(alloc, site, &job.request);
+    answered(front, job, busy, None, None)
+}
+
+/// Asks the book for a request that was read in a message. Where no moment can be read, the job is answered DIAMETER_TOO_BUSY.
+fn ask<W: Wire, L: Pooling, R: Clock>(
+    rt: &R,
+    alloc: Global,
+    front: NodeNo,
+    site: &PoolSite,
+    timer: Timer,
+    job: Job,
+    request: CcRequest,
+) -> Reading
+    requires site { site.now ≡ L.site front }
+    requires view { view_under site.now.profile job.request ≡ Ok request }
+    ensures { Reads L.site L.shared front job result }
+{
+    match timer.now(rt).ok() {
+        Some(moment) => Reading::Asks {
+            asked: Asked {
+                job,
+                moment,
+                request,
+            },
+        },
+        None => Reading::Answered {
+            finished: refuse::<W, L>(alloc, front, site, job),
+        },
+    }
+}
+
+/// Reads the message of a job of this front. It passes the gate once it is read, and the clock is read behind that.
+pub fn read<W: Wire, L: Pooling, R: Wait + Clock, G: Gate>(
+    rt: &R,
+    alloc: Global,
+    front: NodeNo,
+    site: &PoolSite,
+    timer: Timer,
+    gate: &G,
+    job: Job,
+) -> Reading
+    requires { site.now ≡ L.site front }
+    ensures { Reads L.site L.shared front job result }
+{
+    let profile = site.profile.as_profile();
+    let prepared = prepare::<W>(alloc, &site.name, &site.realm, profile, &job.request);
+    gate.before_book(rt, job.number);
+    match prepared {
+        Ok(Prepared::Refused(refusal)) => Reading::Answered {
+            finished: answered(front, job, Some(refusal), None, None),
+        },
+        Ok(Prepared::Ask(request)) => {
+            ask::<W, L, R>(rt, alloc, front, site, timer, job, request)
+        }
+        Err(_) => Reading::Answered {
+            finished: refuse::<W, L>(alloc, front, site, job),
+        },
+    }
+}
+
+/// Spells the answer of a job of this front for which the book was asked. One that was not served is answered DIAMETER_TOO_BUSY.
+pub fn spell<W: Wire, L: Pooling>(
+    alloc: Global,
+    front: NodeNo,
+    site: &PoolSite,
+    served: Served<Job>,
+) -> Finished
+    requires site { site.now ≡ L.site front }
+    requires served { IsServedAt (L.site front) L.shared served }
+    ensures job { job_of result ≡ served.job }
+    ensures answered { IsAnsweredByOne L.site L.shared result }
+    ensures count { takes_of result ≡ takes_served served }
+    ensures moment { result.moment ≡ Some served.moment }
+{
+    let Served {
+        job,
+        moment,
+        result,
+    } = served;
+    match result {
+        Ok(receipt) => {
+            let written = answer::<W>(alloc, site, &job.request, &receipt);
+            answered(front, job, written, Some(receipt), Some(moment))
+        }
+        Err(_) => {
+            let busy = too_busy::<W>(alloc, site, &job.request);
+            answered(front, job, busy, None, Some(moment))
+        }
     }
 }

@@ -10,6 +10,9 @@ pub struct Control {
     stopping: AtomicBool,
     /// Counts what a worker that waits is to look at.
     news: AtomicU64,
+    workers: AtomicU64,
+    /// Workers that have jobs in hand.
+    busy: AtomicU64,
     ended: AtomicU64,
 }
 
@@ -18,6 +21,8 @@ impl Control {
         Control {
             stopping: AtomicBool::new(false),
             news: AtomicU64::new(0),
+            workers: AtomicU64::new(0),
+            busy: AtomicU64::new(0),
             ended: AtomicU64::new(0),
         }
     }
@@ -40,6 +45,31 @@ impl Control {
     pub fn tell_one(&self) {
         self.news.fetch_add(1, Ordering::SeqCst);
         self.news.wake_one();
+    }
+
+    /// One worker more.
+    pub fn hire(&self) {
+        self.workers.fetch_add(1, Ordering::SeqCst);
+    }
+
+    /// How many workers there are.
+    pub fn workers(&self) -> u64 {
+        self.workers.load(Ordering::SeqCst)
+    }
+
+    /// A worker has a job in hand.
+    pub fn begin_turn(&self) {
+        self.busy.fetch_add(1, Ordering::SeqCst);
+    }
+
+    /// It has none any more.
+    pub fn end_turn(&self) {
+        self.busy.fetch_sub(1, Ordering::SeqCst);
+    }
+
+    /// Whether each worker has a job in hand.
+    pub fn are_all_busy(&self) -> bool {
+        self.busy.load(Ordering::SeqCst) >= self.workers()
     }
 
     /// All workers are to end after the job that they hold.

@@ -49,6 +49,7 @@ where
         return Err(seat);
     };
     let (to_take, to_put) = desk.passes(job_pass, finished_pass);
+    desk.control.hire();
     let worker = Worker::new(own, to_take, to_put, handle, seat);
     let runtime = *rt;
     match thread::spawn(rt, move || worker.run::<W, R>(&runtime, alloc)) {

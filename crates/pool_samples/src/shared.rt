@@ -22,5 +22,6 @@ pub fn print_all<R: Threads + Wait + Print + Sync>(rt: &R, alloc: Global) -> any
     print_sample(rt, alloc, 10, true, Sample::KeptBack)?;
     print_sample(rt, alloc, 10, true, Sample::Closed)?;
     print_sample(rt, alloc, 10, false, Sample::Sweeps)?;
+    print_sample(rt, alloc, 2, false, Sample::Together)?;
     crowd::print_crowd(rt, alloc)
 }

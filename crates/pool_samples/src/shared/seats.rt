@@ -2,7 +2,7 @@
 
 ghost use Rattle.std.specs.Prelude.{◌≡◌, ◌≤◌, ◌<◌, ◌^◌};
 
-use crate::messages::{DEBIT_WITH_TIME, INITIAL, LARGER_DEBIT, request};
+use crate::messages::{DEBIT_WITH_TIME, INITIAL, LARGER_DEBIT, debit_request, request};
 use crate::shared::lines::print_answers;
 use crate::shared::table::{Table, share};
 use anyhow::Context;
@@ -23,6 +23,7 @@ pub enum Sample {
     KeptBack,
     Closed,
     Sweeps,
+    Together,
 }
 
 /// Four times one Session-Id and CC-Request-Number through one seat: a request, another that asks for more, the first
@@ -110,6 +111,24 @@ fn sweeps<L: Sharing, R: Wait + Print>(
     table.print_snapshot(rt, alloc)
 }
 
+/// A debit, the same again, another content under its key, and two more, by one call, in a book that has two entries at most. The
+/// same again in another call.
+fn together<L: Sharing, R: Wait + Print>(
+    rt: &R,
+    alloc: Global,
+    table: &mut Table<L>,
+) -> anyhow::Result<()> {
+    let mut requests = Vec::new(alloc);
+    requests.push(debit_request(alloc, 0)?)?;
+    requests.push(debit_request(alloc, 0)?)?;
+    requests.push(request(alloc, LARGER_DEBIT)?)?;
+    requests.push(debit_request(alloc, 1)?)?;
+    requests.push(debit_request(alloc, 2)?)?;
+    table.serve_all(rt, alloc, 1_000, requests)?;
+    let again = vec![in alloc; debit_request(alloc, 1)?]?;
+    table.serve_all(rt, alloc, 9_000, again)
+}
+
 /// A book that another handle has closed.
 fn find_closed<L: Sharing, R: Wait + Print>(
     rt: &R,
@@ -117,6 +136,8 @@ fn find_closed<L: Sharing, R: Wait + Print>(
     table: &mut Table<L>,
 ) -> anyhow::Result<()> {
     table.debit(rt, alloc, 1_000, 7)?;
+    let more = vec![in alloc; debit_request(alloc, 8)?]?;
+    table.serve_all(rt, alloc, 1_000, more)?;
     table.print_sweep(rt, 1_000)?;
     table.print_snapshot(rt, alloc)
 }
@@ -135,6 +156,7 @@ fn perform<L: Sharing, R: Wait + Print>(
         Sample::KeptBack => kept_back(rt, alloc, table),
         Sample::Closed => find_closed(rt, alloc, table),
         Sample::Sweeps => sweeps(rt, alloc, table),
+        Sample::Together => together(rt, alloc, table),
     }
 }
 

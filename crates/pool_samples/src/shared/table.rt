@@ -6,10 +6,10 @@ use crate::messages::debit_request;
 use crate::shared::lines::{print_finished, print_served};
 use anyhow::Context;
 use cc_book::Book;
-use cc_shared::{BlankHistory, Receipt, Seat, SharedBook, Sharing};
+use cc_shared::{Asked, BlankHistory, Receipt, Seat, Served, SharedBook, Sharing};
 use cc_view::CcRequest;
 use dia_base::Moment;
-use std::alloc::{AllocError, Global};
+use std::alloc::{AllocError, AllocFailed, Global};
 use std::sync::Wait;
 use std::sync::ledger::Blank;
 
@@ -45,6 +45,26 @@ pub fn share<L: Sharing>(
     }
 }
 
+/// These requests, the first at this moment, and each a second later than the one before. Each is told by its number among them.
+fn asked_from(
+    alloc: Global,
+    moment: u64,
+    requests: Vec<CcRequest>,
+) -> Result<Vec<Asked<u32>>, AllocFailed<Asked<u32>>> {
+    let (mut asked, mut job, mut next) = (Vec::new(alloc), 0u32, moment);
+    for request in requests {
+        let moment = Moment(next);
+        asked.push(Asked {
+            job,
+            moment,
+            request,
+        })?;
+        job = job.saturating_add(1);
+        next = next.saturating_add(1_000);
+    }
+    Ok(asked)
+}
+
 impl<L: Sharing> Table<L> {
     /// Serves a request through the last seat.
     pub fn serve<R: Wait + Print>(
@@ -61,6 +81,36 @@ impl<L: Sharing> Table<L> {
         self.seats.push(seat)?;
         print_served(rt, &served)?;
         match served {
+            Ok(receipt) => self.receipts.push(receipt)?,
+            Err(_refused) => {}
+        }
+        Ok(())
+    }
+
+    /// Serves these requests through the last seat by one call, the first of them at this moment, and each a second later than the
+    /// one before.
+    pub fn serve_all<R: Wait + Print>(
+        &mut self,
+        rt: &R,
+        alloc: Global,
+        moment: u64,
+        requests: Vec<CcRequest>,
+    ) -> anyhow::Result<()> {
+        let mut seat = self.seats.pop().context("no seat")?;
+        let asked = asked_from(alloc, moment, requests)?;
+        let served = self.shared.serve_all(rt, alloc, &mut seat, asked);
+        self.seats.push(seat)?;
+        for one in served.ok().context("handed back")? {
+            self.take_in(rt, one)?;
+        }
+        Ok(())
+    }
+
+    /// Prints what one of several requests came to, and keeps its receipt.
+    fn take_in(&mut self, rt: &impl Print, served: Served<u32>) -> anyhow::Result<()> {
+        print!(rt; "number {} at {}: ", served.job, served.moment.0)?;
+        print_served(rt, &served.result)?;
+        match served.result {
             Ok(receipt) => self.receipts.push(receipt)?,
             Err(_refused) => {}
         }
