@@ -1,5 +1,5 @@
 -- The fronts of a process, each with its workers, and what they do at each event of a node.
-use Rattle.std.specs.Prelude.{◌≡◌, ◌==◌, ◌<◌, ℕ, Bool, true, not, List, [], ◌∷◌, ◌++◌, filter, length, map, position, Option, Some, None, Result, Ok, Err, MatchOption, get_or, slice_get, slice_set, if◌then◌else◌}
+use Rattle.std.specs.Prelude.{◌≡◌, ◌==◌, ◌<◌, ℕ, Bool, true, MatchBool, not, List, [], ◌∷◌, ◌++◌, filter, length, map, position, Option, Some, None, Result, Ok, Err, MatchOption, MatchResult, get_or, slice_get, slice_set, if◌then◌else◌}
 use Rattle.dia_base.specs.declared.number.ConnId.{ConnId}
 use Rattle.dia_base.specs.declared.number.Moment.{Moment}
 use Rattle.dia_base.specs.declared.number.NodeNo.{NodeNo}
@@ -24,7 +24,12 @@ use Rattle.farm_base.specs.FrontProfile.{front_profile}
 use Rattle.front_pool.specs.declared.site.PoolSite.{PoolSite}
 use Rattle.front_pool.specs.Answering.{IsAnsweredBy, too_busy}
 use Rattle.front_pool.specs.Keeping.{Collected, FoundNone, PoolState, new_pool, next_job, with_job}
+use Rattle.pool_node.specs.declared.figures.BookFigures.{BookFigures}
+use Rattle.pool_node.specs.declared.sweeping.NextSweep.{NextSweep}
+use Rattle.pool_node.specs.declared.sweeping.NextSweep.TheVariants.{From}
+use Rattle.pool_node.specs.Figures.{HasCollected, figures_after, no_figures}
 use Rattle.pool_node.specs.Measure.{IsFew}
+use Rattle.pool_node.specs.Sweeping.{is_due, next_sweep}
 
 abbrev pub name_of : Option Node → List ℕ
 name_of None = []
@@ -43,7 +48,17 @@ pub record FrontState : Type 0 where
 abbrev pub new_front : NodeNo → ℕ → ℕ → FrontState
 new_front node workers room = record { connections = []; pool = new_pool node workers room }
 
--- these fronts, each with so many workers
+-- All fronts of a process, on one book: when it is swept next, and what its figures are as far as answers were collected.
+pub record FrontsState : Type 0 where
+  pub fronts : List FrontState
+  pub next_sweep : NextSweep
+  pub figures : BookFigures
+
+-- fronts of which nothing was collected, on a book that is swept at the first tick
+abbrev pub with_fronts : List FrontState → FrontsState
+with_fronts fronts = record { fronts = fronts; next_sweep = From (record { 0 = 0 }); figures = no_figures }
+
+-- these fronts, each with so many workers, before anything has happened to them
 abbrev pub new_fronts : List NodeNo → ℕ → ℕ → List FrontState
 new_fronts nodes workers room = map (λ node. new_front node workers room) nodes
 
@@ -90,6 +105,11 @@ pub record AtOne (old : List FrontState) (place : ℕ) (Step : FrontState → Fr
   pub step : Step front next
   pub is : new ≡ slice_set old place next
 
+-- one front of these does something, and all else is as it was
+pub record AtFront (old : FrontsState) (place : ℕ) (Step : FrontState → FrontState → Type 0) (new : FrontsState) : Type 0 where
+  pub one : AtOne old.fronts place Step new.fronts
+  pub else_is : new ≡ record old { fronts = new.fronts }
+
 -- A finished job is collected at a front: it was handed over there, and is answered in its name.
 pub record CollectsOne (sites : NodeNo → PoolSite) (shared : SharedLedger) (finished : Finished) (old new : FrontState) : Type 0 where
   pub collects : Collected old.pool finished new.pool
@@ -101,25 +121,31 @@ pub record FindsNone (old new : FrontState) : Type 0 where
   pub found : FoundNone old.pool new.pool
   pub connections_are : new.connections ≡ old.connections
 
+-- A finished job is collected at one front. The figures have it.
+pub record CollectsAt (sites : NodeNo → PoolSite) (shared : SharedLedger) (place : ℕ) (finished : Finished) (old new : FrontsState) : Type 0 where
+  pub one : AtOne old.fronts place (CollectsOne sites shared finished) new.fronts
+  pub counted : HasCollected finished.receipt old.figures new.figures
+  pub sweep_is : new.next_sweep ≡ old.next_sweep
+
 -- Finished jobs are collected, one after the other, at any of these fronts, and what goes out for each goes behind what went out
 -- for those before it. It ends where memory is missing, for a job more or for the answer of one that is collected, and says so.
-pub data Collecting (sites : NodeNo → PoolSite) (shared : SharedLedger) (old : List FrontState) :
-    Traffic → Result (Unit {0}) NodeError → List FrontState → Type 0 where
-  begins : (sent : Traffic) (new : List FrontState) → sent ≡ [] → new ≡ old → Collecting sites shared old sent (Ok tt) new
+pub data Collecting (sites : NodeNo → PoolSite) (shared : SharedLedger) (old : FrontsState) :
+    Traffic → Result (Unit {0}) NodeError → FrontsState → Type 0 where
+  begins : (sent : Traffic) (new : FrontsState) → sent ≡ [] → new ≡ old → Collecting sites shared old sent (Ok tt) new
   goes_on :
-      (sent : Traffic) (mid : List FrontState) (place : ℕ) (finished : Finished) (all : Traffic) (outcome : Result (Unit {0}) NodeError) (new : List FrontState)
-      → Collecting sites shared old sent (Ok tt) mid → (one : AtOne mid place (CollectsOne sites shared finished) new)
-      → all ≡ sent ++ sent_for one.next finished → outcome ≡ outcome_for one.next finished → Collecting sites shared old all outcome new
+      (sent : Traffic) (mid : FrontsState) (place : ℕ) (finished : Finished) (all : Traffic) (outcome : Result (Unit {0}) NodeError) (new : FrontsState)
+      → Collecting sites shared old sent (Ok tt) mid → (at : CollectsAt sites shared place finished mid new)
+      → all ≡ sent ++ sent_for at.one.next finished → outcome ≡ outcome_for at.one.next finished → Collecting sites shared old all outcome new
   finds_none :
-      (sent : Traffic) (mid : List FrontState) (place : ℕ) (new : List FrontState)
-      → Collecting sites shared old sent (Ok tt) mid → AtOne mid place FindsNone new → Collecting sites shared old sent (Ok tt) new
+      (sent : Traffic) (mid : FrontsState) (place : ℕ) (new : FrontsState)
+      → Collecting sites shared old sent (Ok tt) mid → AtFront mid place FindsNone new → Collecting sites shared old sent (Ok tt) new
   wants_memory :
-      (sent : Traffic) (new : List FrontState) → Collecting sites shared old sent (Ok tt) new → Collecting sites shared old sent (Err fault.OutOfMemory) new
+      (sent : Traffic) (new : FrontsState) → Collecting sites shared old sent (Ok tt) new → Collecting sites shared old sent (Err fault.OutOfMemory) new
 
 -- what was collected before, and more: wherever the collecting began
-abbrev pub CollectsMore : (NodeNo → PoolSite) → SharedLedger → List FrontState → Traffic → Traffic → Result (Unit {0}) NodeError → List FrontState → Type 0
+abbrev pub CollectsMore : (NodeNo → PoolSite) → SharedLedger → FrontsState → Traffic → Traffic → Result (Unit {0}) NodeError → FrontsState → Type 0
 CollectsMore sites shared old sent all outcome new =
-    (before : List FrontState) → Collecting sites shared before sent (Ok tt) old → Collecting sites shared before all outcome new
+    (before : FrontsState) → Collecting sites shared before sent (Ok tt) old → Collecting sites shared before all outcome new
 
 -- what is told where a job more was looked for or its answer put behind what is sent, however many octets that were
 abbrev pub told_of_one : {A : Type 0} → Result A NodeError → Result (Unit {0}) NodeError
@@ -154,34 +180,45 @@ told_of_tick (Ok done) (Ok ended) = Ok tt
 told_of_tick (Ok done) (Err (refused.Full limit)) = Err (fault.BookFull limit)
 told_of_tick (Ok done) (Err refused.OutOfMemory) = Err fault.OutOfMemory
 
--- The book was swept at this moment, or was not to be swept yet, or has refused.
-pub data SweepsOrWaits (shared : SharedLedger) (moment : Moment) (result : Result ℕ BookRefusal) : Type 0 where
-  waits : result ≡ Ok 0 → SweepsOrWaits shared moment result
-  sweeps : (swept : Swept) → IsSweep shared moment swept → result ≡ Ok swept.ended → SweepsOrWaits shared moment result
-  refuses : (refusal : BookRefusal) → result ≡ Err refusal → SweepsOrWaits shared moment result
+-- The book was swept at this moment, and has ended so many sessions, or has refused.
+abbrev pub IsSweptTo : SharedLedger → Moment → Result ℕ BookRefusal → Type 0
+IsSweptTo shared moment (Ok ended) = (swept : Swept) × IsSweep shared moment swept × (ended ≡ swept.ended)
+IsSweptTo shared moment (Err refusal) = Unit {0}
+
+-- A sweep at this moment came to this: it says when the next one is due. The figures have it.
+pub record HasSwept (moment : Moment) (swept : Result ℕ BookRefusal) (old new : FrontsState) : Type 0 where
+  pub fronts_are : new.fronts ≡ old.fronts
+  pub next_is : new.next_sweep ≡ next_sweep moment swept
+  pub figures_are : new.figures ≡ figures_after swept old.figures
+
+-- The book is swept where that is due, and only there.
+abbrev pub SweepsIfDue : SharedLedger → Moment → FrontsState → Result ℕ BookRefusal → FrontsState → Type 0
+SweepsIfDue shared moment old swept new =
+    MatchBool (is_due old.next_sweep moment) (IsSweptTo shared moment swept × HasSwept moment swept old new) ((swept ≡ Ok 0) × (new ≡ old))
 
 -- Time has passed: what is finished is collected, a few octets of each front, and the book swept, whatever came of the collecting.
-pub record Ticks (sites : NodeNo → PoolSite) (shared : SharedLedger) (moment : Moment) (old : List FrontState) (sent : Traffic)
-    (outcome : Result (Unit {0}) NodeError) (new : List FrontState) : Type 0 where
+pub record Ticks (sites : NodeNo → PoolSite) (shared : SharedLedger) (moment : Moment) (old : FrontsState) (sent : Traffic)
+    (outcome : Result (Unit {0}) NodeError) (new : FrontsState) : Type 0 where
   pub collected : Result (Unit {0}) NodeError
-  pub collecting : Collecting sites shared old sent collected new
+  pub behind : FrontsState
+  pub collecting : Collecting sites shared old sent collected behind
   pub swept : Result ℕ BookRefusal
-  pub sweeps : SweepsOrWaits shared moment swept
+  pub sweeps : SweepsIfDue shared moment behind swept new
   pub told : outcome ≡ told_of_tick collected swept
-  pub few : IsFew (length old) sent
+  pub few : IsFew (length old.fronts) sent
 
 -- What happens to a node that is these fronts. Each front has its own pool of workers, and all share one book, which went on from
 -- the one that was shared.
-abbrev pub OnFrontsEvent : (NodeNo → PoolSite) → SharedLedger → List FrontState → NodeEvent → Traffic → Result (Unit {0}) NodeError → List FrontState → Type 0
+abbrev pub OnFrontsEvent : (NodeNo → PoolSite) → SharedLedger → FrontsState → NodeEvent → Traffic → Result (Unit {0}) NodeError → FrontsState → Type 0
 OnFrontsEvent sites shared old (up local peer conn) sent outcome new =
-    MatchOption (position (is_node local) old) (Refuses old (fault.UnknownNode local) sent outcome new)
-    (λ place. Does old (λ out next. (out ≡ []) × AtOne old place (λ front after. after ≡ with_connection front conn) next) sent outcome new)
+    MatchOption (position (is_node local) old.fronts) (Refuses old (fault.UnknownNode local) sent outcome new)
+    (λ place. Does old (λ out next. (out ≡ []) × AtFront old place (λ front after. after ≡ with_connection front conn) next) sent outcome new)
 OnFrontsEvent sites shared old (message conn m) sent outcome new =
-    MatchOption (position (is_up conn) old) (Refuses old (fault.UnknownConn conn) sent outcome new)
-    (λ place. AtOne old place (Handles sites conn m sent outcome) new)
+    MatchOption (position (is_up conn) old.fronts) (Refuses old (fault.UnknownConn conn) sent outcome new)
+    (λ place. AtFront old place (Handles sites conn m sent outcome) new)
 -- What came on it stays, and may still be charged.
 OnFrontsEvent sites shared old (lost conn) sent outcome new =
     (sent ≡ []) × (outcome ≡ Ok tt)
-    × MatchOption (position (is_up conn) old) (new ≡ old) (λ place. AtOne old place (λ front after. after ≡ without_connection front conn) new)
+    × MatchOption (position (is_up conn) old.fronts) (new ≡ old) (λ place. AtFront old place (λ front after. after ≡ without_connection front conn) new)
 OnFrontsEvent sites shared old (tick moment) sent outcome new = Ticks sites shared moment old sent outcome new
-OnFrontsEvent sites shared old wake sent outcome new = Collecting sites shared old sent outcome new × IsFew (length old) sent
+OnFrontsEvent sites shared old wake sent outcome new = Collecting sites shared old sent outcome new × IsFew (length old.fronts) sent

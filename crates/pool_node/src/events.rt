@@ -1,7 +1,7 @@
 //! What fronts have done that nobody else can tell of.
 
-ghost use Rattle.std.specs.Prelude.{◌≡◌, ◌<◌, [], ℕ, IfOk, IsErr, Ok, false, true};
-ghost use Rattle.pool_node.specs.Events.{Keeps, event_of};
+ghost use Rattle.std.specs.Prelude.{◌≡◌, [], IfOk};
+ghost use Rattle.pool_node.specs.Events.{Keeps, Tells, TellsSweep, event_of, no_events, with_events_on};
 
 use cc_book::BookRefusal;
 use dia_base::Moment;
@@ -9,6 +9,7 @@ use dia_message::Message;
 use farm_record::{Age, Event, Recorder};
 use front_pool::Finished;
 use std::alloc::{AllocError, Global};
+use std::marker::Model;
 
 /// What fronts have done and is not told yet, in the order in which it was collected. One that is off takes nothing.
 #[derive(Drop)]
@@ -17,6 +18,14 @@ pub struct BookEvents {
     is_on: bool,
     /// Memory was missing for an event.
     has_failed: bool,
+}
+
+impl Model for BookEvents {
+    ghost use Rattle.pool_node.specs.Events.{EventsState};
+
+    ghost Value = { EventsState };
+
+    ghost view = { λ e. record { events = e.events.items; is_on = e.is_on; has_failed = e.has_failed } };
 }
 
 /// A copy of an answer, if there is one.
@@ -52,9 +61,7 @@ fn event_of(finished: &Finished) -> Result<Event, AllocError>
 impl BookEvents {
     /// One that takes nothing.
     pub fn off(alloc: Global) -> Self
-        ensures none { result.events.items ≡ [] }
-        ensures off { result.is_on ≡ false }
-        ensures whole { result.has_failed ≡ false }
+        ensures { result ≡ no_events }
     {
         BookEvents {
             events: Vec::new(alloc),
@@ -65,15 +72,14 @@ impl BookEvents {
 
     /// From now on it takes what is done.
     pub fn begin(&mut self)
-        ensures { self.new ≡ record self.old { is_on = true } }
+        ensures { self.new ≡ with_events_on self.old }
     {
         self.is_on = true;
     }
 
     /// A job was collected.
     pub fn collected(&mut self, finished: &Finished)
-        ensures on { self.old.is_on ≡ true → Keeps (event_of finished.now) self.old self.new }
-        ensures off { self.old.is_on ≡ false → self.new ≡ self.old }
+        ensures { Tells (event_of finished.now) self.old self.new }
     {
         if self.is_on {
             match event_of(finished) {
@@ -85,14 +91,11 @@ impl BookEvents {
 
     /// A sweep came to this. One that ends no session is not told.
     pub fn swept(&mut self, moment: Moment, swept: &Result<u64, BookRefusal>)
-        ensures on { (sessions : ℕ) → swept.now ≡ Ok sessions → 0 < sessions → self.old.is_on ≡ true → Keeps (Event.Sweep moment sessions) self.old self.new }
-        ensures none { swept.now ≡ Ok 0 → self.new ≡ self.old }
-        ensures err { IsErr swept.now → self.new ≡ self.old }
-        ensures off { self.old.is_on ≡ false → self.new ≡ self.old }
+        ensures { TellsSweep moment swept.now self.old self.new }
     {
         if let Ok(sessions) = swept {
-            if self.is_on && *sessions > 0 {
-                let sessions = *sessions;
+            let sessions = *sessions;
+            if sessions != 0 && self.is_on {
                 self.keep(Event::Sweep { moment, sessions });
             }
         }
@@ -112,9 +115,7 @@ impl BookEvents {
 
     /// Tells all that was done since it told last.
     pub fn tell(&mut self, alloc: Global, recorder: &mut Recorder)
-        ensures told { self.new.events.items ≡ [] }
-        ensures on { self.new.is_on ≡ self.old.is_on }
-        ensures failed { self.new.has_failed ≡ self.old.has_failed }
+        ensures { self.new ≡ record self.old { events = [] } }
     {
         for event in &self.events {
             recorder.tell(alloc, event);

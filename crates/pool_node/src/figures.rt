@@ -1,7 +1,7 @@
 //! What a book has come to, as far as the answers of its fronts were collected.
 
-ghost use Rattle.std.specs.Prelude.{◌≡◌, ◌<◌, ◌-◌, ℕ, IsErr, Ok};
-ghost use Rattle.pool_node.specs.Figures.{HasCollected, HasTaken, count_if, ends, opens, with_sweep};
+ghost use Rattle.std.specs.Prelude.{◌≡◌, ◌-◌};
+ghost use Rattle.pool_node.specs.Figures.{HasCollected, HasTaken, count_if, ends, figures_after, no_figures, opens};
 
 use cc_book::BookRefusal;
 use cc_shared::Receipt;
@@ -51,7 +51,7 @@ fn count_if(one: bool, count: u64) -> u64
 impl BookFigures {
     /// Of a book without entries.
     pub fn nothing() -> Self
-        ensures { result ≡ record { entries = 0; charges = 0; opened = 0; ended = 0 } }
+        ensures { result ≡ no_figures }
     {
         BookFigures {
             entries: 0,
@@ -93,12 +93,10 @@ impl BookFigures {
 
     /// A sweep has ended so many sessions, which is an entry where it has ended any.
     pub fn swept(&mut self, swept: &Result<u64, BookRefusal>)
-        ensures ended { (sessions : ℕ) → swept.now ≡ Ok sessions → 0 < sessions → self.new ≡ with_sweep sessions self.old }
-        ensures none { swept.now ≡ Ok 0 → self.new ≡ self.old }
-        ensures err { IsErr swept.now → self.new ≡ self.old }
+        ensures { self.new ≡ figures_after swept.now self.old }
     {
         if let Ok(ended) = swept {
-            if *ended > 0 {
+            if *ended != 0 {
                 self.ended = self.ended.saturating_add(*ended);
                 self.entries = self.entries.saturating_add(1);
             }

@@ -3,7 +3,7 @@
 ghost use Rattle.std.specs.Prelude.{◌≡◌, ◌<◌, length, position, IfSome, MatchResult, Ok, Err};
 ghost use Rattle.cc_book.specs.History.{IsLegal};
 ghost use Rattle.cc_shared.specs.Closing.{IsWhole};
-ghost use Rattle.pool_node.specs.Fronts.{CollectsMore, OnFrontsEvent, SweepsOrWaits, is_node, is_up, told_of_one, told_of_tick};
+ghost use Rattle.pool_node.specs.Fronts.{CollectsMore, HasSwept, OnFrontsEvent, SweepsIfDue, is_node, is_up, told_of_one, told_of_tick, with_fronts};
 ghost use Rattle.pool_node.specs.Measure.{AddsFew, AddsOne};
 
 use crate::ending::stop_all;
@@ -43,12 +43,11 @@ pub struct PoolFronts<L: Pooling, R> {
 }
 
 impl<L: Pooling, R> Model for PoolFronts<L, R> {
-    ghost use Rattle.std.specs.Prelude.{List};
-    ghost use Rattle.pool_node.specs.Fronts.{FrontState};
+    ghost use Rattle.pool_node.specs.Fronts.{FrontsState};
 
-    ghost Value = { List FrontState };
+    ghost Value = { FrontsState };
 
-    ghost view = { λ p. p.fronts.items };
+    ghost view = { λ p. record { fronts = p.fronts.items; next_sweep = p.next_sweep; figures = p.figures } };
 }
 
 /// The place of the front that is this node.
@@ -104,7 +103,7 @@ fn ended_by(swept: Result<Swept, BookRefusal>) -> Result<u64, BookRefusal>
 impl<L: Pooling, R: Wait> PoolFronts<L, R> {
     /// These fronts, whose workers serve on this book.
     pub fn new(rt: R, alloc: Global, shared: SharedBook<L>, fronts: Vec<PoolFront<L>>) -> Self
-        ensures { result ≡ fronts.items }
+        ensures { result ≡ with_fronts fronts.items }
     {
         PoolFronts {
             rt,
@@ -118,7 +117,7 @@ impl<L: Pooling, R: Wait> PoolFronts<L, R> {
 
     /// A sweep of the book at this moment came to this.
     fn book_swept(&mut self, moment: Moment, swept: &Result<u64, BookRefusal>)
-        ensures { self.new ≡ self.old }
+        ensures { HasSwept moment swept.now self.old self.new }
     {
         self.next_sweep = NextSweep::after(moment, swept);
         self.figures.swept(swept);
@@ -127,8 +126,7 @@ impl<L: Pooling, R: Wait> PoolFronts<L, R> {
 
     /// Sweeps the book, where that is due. How many sessions it has ended.
     fn sweep(&mut self, moment: Moment) -> Result<u64, BookRefusal>
-        ensures swept { SweepsOrWaits L.shared moment result }
-        ensures fronts { self.new ≡ self.old }
+        ensures { SweepsIfDue L.shared moment self.old result self.new }
     {
         if !self.next_sweep.is_due(moment) {
             return Ok(0);
@@ -146,7 +144,9 @@ impl<L: Pooling, R: Wait> PoolFronts<L, R> {
     }
 
     /// What the book has come to, as far as answers were collected.
-    pub fn figures(&self) -> BookFigures {
+    pub fn figures(&self) -> BookFigures
+        ensures { result ≡ self.now.figures }
+    {
         self.figures
     }
 
@@ -167,9 +167,9 @@ impl<L: Pooling, R: Wait> PoolFronts<L, R> {
         place: usize,
         sent: &mut Vec<(ConnId, Message)>,
     ) -> Result<Option<usize>, NodeError>
-        requires { place < length self.old }
+        requires { place < length self.old.fronts }
         ensures collects { CollectsMore L.site L.shared self.old sent.old.items sent.new.items (told_of_one result) self.new }
-        ensures places { length self.new ≡ length self.old }
+        ensures places { length self.new.fronts ≡ length self.old.fronts }
         ensures adds { AddsOne result sent.old.items sent.new.items }
     {
         if sent.reserve(1).is_err() {
@@ -193,9 +193,9 @@ impl<L: Pooling, R: Wait> PoolFronts<L, R> {
         place: usize,
         sent: &mut Vec<(ConnId, Message)>,
     ) -> Result<(), NodeError>
-        requires { place < length self.old }
+        requires { place < length self.old.fronts }
         ensures collects { CollectsMore L.site L.shared self.old sent.old.items sent.new.items result self.new }
-        ensures places { length self.new ≡ length self.old }
+        ensures places { length self.new.fronts ≡ length self.old.fronts }
         ensures few { AddsFew 1 sent.old.items sent.new.items }
     {
         let mut octets: usize = 0;
@@ -214,7 +214,7 @@ impl<L: Pooling, R: Wait> PoolFronts<L, R> {
     /// Collects what is finished at all fronts.
     fn collect_all(&mut self, sent: &mut Vec<(ConnId, Message)>) -> Result<(), NodeError>
         ensures collects { CollectsMore L.site L.shared self.old sent.old.items sent.new.items result self.new }
-        ensures few { AddsFew (length self.old) sent.old.items sent.new.items }
+        ensures few { AddsFew (length self.old.fronts) sent.old.items sent.new.items }
     {
         for place in 0..self.fronts.len() {
             self.collect_at(place, sent)?;

@@ -2,7 +2,7 @@
 
 ghost use Rattle.std.specs.Prelude.{◌≡◌, ◌<◌, ◌≤◌, ◌-◌, ◌*◌, length, IfOk, IfSome};
 ghost use Rattle.dia_base.specs.declared.number.NodeNo.{NodeNo};
-ghost use Rattle.pool_node.specs.Fronts.{new_front, new_fronts, site_of};
+ghost use Rattle.pool_node.specs.Fronts.{new_front, new_fronts, site_of, with_fronts};
 
 use crate::front::PoolFront;
 use crate::fronts::PoolFronts;
@@ -206,7 +206,7 @@ where
     requires site { (front : NodeNo) → L.site front ≡ site_of site.now front }
     requires queue { 0 < site.now.queue }
     requires seats { length nodes.now * site.now.workers ≤ length seats.items }
-    ensures { IfOk result (λ fronts. fronts ≡ new_fronts nodes.now site.now.workers site.now.queue) }
+    ensures { IfOk result (λ fronts. fronts ≡ with_fronts (new_fronts nodes.now site.now.workers site.now.queue)) }
 {
     let mut seats = seats;
     let timer = Timer::start(&rt).map_err(|_| StartFault::NoClock)?;
