@@ -7,6 +7,7 @@ book_rows and book_store). It shares nothing with the program.
 import hashlib
 
 WRONG = "the row at place {} is not the one that was written"
+ELSEWHERE = "the book does not stand where its rows say"
 DAMAGED = "the row at place {} is damaged or missing"
 
 # ---- spelling
@@ -190,7 +191,8 @@ def total_of(rows):
 
 
 def told(rows):
-    return f"{len(rows)} rows, sum {total_of(rows)[0].hex()}"
+    moment = int.from_bytes(rows[-1][8:16], "big") if rows else 0
+    return f"{len(rows)} rows until {moment}, sum {total_of(rows)[0].hex()}"
 
 
 def checked(rows):
@@ -249,6 +251,16 @@ def spelling(rows):
     yield f"none: {fault_of(b'')}"
 
 
+def abouts(rows):
+    identity, terms = 7, b"terms"
+    octets = number(1, 4) + number(identity, 16) + text(terms)
+    yield octets.hex()
+    yield f"book {identity}, terms {terms.hex()}"
+    yield "OtherFormat"
+    yield "Short"
+    yield "LeftOver"
+
+
 def appending(rows):
     not_behind = "the rows do not begin behind the last one"
     yield told([])
@@ -267,9 +279,13 @@ def crashes(rows):
 
 
 def damage(rows):
-    yield "2 rows"
+    yield "there is no book"
+    yield "there is something already"
+    yield ELSEWHERE
     for place in (1, 0, 0, 1):
         yield DAMAGED.format(place)
+    yield ELSEWHERE
+    yield "what the book is, or where it stands, is damaged or missing"
     for row, at in FLIPPED:
         changed = bytearray(rows[row])
         changed[at] ^= 1
@@ -281,6 +297,6 @@ def damage(rows):
 
 if __name__ == "__main__":
     ROWS = rows_of(STEPS)
-    for subject in (spelling, appending, crashes, damage):
+    for subject in (spelling, abouts, appending, crashes, damage):
         for line in subject(ROWS):
             print(line)

@@ -8,3 +8,5 @@ pub mod Repeated
 pub mod RequestWritten
 pub mod ReplyWritten
 pub mod RowWritten
+pub mod AboutExact
+pub mod Endings

@@ -1,3 +1,4 @@
 pub mod Form
 pub mod Parts
 pub mod Row
+pub mod About

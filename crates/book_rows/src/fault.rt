@@ -2,7 +2,8 @@
 
 use std::alloc::{AllocError, AllocFailed};
 
-/// What is wrong with octets that are no row: the first fault from left to right.
+/// What is wrong with octets that are no row, or do not tell what a book is or where it stands: the first fault from left to
+/// right.
 #[derive(Clone, Copy, Debug, PartialEq, Eq)]
 pub enum Fault {
     /// A part passes the end.
@@ -23,6 +24,8 @@ pub enum Fault {
     PastLimits,
     /// Octets stand behind the row.
     LeftOver,
+    /// What a book is stands in another format than this release writes.
+    OtherFormat,
 }
 
 /// Why no row was read.

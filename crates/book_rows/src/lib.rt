@@ -3,6 +3,8 @@
 //! - [`spell_row`] writes a row as octets, and [`read_row`] reads it again, or says the first [`Fault`].
 //! - [`chained_row`] makes a row whose sum is that of the sum before it and of its own octets, and [`is_chained`]
 //!   tests that.
+//! - [`About`] says what a stored book is, and [`Standing`] where it stands: each is written as octets and read again, and
+//!   [`standing_behind`] reads where a book stands off its last row.
 //! - The laws: a row is read back from its octets, and two rows that spell the same are the same.
 //!
 //! The octets of a row, with integers whose highest octet is the first: place (8), moment (8), the kind of the entry
@@ -11,10 +13,14 @@
 //! octets of a text and the items of a list; a signed number is an octet that says whether it is below 0, and 16
 //! octets of its size, or below 0 of its size less 1.
 //!
-//! The definitions, in `specs/`: `Form` says how values are spelled and read, `Parts` the parts of a row, and `Row`
-//! the row, its octets and the chain of sums.
+//! What a book is: the number of the format (4), the identity (16), and the terms, their octets counted by 8. Where it
+//! stands: how many rows it has (8), and the moment (8) and the sum (16) of the last.
+//!
+//! The definitions, in `specs/`: `Form` says how values are spelled and read, `Parts` the parts of a row, `Row` the row,
+//! its octets and the chain of sums, and `About` what a book is and where it stands.
 #![tactic(auto)]
 
+mod about;
 mod codec;
 mod fault;
 mod laws;
@@ -24,7 +30,14 @@ mod reply;
 mod request;
 mod row;
 
+pub use about::{
+    About, FORMAT, Identity, Standing, read_about, read_standing, spell_about, spell_standing,
+    standing_behind,
+};
 pub use codec::{chained_row, is_chained, read_row, spell_row};
 pub use fault::{Fault, ReadError};
-pub use laws::{rows_are_spelled_once, spelled_rows_are_read_back};
+pub use laws::{
+    abouts_are_read_back, rows_are_spelled_once, spelled_rows_are_read_back,
+    standings_are_of_the_last, standings_are_read_back,
+};
 pub use row::{Row, Step, Sum, Taken};

@@ -4,7 +4,7 @@ use Rattle.std.proofs.lemmas.List.{append-nil, take_all, take_more}
 use Rattle.std.specs.Global.{Vec}
 use Rattle.book_store.specs.declared.batches.Batch.{Batch}
 use Rattle.book_store.specs.Batches.{rows_of}
-use Rattle.book_store.specs.Table.{octets_in}
+use Rattle.book_store.specs.Table.{Stored, octets_in, stored_with}
 
 rows_of-more : (batches : List Batch) (batch : Batch) → rows_of (batches ++ batch ∷ []) ≡ rows_of batches ++ octets_in batch.rows.items
 rows_of-more [] batch = append-nil (octets_in batch.rows.items)
@@ -27,19 +27,23 @@ one_more_batch rows before batches i batch items lt is same e =
 pub all_batches : (rows : List (List ℕ)) (batches : List Batch) (i : ℕ) → length batches ≤ i → rows ++ rows_of (take i batches) ≡ rows ++ rows_of batches
 all_batches rows batches i le = ap (λ (taken : List Batch). rows ++ rows_of taken) (take_all i batches le)
 
+pub no_batch_stored : (about : List ℕ) (rows : List (List ℕ)) → stored_with about rows ≡ stored_with about (rows ++ rows_of [])
+no_batch_stored about rows = ap (stored_with about) (no_batch rows)
+
 -- what a crash leaves has so many of the batches
-abbrev pub HasSome : List (List ℕ) → List Batch → ℕ → List (List ℕ) → Type 0
-HasSome rows batches i left = (n : ℕ) × (n ≤ i) × (left ≡ rows ++ rows_of (take n batches))
+abbrev pub HasSome : List ℕ → List (List ℕ) → List Batch → ℕ → Stored → Type 0
+HasSome about rows batches i left = (n : ℕ) × (n ≤ i) × (left ≡ stored_with about (rows ++ rows_of (take n batches)))
 
-pub has_some_more : (rows before left : List (List ℕ)) (batches : List Batch) (i : ℕ) (batch : Batch) (items : List (Vec ℕ)) → i < length batches → batch ≡ get_or batches i batch → items ≡ batch.rows.items → before ≡ rows ++ rows_of (take i batches)
-    → HasSome rows batches i left ⊎ (left ≡ before ++ octets_in items) → HasSome rows batches (i + 1) left
-has_some_more rows before left batches i batch items lt is same e (inl some) = (some.0, omega (arith, some.1), some.2)
-has_some_more rows before left batches i batch items lt is same e (inr whole) = (i + 1, omega arith, whole ∙ one_more_batch rows before batches i batch items lt is same e)
+pub has_some_more : (about now : List ℕ) (rows before : List (List ℕ)) (left : Stored) (batches : List Batch) (i : ℕ) (batch : Batch) (items : List (Vec ℕ)) → i < length batches → batch ≡ get_or batches i batch → items ≡ batch.rows.items
+    → now ≡ about → before ≡ rows ++ rows_of (take i batches) → HasSome about rows batches i left ⊎ (left ≡ stored_with now (before ++ octets_in items)) → HasSome about rows batches (i + 1) left
+has_some_more about now rows before left batches i batch items lt is same book e (inl some) = (some.0, omega (arith, some.1), some.2)
+has_some_more about now rows before left batches i batch items lt is same book e (inr whole) =
+    (i + 1, omega arith, whole ∙ ap (λ (a : List ℕ). stored_with a (before ++ octets_in items)) book ∙ ap (stored_with about) (one_more_batch rows before batches i batch items lt is same e))
 
-pub has_some_of_all : (rows left : List (List ℕ)) (batches : List Batch) (i : ℕ) → i < length batches → HasSome rows batches (i + 1) left → HasSome rows batches (length batches) left
-has_some_of_all rows left batches i lt some = (some.0, omega (arith, some.1), some.2)
+pub has_some_of_all : (about : List ℕ) (rows : List (List ℕ)) (left : Stored) (batches : List Batch) (i : ℕ) → i < length batches → HasSome about rows batches (i + 1) left → HasSome about rows batches (length batches) left
+has_some_of_all about rows left batches i lt some = (some.0, omega (arith, some.1), some.2)
 
-pub some_or_whole : (rows before : List (List ℕ)) (batches : List Batch) (i : ℕ) (items : List (Vec ℕ)) (left : List (List ℕ)) (Stands : Type 0) → (Stands → HasSome rows batches i left)
-    → Stands ⊎ (left ≡ before ++ octets_in items) → HasSome rows batches i left ⊎ (left ≡ before ++ octets_in items)
-some_or_whole rows before batches i items left Stands f (inl stands) = inl (f stands)
-some_or_whole rows before batches i items left Stands f (inr whole) = inr whole
+pub some_or_whole : (about now : List ℕ) (rows before : List (List ℕ)) (batches : List Batch) (i : ℕ) (items : List (Vec ℕ)) (left : Stored) (Stands : Type 0) → (Stands → HasSome about rows batches i left)
+    → Stands ⊎ (left ≡ stored_with now (before ++ octets_in items)) → HasSome about rows batches i left ⊎ (left ≡ stored_with now (before ++ octets_in items))
+some_or_whole about now rows before batches i items left Stands f (inl stands) = inl (f stands)
+some_or_whole about now rows before batches i items left Stands f (inr whole) = inr whole

@@ -6,9 +6,10 @@ use Rattle.sqlite_value.specs.declared.keys.Order.{Order}
 use Rattle.sqlite_value.specs.Order.{Row, column}
 use Rattle.sqlite_trees.specs.Tree.{from_key}
 use Rattle.sqlite_trees.specs.View.{Advances, View, with_cursor}
-use Rattle.sqlite_trees.specs.declared.store.Shape.TheVariants.{Table}
-use Rattle.book_store.specs.Damage.{HasRead, HasReadAll, IsAlike, IsDamagedAt, IsFresh}
-use Rattle.book_store.specs.Table.{IsInOrder, IsReady, octets_of, rows_in, stored, table_from}
+use Rattle.book_rows.specs.declared.about.Standing.{Standing}
+use Rattle.book_rows.specs.About.{standing, standing_with}
+use Rattle.book_store.specs.Damage.{HasRead, HasReadAll, IsAlike, IsDamagedAt, IsFound, IsFresh, StandsElsewhere}
+use Rattle.book_store.specs.Table.{HasTables, IsInOrder, IsReady, about_in, book_table, octets_of, rows_in, standing_in, stored, table_from}
 use Rattle.book_store.proofs.Tables.{rows_in-table_from}
 
 pub from_no_key : (o : Order) (rows : List Row) → from_key o [] rows ≡ rows
@@ -44,8 +45,8 @@ moved_alike first old new cursor left alike moved =
     let same : new ≡ record old { cursors = new.cursors } = moved ∙ ap (λ (cs : ℕ → Option (List Row)). record old { cursors = cs }) (sym (ap (λ (v : View). v.cursors) moved)) in
     same ∙ ap (λ (v : View). record v { cursors = new.cursors }) alike
 
-pub read_none : (first now : View) (rows : List Row) → now ≡ with_cursor first 0 rows → rows ≡ first.trees 0 → HasRead first now 0
-read_none first now rows moved all = record {
+pub read_none : (tree : ℕ) (first now : View) (rows : List Row) → now ≡ with_cursor first 0 rows → rows ≡ first.trees tree → HasRead tree first now 0
+read_none tree first now rows moved all = record {
   alike = moved ∙ ap (λ (cs : ℕ → Option (List Row)). record first { cursors = cs }) (sym (ap (λ (v : View). v.cursors) moved));
   rows = [];
   left = rows;
@@ -54,8 +55,8 @@ read_none first now rows moved all = record {
   count = refl;
 }
 
-pub read_one_more : (first old new : View) (place : ℕ) (row : Row) → HasRead first old place → Advances old new 0 row true → row ≡ stored place (octets_of (column row 1)) → HasRead first new (place + 1)
-read_one_more first old new place row so_far moved is =
+pub read_one_more : (tree : ℕ) (first old new : View) (place : ℕ) (row : Row) → HasRead tree first old place → Advances old new 0 row true → row ≡ stored place (octets_of (column row 1)) → HasRead tree first new (place + 1)
+read_one_more tree first old new place row so_far moved is =
     let octets = octets_of (column row 1) in
     let left : so_far.left ≡ row ∷ moved.0 = some_is so_far.left (row ∷ moved.0) (sym so_far.cursor ∙ moved.1) in
     let one : table_from 0 (so_far.rows ++ octets ∷ []) ≡ table_from 0 so_far.rows ++ row ∷ [] =
@@ -69,25 +70,25 @@ read_one_more first old new place row so_far moved is =
       count = omega (arith, so_far.count, length-append so_far.rows (octets ∷ []));
     }
 
-pub read_all : (first old new : View) (place : ℕ) (row : Row) → HasRead first old place → Advances old new 0 row false → HasReadAll first new place
-read_all first old new place row so_far moved =
+pub read_all : (tree : ℕ) (first old new : View) (place : ℕ) (row : Row) → HasRead tree first old place → Advances old new 0 row false → HasReadAll tree first new place
+read_all tree first old new place row so_far moved =
     let left : so_far.left ≡ [] = some_is so_far.left [] (sym so_far.cursor ∙ moved.0) in
-    let table : first.trees 0 ≡ table_from 0 so_far.rows = so_far.table ∙ ap (λ (l : List Row). table_from 0 so_far.rows ++ l) left ∙ append-nil (table_from 0 so_far.rows) in
-    let rows : rows_in (first.trees 0) ≡ so_far.rows = ap rows_in table ∙ rows_in-table_from 0 so_far.rows in
+    let table : first.trees tree ≡ table_from 0 so_far.rows = so_far.table ∙ ap (λ (l : List Row). table_from 0 so_far.rows ++ l) left ∙ append-nil (table_from 0 so_far.rows) in
+    let rows : rows_in (first.trees tree) ≡ so_far.rows = ap rows_in table ∙ rows_in-table_from 0 so_far.rows in
     record {
       alike = moved.1 ∙ so_far.alike ∙ ap (λ (cs : ℕ → Option (List Row)). record first { cursors = cs }) (sym (ap (λ (v : View). v.cursors) moved.1));
       order = table ∙ ap (table_from 0) (sym rows);
       count = sym (ap length rows ∙ so_far.count);
     }
 
-pub damaged_at : (first old new : View) (place : ℕ) (row : Row) → HasRead first old place → Advances old new 0 row true → ((octets : List ℕ) → row ≡ stored place octets → ⊥) → IsDamagedAt (first.trees 0) place
-damaged_at first old new place row so_far moved other =
+pub damaged_at : (tree : ℕ) (first old new : View) (place : ℕ) (row : Row) → HasRead tree first old place → Advances old new 0 row true → ((octets : List ℕ) → row ≡ stored place octets → ⊥) → IsDamagedAt (first.trees tree) place
+damaged_at tree first old new place row so_far moved other =
     let front = table_from 0 so_far.rows in
     let left : so_far.left ≡ row ∷ moved.0 = some_is so_far.left (row ∷ moved.0) (sym so_far.cursor ∙ moved.1) in
-    let table : first.trees 0 ≡ front ++ (row ∷ moved.0) = so_far.table ∙ ap (λ (l : List Row). front ++ l) left in
+    let table : first.trees tree ≡ front ++ (row ∷ moved.0) = so_far.table ∙ ap (λ (l : List Row). front ++ l) left in
     let long : length (table_from 0 so_far.rows) ≡ place = length-table_from 0 so_far.rows ∙ so_far.count in
-    let at : get_or (first.trees 0) place [] ≡ row = ap (λ (t : List Row). get_or t place []) table ∙ behind front row moved.0 place long in
-    let rows : take place (rows_in (first.trees 0)) ≡ so_far.rows =
+    let at : get_or (first.trees tree) place [] ≡ row = ap (λ (t : List Row). get_or t place []) table ∙ behind front row moved.0 place long in
+    let rows : take place (rows_in (first.trees tree)) ≡ so_far.rows =
     ap (λ (t : List Row). take place (rows_in t)) table ∙ ap (take place) (rows_in-append front (row ∷ moved.0) ∙ ap (λ (rs : List (List ℕ)). rs ++ rows_in (row ∷ moved.0)) (rows_in-table_from 0 so_far.rows)) ∙ take_at so_far.rows (rows_in (row ∷ moved.0)) place so_far.count in
     record {
       within = omega (arith, ap length table, length-append front (row ∷ moved.0), long);
@@ -97,18 +98,44 @@ damaged_at first old new place row so_far moved other =
 
 -- ---- an opened store
 
-pub opened_ready : (first new : View) (count : ℕ) → HasReadAll first new count → IsFresh first → first.shape 0 ≡ Table → IsReady new count
-opened_ready first new count read fresh shape =
-    let order : IsInOrder (first.committed 0) = let P : List Row → Type 0 = λ t. IsInOrder t in subst P fresh.settled read.order in
-    let same : IsReady (record first { cursors = new.cursors }) count = record {
-      rest = record { is_open = fresh.is_open; sound = fresh.sound; shape = shape; settled = fresh.settled; order = order };
-      counted = read.count ∙ ap (λ (t : List Row). length (rows_in t)) fresh.settled;
-    } in
-    let Q : View → Type 0 = λ v. IsReady v count in
-    subst Q (sym read.alike) same
+two_rows : (rows : List (List ℕ)) → length rows ≡ 2 → rows ≡ get_or rows 0 [] ∷ get_or rows 1 [] ∷ []
+two_rows [] e = absurd (omega arith)
+two_rows (a ∷ []) e = absurd (omega arith)
+two_rows (a ∷ b ∷ []) e = refl
+two_rows (a ∷ b ∷ c ∷ rows) e = absurd (omega arith)
 
-pub opened_same : (first new : View) (count : ℕ) → HasReadAll first new count → new.committed 0 ≡ first.committed 0
-opened_same first new count read = ap (λ (v : View). v.committed 0) read.alike
+-- a table with two rows, of which the second says where a book stands
+pub is_book_table : (book : List Row) (rows : List (List ℕ)) → IsInOrder book → length (rows_in book) ≡ 2 → standing_in book ≡ standing.spell (standing_with rows) → book ≡ book_table (about_in book) rows
+is_book_table book rows order two said =
+    order ∙ ap (table_from 0) (two_rows (rows_in book) two ∙ ap (λ (last : List ℕ). about_in book ∷ last ∷ []) said)
+
+pub alike_twice : (first old new : View) → IsAlike first old → IsAlike old new → IsAlike first new
+alike_twice first old new one other = other ∙ ap (λ (v : View). record v { cursors = new.cursors }) one
+
+pub no_rows : (table : List Row) → 0 ≡ length (rows_in table) → table ≡ []
+no_rows [] e = refl
+no_rows (row ∷ table) e = absurd (omega arith)
+
+pub opened_ready : (first new : View) (here : Standing) → IsFound first new here → IsFresh first → HasTables first → IsReady new here
+opened_ready first new here found fresh tables =
+    let order : IsInOrder (first.committed 0) = let P : List Row → Type 0 = λ t. IsInOrder t in subst P fresh.settled found.order in
+    let book : first.committed 1 ≡ book_table (about_in (first.committed 1)) (rows_in (first.committed 0)) =
+    sym fresh.settled_book ∙ found.book ∙ ap (λ (t : List Row). book_table (about_in t) (rows_in (first.trees 0))) fresh.settled_book ∙ ap (λ (t : List Row). book_table (about_in (first.committed 1)) (rows_in t)) fresh.settled in
+    let same : IsReady (record first { cursors = new.cursors }) here = record {
+      rest = record { is_open = fresh.is_open; sound = fresh.sound; tables = record { rows = tables.rows; book = tables.book }; settled = fresh.settled; settled_book = fresh.settled_book; order = order; book = book };
+      stands = found.stands ∙ ap (λ (t : List Row). standing_with (rows_in t)) fresh.settled;
+    } in
+    let Q : View → Type 0 = λ v. IsReady v here in
+    subst Q (sym found.alike) same
+
+pub opened_same : (first new : View) (here : Standing) → IsFound first new here → new.committed ≡ first.committed
+opened_same first new here found = ap (λ (v : View). v.committed) found.alike
 
 pub damaged_when_fresh : (first : View) (place : ℕ) → IsFresh first → IsDamagedAt (first.trees 0) place → IsDamagedAt (first.committed 0) place
 damaged_when_fresh first place fresh damaged = let P : List Row → Type 0 = λ t. IsDamagedAt t place in subst P fresh.settled damaged
+
+pub elsewhere_when_fresh : (first : View) → IsFresh first → StandsElsewhere (first.trees 0) (first.trees 1) → StandsElsewhere (first.committed 0) (first.committed 1)
+elsewhere_when_fresh first fresh elsewhere =
+    let P : List Row → Type 0 = λ t. StandsElsewhere t (first.trees 1) in
+    let Q : List Row → Type 0 = λ t. StandsElsewhere (first.committed 0) t in
+    subst Q fresh.settled_book (subst P fresh.settled elsewhere)

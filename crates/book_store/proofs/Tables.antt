@@ -1,5 +1,5 @@
 -- Tables of rows in order.
-use Rattle.std.proofs.Common.{◌≡◌, ℕ, zero, suc, ◌+◌, ◌<◌, List, [], ◌∷◌, ◌++◌, length, get_or, refl, sym, ap, subst, ◌∙◌, append_assoc, Result, Ok, Err, arith, inl, inr}
+use Rattle.std.proofs.Common.{◌≡◌, ℕ, zero, suc, ◌+◌, ◌-◌, ◌<◌, List, [], ◌∷◌, ◌++◌, length, get_or, refl, sym, ap, subst, ◌∙◌, append_assoc, Result, Ok, Err, arith, inl, inr}
 use Rattle.std.specs.Prelude.{pos, ◌<ℤ◌, filter, Bool, false, IsTrue, ◌⊎◌, ℤ, IfOk}
 use Rattle.std.specs.Global.{Vec}
 use Rattle.std.specs.Cmp.{int_cmp_is}
@@ -9,10 +9,11 @@ use Rattle.std.specs.declared.cmp.Ordering.TheVariants.{Equal, Greater, Less}
 use Rattle.sqlite_value.specs.declared.value.Value.TheVariants.{Blob, Int}
 use Rattle.sqlite_value.specs.Order.{Row, column, value_cmp}
 use Rattle.sqlite_value.proofs.OrderLemmas.{value_cmp-Int}
-use Rattle.sqlite_trees.specs.Tree.{Trees, has_rowid, put_row}
+use Rattle.sqlite_trees.specs.Tree.{Trees, has_rowid, put_row, with_tree}
 use Rattle.sqlite_trees.specs.View.{View}
-use Rattle.sqlite_trees.specs.declared.store.Shape.TheVariants.{Table}
-use Rattle.book_store.specs.Table.{IsInOrder, IsReady, Leaves, octets_in, octets_of, put_from, rows_in, stored, table_from}
+use Rattle.book_rows.specs.declared.about.Standing.{Standing}
+use Rattle.book_rows.specs.About.{last_of, moment_in, standing, standing_with, sum_in}
+use Rattle.book_store.specs.Table.{HasTables, IsInOrder, IsMade, IsPut, IsReady, Leaves, Stored, about_in, book_table, octets_in, octets_of, put_from, rows_in, standing_in, stored, stored_in, stored_with, table_from}
 
 less : (a b : ℕ) → a < b → value_cmp (Int (pos a)) (Int (pos b)) ≡ Less
 less a b lt =
@@ -81,33 +82,125 @@ length-octets : (batch : List (Vec ℕ)) → length (octets_in batch) ≡ length
 length-octets [] = refl
 length-octets (octets ∷ batch) = ap suc (length-octets batch)
 
-pub put_on_committed : (old : View) (count place : ℕ) (batch : List (List ℕ)) (table : List Row) → IsReady old count → place ≡ count → table ≡ put_from place batch (old.trees 0)
-    → (place ≡ length (rows_in (old.committed 0))) × (table ≡ put_from place batch (old.committed 0))
-put_on_committed old count place batch table ready here put = (here ∙ ready.counted, put ∙ ap (put_from place batch) ready.rest.settled)
+at_behind : (rows more : List (List ℕ)) (n k : ℕ) → n ≡ length rows + k → get_or (rows ++ more) n [] ≡ get_or more k []
+at_behind [] more n k e = ap (λ (i : ℕ). get_or more i []) (omega arith)
+at_behind (row ∷ rows) more zero k e = absurd (omega arith)
+at_behind (row ∷ rows) more (suc n) k e = at_behind rows more n k (omega arith)
 
-pub rows_after_batch : (old : View) (count place : ℕ) (batch : List (List ℕ)) (table : List Row) → IsReady old count → place ≡ count → table ≡ put_from place batch (old.trees 0) → rows_in table ≡ rows_in (old.committed 0) ++ batch
-rows_after_batch old count place batch table ready here put =
-    let p = put_on_committed old count place batch table ready here put in
-    rows_after_put (old.committed 0) table place batch ready.rest.order p.0 p.1
+octets_of_last : (batch : List (Vec ℕ)) (n : ℕ) (last : Vec ℕ) → n < length batch → last ≡ get_or batch n last → get_or (octets_in batch) n [] ≡ last.items
+octets_of_last [] n last lt is = absurd (omega arith)
+octets_of_last (octets ∷ batch) zero last lt is = ap (λ (v : Vec ℕ). v.items) (sym is)
+octets_of_last (octets ∷ batch) (suc n) last lt is = octets_of_last batch n last (omega arith) is
 
-pub ready_after_batch : (old new : View) (count place : ℕ) (batch : List (Vec ℕ)) → IsReady old count → place ≡ count → new.committed 0 ≡ put_from place (octets_in batch) (old.trees 0) → new.trees 0 ≡ new.committed 0
-    → new.is_broken ≡ false → new.shape 0 ≡ Table → new.is_open ≡ old.is_open → IsReady new (count + length batch)
-ready_after_batch old new count place batch ready here put settled sound shape same =
-    let p = put_on_committed old count place (octets_in batch) (new.committed 0) ready here put in
-    let longer = rows_after_put (old.committed 0) (new.committed 0) place (octets_in batch) ready.rest.order p.0 p.1 in
-    let is_open : IsTrue new.is_open = subst (λ (b : Bool). IsTrue b) (sym same) ready.rest.is_open in
+-- the last of rows and a batch that has one
+last_behind : (rows : List (List ℕ)) (batch : List (Vec ℕ)) (n : ℕ) (last : Vec ℕ) → n + 1 ≡ length batch → last ≡ get_or batch n last → last_of (rows ++ octets_in batch) ≡ last.items
+last_behind rows batch n last some is =
+    at_behind rows (octets_in batch) (length (rows ++ octets_in batch) - 1) n (omega (arith, length-append rows (octets_in batch), length-octets batch)) ∙ octets_of_last batch n last (omega arith) is
+
+standing_by : ℕ → ℕ → ℕ → Standing
+standing_by count moment sum = record { count = count; moment = record { 0 = moment }; sum = record { 0 = sum } }
+
+pub standing_is : (s : Standing) (rows : List (List ℕ)) (last : List ℕ) → s.count ≡ length rows → last ≡ last_of rows → s.moment.0 ≡ moment_in last → s.sum.0 ≡ sum_in last → s ≡ standing_with rows
+unfolding standing_by
+standing_is s rows last count is moment sum =
+    ap (λ (n : ℕ). standing_by n s.moment.0 s.sum.0) count ∙ ap (λ (n : ℕ). standing_by (length rows) n s.sum.0) (moment ∙ ap moment_in is) ∙ ap (standing_by (length rows) (moment_in (last_of rows))) (sum ∙ ap sum_in is)
+
+-- where a book stands behind a batch with a row
+pub standing_more : (before now : Standing) (rows : List (List ℕ)) (batch : List (Vec ℕ)) (n : ℕ) (last : Vec ℕ) (octets : List ℕ) → before ≡ standing_with rows → now.count ≡ before.count + length batch → n + 1 ≡ length batch
+    → last ≡ get_or batch n last → octets ≡ last.items → now.moment.0 ≡ moment_in octets → now.sum.0 ≡ sum_in octets → now ≡ standing_with (rows ++ octets_in batch)
+standing_more before now rows batch n last octets stands count some is same moment sum =
+    standing_is now (rows ++ octets_in batch) octets (omega (arith, count, ap (λ (s : Standing). s.count) stands, length-append rows (octets_in batch), length-octets batch)) (same ∙ sym (last_behind rows batch n last some is)) moment sum
+
+pub standing_same : (before : Standing) (rows : List (List ℕ)) (batch : List (Vec ℕ)) → before ≡ standing_with rows → length batch ≡ 0 → before ≡ standing_with (rows ++ octets_in batch)
+standing_same before rows [] stands none = stands ∙ ap standing_with (sym (append-nil rows))
+standing_same before rows (octets ∷ batch) stands none = absurd (omega arith)
+
+-- the table of what a book is, once it is said where it stands with other rows
+pub book_put : (about : List ℕ) (rows : List (List ℕ)) (here : Standing) → put_row (stored 1 (standing.spell here)) (book_table about rows) ≡ table_from 0 (about ∷ standing.spell here ∷ [])
+book_put about rows here = rw (less 0 1 (omega arith), equal 1 1 refl) refl
+
+pub book_made : (about : List ℕ) (here : Standing) → put_row (stored 1 (standing.spell here)) (put_row (stored 0 about) []) ≡ table_from 0 (about ∷ standing.spell here ∷ [])
+book_made about here = rw (less 0 1 (omega arith)) refl
+
+pub put_both : (old mid new : Trees) (place : ℕ) (batch : List (List ℕ)) (here : Standing) → mid 0 ≡ put_from place batch (old 0) → mid 1 ≡ old 1 → new ≡ with_tree mid 1 (put_row (stored 1 (standing.spell here)) (mid 1)) → IsPut place batch here old new
+put_both old mid new place batch here rows beside put = record {
+  rows = ap (λ (t : Trees). t 0) put ∙ rows;
+  book = ap (λ (t : Trees). t 1) put ∙ ap (put_row (stored 1 (standing.spell here))) beside;
+}
+
+pub made_both : (old mid new : Trees) (about : List ℕ) (here : Standing) → mid ≡ with_tree old 1 (put_row (stored 0 about) (old 1)) → new ≡ with_tree mid 1 (put_row (stored 1 (standing.spell here)) (mid 1)) → IsMade about here old new
+made_both old mid new about here first put = record {
+  rows = ap (λ (t : Trees). t 0) put ∙ ap (λ (t : Trees). t 0) first;
+  book = ap (λ (t : Trees). t 1) put ∙ ap (λ (t : Trees). put_row (stored 1 (standing.spell here)) (t 1)) first;
+}
+
+-- what is put into the tables of a book at rest
+pub record IsWith (about : List ℕ) (rows : List (List ℕ)) (trees : Trees) : Type 0 where
+  pub about_is : about_in (trees 1) ≡ about
+  pub rows_are : rows_in (trees 0) ≡ rows
+  pub order : IsInOrder (trees 0)
+  pub book : trees 1 ≡ book_table about rows
+
+pub with_batch : (old : View) (here now : Standing) (place : ℕ) (batch : List (List ℕ)) (new : Trees) → IsReady old here → place ≡ here.count → now ≡ standing_with (rows_in (old.committed 0) ++ batch) → IsPut place batch now old.trees new
+    → IsWith (about_in (old.committed 1)) (rows_in (old.committed 0) ++ batch) new
+with_batch old here now place batch new ready at stands put =
+    let behind : place ≡ length (rows_in (old.committed 0)) = at ∙ ap (λ (s : Standing). s.count) ready.stands in
+    let rows : new 0 ≡ put_from place batch (old.committed 0) = put.rows ∙ ap (put_from place batch) ready.rest.settled in
+    let about = about_in (old.committed 1) in
+    let book : new 1 ≡ book_table about (rows_in (old.committed 0) ++ batch) =
+    put.book ∙ ap (put_row (stored 1 (standing.spell now))) (ready.rest.settled_book ∙ ready.rest.book)
+    ∙ book_put about (rows_in (old.committed 0)) now
+    ∙ ap (λ (s : Standing). table_from 0 (about ∷ standing.spell s ∷ [])) stands in
     record {
-      rest = record { is_open = is_open; sound = sound; shape = shape; settled = settled; order = order_after_put (old.committed 0) (new.committed 0) place (octets_in batch) ready.rest.order p.0 p.1 };
-      counted = omega (arith, ready.counted, ap length longer, length-append (rows_in (old.committed 0)) (octets_in batch), length-octets batch);
+      about_is = ap about_in book;
+      rows_are = rows_after_put (old.committed 0) (new 0) place batch ready.rest.order behind rows;
+      order = order_after_put (old.committed 0) (new 0) place batch ready.rest.order behind rows;
+      book = book;
     }
 
-pub crash_after_batch : (old : View) (count place : ℕ) (batch left : List (List ℕ)) (before after : Trees → Type 0) → IsReady old count → place ≡ count
-    → ((db : Trees) → after db → before db ⊎ (db 0 ≡ put_from place batch (old.trees 0))) → Leaves after left → Leaves before left ⊎ (left ≡ rows_in (old.committed 0) ++ batch)
-crash_after_batch old count place batch left before after ready here crash leaves =
+pub stored_of_with : (about : List ℕ) (rows : List (List ℕ)) (trees : Trees) → IsWith about rows trees → stored_in trees ≡ stored_with about rows
+stored_of_with about rows trees is =
+    ap (λ (a : List ℕ). record { about = a; rows = rows_in (trees 0); standing = standing_in (trees 1) }) is.about_is
+    ∙ ap (λ (r : List (List ℕ)). record { about = about; rows = r; standing = standing_in (trees 1) }) is.rows_are
+    ∙ ap (λ (t : List Row). record { about = about; rows = rows; standing = standing_in t }) is.book
+
+-- a store that has committed such tables
+pub ready_with : (new : View) (here : Standing) (about : List ℕ) (rows : List (List ℕ)) → IsWith about rows new.committed → new.trees ≡ new.committed → IsTrue new.is_open → new.is_broken ≡ false → HasTables new
+    → here ≡ standing_with rows → IsReady new here
+ready_with new here about rows is settled is_open sound tables stands =
+    let book : new.committed 1 ≡ book_table (about_in (new.committed 1)) (rows_in (new.committed 0)) =
+    is.book ∙ ap (λ (a : List ℕ). book_table a rows) (sym is.about_is) ∙ ap (book_table (about_in (new.committed 1))) (sym is.rows_are) in
+    record {
+      rest = record { is_open = is_open; sound = sound; tables = tables; settled = ap (λ (t : Trees). t 0) settled; settled_book = ap (λ (t : Trees). t 1) settled; order = is.order; book = book };
+      stands = stands ∙ ap standing_with (sym is.rows_are);
+    }
+
+pub crash_with : (about : List ℕ) (rows : List (List ℕ)) (left : Stored) (before after Put : Trees → Type 0) → ((db : Trees) → Put db → IsWith about rows db)
+    → ((db : Trees) → after db → before db ⊎ Put db) → Leaves after left → Leaves before left ⊎ (left ≡ stored_with about rows)
+crash_with about rows left before after Put is crash leaves =
     elim (crash leaves.database leaves.found) [
-      | inl stands ↦ inl (record { database = leaves.database; found = stands; rows = leaves.rows })
-      | inr put ↦ inr (leaves.rows ∙ rows_after_batch old count place batch (leaves.database 0) ready here put)
+      | inl stands ↦ inl (record { database = leaves.database; found = stands; is = leaves.is })
+      | inr put ↦ inr (leaves.is ∙ stored_of_with about rows leaves.database (is leaves.database put))
     ]
+
+-- ---- a book that was made
+
+pub with_made : (old : Trees) (about : List ℕ) (here : Standing) (new : Trees) → old 0 ≡ [] → old 1 ≡ [] → here ≡ standing_with [] → IsMade about here old new → IsWith about [] new
+with_made old about here new no_rows no_book stands made =
+    let rows : new 0 ≡ [] = made.rows ∙ no_rows in
+    let book : new 1 ≡ book_table about [] =
+    made.book ∙ ap (λ (t : List Row). put_row (stored 1 (standing.spell here)) (put_row (stored 0 about) t)) no_book ∙ book_made about here ∙ ap (λ (s : Standing). table_from 0 (about ∷ standing.spell s ∷ [])) stands in
+    record {
+      about_is = ap about_in book;
+      rows_are = ap rows_in rows;
+      order = let P : List Row → Type 0 = λ t. IsInOrder t in subst P (sym rows) refl;
+      book = book;
+    }
+
+pub made_crash : (old : Trees) (about : List ℕ) (here : Standing) (Before Mid : Trees → Type 0) → old 0 ≡ [] → old 1 ≡ [] → here ≡ standing_with [] → ((db : Trees) → Mid db → Before db)
+    → (db : Trees) → Mid db ⊎ IsMade about here old db → Before db ⊎ (stored_in db ≡ stored_with about [])
+made_crash old about here Before Mid no_rows no_book stands stay db (inl mid) = inl (stay db mid)
+made_crash old about here Before Mid no_rows no_book stands stay db (inr made) = inr (stored_of_with about [] db (with_made old about here db no_rows no_book stands made))
 
 -- ---- what a read gives
 
@@ -115,8 +208,7 @@ pub if_ok_map : {T E : Type 0} (r : Result T E) (P Q : T → Type 0) → ((x : T
 if_ok_map (Ok x) P Q f h = f x h
 if_ok_map (Err e) P Q f h = tt
 
-pub row_of_place : (old : View) (count place : ℕ) (id : ℤ) (row : Row) (octets : List ℕ) → IsReady old count → place < length (rows_in (old.committed 0)) → id ≡ pos place
-    → filter (has_rowid id) (old.trees 0) ≡ row ∷ [] → column row 1 ≡ Blob octets → octets ≡ get_or (rows_in (old.committed 0)) place []
-row_of_place old count place id row octets ready within e found blob =
-    let moved : filter (has_rowid (pos place)) (old.committed 0) ≡ row ∷ [] = ap (λ (t : List Row). filter (has_rowid (pos place)) t) (sym ready.rest.settled) ∙ ap (λ (z : ℤ). filter (has_rowid z) (old.trees 0)) (sym e) ∙ found in
-    row_is (old.committed 0) place row octets ready.rest.order within moved blob
+pub row_of_place : (table : List Row) (place : ℕ) (id : ℤ) (row : Row) (octets : List ℕ) → IsInOrder table → place < length (rows_in table) → id ≡ pos place
+    → filter (has_rowid id) table ≡ row ∷ [] → column row 1 ≡ Blob octets → octets ≡ get_or (rows_in table) place []
+row_of_place table place id row octets order within e found blob =
+    row_is table place row octets order within (ap (λ (z : ℤ). filter (has_rowid z) table) (sym e) ∙ found) blob

@@ -2,6 +2,7 @@
 
 ghost use Rattle.std.specs.Prelude.{◌≡◌, ◌<◌, [], ℕ, List, Some, None, Err, IfOk, OnOk, length, option_map, slice_index_or};
 ghost use Rattle.book_store.specs.Chain.{next_sum, sum_of, IsWrongAt};
+ghost use Rattle.book_store.specs.Table.{Stored};
 
 use crate::error::{CheckError, RowError};
 use crate::store::RowStore;
@@ -46,9 +47,10 @@ fn sum_at<L: RowStore>(
     ensures clean { L.is_clean store.new → L.is_clean store.old }
     ensures ready { OnOk result (L.is_clean store.new → L.is_ready store.new) }
     ensures same { OnOk result (L.is_clean store.new → L.rows store.new ≡ L.rows store.old) }
+    ensures same_book { OnOk result (L.is_clean store.new → L.about store.new ≡ L.about store.old) }
     ensures next { IfOk result (λ sum. L.is_clean store.new → next_sum place before.0 (slice_index_or (L.rows store.old) place []) ≡ Some sum.0) }
     ensures wrong { (p : ℕ) → result ≡ Err (CheckError.Wrong p) → L.is_clean store.new → (p ≡ place) × (next_sum place before.0 (slice_index_or (L.rows store.old) place []) ≡ None) }
-    ensures crash { (left : List (List ℕ)) → L.may_leave store.new left → L.may_leave store.old left }
+    ensures crash { (left : Stored) → L.may_leave store.new left → L.may_leave store.old left }
     ensures reopens { L.may_reopen store.old → L.may_reopen store.new }
 {
     let octets = match store.row(alloc, place) {
@@ -69,13 +71,14 @@ pub fn check_rows<L: RowStore>(alloc: Global, store: &mut L) -> Result<Sum, Chec
     ensures clean { L.is_clean store.new → L.is_clean store.old }
     ensures ready { OnOk result (L.is_clean store.new → L.is_ready store.new) }
     ensures same { OnOk result (L.is_clean store.new → L.rows store.new ≡ L.rows store.old) }
+    ensures same_book { OnOk result (L.is_clean store.new → L.about store.new ≡ L.about store.old) }
     ensures sum { IfOk result (λ sum. L.is_clean store.new → sum_of 0 0 (L.rows store.old) ≡ Some sum.0) }
     ensures wrong { (place : ℕ) → result ≡ Err (CheckError.Wrong place) → L.is_clean store.new → IsWrongAt (L.rows store.old) place }
-    ensures crash { (left : List (List ℕ)) → L.may_leave store.new left → L.may_leave store.old left }
+    ensures crash { (left : Stored) → L.may_leave store.new left → L.may_leave store.old left }
     ensures reopens { L.may_reopen store.old → L.may_reopen store.new }
 {
     let mut sum = FIRST_SUM;
-    let count = store.count();
+    let count = store.standing().count;
     for place in 0..count {
         sum = sum_at(alloc, store, place, sum)?;
     }

@@ -41,9 +41,29 @@ impl From<AllocError> for RowError {
     }
 }
 
+/// Why a book was not made.
+#[derive(Clone, Copy, Debug, PartialEq, Eq, Error)]
+pub enum CreateError {
+    /// The database has rows already.
+    #[error("there is something already")]
+    NotEmpty,
+    /// What lies below failed.
+    #[error("{0}")]
+    Store(StoreError),
+}
+
 /// Why a store was not opened.
 #[derive(Clone, Copy, Debug, PartialEq, Eq, Error)]
 pub enum OpenError {
+    /// The database has no book.
+    #[error("there is no book")]
+    NoBook,
+    /// What the book is, or where it stands, is not there as it was written.
+    #[error("what the book is, or where it stands, is damaged or missing")]
+    DamagedBook,
+    /// The book is said to stand elsewhere than its rows say: rows are missing at its end, or are too many.
+    #[error("the book does not stand where its rows say")]
+    StandsElsewhere,
     /// What stands where the row of this place belongs is none.
     #[error("the row at place {0} is damaged or missing")]
     Damaged(u64),

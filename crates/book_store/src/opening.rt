@@ -1,15 +1,17 @@
-//! Opening a table of rows.
+//! Opening the tables of a book.
 
-ghost use Rattle.std.specs.Prelude.{◌≡◌, ◌<◌, ◌^◌, [], ℕ, List, Err, IsSome, IsTrue, IfOk, OnOk, false};
+ghost use Rattle.std.specs.Prelude.{◌≡◌, ◌≢◌, ◌↔◌, ◌<◌, ◌^◌, [], ℕ, List, Err, IsSome, IsTrue, IfOk, OnOk, false, length};
 ghost use Rattle.sqlite_value.specs.Order.{column};
 ghost use Rattle.sqlite_trees.specs.Tree.{Trees};
 ghost use Rattle.sqlite_trees.specs.View.{IsClean};
 ghost use Rattle.sqlite_trees.specs.declared.store.Shape.TheVariants.{Table};
-ghost use Rattle.book_store.specs.Damage.{HasRead, HasReadAll, IsDamagedAt};
-ghost use Rattle.book_store.specs.Table.{octets_of, stored};
+ghost use Rattle.book_rows.specs.About.{last_of, standing, standing_with};
+ghost use Rattle.book_store.specs.Damage.{HasRead, HasReadAll, IsAlike, IsDamagedAt, IsEmpty, IsFound, KeepsShapes, StandsElsewhere};
+ghost use Rattle.book_store.specs.Table.{octets_of, rows_in, standing_in, stored, HasTables, IsInOrder};
 
-use crate::error::OpenError;
-use crate::tree::{PLACES, TABLE};
+use crate::error::{OpenError, RowError};
+use crate::tree::{BOOK, PLACES, TABLE, octets_at};
+use book_rows::{Standing, spell_standing, standing_behind};
 use sqlite_trees::error::StoreError;
 use sqlite_trees::store::{Direction, Store};
 use sqlite_value::row::Row;
@@ -32,28 +34,31 @@ fn is_stored(place: u64, row: &Row) -> bool
 }
 
 /// Places the cursor before the first row. The key is empty.
-fn go_to_first<S: Store>(store: &mut S, key: &Row) -> Result<(), StoreError>
-    requires table { IsClean (S.Store.view store.old) → (S.Store.view store.old).shape 0 ≡ Table }
+fn go_to_first<S: Store>(store: &mut S, table: u32, key: &Row) -> Result<(), StoreError>
+    requires table { IsClean (S.Store.view store.old) → (S.Store.view store.old).shape table ≡ Table }
     requires key { key.now ≡ [] }
     ensures clean { IsClean (S.Store.view store.new) → IsClean (S.Store.view store.old) }
     ensures live { OnOk result (IsSome ((S.Store.view store.new).cursors 0)) }
-    ensures read { OnOk result (IsClean (S.Store.view store.new) → HasRead (S.Store.view store.old) (S.Store.view store.new) 0) }
+    ensures read { OnOk result (IsClean (S.Store.view store.new) → HasRead table (S.Store.view store.old) (S.Store.view store.new) 0) }
     ensures quiet { (db : Trees) → S.Store.recovers store.new db → S.Store.recovers store.old db }
+    ensures reopens { KeepsShapes (S.Store.view store.old) (S.Store.view store.new) }
 {
-    store.seek(0, TABLE, key, Direction::Forward)?;
+    store.seek(0, table, key, Direction::Forward)?;
     Ok(())
 }
 
-/// How many rows the table has, where each is that of its place.
-pub fn count_rows<S: Store>(store: &mut S, alloc: Global) -> Result<u64, OpenError>
-    requires { IsClean (S.Store.view store.old) → (S.Store.view store.old).shape 0 ≡ Table }
+/// How many rows a table has, where each is that of its place.
+fn count_rows<S: Store>(store: &mut S, alloc: Global, table: u32) -> Result<u64, OpenError>
+    requires { IsClean (S.Store.view store.old) → (S.Store.view store.old).shape table ≡ Table }
     ensures clean { IsClean (S.Store.view store.new) → IsClean (S.Store.view store.old) }
-    ensures all { IfOk result (λ count. IsClean (S.Store.view store.new) → HasReadAll (S.Store.view store.old) (S.Store.view store.new) count) }
-    ensures damaged { (place : ℕ) → result ≡ Err (OpenError.Damaged place) → IsClean (S.Store.view store.new) → IsDamagedAt ((S.Store.view store.old).trees 0) place }
+    ensures all { IfOk result (λ count. IsClean (S.Store.view store.new) → HasReadAll table (S.Store.view store.old) (S.Store.view store.new) count) }
+    ensures damaged { (place : ℕ) → result ≡ Err (OpenError.Damaged place) → IsClean (S.Store.view store.new) → IsDamagedAt ((S.Store.view store.old).trees table) place }
+    ensures others { (result ≢ Err OpenError.NoBook) × (result ≢ Err OpenError.StandsElsewhere) }
     ensures quiet { (db : Trees) → S.Store.recovers store.new db → S.Store.recovers store.old db }
+    ensures reopens { KeepsShapes (S.Store.view store.old) (S.Store.view store.new) }
 {
     let mut row = Row::new(alloc);
-    if let Err(error) = go_to_first(store, &row) {
+    if let Err(error) = go_to_first(store, table, &row) {
         return Err(OpenError::Store(error));
     }
     for place in 0..PLACES {
@@ -67,4 +72,119 @@ pub fn count_rows<S: Store>(store: &mut S, alloc: Global) -> Result<u64, OpenErr
         }
     }
     Err(OpenError::TooLong)
+}
+
+/// The octets of the last of so many rows of the table of rows, none where it has no row.
+fn last_row<S: Store>(store: &mut S, alloc: Global, count: u64) -> Result<Vec<u8>, RowError>
+    requires table { IsClean (S.Store.view store.old) → (S.Store.view store.old).shape 0 ≡ Table }
+    requires order { IsClean (S.Store.view store.old) → IsInOrder ((S.Store.view store.old).trees 0) }
+    requires count { IsClean (S.Store.view store.old) → count ≡ length (rows_in ((S.Store.view store.old).trees 0)) }
+    ensures clean { IsClean (S.Store.view store.new) → IsClean (S.Store.view store.old) }
+    ensures last { IfOk result (λ octets. IsClean (S.Store.view store.new) → octets.items ≡ last_of (rows_in ((S.Store.view store.old).trees 0))) }
+    ensures same { OnOk result (IsClean (S.Store.view store.new) → S.Store.view store.new ≡ S.Store.view store.old) }
+    ensures quiet { (db : Trees) → S.Store.recovers store.new db → S.Store.recovers store.old db }
+    ensures reopens { KeepsShapes (S.Store.view store.old) (S.Store.view store.new) }
+{
+    if count == 0 {
+        return Ok(Vec::new(alloc));
+    }
+    octets_at(store, alloc, TABLE, count - 1)
+}
+
+/// Whether the book is said to stand here, in a table of what it is with two rows.
+fn is_said<S: Store>(store: &mut S, alloc: Global, here: Standing) -> Result<bool, RowError>
+    requires table { IsClean (S.Store.view store.old) → (S.Store.view store.old).shape 1 ≡ Table }
+    requires order { IsClean (S.Store.view store.old) → IsInOrder ((S.Store.view store.old).trees 1) }
+    requires count { IsClean (S.Store.view store.old) → length (rows_in ((S.Store.view store.old).trees 1)) ≡ 2 }
+    ensures clean { IsClean (S.Store.view store.new) → IsClean (S.Store.view store.old) }
+    ensures said { IfOk result (λ said. IsClean (S.Store.view store.new) → (IsTrue said ↔ standing_in ((S.Store.view store.old).trees 1) ≡ standing.spell here)) }
+    ensures same { OnOk result (IsClean (S.Store.view store.new) → S.Store.view store.new ≡ S.Store.view store.old) }
+    ensures quiet { (db : Trees) → S.Store.recovers store.new db → S.Store.recovers store.old db }
+    ensures reopens { KeepsShapes (S.Store.view store.old) (S.Store.view store.new) }
+{
+    let said = octets_at(store, alloc, BOOK, 1)?;
+    let spelled = spell_standing(alloc, here)?;
+    Ok(said.as_slice() == spelled.as_slice())
+}
+
+/// Whether the table of what the book is has its two rows. `NoBook` is told where it has none.
+fn has_book<S: Store>(store: &mut S, alloc: Global) -> Result<(), OpenError>
+    requires { IsClean (S.Store.view store.old) → (S.Store.view store.old).shape 1 ≡ Table }
+    ensures clean { IsClean (S.Store.view store.new) → IsClean (S.Store.view store.old) }
+    ensures two { OnOk result (IsClean (S.Store.view store.new) → HasReadAll 1 (S.Store.view store.old) (S.Store.view store.new) 2) }
+    ensures none { result ≡ Err OpenError.NoBook → IsClean (S.Store.view store.new) → (S.Store.view store.old).trees 1 ≡ [] }
+    ensures others { (result ≢ Err OpenError.StandsElsewhere) × ((place : ℕ) → result ≢ Err (OpenError.Damaged place)) }
+    ensures quiet { (db : Trees) → S.Store.recovers store.new db → S.Store.recovers store.old db }
+    ensures reopens { KeepsShapes (S.Store.view store.old) (S.Store.view store.new) }
+{
+    match count_rows(store, alloc, BOOK) {
+        Ok(2) => Ok(()),
+        Ok(0) => Err(OpenError::NoBook),
+        Ok(_) | Err(OpenError::Damaged(_)) => Err(OpenError::DamagedBook),
+        Err(error) => Err(error),
+    }
+}
+
+/// Where the book stands by the rows of its table, each of which is that of its place.
+fn stands_by_rows<S: Store>(store: &mut S, alloc: Global) -> Result<Standing, OpenError>
+    requires { IsClean (S.Store.view store.old) → (S.Store.view store.old).shape 0 ≡ Table }
+    ensures clean { IsClean (S.Store.view store.new) → IsClean (S.Store.view store.old) }
+    ensures alike { OnOk result (IsClean (S.Store.view store.new) → IsAlike (S.Store.view store.old) (S.Store.view store.new)) }
+    ensures order { OnOk result (IsClean (S.Store.view store.new) → IsInOrder ((S.Store.view store.old).trees 0)) }
+    ensures stands { IfOk result (λ here. IsClean (S.Store.view store.new) → here ≡ standing_with (rows_in ((S.Store.view store.old).trees 0))) }
+    ensures damaged { (place : ℕ) → result ≡ Err (OpenError.Damaged place) → IsClean (S.Store.view store.new) → IsDamagedAt ((S.Store.view store.old).trees 0) place }
+    ensures others { (result ≢ Err OpenError.NoBook) × (result ≢ Err OpenError.StandsElsewhere) }
+    ensures quiet { (db : Trees) → S.Store.recovers store.new db → S.Store.recovers store.old db }
+    ensures reopens { KeepsShapes (S.Store.view store.old) (S.Store.view store.new) }
+{
+    let count = match count_rows(store, alloc, TABLE) {
+        Ok(count) => count,
+        Err(error) => return Err(error),
+    };
+    match last_row(store, alloc, count) {
+        Ok(last) => Ok(standing_behind(count, &last)),
+        Err(RowError::Damaged) => Err(OpenError::TooLong),
+        Err(RowError::Store(error)) => Err(OpenError::Store(error)),
+    }
+}
+
+/// Where the book in the tables stands.
+pub fn find_book<S: Store>(store: &mut S, alloc: Global) -> Result<Standing, OpenError>
+    requires { IsClean (S.Store.view store.old) → HasTables (S.Store.view store.old) }
+    ensures clean { IsClean (S.Store.view store.new) → IsClean (S.Store.view store.old) }
+    ensures found { IfOk result (λ here. IsClean (S.Store.view store.new) → IsFound (S.Store.view store.old) (S.Store.view store.new) here) }
+    ensures damaged { (place : ℕ) → result ≡ Err (OpenError.Damaged place) → IsClean (S.Store.view store.new) → IsDamagedAt ((S.Store.view store.old).trees 0) place }
+    ensures elsewhere { result ≡ Err OpenError.StandsElsewhere → IsClean (S.Store.view store.new) → StandsElsewhere ((S.Store.view store.old).trees 0) ((S.Store.view store.old).trees 1) }
+    ensures no_book { result ≡ Err OpenError.NoBook → IsClean (S.Store.view store.new) → (S.Store.view store.old).trees 1 ≡ [] }
+    ensures quiet { (db : Trees) → S.Store.recovers store.new db → S.Store.recovers store.old db }
+    ensures reopens { KeepsShapes (S.Store.view store.old) (S.Store.view store.new) }
+{
+    has_book(store, alloc)?;
+    let here = match stands_by_rows(store, alloc) {
+        Ok(here) => here,
+        Err(error) => return Err(error),
+    };
+    match is_said(store, alloc, here) {
+        Ok(true) => Ok(here),
+        Ok(false) => Err(OpenError::StandsElsewhere),
+        Err(RowError::Damaged) => Err(OpenError::DamagedBook),
+        Err(RowError::Store(error)) => Err(OpenError::Store(error)),
+    }
+}
+
+/// Whether both tables have no row.
+pub fn find_nothing<S: Store>(store: &mut S, alloc: Global) -> Result<bool, StoreError>
+    requires { IsClean (S.Store.view store.old) → HasTables (S.Store.view store.old) }
+    ensures clean { IsClean (S.Store.view store.new) → IsClean (S.Store.view store.old) }
+    ensures nothing { IfOk result (λ nothing. IsClean (S.Store.view store.new) → IsTrue nothing → IsEmpty (S.Store.view store.old) (S.Store.view store.new)) }
+    ensures quiet { (db : Trees) → S.Store.recovers store.new db → S.Store.recovers store.old db }
+    ensures reopens { KeepsShapes (S.Store.view store.old) (S.Store.view store.new) }
+{
+    let book = count_rows(store, alloc, BOOK);
+    let rows = count_rows(store, alloc, TABLE);
+    match (book, rows) {
+        (Ok(0), Ok(0)) => Ok(true),
+        (Err(OpenError::Store(error)), _) | (_, Err(OpenError::Store(error))) => Err(error),
+        _ => Ok(false),
+    }
 }

@@ -3,7 +3,7 @@
 ghost use Rattle.std.specs.Prelude.{OnOk};
 
 use crate::tables;
-use book_rows::Sum;
+use book_rows::{Standing, Sum};
 use book_store::{AppendError, Batch, RowStore, append_all, check_rows};
 use std::alloc::Global;
 
@@ -13,10 +13,10 @@ pub fn print_store<L: RowStore>(rt: &impl Print, alloc: Global, store: &mut L) -
     ensures ready { OnOk result (L.is_clean store.new → L.is_ready store.new) }
     ensures reopens { L.may_reopen store.old → L.may_reopen store.new }
 {
-    let count = store.count();
+    let Standing { count, moment, .. } = store.standing();
     match check_rows(alloc, store) {
         Ok(Sum(sum)) => {
-            println!(rt; "{count} rows, sum {sum:032x}")?;
+            println!(rt; "{count} rows until {}, sum {sum:032x}", moment.0)?;
             Ok(())
         }
         Err(error) => Err(error.into()),
@@ -42,7 +42,7 @@ fn has_row<L: RowStore>(
     requires { L.is_clean store.old → L.is_ready store.old }
     ensures { OnOk result (L.is_clean store.new → L.is_ready store.new) }
 {
-    if place >= store.count() {
+    if place >= store.standing().count {
         return Ok(false);
     }
     let found = store.row(alloc, place)?;

@@ -15,7 +15,7 @@ use std::alloc::Global;
 /// A crash, and what stands behind it.
 fn crash<S: Reopen + Drop>(alloc: Global, store: TreeStore<S>) -> anyhow::Result<TreeStore<S>>
     requires { MayReopen (S.Store.view store.store) }
-    ensures ready { IfOk result (λ again. IsClean (S.Store.view again.store) → IsReady (S.Store.view again.store) again.count) }
+    ensures ready { IfOk result (λ again. IsClean (S.Store.view again.store) → IsReady (S.Store.view again.store) again.standing) }
     ensures reopens { IfOk result (λ again. MayReopen (S.Store.view again.store)) }
 {
     match reopen_tree(alloc, store) {

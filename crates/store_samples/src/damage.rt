@@ -1,32 +1,34 @@
 //! Tables that are not of rows, and rows that are not those that were written.
 
-ghost use Rattle.std.specs.Prelude.{◌≡◌};
 ghost use Rattle.sqlite_trees.specs.Memory.{memory_view};
 ghost use Rattle.sqlite_trees.specs.View.{IsClean};
-ghost use Rattle.sqlite_trees.specs.declared.store.Shape.TheVariants.{Table};
 ghost use Rattle.book_store.specs.Damage.{IsFresh};
+ghost use Rattle.book_store.specs.Table.{HasTables};
 
 use crate::appending::batch;
 use crate::tables;
-use book_store::{Batch, OpenError, RowStore, append_all, check_rows, open_tree};
+use book_store::{
+    Batch, CreateError, OpenError, RowStore, TreeStore, append_all, check_rows, create_tree,
+    open_tree,
+};
 use sqlite_trees::memory::MemStore;
 use sqlite_value::value::ValueRef;
 use std::alloc::Global;
 
 /// How many rows an opening finds.
 fn opening(alloc: Global, store: MemStore) -> Result<u64, OpenError>
-    requires table { IsClean (memory_view store) → (memory_view store).shape 0 ≡ Table }
+    requires tables { IsClean (memory_view store) → HasTables (memory_view store) }
     requires fresh { IsClean (memory_view store) → IsFresh (memory_view store) }
 {
     match open_tree(alloc, store) {
-        Ok(opened) => Ok(opened.count),
+        Ok(opened) => Ok(opened.standing.count),
         Err((error, _)) => Err(error),
     }
 }
 
 /// What opening a table says.
 fn print_opening(rt: &impl Print, alloc: Global, store: MemStore) -> anyhow::Result<()>
-    requires table { IsClean (memory_view store) → (memory_view store).shape 0 ≡ Table }
+    requires tables { IsClean (memory_view store) → HasTables (memory_view store) }
     requires fresh { IsClean (memory_view store) → IsFresh (memory_view store) }
 {
     match opening(alloc, store) {
@@ -36,18 +38,50 @@ fn print_opening(rt: &impl Print, alloc: Global, store: MemStore) -> anyhow::Res
     Ok(())
 }
 
-/// A table with these two rows, each under its number.
+/// The tables of a book with these two rows, each under its number, which stands where it has none.
 fn print_table(
     rt: &impl Print,
     alloc: Global,
     first: (i64, ValueRef<'_>),
     second: (i64, ValueRef<'_>),
 ) -> anyhow::Result<()> {
-    let mut store = tables::empty(alloc)?;
+    let TreeStore { store, .. } = tables::store(alloc)?;
+    let mut store = store;
     tables::put(alloc, &mut store, first.0, first.1)?;
     tables::put(alloc, &mut store, second.0, second.1)?;
     tables::commit(&mut store)?;
     print_opening(rt, alloc, store)
+}
+
+/// The tables of a book with these octets under this number where it is said what it is.
+fn print_book(rt: &impl Print, alloc: Global, number: i64, octets: &[u8]) -> anyhow::Result<()> {
+    let TreeStore { store, .. } = tables::store(alloc)?;
+    let mut store = store;
+    tables::put_book(alloc, &mut store, number, octets)?;
+    tables::commit(&mut store)?;
+    print_opening(rt, alloc, store)
+}
+
+/// Whether a book is made where one is.
+fn is_made_over(alloc: Global, store: MemStore) -> Result<(), CreateError>
+    requires tables { IsClean (memory_view store) → HasTables (memory_view store) }
+    requires fresh { IsClean (memory_view store) → IsFresh (memory_view store) }
+{
+    match create_tree(alloc, store, b"another") {
+        Ok(_) => Ok(()),
+        Err((error, _)) => Err(error),
+    }
+}
+
+/// Tables with no book, and a book that would be made where one is.
+fn print_making(rt: &impl Print, alloc: Global) -> anyhow::Result<()> {
+    print_opening(rt, alloc, tables::empty(alloc)?)?;
+    let TreeStore { store, .. } = tables::store(alloc)?;
+    match is_made_over(alloc, store) {
+        Ok(()) => println!(rt; "made")?,
+        Err(error) => println!(rt; "{error}")?,
+    }
+    Ok(())
 }
 
 /// What a check of these rows says.
@@ -55,7 +89,7 @@ fn print_check(rt: &impl Print, alloc: Global, batch: Batch) -> anyhow::Result<(
     let mut store = tables::store(alloc)?;
     append_all(&mut store, alloc, &[batch])?;
     match check_rows(alloc, &mut store) {
-        Ok(_) => println!(rt; "{} rows", store.count())?,
+        Ok(_) => println!(rt; "{} rows", store.standing().count)?,
         Err(error) => println!(rt; "{error}")?,
     }
     Ok(())
@@ -95,12 +129,15 @@ fn print_moved(rt: &impl Print, alloc: Global, rows: &[Vec<u8>]) -> anyhow::Resu
 
 /// What is wrong with tables, and with rows.
 pub fn print_all(rt: &impl Print, alloc: Global, rows: &[Vec<u8>]) -> anyhow::Result<()> {
+    print_making(rt, alloc)?;
     let blob = ValueRef::Blob(b"any");
     print_table(rt, alloc, (0, blob), (1, blob))?;
     print_table(rt, alloc, (0, blob), (2, blob))?;
     print_table(rt, alloc, (1, blob), (2, blob))?;
     print_table(rt, alloc, (-1, blob), (0, blob))?;
     print_table(rt, alloc, (0, blob), (1, ValueRef::Text(b"any")))?;
+    print_book(rt, alloc, 1, b"elsewhere")?;
+    print_book(rt, alloc, 2, b"more")?;
     for (row, at) in [(0, 7), (1, 15), (3, 40), (5, 100), (8, 16), (8, 32)] {
         print_flipped(rt, alloc, rows, row, at)?;
     }

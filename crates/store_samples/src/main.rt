@@ -3,6 +3,7 @@
 //!
 //! - `given`: what rows are made of, one request of each kind with its reply and debit, and a sweep.
 //! - `spelling`: the octets of each row, which are read back, and what is wrong with octets that are no row.
+//! - `abouts`: what a book is, which is read back, and a book of another format.
 //! - `appending`: an empty store, batches that are appended and read back, and batches that are refused.
 //! - `crashes`: a crash between two commits, and one behind a commit.
 //! - `damage`: a table that is not one of rows, and rows that are not those that were written.
@@ -11,6 +12,7 @@
 //! What it must print, `stdout`, is what `examples/models/stored_rows.py` prints, in this order.
 #![tactic(auto)]
 
+mod abouts;
 mod appending;
 mod crashes;
 mod damage;
@@ -22,6 +24,7 @@ fn main(rt: HostRuntime) -> anyhow::Result<()> {
     let alloc = rt.alloc();
     let rows = given::rows(alloc)?;
     spelling::print_all(&rt, alloc, &rows)?;
+    abouts::print_all(&rt, alloc)?;
     appending::print_all(&rt, alloc, &rows)?;
     crashes::print_all(&rt, alloc, &rows)?;
     damage::print_all(&rt, alloc, &rows)

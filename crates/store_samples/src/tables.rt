@@ -5,9 +5,11 @@ ghost use Rattle.sqlite_trees.specs.Memory.{memory_view};
 ghost use Rattle.sqlite_trees.specs.View.{IsClean};
 ghost use Rattle.sqlite_trees.specs.declared.store.Shape.TheVariants.{Table};
 ghost use Rattle.book_store.specs.Damage.{IsFresh, MayReopen};
-ghost use Rattle.book_store.specs.Table.{IsReady};
+ghost use Rattle.book_store.specs.Table.{HasTables, IsReady};
 
-use book_store::{TABLE, TreeStore, open_tree};
+use book_rows::{About, Identity, spell_about};
+use book_store::{BOOK, TABLE, TreeStore, create_tree};
+use dia_avp::Octets;
 use sqlite_trees::memory::MemStore;
 use sqlite_trees::schema::Object;
 use sqlite_trees::store::{Shape, Store};
@@ -15,33 +17,39 @@ use sqlite_value::row::Row;
 use sqlite_value::value::ValueRef;
 use std::alloc::Global;
 
-/// A database with an empty table.
+/// A table of this name with no row.
+fn table(name: &'static str) -> Object<'static>
+    ensures { result.shape ≡ Table }
+{
+    Object {
+        shape: Shape::Table,
+        kind: "table",
+        name,
+        table: name,
+        reals: 0,
+        sql: Some("CREATE TABLE t (octets BLOB NOT NULL)"),
+    }
+}
+
+/// A database with two empty tables.
 pub fn empty(alloc: Global) -> anyhow::Result<MemStore>
-    ensures table { IfOk result (λ store. (memory_view store).shape 0 ≡ Table) }
+    ensures tables { IfOk result (λ store. HasTables (memory_view store)) }
     ensures fresh { IfOk result (λ store. IsFresh (memory_view store)) }
     ensures reopens { IfOk result (λ store. MayReopen (memory_view store)) }
 {
-    let entries = Object {
-        shape: Shape::Table,
-        kind: "table",
-        name: "entry",
-        table: "entry",
-        reals: 0,
-        sql: Some("CREATE TABLE entry (octets BLOB NOT NULL)"),
-    };
-    let store = MemStore::new(alloc, &[entries])?;
+    let store = MemStore::new(alloc, &[table("entry"), table("book")])?;
     Ok(store)
 }
 
-/// Puts a row into the table, and does not commit it.
+/// Puts a row into the table of rows, and does not commit it.
 pub fn put<S: Store>(
     alloc: Global,
     store: &mut S,
     place: i64,
     value: ValueRef<'_>,
 ) -> anyhow::Result<()>
-    requires { IsClean (S.Store.view store.old) → (S.Store.view store.old).shape 0 ≡ Table }
-    ensures table { IsClean (S.Store.view store.new) → (S.Store.view store.new).shape 0 ≡ Table }
+    requires { IsClean (S.Store.view store.old) → HasTables (S.Store.view store.old) }
+    ensures tables { IsClean (S.Store.view store.new) → HasTables (S.Store.view store.new) }
     ensures reopens { MayReopen (S.Store.view store.old) → MayReopen (S.Store.view store.new) }
 {
     let mut row = Row::new(alloc);
@@ -51,22 +59,49 @@ pub fn put<S: Store>(
     Ok(())
 }
 
+/// Puts a row into the table of what the book is, and does not commit it.
+pub fn put_book<S: Store>(
+    alloc: Global,
+    store: &mut S,
+    place: i64,
+    octets: &[u8],
+) -> anyhow::Result<()>
+    requires { IsClean (S.Store.view store.old) → HasTables (S.Store.view store.old) }
+    ensures { IsClean (S.Store.view store.new) → HasTables (S.Store.view store.new) }
+{
+    let mut row = Row::new(alloc);
+    row.push(ValueRef::Int(place))?;
+    row.push(ValueRef::Blob(octets))?;
+    store.put(BOOK, &row)?;
+    Ok(())
+}
+
 /// Commits what was put.
 pub fn commit<S: Store>(store: &mut S) -> anyhow::Result<()>
-    requires { IsClean (S.Store.view store.old) → (S.Store.view store.old).shape 0 ≡ Table }
-    ensures table { OnOk result (IsClean (S.Store.view store.new) → (S.Store.view store.new).shape 0 ≡ Table) }
+    requires { IsClean (S.Store.view store.old) → HasTables (S.Store.view store.old) }
+    ensures tables { OnOk result (IsClean (S.Store.view store.new) → HasTables (S.Store.view store.new)) }
     ensures fresh { OnOk result (IsClean (S.Store.view store.new) → IsFresh (S.Store.view store.new)) }
 {
     store.commit()?;
     Ok(())
 }
 
-/// An empty store of rows.
+/// What the books of the samples are.
+pub fn about(alloc: Global) -> anyhow::Result<Vec<u8>> {
+    let about = About {
+        identity: Identity(7),
+        terms: Octets::copy_of(alloc, b"terms")?,
+    };
+    Ok(spell_about(alloc, &about)?)
+}
+
+/// A book with no row.
 pub fn store(alloc: Global) -> anyhow::Result<TreeStore<MemStore>>
-    ensures ready { IfOk result (λ opened. IsClean (memory_view opened.store) → IsReady (memory_view opened.store) opened.count) }
-    ensures reopens { IfOk result (λ opened. MayReopen (memory_view opened.store)) }
+    ensures ready { IfOk result (λ made. IsClean (memory_view made.store) → IsReady (memory_view made.store) made.standing) }
+    ensures reopens { IfOk result (λ made. MayReopen (memory_view made.store)) }
 {
-    match open_tree(alloc, empty(alloc)?) {
+    let about = about(alloc)?;
+    match create_tree(alloc, empty(alloc)?, &about) {
         Ok(store) => Ok(store),
         Err((error, _)) => Err(error.into()),
     }

@@ -1,5 +1,6 @@
-use Rattle.std.proofs.Common.{◌≡◌, ◌≤◌, ◌++◌, ℕ, List, take}
+use Rattle.std.proofs.Common.{◌≡◌, ◌≤◌, ◌++◌, ℕ, take}
 use Rattle.book_store.specs.Batches.{rows_of}
+use Rattle.book_store.specs.Table.{Stored, stored_with}
 use Rattle.book_store.proofs.batches.append_all.Given as goal
 
 abbrev pub invariant-loop-batch : goal.invariant-loop-batch
@@ -7,6 +8,7 @@ invariant-loop-batch g l =
     (g.L.RowStore.is_clean l.store → g.L.RowStore.is_clean l.fn.store)
     × (g.L.RowStore.is_clean l.store → g.L.RowStore.is_ready l.store)
     × (g.L.RowStore.is_clean l.store → g.L.RowStore.rows l.store ≡ g.L.RowStore.rows l.fn.store ++ rows_of (take l.batch-index l.batches))
-    × (g.L.RowStore.is_clean l.store → (left : List (List ℕ)) → g.L.RowStore.may_leave l.store left
-    → (n : ℕ) × (n ≤ l.batch-index) × (left ≡ g.L.RowStore.rows l.fn.store ++ rows_of (take n l.batches)))
+    × (g.L.RowStore.is_clean l.store → (left : Stored) → g.L.RowStore.may_leave l.store left
+    → (n : ℕ) × (n ≤ l.batch-index) × (left ≡ stored_with (g.L.RowStore.about l.fn.store) (g.L.RowStore.rows l.fn.store ++ rows_of (take n l.batches))))
     × (g.L.RowStore.may_reopen l.fn.store → g.L.RowStore.may_reopen l.store)
+    × (g.L.RowStore.is_clean l.store → g.L.RowStore.about l.store ≡ g.L.RowStore.about l.fn.store)

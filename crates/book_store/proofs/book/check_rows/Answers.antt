@@ -16,4 +16,5 @@ loop-place-preserved g c =
           one_more_sum rows c.loop-place.place c.loop-place.sum.0 c.in_ok-sum.sum.0 (omega (arith, counted, c.loop-place-test.true)) (c.loop-place.invariant.4 (c.in_ok-sum.ensures.clean clean)) next,
       λ left leaves. c.loop-place.invariant.5 left (c.in_ok-sum.ensures.crash left leaves),
       λ may. c.in_ok-sum.ensures.reopens (c.loop-place.invariant.6 may),
+      λ clean. c.in_ok-sum.ensures.same_book clean ∙ c.loop-place.invariant.7 (c.in_ok-sum.ensures.clean clean),
     )

@@ -7,6 +7,6 @@ use Rattle.book_store.proofs.opening.go_to_first.Goals as goal
 pub returns-clause-read : goal.returns-clause-read
 returns-clause-read g c = λ clean.
     let old = g.S.Store.view c.args.store.now in
-    let order = order_of (old.shape 0) in
-    read_none old (g.S.Store.view c.seek.new.self) (from_key order c.args.key.now (old.trees 0)) (c.in_ok-seek.ensures.ok clean)
-    (ap (λ (key : List Value). from_key order key (old.trees 0)) c.requires.key ∙ from_no_key order (old.trees 0))
+    let order = order_of (old.shape c.args.table) in
+    read_none c.args.table old (g.S.Store.view c.seek.new.self) (from_key order c.args.key.now (old.trees c.args.table)) (c.in_ok-seek.ensures.ok clean)
+    (ap (λ (key : List Value). from_key order key (old.trees c.args.table)) c.requires.key ∙ from_no_key order (old.trees c.args.table))

@@ -14,4 +14,5 @@ invariant-loop-octets g l =
     × (IsClean (g.S.Store.view l.store) → (g.S.Store.view l.store).is_open ≡ (g.S.Store.view l.fn.store).is_open)
     × (IsClean (g.S.Store.view l.store) → IsClean (g.S.Store.view l.fn.store))
     × ((db : Trees) → g.S.Store.recovers l.store db → g.S.Store.recovers l.fn.store db)
+    × (IsClean (g.S.Store.view l.store) → (g.S.Store.view l.store).trees 1 ≡ (g.S.Store.view l.fn.store).trees 1)
     × KeepsShapes (g.S.Store.view l.fn.store) (g.S.Store.view l.store)
