@@ -57,7 +57,7 @@ pub record Stored : Type 0 where
 abbrev pub stored_with : List ℕ → List (List ℕ) → Stored
 stored_with about rows = record { about = about; rows = rows; standing = standing.spell (standing_with rows) }
 
--- Table 0 has the rows. Table 1 has two: row 0 says what the book is, and row 1 where it stands.
+-- Table 0 has the rows. Of table 1 the first row says what the book is, and the second where it stands.
 abbrev pub about_in : List Row → List ℕ
 about_in table = slice_index_or (rows_in table) 0 []
 

@@ -23,7 +23,7 @@ use std::alloc::{AllocError, Global};
 /// The number of the table of rows. It has one column, with the octets of a row of the book; the rowid is the place.
 pub const TABLE: u32 = 0;
 
-/// The number of the table of what the book is, in row 0, and of where it stands, in row 1. It has one column, with octets.
+/// The number of the table that says what the book is, and where it stands. It has one column, with octets.
 pub const BOOK: u32 = 1;
 
 /// How many places a table has.
