@@ -53,6 +53,14 @@ impl Tariffs {
         }
     }
 
+    /// The tariffs themselves, in their order.
+    pub fn as_slice(&self) -> &[Tariff]
+        ensures value { result.now ≡ self.now }
+        ensures sound { fault_of self.now ≡ None }
+    {
+        &self.tariffs
+    }
+
     /// The tariff of a service: by its Rating-Group where it has one, else by its Service-Identifier.
     pub fn find(&self, group: Option<u32>, ident: Option<u32>) -> Option<&Tariff>
         ensures value { option_copied result ≡ find (rates group ident) self.now }
