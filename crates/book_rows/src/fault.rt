@@ -2,15 +2,15 @@
 
 use std::alloc::{AllocError, AllocFailed};
 
-/// What is wrong with octets that are no row, or do not tell what a book is or where it stands: the first fault from left to
-/// right.
+/// What is wrong with octets that are no row, or do not tell what a book is, where it stands, or its terms: the first fault
+/// from left to right.
 #[derive(Clone, Copy, Debug, PartialEq, Eq)]
 pub enum Fault {
     /// A part passes the end.
     Short,
     /// A flag is neither 0 nor 1.
     BadFlag,
-    /// The kind of the entry is none that this release knows.
+    /// The kind of the entry, or of a tariff's units, is none that this release knows.
     UnknownKind,
     /// A number is too large for its part.
     OutOfRange,
@@ -22,6 +22,8 @@ pub enum Fault {
     UnknownResultCode,
     /// The services pass a limit of a request.
     PastLimits,
+    /// A tariff is out of its ranges, or two rate the same services.
+    BadTariffs,
     /// Octets stand behind the row.
     LeftOver,
     /// What a book is stands in another format than this release writes.

@@ -5,6 +5,8 @@
 //!   tests that.
 //! - [`About`] says what a stored book is, and [`Standing`] where it stands: each is written as octets and read again, and
 //!   [`standing_behind`] reads where a book stands off its last row.
+//! - Numbers, signed numbers and octets are written and read by functions of their own, such as [`push_u32`] and [`u32_at`]:
+//!   what else is stored of a book is spelled by the same forms.
 //! - The laws: a row is read back from its octets, and two rows that spell the same are the same.
 //!
 //! The octets of a row, with integers whose highest octet is the first: place (8), moment (8), the kind of the entry
@@ -39,5 +41,9 @@ pub use fault::{Fault, ReadError};
 pub use laws::{
     abouts_are_read_back, rows_are_spelled_once, spelled_rows_are_read_back,
     standings_are_of_the_last, standings_are_read_back,
+};
+pub use numbers::{
+    octets_at, optional_u32_at, push_octets, push_optional_u32, push_signed, push_u8, push_u32,
+    push_u64, signed_at, u8_at, u32_at, u64_at,
 };
 pub use row::{Row, Step, Sum, Taken};

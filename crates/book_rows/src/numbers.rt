@@ -10,6 +10,7 @@ use byteorder::{BigEndian, ByteOrder};
 use dia_avp::Octets;
 use std::alloc::{AllocError, Global};
 
+/// The number in the first octet, and the octets behind it. `Fault::Short` where there are fewer.
 #[tactic(auto, unfolding(crate::specs::Form::number))]
 pub fn u8_at(octets: &[u8]) -> Result<(u8, &[u8]), ReadError>
     ensures { Gives (λ x. (x.0, x.1.now)) result ((number 1).read octets.now) }
@@ -20,6 +21,7 @@ pub fn u8_at(octets: &[u8]) -> Result<(u8, &[u8]), ReadError>
     }
 }
 
+/// The number in the first 4 octets, and the octets behind it. `Fault::Short` where there are fewer.
 #[tactic(auto, unfolding(crate::specs::Form::number))]
 pub fn u32_at(octets: &[u8]) -> Result<(u32, &[u8]), ReadError>
     ensures { Gives (λ x. (x.0, x.1.now)) result ((number 4).read octets.now) }
@@ -30,6 +32,7 @@ pub fn u32_at(octets: &[u8]) -> Result<(u32, &[u8]), ReadError>
     Ok((BigEndian::read_u32(octets), &octets[4..]))
 }
 
+/// The number in the first 8 octets, and the octets behind it. `Fault::Short` where there are fewer.
 #[tactic(auto, unfolding(crate::specs::Form::number))]
 pub fn u64_at(octets: &[u8]) -> Result<(u64, &[u8]), ReadError>
     ensures { Gives (λ x. (x.0, x.1.now)) result ((number 8).read octets.now) }
@@ -40,6 +43,7 @@ pub fn u64_at(octets: &[u8]) -> Result<(u64, &[u8]), ReadError>
     Ok((BigEndian::read_u64(octets), &octets[8..]))
 }
 
+/// The number in the first 16 octets, and the octets behind it. `Fault::Short` where there are fewer.
 #[tactic(auto, unfolding(crate::specs::Form::number))]
 pub fn u128_at(octets: &[u8]) -> Result<(u128, &[u8]), ReadError>
     ensures { Gives (λ x. (x.0, x.1.now)) result ((number 16).read octets.now) }
@@ -50,6 +54,7 @@ pub fn u128_at(octets: &[u8]) -> Result<(u128, &[u8]), ReadError>
     Ok((BigEndian::read_u128(octets), &octets[16..]))
 }
 
+/// Adds the number as one octet.
 #[tactic(auto, unfolding(crate::specs::Form::number))]
 pub fn push_u8(out: &mut Vec<u8>, value: u8) -> Result<(), AllocError>
     ensures { OnOk result (Adds (number 1) value out.old.items out.new.items) }
@@ -58,6 +63,7 @@ pub fn push_u8(out: &mut Vec<u8>, value: u8) -> Result<(), AllocError>
     Ok(())
 }
 
+/// Adds the number as 4 octets, the highest first.
 #[tactic(auto, unfolding(crate::specs::Form::number))]
 pub fn push_u32(out: &mut Vec<u8>, value: u32) -> Result<(), AllocError>
     ensures { OnOk result (Adds (number 4) value out.old.items out.new.items) }
@@ -67,6 +73,7 @@ pub fn push_u32(out: &mut Vec<u8>, value: u32) -> Result<(), AllocError>
     out.extend_from_slice(&octets)
 }
 
+/// Adds the number as 8 octets, the highest first.
 #[tactic(auto, unfolding(crate::specs::Form::number))]
 pub fn push_u64(out: &mut Vec<u8>, value: u64) -> Result<(), AllocError>
     ensures { OnOk result (Adds (number 8) value out.old.items out.new.items) }
@@ -76,6 +83,7 @@ pub fn push_u64(out: &mut Vec<u8>, value: u64) -> Result<(), AllocError>
     out.extend_from_slice(&octets)
 }
 
+/// Adds the number as 16 octets, the highest first.
 #[tactic(auto, unfolding(crate::specs::Form::number))]
 pub fn push_u128(out: &mut Vec<u8>, value: u128) -> Result<(), AllocError>
     ensures { OnOk result (Adds (number 16) value out.old.items out.new.items) }
@@ -110,6 +118,8 @@ fn number_of(value: bool) -> u8
     if value { 1 } else { 0 }
 }
 
+/// A signed number, and the octets behind it. `Fault::BadFlag` where the first octet is neither 0 nor 1, and
+/// `Fault::OutOfRange` where the size does not fit.
 #[tactic(auto, unfolding(crate::specs::Parts::signed))]
 pub fn signed_at(octets: &[u8]) -> Result<(i128, &[u8]), ReadError>
     ensures { Gives (λ x. (x.0, x.1.now)) result (signed.read octets.now) }
@@ -134,6 +144,7 @@ fn signed_by(is_below: bool, size: u128) -> i128
     }
 }
 
+/// Adds the number: whether it is below 0, and its size, or below 0 its size less 1.
 pub fn push_signed(out: &mut Vec<u8>, value: i128) -> Result<(), AllocError>
     ensures { OnOk result (Adds signed value out.old.items out.new.items) }
 {
@@ -155,7 +166,7 @@ fn parts_of(value: i128) -> (bool, u128)
     }
 }
 
-/// As many octets as are counted, in memory of their own.
+/// As many octets as 8 octets count, in memory of their own, and the octets behind them. `Fault::Short` where there are fewer.
 #[tactic(auto, unfolding(crate::specs::Form::counted))]
 pub fn octets_at(alloc: Global, octets: &[u8]) -> Result<(Octets, &[u8]), ReadError>
     ensures { Gives (λ x. (x.0, x.1.now)) result (counted.read octets.now) }
@@ -168,6 +179,7 @@ pub fn octets_at(alloc: Global, octets: &[u8]) -> Result<(Octets, &[u8]), ReadEr
     Ok((Octets::copy_of(alloc, &rest[..count])?, &rest[count..]))
 }
 
+/// Adds how many octets there are, and the octets.
 pub fn push_octets(out: &mut Vec<u8>, value: &Octets) -> Result<(), AllocError>
     ensures { OnOk result (Adds counted value.now out.old.items out.new.items) }
 {
@@ -177,7 +189,7 @@ pub fn push_octets(out: &mut Vec<u8>, value: &Octets) -> Result<(), AllocError>
     Ok(())
 }
 
-/// An Unsigned32, if it is there.
+/// An Unsigned32, if it is there, and the octets behind it. `Fault::BadFlag` where the first octet is neither 0 nor 1.
 #[tactic(auto, unfolding(crate::specs::Form::optional))]
 pub fn optional_u32_at(octets: &[u8]) -> Result<(Option<u32>, &[u8]), ReadError>
     ensures { Gives (λ x. (x.0, x.1.now)) result ((optional BadFlag (number 4)).read octets.now) }
@@ -193,6 +205,7 @@ pub fn optional_u32_at(octets: &[u8]) -> Result<(Option<u32>, &[u8]), ReadError>
     }
 }
 
+/// Adds an octet 0 where there is no number, else an octet 1 and the number.
 pub fn push_optional_u32(out: &mut Vec<u8>, value: Option<u32>) -> Result<(), AllocError>
     ensures { OnOk result (Adds (optional BadFlag (number 4)) value out.old.items out.new.items) }
 {
