@@ -1,0 +1,39 @@
+//! The keys of a site file that a book's terms come from.
+
+use std::fmt;
+
+/// A key of a site file in which two terms differ. Places count from 0.
+#[derive(Clone, Copy, Debug, PartialEq, Eq)]
+pub enum TermsKey {
+    Currency,
+    Exponent,
+    Validity,
+    /// The tariff at this place.
+    Tariff { place: u64 },
+    /// How many tariffs there are; all that both have are the same.
+    Tariffs,
+    /// The account at this place.
+    Account { place: u64 },
+    /// How many accounts there are; all that both have are the same.
+    Accounts,
+}
+
+/// The key in words of a site file. Tariffs and accounts count from 1, as `farm check` counts entries.
+impl fmt::Display for TermsKey {
+    fn fmt<W: fmt::Write>(&self, f: &mut fmt::Formatter<W>) -> fmt::Result {
+        match *self {
+            TermsKey::Currency => write!(f, "currency"),
+            TermsKey::Exponent => write!(f, "exponent"),
+            TermsKey::Validity => write!(f, "validity"),
+            TermsKey::Tariff { place } => write_entry(f, "tariff", place),
+            TermsKey::Tariffs => write!(f, "the number of tariffs"),
+            TermsKey::Account { place } => write_entry(f, "account", place),
+            TermsKey::Accounts => write!(f, "the number of accounts"),
+        }
+    }
+}
+
+fn write_entry<W: fmt::Write>(f: &mut fmt::Formatter<W>, table: &str, place: u64) -> fmt::Result {
+    let number = u128::from(place) + 1;
+    write!(f, "{table} {number}")
+}
