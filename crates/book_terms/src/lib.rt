@@ -10,7 +10,8 @@
 //! its units are (0 time, 1 octets, 2 units), and block, price, quantum and greatest (8 each). An account is its type (4),
 //! its id and its opening (signed). Lists, texts and signed numbers are spelled as in the rows of a book.
 //!
-//! The definitions, in `specs/`: `Terms` says how terms are spelled and read, and `Difference` where two differ first.
+//! The definitions, in `specs/`: `Terms` says how terms are spelled and read, `Difference` where two differ first, and
+//! `Words` how that is printed.
 #![tactic(auto)]
 
 mod accounts;
