@@ -1,0 +1,67 @@
+#!/usr/bin/env python3
+"""What a row takes to store in a file, by batches, and how long a book takes to open: bench/store.py [--unproved] [FOLDER]
+
+It lays bench/store beside the crates of a copy of the repository, proves and builds it (`rt run`; what was proved here is taken
+along), or builds it unproved (`rt try`, some hundred times slower: only to see that it runs). It writes books of 100,000 rows
+(1,000 unproved) in batches of 1, 32 and 256 rows, each of which is a commit with one sync, and opens the last one again. FOLDER
+is where the files lie, and so the disk that is measured; without it they lie in a folder of the system's for temporary files.
+A row holds a request of one service and its reply, some 230 octets; to make and spell it is part of what is measured. Beside it
+stands what a sync alone takes there. Nothing of it is part of the gate.
+"""
+import os
+import subprocess
+import sys
+import tempfile
+import time
+from pathlib import Path
+
+from laid import build, lay
+
+DEPS = "dia_base dia_avp cc_view book_rows book_store book_file anyhow"
+ROWS = 100_000
+BATCHES = [1, 32, 256]
+SYNCS = 200
+
+
+def sync_alone(folder):
+    """The median of what a sync of 288 octets more takes, in microseconds."""
+    took = []
+    with open(folder / "sync", "wb", buffering=0) as file:
+        for _ in range(SYNCS):
+            began = time.perf_counter()
+            file.write(bytes(288))
+            os.fdatasync(file.fileno())
+            took.append(time.perf_counter() - began)
+    return sorted(took)[SYNCS // 2] * 1e6
+
+
+def microseconds(words):
+    """The last number of each line that the program prints."""
+    done = subprocess.run(words, stdout=subprocess.PIPE, text=True, check=True)
+    return [int(line.split()[-1]) for line in done.stdout.splitlines()]
+
+
+def measure(run, folder, rows):
+    print(f"a sync of 288 octets: {sync_alone(folder):.0f} microseconds")
+    for batch in BATCHES:
+        file = folder / f"{batch}.db"
+        wrote, closed = microseconds([*run, "write", str(file), str(rows), str(batch)])
+        size = file.stat().st_size
+        print(f"batches of {batch}: {rows * 1e6 / wrote:.0f} rows a second, {wrote / rows:.1f} microseconds a row; closed in {closed / 1000:.0f} ms; {size / rows:.0f} octets a row")
+    opened, checked = microseconds([*run, "open", str(file)])
+    print(f"{rows} rows opened in {opened / 1000:.0f} ms, and read and checked in {checked / 1000:.0f} ms")
+
+
+def main():
+    words = [word for word in sys.argv[1:] if word != "--unproved"]
+    with tempfile.TemporaryDirectory() as name, tempfile.TemporaryDirectory(dir=words[0] if words else None) as files:
+        bench = lay(Path(name), "store", DEPS)
+        if "--unproved" in sys.argv:
+            os.chdir(bench)
+            measure(["rt", "try", "--steps", "1", "--"], Path(files), ROWS // 100)
+        else:
+            measure([build(bench)], Path(files), ROWS)
+
+
+if __name__ == "__main__":
+    main()

@@ -1,0 +1,213 @@
+//! Files that have a book.
+
+ghost use Rattle.std.specs.Prelude.{◌≡◌, IfOk, IsTrue, OnOk};
+ghost use Rattle.sqlite_std_file.specs.File.{file_is_usable};
+ghost use Rattle.sqlite_store.specs.Unopened.{AreUsable};
+ghost use Rattle.sqlite_store.specs.FileStore as kit;
+ghost use Rattle.sqlite_trees.specs.View.{IsClean};
+ghost use Rattle.book_store.specs.Damage.{IsFresh, MayReopen};
+ghost use Rattle.book_store.specs.Table.{HasTables, IsReady};
+
+use crate::error::FileError;
+use book_rows::{About, ReadError, read_about, spell_about};
+use book_store::{BOOK, RowStore, TABLE, TreeStore, create_tree, open_tree};
+use sqlite_disk::{Disk, Files, Unknown};
+use sqlite_pager::{Options, Pager};
+use sqlite_std_file::{File, FileFrom, Start, open};
+use sqlite_store::{FileStore, Unopened};
+use sqlite_trees::schema::Object;
+use sqlite_trees::store::{Shape, Store};
+use sqlite_wal::PageSize;
+use std::alloc::Global;
+use std::hash::{BuildHasher, RandomState};
+use std::{fs, io};
+
+/// How many octets a page of the file has.
+const PAGE: usize = 4096;
+
+const ENTRIES: &str = "CREATE TABLE entry (octets BLOB NOT NULL)";
+
+const BOOKS: &str = "CREATE TABLE book (octets BLOB NOT NULL)";
+
+/// A book in a file.
+pub type FileBook = TreeStore<FileStore<File>>;
+
+fn table(name: &'static str, sql: &'static str) -> Object<'static> {
+    Object {
+        shape: Shape::Table,
+        kind: "table",
+        name,
+        table: name,
+        reals: 0,
+        sql: Some(sql),
+    }
+}
+
+/// The files of a database, of which nothing is known yet. The seed is for the salts of its log.
+fn unopened<D: Disk + Drop>(
+    alloc: Global,
+    files: Files<D>,
+    seed: u64,
+) -> Result<Unopened<D>, FileError>
+    requires log { IsTrue (D.Disk.is_usable files.log) }
+    requires db { IsTrue (D.Disk.is_usable files.db) }
+    ensures { IfOk result AreUsable }
+{
+    let Some(size) = PageSize::new(PAGE) else {
+        return Err(FileError::Full);
+    };
+    let pager = match Pager::new(alloc, files, size, Options::new(seed)) {
+        Ok(pager) => pager,
+        Err(_) => return Err(FileError::OutOfMemory),
+    };
+    let schema = [table("entry", ENTRIES), table("book", BOOKS)];
+    match Unopened::new(alloc, pager, &schema) {
+        Ok(files) => Ok(files),
+        Err(_) => Err(FileError::OutOfMemory),
+    }
+}
+
+/// Whether the database has the tables of a book.
+fn has_tables<S: Store>(store: &S) -> bool
+    ensures { IsTrue result → HasTables (S.Store.view store.now) }
+{
+    store.shape(TABLE) == Shape::Table && store.shape(BOOK) == Shape::Table
+}
+
+/// The files of a database, and a random number.
+fn files_at<S: Start>(
+    rt: &HostRuntime,
+    path: &str,
+    start: S,
+) -> Result<(Files<FileFrom<S>>, u64), FileError>
+    ensures log { IfOk result (λ found. IsTrue (file_is_usable S.Start found.0.log)) }
+    ensures db { IfOk result (λ found. IsTrue (file_is_usable S.Start found.0.db)) }
+{
+    let seed = RandomState::new(rt)?.hash_one(&0_u8);
+    let files = open(rt, path, start)?;
+    Ok((files, seed))
+}
+
+/// The database, where it has the tables of a book.
+fn with_tables<D: Disk + Drop>(store: FileStore<D>) -> Result<FileStore<D>, FileError>
+    ensures tables { IfOk result (λ found. HasTables (kit.view found)) }
+    ensures same { IfOk result (λ found. found ≡ store) }
+{
+    if has_tables(&store) {
+        Ok(store)
+    } else {
+        Err(FileError::NoBooksFile)
+    }
+}
+
+/// The database in the files, whose tables are there.
+fn opened<D: Disk + Drop>(files: Unopened<D>) -> Result<FileStore<D>, FileError>
+    requires { AreUsable files }
+    ensures tables { IfOk result (λ store. HasTables (kit.view store)) }
+    ensures fresh { IfOk result (λ store. IsClean (kit.view store) → IsFresh (kit.view store)) }
+{
+    match files.open() {
+        Ok(store) => with_tables(store),
+        Err((error, _files)) => Err(error.into()),
+    }
+}
+
+/// A database in the files, whose tables are there: it is made where there is none.
+fn made<D: Disk + Drop>(files: Unopened<D>) -> Result<FileStore<D>, FileError>
+    requires { AreUsable files }
+    ensures tables { IfOk result (λ store. HasTables (kit.view store)) }
+    ensures fresh { IfOk result (λ store. IsClean (kit.view store) → IsFresh (kit.view store)) }
+{
+    match files.create() {
+        Ok(store) => with_tables(store),
+        Err((error, _files)) => Err(error.into()),
+    }
+}
+
+/// How many octets the file at a path has, none where there is no file.
+fn length_of(rt: &HostRuntime, path: &str) -> Result<Option<u64>, FileError> {
+    match fs::metadata(rt, path) {
+        Ok(found) => Ok(Some(found.len())),
+        Err(error) if error.kind() == io::ErrorKind::NotFound => Ok(None),
+        Err(error) => Err(FileError::Io(error)),
+    }
+}
+
+/// The database at a path: a new one where there is no file, or an empty one.
+fn database_at(rt: &HostRuntime, path: &str) -> Result<FileStore<File>, FileError>
+    ensures tables { IfOk result (λ store. HasTables (kit.view store)) }
+    ensures fresh { IfOk result (λ store. IsClean (kit.view store) → IsFresh (kit.view store)) }
+{
+    let length = length_of(rt, path)?;
+    let (files, seed) = files_at(rt, path, Unknown)?;
+    let files = unopened(rt.alloc(), files, seed)?;
+    match length {
+        None | Some(0) => made(files),
+        Some(_) => opened(files),
+    }
+}
+
+/// What the book in a store is. `OtherFormat` is told of one that another release wrote in another format.
+pub fn about_of<L: RowStore>(alloc: Global, store: &mut L) -> Result<About, FileError>
+    requires { L.is_clean store.old → L.is_ready store.old }
+    ensures { OnOk result (L.is_clean store.new → L.is_ready store.new) }
+{
+    let octets = store.about(alloc)?;
+    match read_about(alloc, &octets) {
+        Ok(about) => Ok(about),
+        Err(ReadError::NoRow(fault)) => Err(fault.into()),
+        Err(ReadError::OutOfMemory) => Err(FileError::OutOfMemory),
+    }
+}
+
+/// The book in a database whose tables are there.
+fn book_in<D: Disk + Drop>(
+    alloc: Global,
+    store: FileStore<D>,
+) -> Result<TreeStore<FileStore<D>>, FileError>
+    requires tables { HasTables (kit.view store) }
+    requires fresh { IsClean (kit.view store) → IsFresh (kit.view store) }
+    ensures { IfOk result (λ opened. IsClean (kit.view opened.store) → IsReady (kit.view opened.store) opened.standing) }
+{
+    match open_tree(alloc, store) {
+        Ok(book) => Ok(book),
+        Err((error, _store)) => Err(error.into()),
+    }
+}
+
+/// Opens the book in a file. Each way in which this can fail has a name, and none begins anything anew. What the book is, and
+/// whether it is of this format, [`about_of`] says.
+pub fn open_file(rt: &HostRuntime, path: &str) -> Result<FileBook, FileError>
+    ensures { IfOk result (λ opened. IsClean (kit.view opened.store) → IsReady (kit.view opened.store) opened.standing) }
+{
+    let alloc = rt.alloc();
+    if length_of(rt, path)?.is_none() {
+        return Err(FileError::Missing);
+    }
+    let (files, seed) = files_at(rt, path, Unknown)?;
+    let store = opened(unopened(alloc, files, seed)?)?;
+    book_in(alloc, store)
+}
+
+/// Makes a book with no row in a file, which is made too if it is missing. A file that has a book, and one of another
+/// program, are left as they are; one that a crash left where a book was being made may have to be removed first.
+pub fn create_file(rt: &HostRuntime, path: &str, about: &About) -> Result<FileBook, FileError>
+    ensures { IfOk result (λ made. IsClean (kit.view made.store) → IsReady (kit.view made.store) made.standing) }
+{
+    let alloc = rt.alloc();
+    let octets = spell_about(alloc, about)?;
+    let store = database_at(rt, path)?;
+    match create_tree(alloc, store, &octets) {
+        Ok(book) => Ok(book),
+        Err((error, _)) => Err(error.into()),
+    }
+}
+
+/// Copies the log into the file, and lets go of both.
+pub fn close_file(book: FileBook) -> Result<(), FileError> {
+    let TreeStore { store, .. } = book;
+    let mut store = store;
+    store.checkpoint()?;
+    drop(store.close());
+    Ok(())
+}
