@@ -188,6 +188,13 @@ impl Book {
         Ok(ended)
     }
 
+    /// The terms under which it charges, as they were handed to `new`.
+    pub fn terms(&self) -> &Terms
+        ensures { result.now ≡ self.now.terms }
+    {
+        &self.terms
+    }
+
     /// The accounts, as they were handed to `new`.
     pub fn accounts(&self) -> &[Account]
         ensures { result.now ≡ self.now.terms.accounts }
