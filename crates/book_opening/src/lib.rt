@@ -1,0 +1,13 @@
+//! A book on disk: made by a word, and opened under the terms of a site.
+//!
+//! - [`create_book`] makes a book with no entry in a file. A file that has a book is refused.
+//! - [`open_book`] opens the book in a file, under terms that are the book's, with all of its history: each row is worked out
+//!   again, and the book is the one that answered then. A file that is missing, is no book's, is open elsewhere, has other terms or
+//!   a row that these terms do not give is refused by name, and nothing is begun anew.
+#![tactic(auto)]
+
+mod fault;
+mod opening;
+
+pub use fault::BookFault;
+pub use opening::{create_book, open_book};

@@ -1,0 +1,83 @@
+//! Making a book on disk, and opening it.
+
+ghost use Rattle.std.specs.Prelude.{◌≡◌, [], IfOk, Ok, OnOk};
+ghost use Rattle.book_rows.specs.About.{whole};
+ghost use Rattle.book_terms.specs.Terms.{terms as terms_form};
+ghost use Rattle.book_journal.specs.Kept.{IsKeptBy, IsSettled, IsUnder};
+
+use crate::fault::BookFault;
+use book_file::{FileBook, about_of, close_file, create_file, open_file};
+use book_journal::{Journal, open_journal};
+use book_rows::{About, Identity};
+use book_store::RowStore;
+use book_terms::{first_difference, read_terms, spell_terms};
+use cc_book::{Book, Terms};
+use dia_avp::Octets;
+use std::alloc::Global;
+use std::hash::{BuildHasher, RandomState};
+
+/// An identity that is drawn at random.
+fn drawn(rt: &HostRuntime) -> Result<Identity, BookFault> {
+    let random = RandomState::new(rt)?;
+    let (high, low) = (random.hash_one(&0_u8), random.hash_one(&1_u8));
+    Ok(Identity((high as u128) << 64 | low as u128))
+}
+
+/// Refuses a book that was made under other terms than these.
+fn check_terms(alloc: Global, about: &About, terms: &Terms) -> Result<(), BookFault>
+    ensures { OnOk result (whole terms_form about.now.terms ≡ Ok terms.now) }
+{
+    let stored = read_terms(alloc, about.terms.as_slice())?;
+    match first_difference(&stored, terms) {
+        None => Ok(()),
+        Some(key) => Err(BookFault::OtherTerms(key)),
+    }
+}
+
+/// The book in a store, under the terms of an empty book, where they are its own.
+fn open_in<S: RowStore + Drop>(
+    alloc: Global,
+    store: S,
+    empty: Book,
+) -> Result<(Journal<S>, Book), BookFault>
+    requires ready { S.is_clean store → S.is_ready store }
+    requires none { empty.history ≡ [] }
+    ensures kept { IfOk result (λ opened. IsKeptBy S.is_clean S.is_ready S.rows opened.0 opened.1) }
+    ensures settled { IfOk result (λ opened. IsSettled opened.0) }
+    ensures under { IfOk result (λ opened. IsUnder empty opened.1) }
+{
+    let mut store = store;
+    let about = about_of(alloc, &mut store)?;
+    check_terms(alloc, &about, empty.terms())?;
+    match open_journal(alloc, store, empty) {
+        Ok(opened) => Ok(opened),
+        Err(error) => Err(error.into()),
+    }
+}
+
+/// Opens the book in a file, under the terms and the limit of an empty book. It has all entries that are stored, and its journal keeps
+/// it from then on.
+pub fn open_book(
+    rt: &HostRuntime,
+    path: &str,
+    empty: Book,
+) -> Result<(Journal<FileBook>, Book), BookFault>
+    requires { empty.history ≡ [] }
+    ensures kept { IfOk result (λ opened. IsKeptBy ⟦<FileBook as RowStore>⟧.is_clean ⟦<FileBook as RowStore>⟧.is_ready ⟦<FileBook as RowStore>⟧.rows opened.0 opened.1) }
+    ensures settled { IfOk result (λ opened. IsSettled opened.0) }
+    ensures under { IfOk result (λ opened. IsUnder empty opened.1) }
+{
+    let file = open_file(rt, path)?;
+    open_in(rt.alloc(), file, empty)
+}
+
+/// Makes a book under these terms in a file, with no entry. The file is made too if it is missing.
+pub fn create_book(rt: &HostRuntime, path: &str, terms: &Terms) -> Result<(), BookFault> {
+    let octets = spell_terms(rt.alloc(), terms)?;
+    let about = About {
+        identity: drawn(rt)?,
+        terms: Octets::from_vec(octets)?,
+    };
+    close_file(create_file(rt, path, &about)?)?;
+    Ok(())
+}
