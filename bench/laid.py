@@ -22,10 +22,10 @@ def below(lines, names):
     return found
 
 
-def lay(copy, folder, deps):
-    """The program of bench/FOLDER in a copy, as a crate of the name FOLDER_bench, with the crates that it stands on: its place."""
+def lay(copy, folder, deps, top=TOP):
+    """The program of bench/FOLDER in a copy, as a crate of the name FOLDER_bench, with the crates of `top` that it stands on: its place."""
     lines = {}
-    for line in (TOP / "crates.txt").read_text().splitlines():
+    for line in (top / "crates.txt").read_text().splitlines():
         if not line.startswith("#"):
             name, _, on = line.partition(":")
             lines[name] = on.split()
@@ -34,7 +34,7 @@ def lay(copy, folder, deps):
     (copy / "crates.txt").write_text("\n".join(told + [f"{folder}_bench: {deps}"]) + "\n")
     shutil.copy(TOP / "HANDLES", copy / "HANDLES")
     for name in names:
-        shutil.copytree(TOP / "crates" / name, copy / "crates" / name, symlinks=True)
+        shutil.copytree(top / "crates" / name, copy / "crates" / name, symlinks=True)
     bench = copy / "crates" / f"{folder}_bench"
     for file in (TOP / "bench" / folder).rglob("*.txt"):
         to = bench / file.relative_to(TOP / "bench" / folder).with_suffix("")
