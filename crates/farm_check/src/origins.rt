@@ -21,6 +21,9 @@ use toml::{Table, Value};
 /// The key that says where a node may connect from.
 const FROM: &str = "from";
 
+/// The key that says where a node listens.
+const ADDRESS: &str = "address";
+
 /// The key that says what the site asks for beyond what a peer meets by default.
 const STRICT: &str = "strict";
 
@@ -139,7 +142,8 @@ pub fn push_ends_off(lines: &mut Lines, strictness: Strictness) -> Result<(), Al
     )
 }
 
-/// A line for each node that may connect from anywhere, where another one may not.
+/// A line for each node that may connect from anywhere, where another one may not, or where a node listens to others than this
+/// machine: whoever connects may come up as that node.
 pub fn push_open_nodes(
     alloc: Global,
     lines: &mut Lines,
@@ -152,7 +156,10 @@ pub fn push_open_nodes(
     let Some(entries) = value.as_array() else {
         return Ok(());
     };
-    if !entries.iter().any(|entry| has_origins(entry)) {
+    let is_asked = entries
+        .iter()
+        .any(|entry| has_origins(entry) || is_reached(entry));
+    if !is_asked {
         return Ok(());
     }
     for (entry, node) in entries.iter().zip(site.nodes.as_slice()) {
@@ -171,5 +178,24 @@ fn has_origins(entry: &Value) -> bool {
     match entry.as_table() {
         Some(fields) => fields.get(FROM).is_some(),
         None => false,
+    }
+}
+
+/// Whether an entry has an address that others than this machine reach.
+fn is_reached(entry: &Value) -> bool {
+    let Some(fields) = entry.as_table() else {
+        return false;
+    };
+    match fields.get(ADDRESS) {
+        Some(value) => !is_loopback(value.as_str()),
+        None => false,
+    }
+}
+
+/// Whether an address is this machine's alone: 127.0.0.0/8 or ::1.
+fn is_loopback(address: Option<&str>) -> bool {
+    match address {
+        Some(text) => text.starts_with("127.") || text.starts_with("[::1]"),
+        None => true,
     }
 }
