@@ -1,12 +1,13 @@
 //! Files that have a book.
 
-ghost use Rattle.std.specs.Prelude.{◌≡◌, IfOk, IsTrue, OnOk};
+ghost use Rattle.std.specs.Prelude.{◌≡◌, [], IfOk, IsTrue, OnOk};
 ghost use Rattle.sqlite_std_file.specs.File.{file_is_usable};
 ghost use Rattle.sqlite_store.specs.Unopened.{AreUsable};
 ghost use Rattle.sqlite_store.specs.FileStore as kit;
 ghost use Rattle.sqlite_trees.specs.View.{IsClean};
 ghost use Rattle.book_store.specs.Damage.{IsFresh, MayReopen};
-ghost use Rattle.book_store.specs.Table.{HasTables, IsReady};
+ghost use Rattle.book_rows.specs.About.{about as about_form};
+ghost use Rattle.book_store.specs.Table.{HasTables, IsReady, about_in, rows_in};
 
 use crate::error::FileError;
 use book_rows::{About, ReadError, read_about, spell_about};
@@ -192,7 +193,9 @@ pub fn open_file(rt: &HostRuntime, path: &str) -> Result<FileBook, FileError>
 /// Makes a book with no row in a file, which is made too if it is missing. A file that has a book, and one of another
 /// program, are left as they are; one that a crash left where a book was being made may have to be removed first.
 pub fn create_file(rt: &HostRuntime, path: &str, about: &About) -> Result<FileBook, FileError>
-    ensures { IfOk result (λ made. IsClean (kit.view made.store) → IsReady (kit.view made.store) made.standing) }
+    ensures ready { IfOk result (λ made. IsClean (kit.view made.store) → IsReady (kit.view made.store) made.standing) }
+    ensures about { IfOk result (λ made. IsClean (kit.view made.store) → about_in ((kit.view made.store).committed 1) ≡ about_form.spell about.now) }
+    ensures empty { IfOk result (λ made. IsClean (kit.view made.store) → rows_in ((kit.view made.store).committed 0) ≡ []) }
 {
     let alloc = rt.alloc();
     let octets = spell_about(alloc, about)?;

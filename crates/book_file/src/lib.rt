@@ -8,8 +8,8 @@
 //! - [`close_file`] copies the log into the file and lets go of both.
 //!
 //! Beside FILE stands its log, FILE-wal: after a crash both are the book. The file is SQLite's, with two tables: `entry`, whose
-//! rowid is the place of a row of the book and whose column has its octets, and `book`, whose row 0 says what the book is and
-//! whose row 1 where it stands.
+//! rowid is the place of a row of the book and whose column has its octets, and `book`, whose first row says what the book is, and
+//! whose second one where it stands.
 #![tactic(auto)]
 
 mod error;
