@@ -1,0 +1,4 @@
+pub mod Words
+pub mod Services
+pub mod Lines
+pub mod Summary

@@ -1,0 +1,45 @@
+-- What a book comes to, as text.
+use Rattle.std.specs.Prelude.{ℕ, ◌-◌, Bool, true, false, List, [], ◌∷◌, length, codes, count_by, Option, None, Some, slice_get}
+use Rattle.std.specs.List.{concat}
+use Rattle.std.specs.Fmt.{decimal}
+use Rattle.byteorder.specs.Endian.{big_bytes}
+use Rattle.hex.specs.Hex.{encode_lower}
+use Rattle.book_rows.specs.declared.about.Identity.{Identity}
+use Rattle.book_rows.specs.declared.row.Sum.{Sum}
+use Rattle.cc_book.specs.declared.entry.Entry.{Entry}
+use Rattle.cc_book.specs.declared.entry.Entry.TheVariants.{Take, Sweep}
+use Rattle.book_lines.specs.Words.{line_feed, optional_text}
+
+-- whether an entry is a request that was taken, and no sweep
+abbrev pub is_charge : Entry → Bool
+is_charge (Take moment request) = true
+is_charge (Sweep moment) = false
+
+abbrev pub moment_in : Option Entry → Option ℕ
+moment_in None = None
+moment_in (Some (Take moment request)) = Some moment.0
+moment_in (Some (Sweep moment)) = Some moment.0
+
+-- the moment of the last entry, if there is one
+abbrev pub last_moment : List Entry → Option ℕ
+last_moment history = moment_in (slice_get history (length history - 1))
+
+-- a number of 16 octets as 32 hexadecimal digits
+abbrev pub digits : ℕ → List ℕ
+digits number = encode_lower (big_bytes 16 number)
+
+-- `made book IDENTITY`
+abbrev pub made_line : Identity → List ℕ
+made_line identity = concat (codes "made book " ∷ digits identity.0 ∷ line_feed ∷ [])
+
+-- `entries N charges C sweeps S`, and the word behind it
+abbrev pub counts_text : ℕ → ℕ → List ℕ
+counts_text entries charges = concat (
+    line_feed ∷ codes "entries " ∷ decimal entries ∷ codes " charges " ∷ decimal charges
+    ∷ codes " sweeps " ∷ decimal (entries - charges) ∷ line_feed ∷ codes "last" ∷ [])
+
+-- `book IDENTITY`, `entries N charges C sweeps S`, `last MOMENT` and `sum SUM`, a line each
+abbrev pub summary_of : Identity → List Entry → Sum → List ℕ
+summary_of identity history sum = concat (
+    codes "book " ∷ digits identity.0 ∷ counts_text (length history) (count_by is_charge history)
+    ∷ optional_text (last_moment history) ∷ line_feed ∷ codes "sum " ∷ digits sum.0 ∷ line_feed ∷ [])

@@ -1,0 +1,88 @@
+//! What a book comes to.
+
+ghost use Rattle.std.specs.Prelude.{◌≡◌, ◌≤◌, IfOk, count_by, length, string_bytes};
+ghost use Rattle.book_lines.specs.Summary.{counts_text, digits, is_charge, last_moment, made_line, summary_of};
+
+use crate::words::push_optional;
+use book_rows::{Identity, Sum};
+use byteorder::{BigEndian, ByteOrder};
+use cc_book::Entry;
+use std::alloc::{AllocError, Global};
+
+/// How many entries are requests that were taken.
+fn charges_in(history: &[Entry]) -> usize
+    ensures count { result ≡ count_by is_charge history.now }
+    ensures most { result ≤ length history.now }
+{
+    let mut charges = 0;
+    for entry in history {
+        match entry {
+            Entry::Take { .. } => charges += 1,
+            Entry::Sweep { .. } => {}
+        }
+    }
+    charges
+}
+
+/// The moment of the last entry, if there is one.
+fn last_moment(history: &[Entry]) -> Option<u64>
+    ensures { result ≡ last_moment history.now }
+{
+    match history.last() {
+        None => None,
+        Some(Entry::Take { moment, .. }) => Some(moment.0),
+        Some(Entry::Sweep { moment }) => Some(moment.0),
+    }
+}
+
+fn counts_text(alloc: Global, entries: usize, charges: usize) -> Result<String, AllocError>
+    requires { charges ≤ entries }
+    ensures { IfOk result (λ text. string_bytes text ≡ counts_text entries charges) }
+{
+    let sweeps = entries - charges;
+    format!(in alloc; "\nentries {entries} charges {charges} sweeps {sweeps}\nlast")
+}
+
+/// A number of 16 octets as 32 hexadecimal digits.
+fn digits(alloc: Global, number: u128) -> Result<String, AllocError>
+    ensures { IfOk result (λ text. string_bytes text ≡ digits number) }
+{
+    let mut octets = [0; 16];
+    BigEndian::write_u128(&mut octets, number);
+    hex::encode(alloc, octets)
+}
+
+/// What is told of a book that was made.
+pub fn made_line(alloc: Global, identity: Identity) -> Result<Vec<u8>, AllocError>
+    ensures { IfOk result (λ text. text.items ≡ made_line identity) }
+{
+    let identity = digits(alloc, identity.0)?;
+    let mut out = Vec::new(alloc);
+    out.extend_from_slice(b"made book ")?;
+    out.extend_from_slice(identity.as_bytes())?;
+    out.extend_from_slice(b"\n")?;
+    Ok(out)
+}
+
+/// Which book it is, how many entries it has, of each kind, and the moment and the sum of the last.
+pub fn summary(
+    alloc: Global,
+    identity: Identity,
+    history: &[Entry],
+    sum: Sum,
+) -> Result<Vec<u8>, AllocError>
+    ensures { IfOk result (λ text. text.items ≡ summary_of identity history.now sum) }
+{
+    let identity = digits(alloc, identity.0)?;
+    let counts = counts_text(alloc, history.len(), charges_in(history))?;
+    let sum = digits(alloc, sum.0)?;
+    let mut out = Vec::new(alloc);
+    out.extend_from_slice(b"book ")?;
+    out.extend_from_slice(identity.as_bytes())?;
+    out.extend_from_slice(counts.as_bytes())?;
+    push_optional(alloc, &mut out, last_moment(history))?;
+    out.extend_from_slice(b"\nsum ")?;
+    out.extend_from_slice(sum.as_bytes())?;
+    out.extend_from_slice(b"\n")?;
+    Ok(out)
+}

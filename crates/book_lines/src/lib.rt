@@ -1,0 +1,19 @@
+//! An account book as text: what it comes to, and its entries, one on a line.
+//!
+//! - [`made_line`]: which book was made.
+//! - [`summary`]: which book it is, how many entries it has, of each kind, and the moment and the sum of the last.
+//! - [`entry_lines`]: a line for each entry: what was asked, what it was answered, and what it debited.
+//!
+//! The exact texts are `made_line` and `summary_of` in `specs/Summary`, and `lines_of` in `specs/Lines`, over the words of `specs/Words`.
+#![tactic(auto)]
+
+mod charge;
+mod counts;
+mod entries;
+mod fault;
+mod services;
+mod words;
+
+pub use counts::{made_line, summary};
+pub use entries::entry_lines;
+pub use fault::LinesFault;
