@@ -1,14 +1,15 @@
 //! Making a book on disk, and opening it.
 
-ghost use Rattle.std.specs.Prelude.{◌≡◌, [], IfOk, Ok, OnOk};
+ghost use Rattle.std.specs.Prelude.{◌≡◌, [], IfOk, IfSome, Ok, OnOk};
+ghost use Rattle.book_entries.specs.Replayed.{sum_in};
 ghost use Rattle.book_rows.specs.About.{whole};
 ghost use Rattle.book_terms.specs.Terms.{terms as terms_form};
 ghost use Rattle.book_journal.specs.Kept.{IsKeptBy, IsSettled, IsUnder};
 
 use crate::fault::BookFault;
-use book_file::{FileBook, about_of, close_file, create_file, open_file};
+use book_file::{FileBook, FileError, about_of, close_file, create_file, open_file};
 use book_journal::{Journal, open_journal};
-use book_rows::{About, Identity};
+use book_rows::{About, Identity, Sum};
 use book_store::RowStore;
 use book_terms::{first_difference, read_terms, spell_terms};
 use cc_book::{Book, Terms};
@@ -71,13 +72,65 @@ pub fn open_book(
     open_in(rt.alloc(), file, empty)
 }
 
-/// Makes a book under these terms in a file, with no entry. The file is made too if it is missing.
-pub fn create_book(rt: &HostRuntime, path: &str, terms: &Terms) -> Result<(), BookFault> {
+/// A book as it is stored.
+#[derive(Drop)]
+pub struct StoredBook {
+    pub identity: Identity,
+    /// It has all entries that are stored.
+    pub book: Book,
+    /// The sum of its history, which is that of its last row. It names the whole history.
+    pub sum: Sum,
+}
+
+/// The book in a store, as it is opened, and what it is stored in.
+fn read_in<S: RowStore + Drop>(
+    alloc: Global,
+    store: S,
+    empty: Book,
+) -> Result<(Option<S>, StoredBook), BookFault>
+    requires ready { S.is_clean store → S.is_ready store }
+    requires none { empty.history ≡ [] }
+    ensures under { IfOk result (λ read. IsUnder empty read.1.book) }
+    ensures sum { IfOk result (λ read. IfSome read.0 (λ _. read.1.sum.0 ≡ sum_in read.1.book)) }
+{
+    let mut store = store;
+    let identity = about_of(alloc, &mut store)?.identity;
+    let (journal, book) = open_in(alloc, store, empty)?;
+    let Journal { store, sum, .. } = journal;
+    Ok((
+        store,
+        StoredBook {
+            identity,
+            book,
+            sum,
+        },
+    ))
+}
+
+/// Reads the book in a file, under the terms and the limit of an empty book, and lets go of the file. A book that is not opened
+/// is not read.
+pub fn read_book(rt: &HostRuntime, path: &str, empty: Book) -> Result<StoredBook, BookFault>
+    requires { empty.history ≡ [] }
+    ensures under { IfOk result (λ read. IsUnder empty read.book) }
+    ensures sum { IfOk result (λ read. read.sum.0 ≡ sum_in read.book) }
+{
+    let file = open_file(rt, path)?;
+    let (file, read) = read_in(rt.alloc(), file, empty)?;
+    let Some(file) = file else {
+        return Err(BookFault::File(FileError::NoBook));
+    };
+    close_file(file)?;
+    Ok(read)
+}
+
+/// Makes a book under these terms in a file, with no entry, and gives the identity that it was drawn. The file is made too if it is
+/// missing.
+pub fn create_book(rt: &HostRuntime, path: &str, terms: &Terms) -> Result<Identity, BookFault> {
     let octets = spell_terms(rt.alloc(), terms)?;
     let about = About {
         identity: drawn(rt)?,
         terms: Octets::from_vec(octets)?,
     };
     close_file(create_file(rt, path, &about)?)?;
-    Ok(())
+    Ok(about.identity)
 }
