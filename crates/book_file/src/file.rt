@@ -1,13 +1,13 @@
 //! Files that have a book.
 
-ghost use Rattle.std.specs.Prelude.{◌≡◌, [], IfOk, IsTrue, OnOk};
+ghost use Rattle.std.specs.Prelude.{◌≡◌, [], IfOk, IsTrue, Ok, OnOk};
 ghost use Rattle.sqlite_std_file.specs.File.{file_is_usable};
 ghost use Rattle.sqlite_store.specs.Unopened.{AreUsable};
 ghost use Rattle.sqlite_store.specs.FileStore as kit;
 ghost use Rattle.sqlite_trees.specs.View.{IsClean};
 ghost use Rattle.book_store.specs.Damage.{IsFresh, MayReopen};
-ghost use Rattle.book_rows.specs.About.{about as about_form};
-ghost use Rattle.book_store.specs.Table.{HasTables, IsReady, about_in, rows_in};
+ghost use Rattle.book_rows.specs.About.{about as about_form, whole};
+ghost use Rattle.book_store.specs.Table.{HasTables, IsReady, Stored, about_in, rows_in};
 
 use crate::error::FileError;
 use book_rows::{About, ReadError, read_about, spell_about};
@@ -148,10 +148,16 @@ fn database_at(rt: &HostRuntime, path: &str) -> Result<FileStore<File>, FileErro
     }
 }
 
-/// What the book in a store is. `OtherFormat` is told of one that another release wrote in another format.
+/// What the book in a store is. `OtherFormat` is told of one that another release wrote in another format. What is stored stays.
 pub fn about_of<L: RowStore>(alloc: Global, store: &mut L) -> Result<About, FileError>
     requires { L.is_clean store.old → L.is_ready store.old }
-    ensures { OnOk result (L.is_clean store.new → L.is_ready store.new) }
+    ensures clean { L.is_clean store.new → L.is_clean store.old }
+    ensures ready { OnOk result (L.is_clean store.new → L.is_ready store.new) }
+    ensures about { IfOk result (λ about. L.is_clean store.new → whole about_form (L.about store.old) ≡ Ok about) }
+    ensures same { OnOk result (L.is_clean store.new → L.rows store.new ≡ L.rows store.old) }
+    ensures same_book { OnOk result (L.is_clean store.new → L.about store.new ≡ L.about store.old) }
+    ensures crash { (left : Stored) → L.may_leave store.new left → L.may_leave store.old left }
+    ensures reopens { L.may_reopen store.old → L.may_reopen store.new }
 {
     let octets = store.about(alloc)?;
     match read_about(alloc, &octets) {

@@ -1,6 +1,6 @@
 //! A book that is opened from what is stored of it.
 
-ghost use Rattle.std.specs.Prelude.{◌≡◌, ◌<◌, [], ℕ, List, IfOk, OnOk, OnErr, length, slice_index_or};
+ghost use Rattle.std.specs.Prelude.{◌≡◌, ◌<◌, [], ℕ, List, IfOk, IfSome, OnOk, OnErr, length, slice_index_or};
 ghost use Rattle.book_entries.specs.Replayed.{HasTaken, stored_in, sum_in};
 ghost use Rattle.book_store.specs.Table.{Stored};
 ghost use Rattle.book_journal.specs.Kept.{IsKeptBy, IsSettled, IsUnder};
@@ -50,6 +50,7 @@ fn take_rows<S: RowStore>(
 ) -> Result<Sum, JournalError>
     requires ready { S.is_clean store.old → S.is_ready store.old }
     requires none { book.old.history ≡ [] }
+    ensures clean { OnOk result (S.is_clean store.new → S.is_clean store.old) }
     ensures ready { OnOk result (S.is_clean store.new → S.is_ready store.new) }
     ensures same { OnOk result (S.is_clean store.new → S.rows store.new ≡ S.rows store.old) }
     ensures same_book { OnOk result (S.is_clean store.new → S.about store.new ≡ S.about store.old) }
@@ -80,6 +81,9 @@ pub fn open_journal<S: RowStore + Drop>(
     ensures kept { IfOk result (λ opened. IsKeptBy S.is_clean S.is_ready S.rows opened.0 opened.1) }
     ensures settled { IfOk result (λ opened. IsSettled opened.0) }
     ensures under { IfOk result (λ opened. IsUnder book opened.1) }
+    ensures clean { IfOk result (λ opened. IfSome opened.0.store (λ now. S.is_clean now → S.is_clean store)) }
+    ensures same { IfOk result (λ opened. IfSome opened.0.store (λ now. S.is_clean now → S.rows now ≡ S.rows store)) }
+    ensures same_book { IfOk result (λ opened. IfSome opened.0.store (λ now. S.is_clean now → S.about now ≡ S.about store)) }
 {
     let mut store = store;
     let mut book = book;

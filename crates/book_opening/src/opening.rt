@@ -4,6 +4,7 @@ ghost use Rattle.std.specs.Prelude.{◌≡◌, [], IfOk, IfSome, Ok, OnOk};
 ghost use Rattle.book_entries.specs.Replayed.{sum_in};
 ghost use Rattle.book_rows.specs.About.{whole};
 ghost use Rattle.book_terms.specs.Terms.{terms as terms_form};
+ghost use Rattle.book_opening.specs.Opened.{IsOfTerms};
 ghost use Rattle.book_journal.specs.Kept.{IsKeptBy, IsSettled, IsUnder};
 
 use crate::fault::BookFault;
@@ -46,6 +47,7 @@ fn open_in<S: RowStore + Drop>(
     ensures kept { IfOk result (λ opened. IsKeptBy S.is_clean S.is_ready S.rows opened.0 opened.1) }
     ensures settled { IfOk result (λ opened. IsSettled opened.0) }
     ensures under { IfOk result (λ opened. IsUnder empty opened.1) }
+    ensures terms { IfOk result (λ opened. IfSome opened.0.store (λ now. S.is_clean now → IsOfTerms (S.about now) empty.terms)) }
 {
     let mut store = store;
     let about = about_of(alloc, &mut store)?;
@@ -67,6 +69,7 @@ pub fn open_book(
     ensures kept { IfOk result (λ opened. IsKeptBy ⟦<FileBook as RowStore>⟧.is_clean ⟦<FileBook as RowStore>⟧.is_ready ⟦<FileBook as RowStore>⟧.rows opened.0 opened.1) }
     ensures settled { IfOk result (λ opened. IsSettled opened.0) }
     ensures under { IfOk result (λ opened. IsUnder empty opened.1) }
+    ensures terms { IfOk result (λ opened. IfSome opened.0.store (λ now. ⟦<FileBook as RowStore>⟧.is_clean now → IsOfTerms (⟦<FileBook as RowStore>⟧.about now) empty.terms)) }
 {
     let file = open_file(rt, path)?;
     open_in(rt.alloc(), file, empty)
