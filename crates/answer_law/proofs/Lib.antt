@@ -1,0 +1,5 @@
+pub mod Answering
+pub mod Events
+pub mod Messages
+pub mod Results
+pub mod Sessions

@@ -1,0 +1,15 @@
+//! What a front answers, octet for octet (RFC 8506): worked examples, computed from the definitions of what is read in a request
+//! (`cc_view`), of the account machine's reply and the book (`cc_book`), of the answer's octets (`cc_view`, `dia_message`), and of
+//! what a front does with them (`front_core`). No function here does anything, and nothing stands on it.
+//!
+//! - [`sessions_are_answered_octet_for_octet`]: INITIAL, UPDATE and TERMINATION, with Multiple-Services-Credit-Control.
+//! - [`events_are_answered_octet_for_octet`]: a refund, a price enquiry, and a balance check.
+//! - [`results_are_told_alone`]: requests of which no service is served.
+#![tactic(auto)]
+
+mod laws;
+
+pub use laws::{
+    events_are_answered_octet_for_octet, results_are_told_alone,
+    sessions_are_answered_octet_for_octet,
+};
