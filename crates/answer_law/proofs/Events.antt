@@ -1,5 +1,5 @@
 -- The events, step by step.
-use Rattle.std.proofs.Common.{◌≡◌, List, [], ◌∷◌, Some, None, Ok, refl}
+use Rattle.std.proofs.Common.{◌≡◌, List, [], ◌∷◌, false, Some, None, Ok, refl}
 use Rattle.std.specs.Prelude.{codes, pos, negsuc}
 use Rattle.std.specs.Str.{is_utf8, chars}
 use lib.Utf8.{encode}
@@ -15,7 +15,7 @@ use Rattle.cc_view.specs.declared.code.ResultCode.TheVariants.{Success}
 use Rattle.cc_view.specs.declared.reply.CcReply.{CcReply}
 use Rattle.cc_view.specs.declared.request.CcRequest.{CcRequest}
 use Rattle.cc_view.specs.declared.request.RequestKind.TheVariants.{Event}
-use Rattle.cc_view.specs.declared.request.RequestedAction.TheVariants.{RefundAccount, CheckBalance, PriceEnquiry}
+use Rattle.cc_view.specs.declared.request.RequestedAction.TheVariants.{DirectDebiting, RefundAccount, CheckBalance, PriceEnquiry}
 use Rattle.cc_view.specs.Answer.{answer_avps}
 use Rattle.cc_view.specs.Answer.Writing.{i32_avp, i64_avp, u32_avp}
 use Rattle.cc_view.specs.FirstDebit.{front_name, realm_name}
@@ -23,15 +23,55 @@ use Rattle.cc_view.specs.RequestView.Checking.{service_refusal, subscription_ref
 use Rattle.cc_view.specs.RequestView.{view_under}
 use Rattle.cc_view.specs.RequestView.Counting.{counted}
 use Rattle.cc_book.specs.AccountMachine.{code_alone, kept_reply, postings_of, reply_to}
-use Rattle.cc_book.specs.RowExample.{octets, row_service}
-use Rattle.cc_book.specs.Taking.{answer_of}
-use Rattle.answer_law.specs.AnswerExample.{refund, answer_refund, price, answer_price, balance, answer_balance, answered, message, new_book}
-use Rattle.answer_law.proofs.Answering.{answer_of_avps, answered_by, behind_none, fresh_with}
-use Rattle.answer_law.proofs.Messages.{action_avp, answering, asking, octets_avp, rating_avp, request_of, service_group, subscriber, subscriber_avp}
+use Rattle.cc_book.specs.RowExample.{octets, row_reply, row_service, success}
+use Rattle.cc_book.specs.Taking.{answer_of, with_take}
+use Rattle.answer_law.specs.AnswerExample.{debit, answer_debit, refund, answer_refund, price, answer_price, balance, answer_balance, answered, book_behind, message, moment, new_book}
+use Rattle.answer_law.proofs.Answering.{answer_of_avps, answered_by, behind_none, behind_one, fresh_with}
+use Rattle.answer_law.proofs.Messages.{action_avp, answering, asking, granted_avp, octets_avp, rating_avp, request_of, result_avp, service_group, subscriber, subscriber_avp}
 
 -- Cost-Information: 20 times ten to the -2 in currency 978
 abbrev price_avp : RawAvp
 price_avp = group 423 (group 445 (i64_avp 447 (pos 20) ∷ i32_avp 429 (negsuc 1) ∷ []) ∷ u32_avp 425 978 ∷ [])
+
+-- ---- debit
+
+unfoldable pub debit_message : Message
+debit_message = asking (codes "c1;2;7") 4 0 (action_avp 0 ∷ subscriber_avp (codes "491700000001") ∷ service_group (octets_avp 3200 ∷ rating_avp 10 ∷ []) ∷ [])
+
+unfoldable pub debit_request : CcRequest
+debit_request = request_of (codes "c1;2;7") 0 Event (Some DirectDebiting) (subscriber (codes "491700000001") ∷ []) (row_service None (octets 3200) 0 ∷ [])
+
+unfoldable pub debit_reply : CcReply
+debit_reply = success (row_reply None Success (Some 3200) None false ∷ [])
+
+unfoldable pub debit_avps : List RawAvp
+debit_avps = answering (codes "c1;2;7") 2001 4 0 (service_group (granted_avp 3200 ∷ rating_avp 10 ∷ result_avp 2001 ∷ []) ∷ [])
+
+pub debit-is : message debit ≡ debit_message
+unfolding message decode_pairs debit debit_message
+debit-is = refl
+
+pub debit-viewed : view_under (strict []) debit_message ≡ Ok debit_request
+unfolding debit_message debit_request view_under counted grammar_fault has_row split_of split_from value_refusal subscription_refusal units_refusal service_refusal is_utf8 chars encode
+debit-viewed = refl
+
+pub debit-replied : answer_of new_book debit_request ≡ Ok (fresh_with debit_reply 0)
+unfolding debit_request debit_reply kept_reply postings_of reply_to
+debit-replied = refl
+
+pub debit-written : answer_avps front_name realm_name debit_message debit_request debit_reply ≡ debit_avps
+unfolding debit_message debit_request debit_reply debit_avps split_of split_from
+debit-written = refl
+
+pub debit-spelled : octets_of (answer_of_avps debit_message debit_avps) ≡ from_hex answer_debit
+unfolding debit_message debit_avps octets_of decode_pairs answer_debit
+debit-spelled = refl
+
+pub debit-behind : book_behind (debit ∷ []) ≡ with_take new_book moment debit_request
+debit-behind = behind_one debit debit_message debit_request debit_reply 0 debit-is debit-viewed debit-replied
+
+pub debit-answered : answered [] debit ≡ from_hex answer_debit
+debit-answered = answered_by [] debit answer_debit new_book debit_message debit_request (fresh_with debit_reply 0) debit_avps behind_none debit-is debit-viewed debit-replied debit-written debit-spelled
 
 -- ---- refund
 
@@ -68,7 +108,7 @@ unfolding refund_message refund_avps octets_of decode_pairs answer_refund
 refund-spelled = refl
 
 pub refund-answered : answered [] refund ≡ from_hex answer_refund
-refund-answered = answered_by [] refund answer_refund new_book refund_message refund_request refund_reply 0 refund_avps behind_none refund-is refund-viewed refund-replied refund-written refund-spelled
+refund-answered = answered_by [] refund answer_refund new_book refund_message refund_request (fresh_with refund_reply 0) refund_avps behind_none refund-is refund-viewed refund-replied refund-written refund-spelled
 
 -- ---- price
 
@@ -105,7 +145,7 @@ unfolding price_message price_avps octets_of decode_pairs answer_price
 price-spelled = refl
 
 pub price-answered : answered [] price ≡ from_hex answer_price
-price-answered = answered_by [] price answer_price new_book price_message price_request price_reply 0 price_avps behind_none price-is price-viewed price-replied price-written price-spelled
+price-answered = answered_by [] price answer_price new_book price_message price_request (fresh_with price_reply 0) price_avps behind_none price-is price-viewed price-replied price-written price-spelled
 
 -- ---- balance
 
@@ -142,4 +182,4 @@ unfolding balance_message balance_avps octets_of decode_pairs answer_balance
 balance-spelled = refl
 
 pub balance-answered : answered [] balance ≡ from_hex answer_balance
-balance-answered = answered_by [] balance answer_balance new_book balance_message balance_request balance_reply 0 balance_avps behind_none balance-is balance-viewed balance-replied balance-written balance-spelled
+balance-answered = answered_by [] balance answer_balance new_book balance_message balance_request (fresh_with balance_reply 0) balance_avps behind_none balance-is balance-viewed balance-replied balance-written balance-spelled

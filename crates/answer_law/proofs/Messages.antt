@@ -15,11 +15,15 @@ use Rattle.cc_view.specs.FirstDebit.{debit_header}
 
 -- ---- requests
 
--- the AVPs of a request of c1.example with this Session-Id, CC-Request-Type and CC-Request-Number, and with these behind
-abbrev pub asking_avps : List ℕ → ℕ → ℕ → List RawAvp → List RawAvp
-asking_avps session kind number behind =
+-- the AVPs of a request of c1.example with this Session-Id and CC-Request-Type, and with these behind
+abbrev pub leading_avps : List ℕ → ℕ → List RawAvp → List RawAvp
+leading_avps session kind behind =
     avp 263 session ∷ avp 264 (codes "c1.example") ∷ avp 296 (codes "example") ∷ avp 283 (codes "ocs.example") ∷ u32_avp 258 4
-    ∷ avp 461 (codes "32251@3gpp.org") ∷ u32_avp 416 kind ∷ u32_avp 415 number ∷ behind
+    ∷ avp 461 (codes "32251@3gpp.org") ∷ u32_avp 416 kind ∷ behind
+
+-- with a CC-Request-Number before those
+abbrev pub asking_avps : List ℕ → ℕ → ℕ → List RawAvp → List RawAvp
+asking_avps session kind number behind = leading_avps session kind (u32_avp 415 number ∷ behind)
 
 abbrev pub asking : List ℕ → ℕ → ℕ → List RawAvp → Message
 asking session kind number behind = record { header = debit_header; body = written_list (asking_avps session kind number behind) }

@@ -67,7 +67,7 @@ pub unknown_subscriber-behind : book_behind (unknown_subscriber ∷ []) ≡ with
 unknown_subscriber-behind = behind_one unknown_subscriber unknown_subscriber_message unknown_subscriber_request unknown_subscriber_reply 0 unknown_subscriber-is unknown_subscriber-viewed unknown_subscriber-replied
 
 pub unknown_subscriber-answered : answered [] unknown_subscriber ≡ from_hex answer_unknown_subscriber
-unknown_subscriber-answered = answered_by [] unknown_subscriber answer_unknown_subscriber new_book unknown_subscriber_message unknown_subscriber_request unknown_subscriber_reply 0 unknown_subscriber_avps behind_none unknown_subscriber-is unknown_subscriber-viewed unknown_subscriber-replied unknown_subscriber-written unknown_subscriber-spelled
+unknown_subscriber-answered = answered_by [] unknown_subscriber answer_unknown_subscriber new_book unknown_subscriber_message unknown_subscriber_request (fresh_with unknown_subscriber_reply 0) unknown_subscriber_avps behind_none unknown_subscriber-is unknown_subscriber-viewed unknown_subscriber-replied unknown_subscriber-written unknown_subscriber-spelled
 
 -- ---- open_already
 
@@ -104,7 +104,7 @@ unfolding open_already_message open_already_avps octets_of decode_pairs answer_o
 open_already-spelled = refl
 
 pub open_already-answered : answered (with_the_rest ∷ []) open_already ≡ from_hex answer_open_already
-open_already-answered = answered_by (with_the_rest ∷ []) open_already answer_open_already (with_take new_book moment with_the_rest_request) open_already_message open_already_request open_already_reply 1 open_already_avps with_the_rest-behind open_already-is open_already-viewed open_already-replied open_already-written open_already-spelled
+open_already-answered = answered_by (with_the_rest ∷ []) open_already answer_open_already (with_take new_book moment with_the_rest_request) open_already_message open_already_request (fresh_with open_already_reply 1) open_already_avps with_the_rest-behind open_already-is open_already-viewed open_already-replied open_already-written open_already-spelled
 
 -- ---- not_open
 
@@ -141,7 +141,7 @@ unfolding not_open_message not_open_avps octets_of decode_pairs answer_not_open
 not_open-spelled = refl
 
 pub not_open-answered : answered (unknown_subscriber ∷ []) not_open ≡ from_hex answer_not_open
-not_open-answered = answered_by (unknown_subscriber ∷ []) not_open answer_not_open (with_take new_book moment unknown_subscriber_request) not_open_message not_open_request not_open_reply 1 not_open_avps unknown_subscriber-behind not_open-is not_open-viewed not_open-replied not_open-written not_open-spelled
+not_open-answered = answered_by (unknown_subscriber ∷ []) not_open answer_not_open (with_take new_book moment unknown_subscriber_request) not_open_message not_open_request (fresh_with not_open_reply 1) not_open_avps unknown_subscriber-behind not_open-is not_open-viewed not_open-replied not_open-written not_open-spelled
 
 -- ---- debit_without_a_tariff
 
@@ -178,4 +178,4 @@ unfolding debit_without_a_tariff_message debit_without_a_tariff_avps octets_of d
 debit_without_a_tariff-spelled = refl
 
 pub debit_without_a_tariff-answered : answered [] debit_without_a_tariff ≡ from_hex answer_debit_without_a_tariff
-debit_without_a_tariff-answered = answered_by [] debit_without_a_tariff answer_debit_without_a_tariff new_book debit_without_a_tariff_message debit_without_a_tariff_request debit_without_a_tariff_reply 0 debit_without_a_tariff_avps behind_none debit_without_a_tariff-is debit_without_a_tariff-viewed debit_without_a_tariff-replied debit_without_a_tariff-written debit_without_a_tariff-spelled
+debit_without_a_tariff-answered = answered_by [] debit_without_a_tariff answer_debit_without_a_tariff new_book debit_without_a_tariff_message debit_without_a_tariff_request (fresh_with debit_without_a_tariff_reply 0) debit_without_a_tariff_avps behind_none debit_without_a_tariff-is debit_without_a_tariff-viewed debit_without_a_tariff-replied debit_without_a_tariff-written debit_without_a_tariff-spelled

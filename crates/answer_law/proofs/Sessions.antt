@@ -23,7 +23,7 @@ use Rattle.cc_view.specs.RequestView.Counting.{counted}
 use Rattle.cc_book.specs.AccountMachine.{kept_reply, postings_of, reply_to}
 use Rattle.cc_book.specs.RowExample.{any_units, granted_units, no_units, row_service, success, unrated_reply}
 use Rattle.cc_book.specs.Taking.{answer_of, with_take}
-use Rattle.answer_law.specs.AnswerExample.{with_credit, answer_with_credit, with_the_rest, answer_with_the_rest, with_none, answer_with_none, two_services, answer_two_services, last_units, answer_last_units, one_without_a_tariff, answer_one_without_a_tariff, end_of_session, answer_end_of_session, answered, book_behind, message, moment, new_book}
+use Rattle.answer_law.specs.AnswerExample.{with_credit, answer_with_credit, with_the_rest, answer_with_the_rest, with_none, answer_with_none, two_services, answer_two_services, last_units, answer_last_units, one_without_a_tariff, answer_one_without_a_tariff, exhausted, answer_exhausted, end_of_session, answer_end_of_session, answered, book_behind, message, moment, new_book}
 use Rattle.answer_law.proofs.Answering.{answer_of_avps, answered_by, behind_none, behind_one, fresh_with}
 use Rattle.answer_law.proofs.Messages.{answering, any_units_avp, asking, failover_avp, final_avp, granted_avp, identifier_avp, rating_avp, request_of, result_avp, service_group, subscriber, subscriber_avp, used_avp, validity_avp}
 
@@ -65,7 +65,7 @@ pub with_credit-behind : book_behind (with_credit ∷ []) ≡ with_take new_book
 with_credit-behind = behind_one with_credit with_credit_message with_credit_request with_credit_reply 0 with_credit-is with_credit-viewed with_credit-replied
 
 pub with_credit-answered : answered [] with_credit ≡ from_hex answer_with_credit
-with_credit-answered = answered_by [] with_credit answer_with_credit new_book with_credit_message with_credit_request with_credit_reply 0 with_credit_avps behind_none with_credit-is with_credit-viewed with_credit-replied with_credit-written with_credit-spelled
+with_credit-answered = answered_by [] with_credit answer_with_credit new_book with_credit_message with_credit_request (fresh_with with_credit_reply 0) with_credit_avps behind_none with_credit-is with_credit-viewed with_credit-replied with_credit-written with_credit-spelled
 
 -- ---- with_the_rest
 
@@ -105,7 +105,7 @@ pub with_the_rest-behind : book_behind (with_the_rest ∷ []) ≡ with_take new_
 with_the_rest-behind = behind_one with_the_rest with_the_rest_message with_the_rest_request with_the_rest_reply 0 with_the_rest-is with_the_rest-viewed with_the_rest-replied
 
 pub with_the_rest-answered : answered [] with_the_rest ≡ from_hex answer_with_the_rest
-with_the_rest-answered = answered_by [] with_the_rest answer_with_the_rest new_book with_the_rest_message with_the_rest_request with_the_rest_reply 0 with_the_rest_avps behind_none with_the_rest-is with_the_rest-viewed with_the_rest-replied with_the_rest-written with_the_rest-spelled
+with_the_rest-answered = answered_by [] with_the_rest answer_with_the_rest new_book with_the_rest_message with_the_rest_request (fresh_with with_the_rest_reply 0) with_the_rest_avps behind_none with_the_rest-is with_the_rest-viewed with_the_rest-replied with_the_rest-written with_the_rest-spelled
 
 -- ---- with_none
 
@@ -142,7 +142,7 @@ unfolding with_none_message with_none_avps octets_of decode_pairs answer_with_no
 with_none-spelled = refl
 
 pub with_none-answered : answered [] with_none ≡ from_hex answer_with_none
-with_none-answered = answered_by [] with_none answer_with_none new_book with_none_message with_none_request with_none_reply 0 with_none_avps behind_none with_none-is with_none-viewed with_none-replied with_none-written with_none-spelled
+with_none-answered = answered_by [] with_none answer_with_none new_book with_none_message with_none_request (fresh_with with_none_reply 0) with_none_avps behind_none with_none-is with_none-viewed with_none-replied with_none-written with_none-spelled
 
 -- ---- two_services
 
@@ -182,7 +182,7 @@ pub two_services-behind : book_behind (two_services ∷ []) ≡ with_take new_bo
 two_services-behind = behind_one two_services two_services_message two_services_request two_services_reply 0 two_services-is two_services-viewed two_services-replied
 
 pub two_services-answered : answered [] two_services ≡ from_hex answer_two_services
-two_services-answered = answered_by [] two_services answer_two_services new_book two_services_message two_services_request two_services_reply 0 two_services_avps behind_none two_services-is two_services-viewed two_services-replied two_services-written two_services-spelled
+two_services-answered = answered_by [] two_services answer_two_services new_book two_services_message two_services_request (fresh_with two_services_reply 0) two_services_avps behind_none two_services-is two_services-viewed two_services-replied two_services-written two_services-spelled
 
 -- ---- last_units
 
@@ -219,7 +219,7 @@ unfolding last_units_message last_units_avps octets_of decode_pairs answer_last_
 last_units-spelled = refl
 
 pub last_units-answered : answered (two_services ∷ []) last_units ≡ from_hex answer_last_units
-last_units-answered = answered_by (two_services ∷ []) last_units answer_last_units (with_take new_book moment two_services_request) last_units_message last_units_request last_units_reply 1 last_units_avps two_services-behind last_units-is last_units-viewed last_units-replied last_units-written last_units-spelled
+last_units-answered = answered_by (two_services ∷ []) last_units answer_last_units (with_take new_book moment two_services_request) last_units_message last_units_request (fresh_with last_units_reply 1) last_units_avps two_services-behind last_units-is last_units-viewed last_units-replied last_units-written last_units-spelled
 
 -- ---- one_without_a_tariff
 
@@ -255,8 +255,48 @@ pub one_without_a_tariff-spelled : octets_of (answer_of_avps one_without_a_tarif
 unfolding one_without_a_tariff_message one_without_a_tariff_avps octets_of decode_pairs answer_one_without_a_tariff
 one_without_a_tariff-spelled = refl
 
+pub one_without_a_tariff-behind : book_behind (one_without_a_tariff ∷ []) ≡ with_take new_book moment one_without_a_tariff_request
+one_without_a_tariff-behind = behind_one one_without_a_tariff one_without_a_tariff_message one_without_a_tariff_request one_without_a_tariff_reply 0 one_without_a_tariff-is one_without_a_tariff-viewed one_without_a_tariff-replied
+
 pub one_without_a_tariff-answered : answered [] one_without_a_tariff ≡ from_hex answer_one_without_a_tariff
-one_without_a_tariff-answered = answered_by [] one_without_a_tariff answer_one_without_a_tariff new_book one_without_a_tariff_message one_without_a_tariff_request one_without_a_tariff_reply 0 one_without_a_tariff_avps behind_none one_without_a_tariff-is one_without_a_tariff-viewed one_without_a_tariff-replied one_without_a_tariff-written one_without_a_tariff-spelled
+one_without_a_tariff-answered = answered_by [] one_without_a_tariff answer_one_without_a_tariff new_book one_without_a_tariff_message one_without_a_tariff_request (fresh_with one_without_a_tariff_reply 0) one_without_a_tariff_avps behind_none one_without_a_tariff-is one_without_a_tariff-viewed one_without_a_tariff-replied one_without_a_tariff-written one_without_a_tariff-spelled
+
+-- ---- exhausted
+
+unfoldable pub exhausted_message : Message
+exhausted_message = asking (codes "c1;2;5") 2 1 (service_group (any_units_avp ∷ used_avp 5000 ∷ rating_avp 10 ∷ []) ∷ [])
+
+unfoldable pub exhausted_request : CcRequest
+exhausted_request = request_of (codes "c1;2;5") 1 Update None [] (row_service None any_units 5000 ∷ [])
+
+unfoldable pub exhausted_reply : CcReply
+exhausted_reply = success (no_units None CreditLimitReached ∷ [])
+
+unfoldable pub exhausted_avps : List RawAvp
+exhausted_avps = answering (codes "c1;2;5") 2001 2 1 (service_group (rating_avp 10 ∷ result_avp 4012 ∷ []) ∷ [])
+
+pub exhausted-is : message exhausted ≡ exhausted_message
+unfolding message decode_pairs exhausted exhausted_message
+exhausted-is = refl
+
+pub exhausted-viewed : view_under (strict []) exhausted_message ≡ Ok exhausted_request
+unfolding exhausted_message exhausted_request view_under counted grammar_fault has_row split_of split_from value_refusal subscription_refusal units_refusal service_refusal is_utf8 chars encode
+exhausted-viewed = refl
+
+pub exhausted-replied : answer_of (with_take new_book moment one_without_a_tariff_request) exhausted_request ≡ Ok (fresh_with exhausted_reply 1)
+unfolding exhausted_request exhausted_reply one_without_a_tariff_request kept_reply postings_of reply_to
+exhausted-replied = refl
+
+pub exhausted-written : answer_avps front_name realm_name exhausted_message exhausted_request exhausted_reply ≡ exhausted_avps
+unfolding exhausted_message exhausted_request exhausted_reply exhausted_avps split_of split_from
+exhausted-written = refl
+
+pub exhausted-spelled : octets_of (answer_of_avps exhausted_message exhausted_avps) ≡ from_hex answer_exhausted
+unfolding exhausted_message exhausted_avps octets_of decode_pairs answer_exhausted
+exhausted-spelled = refl
+
+pub exhausted-answered : answered (one_without_a_tariff ∷ []) exhausted ≡ from_hex answer_exhausted
+exhausted-answered = answered_by (one_without_a_tariff ∷ []) exhausted answer_exhausted (with_take new_book moment one_without_a_tariff_request) exhausted_message exhausted_request (fresh_with exhausted_reply 1) exhausted_avps one_without_a_tariff-behind exhausted-is exhausted-viewed exhausted-replied exhausted-written exhausted-spelled
 
 -- ---- end_of_session
 
@@ -293,4 +333,4 @@ unfolding end_of_session_message end_of_session_avps octets_of decode_pairs answ
 end_of_session-spelled = refl
 
 pub end_of_session-answered : answered (with_credit ∷ []) end_of_session ≡ from_hex answer_end_of_session
-end_of_session-answered = answered_by (with_credit ∷ []) end_of_session answer_end_of_session (with_take new_book moment with_credit_request) end_of_session_message end_of_session_request end_of_session_reply 1 end_of_session_avps with_credit-behind end_of_session-is end_of_session-viewed end_of_session-replied end_of_session-written end_of_session-spelled
+end_of_session-answered = answered_by (with_credit ∷ []) end_of_session answer_end_of_session (with_take new_book moment with_credit_request) end_of_session_message end_of_session_request (fresh_with end_of_session_reply 1) end_of_session_avps with_credit-behind end_of_session-is end_of_session-viewed end_of_session-replied end_of_session-written end_of_session-spelled

@@ -3,13 +3,18 @@
 //! what a front does with them (`front_core`). No function here does anything, and nothing stands on it.
 //!
 //! - [`sessions_are_answered_octet_for_octet`]: INITIAL, UPDATE and TERMINATION, with Multiple-Services-Credit-Control.
-//! - [`events_are_answered_octet_for_octet`]: a refund, a price enquiry, and a balance check.
+//! - [`events_are_answered_octet_for_octet`]: a debit, a refund, a price enquiry, and a balance check.
 //! - [`results_are_told_alone`]: requests of which no service is served.
+//! - [`repeats_are_answered_by_what_they_ask`]: requests whose key the book has.
+//! - [`refusals_name_the_avp_at_fault`]: a request that breaks the grammar.
+//!
+//! The texts of requests and answers are in `specs/AnswerExample`.
 #![tactic(auto)]
 
 mod laws;
 
 pub use laws::{
-    events_are_answered_octet_for_octet, results_are_told_alone,
+    events_are_answered_octet_for_octet, refusals_name_the_avp_at_fault,
+    repeats_are_answered_by_what_they_ask, results_are_told_alone,
     sessions_are_answered_octet_for_octet,
 };
