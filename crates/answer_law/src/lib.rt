@@ -8,7 +8,8 @@
 //! - [`repeats_are_answered_by_what_they_ask`]: requests whose key the book has.
 //! - [`refusals_name_the_avp_at_fault`]: a request that breaks the grammar.
 //!
-//! The texts of requests and answers are in `specs/AnswerExample`.
+//! The texts of requests and answers are in `specs/AnswerExample`. Fourteen of these requests stand in
+//! `examples/sessions/answers.schedule` too, and its stored run has the same answers.
 #![tactic(auto)]
 
 mod laws;
