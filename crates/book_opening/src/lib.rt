@@ -4,6 +4,7 @@
 //! - [`open_book`] opens the book in a file, under terms that are the book's, with all of its history: each row is worked out
 //!   again, and the book is the one that answered then. A file that is missing, is no book's, is open elsewhere, has other terms or
 //!   a row that these terms do not give is refused by name, and nothing is begun anew.
+//! - [`serving_book`] is that book, or one in memory where no file is named.
 //! - [`read_book`] opens it so, lets go of the file, and gives the book with the sum of its history.
 #![tactic(auto)]
 
@@ -11,4 +12,4 @@ mod fault;
 mod opening;
 
 pub use fault::BookFault;
-pub use opening::{StoredBook, create_book, open_book, read_book};
+pub use opening::{StoredBook, create_book, open_book, read_book, serving_book};

@@ -75,6 +75,31 @@ pub fn open_book(
     open_in(rt.alloc(), file, empty)
 }
 
+/// A book that is kept in memory alone.
+fn in_memory<S: RowStore>(alloc: Global, empty: Book) -> (Journal<S>, Book)
+    ensures kept { IsKeptBy S.is_clean S.is_ready S.rows result.0 result.1 }
+    ensures settled { IsSettled result.0 }
+    ensures book { result.1 ≡ empty }
+{
+    (Journal::in_memory(alloc), empty)
+}
+
+/// The book that serves: that of the file, opened as [`open_book`] does, or an empty one in memory where no file is named.
+pub fn serving_book(
+    rt: &HostRuntime,
+    path: Option<&str>,
+    empty: Book,
+) -> Result<(Journal<FileBook>, Book), BookFault>
+    requires { empty.history ≡ [] }
+    ensures kept { IfOk result (λ opened. IsKeptBy ⟦<FileBook as RowStore>⟧.is_clean ⟦<FileBook as RowStore>⟧.is_ready ⟦<FileBook as RowStore>⟧.rows opened.0 opened.1) }
+    ensures settled { IfOk result (λ opened. IsSettled opened.0) }
+{
+    match path {
+        Some(path) => open_book(rt, path, empty),
+        None => Ok(in_memory(rt.alloc(), empty)),
+    }
+}
+
 /// A book as it is stored.
 #[derive(Drop)]
 pub struct StoredBook {

@@ -1,10 +1,13 @@
 //! The time of a serving process.
 //!
-//! - [`Timer`]: moments that begin with the system's clock, and go on with the clock that never goes back.
+//! - [`Timer`]: moments that begin with the system's clock, or behind those of an earlier process, and go on with the clock that
+//!   never goes back.
 //!
 //! All that a process reads the time for reads it by such a timer: its connections, the moments at which requests are
 //! charged, and the sweeps that end sessions. So whoever sets the system's clock ends no connection, and no session.
 #![tactic(auto)]
+
+ghost use Rattle.std.specs.Prelude.{◌≡◌, ◌≤◌, IfOk, max};
 
 use dia_base::Moment;
 use std::io;
@@ -40,8 +43,29 @@ impl Timer {
         })
     }
 
+    /// The same timer, whose moments do not stand before this one: where it would have told an earlier moment first, it begins with
+    /// this one.
+    pub fn not_before(self, moment: Moment) -> Timer
+        ensures { result.first ≡ max self.first moment.0 }
+    {
+        let Timer { began, first } = self;
+        Timer {
+            began,
+            first: first.max(moment.0),
+        }
+    }
+
+    /// The moment that it was when the timer was started: none that it tells stands before it.
+    pub fn first(&self) -> Moment
+        ensures { result.0 ≡ self.now.first }
+    {
+        Moment(self.first)
+    }
+
     /// The moment that it is now.
-    pub fn now<R: Clock>(&self, rt: &R) -> io::Result<Moment> {
+    pub fn now<R: Clock>(&self, rt: &R) -> io::Result<Moment>
+        ensures { IfOk result (λ moment. self.now.first ≤ moment.0) }
+    {
         let passed = millis(self.began.elapsed(rt)?);
         Ok(Moment(self.first.saturating_add(passed)))
     }
