@@ -7,6 +7,8 @@ asked for is granted. In the end the account is asked, by CHECK_BALANCE, for all
 block more, which it is not. Prints a table in Markdown, with the columns of bench/field.py. The fronts:
 
 - farm 1, farm 2, farm 4: this one (./farm prove relay builds it), with so many workers; 2 is what a site has that says nothing;
+- stored 1, stored 2, stored 4: the same, on a book in a file of its own (./farm prove book), on the disk of the system's folder
+  for temporary files, or of TMPDIR;
 - otp: a credit-control server on Erlang/OTP's diameter in the plainest way (bench/field/front.escript; Debian: erlang-diameter).
   Its account is a row of an ets table. It debits EVENTs; it has no sessions, keeps nothing of a request, and so charges one
   that is sent again a second time.
@@ -21,6 +23,7 @@ import shutil
 import signal
 import subprocess
 import sys
+import tempfile
 import time
 from contextlib import contextmanager
 from pathlib import Path
@@ -52,11 +55,24 @@ def farm(workers):
     return words
 
 
+def stored(workers):
+    """A farm on a book that is made for it."""
+    def words(room, program):
+        served = farm(workers)(room, program)
+        makes = HERE.parent / "crates/farm_book/out/farm_book"
+        if not served or not makes.exists():
+            return None
+        book = tempfile.mkdtemp(dir=room) + "/farm.book"
+        subprocess.run([makes, "book", "create", book, "--site", served[-1]], stdout=subprocess.DEVNULL, check=True)
+        return [*served, "--book", book]
+    return words
+
+
 def otp(_, __):
     return ["escript", str(HERE / "field/front.escript"), str(PORT), str(HERE / "cc.dia"), str(OPENING)] if shutil.which("escript") else None
 
 
-FRONTS = {"farm 1": farm(1), "farm 2": farm(2), "farm 4": farm(4), "otp": otp}
+FRONTS = {"farm 1": farm(1), "farm 2": farm(2), "farm 4": farm(4), "stored 1": stored(1), "stored 2": stored(2), "stored 4": stored(4), "otp": otp}
 
 
 @contextmanager
@@ -97,12 +113,12 @@ def row(name, room, words, names, window, seconds):
 def run(name, room, program, seconds):
     """The figures of a front, by connections and window."""
     figures = {}
-    words = FRONTS[name](room, program)
-    if not words:
-        print(f"front: {name} is not there", file=sys.stderr)
-        return figures
     for names in (CLIENTS[:1], CLIENTS):
         for window in WINDOWS:
+            words = FRONTS[name](room, program)
+            if not words:
+                print(f"front: {name} is not there", file=sys.stderr)
+                return figures
             it = figures[len(names), window] = row(name, room, words, names, window, seconds)
             print(row_of(name, len(names), window, it), flush=True)
     return figures

@@ -2,11 +2,11 @@
 _farm() {
   local word=${COMP_WORDS[COMP_CWORD]} before=${COMP_WORDS[COMP_CWORD - 1]} site i
   if [ "$COMP_CWORD" -eq 1 ]; then
-    mapfile -t COMPREPLY < <(compgen -W 'relay front send stop check audit schedule replay report words picture --help --version' -- "$word")
+    mapfile -t COMPREPLY < <(compgen -W 'relay front send stop check book audit schedule replay report words picture --help --version' -- "$word")
     return
   fi
   case $before in
-    --site | --token | --record)
+    --site | --token | --record | --book)
       mapfile -t COMPREPLY < <(compgen -f -- "$word")
       return
       ;;
@@ -24,13 +24,20 @@ _farm() {
   esac
   case ${COMP_WORDS[1]} in
     relay) mapfile -t COMPREPLY < <(compgen -W '--site --name --answers --status --token --record --log' -- "$word") ;;
-    front) mapfile -t COMPREPLY < <(compgen -W '--site --answers --status --token --record --log' -- "$word") ;;
+    front) mapfile -t COMPREPLY < <(compgen -W '--site --book --answers --status --token --record --log' -- "$word") ;;
     send) mapfile -t COMPREPLY < <(compgen -W '--site --client --peer --record --log' -- "$word") ;;
     stop) mapfile -t COMPREPLY < <(compgen -W '--at --token' -- "$word") ;;
     audit | schedule)
       mapfile -t COMPREPLY < <(compgen -W '--site' -- "$word"; compgen -f -- "$word")
       ;;
     picture) mapfile -t COMPREPLY < <(compgen -W '--site --from --to' -- "$word") ;;
+    book)
+      if [ "$COMP_CWORD" -eq 2 ]; then
+        mapfile -t COMPREPLY < <(compgen -W 'create check report export' -- "$word")
+      else
+        mapfile -t COMPREPLY < <(compgen -W '--site' -- "$word"; compgen -f -- "$word")
+      fi
+      ;;
     check) mapfile -t COMPREPLY < <(compgen -W '--site' -- "$word") ;;
     replay | report) mapfile -t COMPREPLY < <(compgen -W '--site --skipped' -- "$word") ;;
   esac

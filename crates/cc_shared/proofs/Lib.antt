@@ -5,3 +5,4 @@ pub mod Comparing
 pub mod Truth
 pub mod Together
 pub mod Each
+pub mod Telling

@@ -6,13 +6,15 @@
 //! - [`Seat`]: what a thread serves through. It counts its takes, in a ledger whose total stands beside the book.
 //! - [`Sharing`]: names one sharing.
 //!
-//! The lock is held for one call and no longer: requests are read and answers are spelled outside it.
+//! The lock is held for one call and no longer: requests are read and answers are spelled outside it. Whenever it is free all
+//! that has happened to the book is stored, where the book is stored at all ([`book_journal`]): what a call has done is stored
+//! before the call returns. A call that cannot store it answers nobody: [`SharedBook::has_failed`] says so then.
 //!
 //! What receipts say stands in `specs/Receipts`, what a shared book is in `specs/Sharing`, what a call of `serve` answers
 //! in `specs/Serving`, and when a book is finished in `specs/Closing`.
 //!
 //! ```text
-//! let Ok((shared, seats)) = SharedBook::<L>::share(alloc, Blank::new(2), book, 2) else { .. };
+//! let Ok((shared, seats)) = SharedBook::<L>::share(alloc, Blank::new(2), history, book, 2) else { .. };
 //! // in each thread, with a handle and a seat of its own:
 //! match shared.serve(rt, alloc, &mut seat, moment, request) {
 //!     Ok(receipt) => answer(&receipt),
@@ -27,6 +29,8 @@ mod asking;
 mod checking;
 mod error;
 mod history;
+mod kept;
+mod locked;
 mod logged;
 mod looks;
 mod open;
@@ -35,6 +39,7 @@ mod same;
 mod seat;
 mod shared;
 mod sharing;
+mod untold;
 
 pub use asking::{Asked, Served};
 pub use error::{CloseError, ServeError, ServeRefusal};

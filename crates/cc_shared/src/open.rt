@@ -1,4 +1,4 @@
-//! A book that is open: what stands behind the lock until it is closed.
+//! A book that is open, and does what it is asked: what it does waits to be stored.
 
 ghost use Rattle.std.specs.Prelude.{◌≡◌, ◌+◌, ◌≤◌, ◌<◌, ◌^◌, ◌++◌, ◌∷◌, [], IfErr, IfOk, length, sum, vec_capacity, vec_len, true, false, if◌then◌else◌};
 ghost use Rattle.cc_book.specs.declared.entry.Entry.TheVariants.{Take};
@@ -8,40 +8,46 @@ ghost use Rattle.cc_book.specs.Planning.{IsGoodFor, after_plan, answer_planned};
 ghost use Rattle.cc_book.specs.Taking.{AnswersWith, SweepsWith, answer_of, is_fresh, sweep_answer, with_take};
 ghost use Rattle.cc_shared.specs.declared.logged.Logged.TheVariants.{Entered};
 ghost use Rattle.cc_shared.specs.Serving.{ServesEach, ServesOne, count_after, why_of};
-ghost use Rattle.cc_shared.specs.Sharing.{log_after_sweep, standings_of};
+ghost use Rattle.cc_shared.specs.Sharing.{IsSweep, log_after_sweep};
 ghost use Rattle.cc_shared.specs.Closing.{FinishesWith};
 ghost use Rattle.cc_shared.specs.History.{book_at, is_closed};
 
 use crate::asking::{Asked, Served};
-use crate::checking::first_stray;
-use crate::error::{CloseError, ServeError, ServeRefusal};
+use crate::error::{ServeError, ServeRefusal};
 use crate::history::{Beginning, Length};
+use crate::kept::KeptBook;
+use crate::looks::Swept;
 use crate::receipt::Receipt;
 use crate::seat::Seat;
 use crate::sharing::Sharing;
+use crate::untold::Untold;
+use book_journal::Journal;
+use book_store::RowStore;
 use cc_book::{Answered, Book, BookRefusal, Plan};
 use cc_view::CcRequest;
 use dia_base::Moment;
-use std::alloc::{AllocError, Global};
+use std::alloc::Global;
 use std::marker::Model;
 use std::sync::ledger;
 use std::sync::ledger::Share;
 
 /// A book that is shared and not closed. Contracts see its history since it is shared; the book is the replay of it, and as many
-/// takes stand there as the seats have counted.
+/// takes stand there as the seats have counted. What is stored of it, and what waits to be stored, is the book's whole history.
 #[derive(Drop)]
-pub struct OpenBook<L: Sharing> {
-    book: Book,
-    takes: u64,
-    counted: ledger::Book<L>,
+pub struct OpenBook<L: Sharing, S: RowStore> {
+    pub book: Book,
+    pub takes: u64,
+    pub counted: ledger::Book<L>,
     /// No part of the ledger: what the seats hand back is added to it.
-    rest: Share<L>,
+    pub rest: Share<L>,
     /// The whole history.
-    seen: Beginning<L>,
+    pub seen: Beginning<L>,
+    pub journal: Journal<S>,
 }
 
-impl<L: Sharing> Model for OpenBook<L> {
+impl<L: Sharing, S: RowStore> Model for OpenBook<L, S> {
     ghost use Rattle.std.specs.Prelude.{◌≡◌, List, false};
+    ghost use Rattle.book_journal.specs.Kept.{IsKeptBy};
     ghost use Rattle.cc_shared.specs.declared.logged.Logged.{Logged as Record};
     ghost use Rattle.cc_shared.specs.History.{book_at, entries_in, is_closed};
     ghost use Rattle.cc_shared.specs.Sharing.{takes_in};
@@ -51,27 +57,11 @@ impl<L: Sharing> Model for OpenBook<L> {
     ghost view = { λ b. b.seen };
 
     ghost invariant = { λ b. (b.book ≡ book_at L.shared.opened b.seen) × (is_closed b.seen ≡ false) × (takes_in (entries_in b.seen) ≡ b.takes)
-        × (b.counted.total ≡ b.takes) × (b.rest.parts ≡ 0) × (b.rest.amount ≡ 0) };
+        × (b.counted.total ≡ b.takes) × (b.rest.parts ≡ 0) × (b.rest.amount ≡ 0)
+        × IsKeptBy S.is_clean S.is_ready S.rows b.journal b.book };
 }
 
-impl<L: Sharing> OpenBook<L> {
-    /// The book of which the sharing is named, with nothing more.
-    pub fn new(book: Book, counted: ledger::Book<L>, rest: Share<L>, seen: Beginning<L>) -> Self
-        requires book { book ≡ L.shared.opened }
-        requires counted { counted.total ≡ 0 }
-        requires rest { (rest.parts ≡ 0) × (rest.amount ≡ 0) }
-        requires seen { seen ≡ [] }
-        ensures { result ≡ [] }
-    {
-        OpenBook {
-            book,
-            takes: 0,
-            counted,
-            rest,
-            seen,
-        }
-    }
-
+impl<L: Sharing, S: RowStore + Drop> OpenBook<L, S> {
     /// The whole history.
     pub fn history(&self) -> &Beginning<L>
         ensures log { result.now ≡ self.now }
@@ -83,7 +73,7 @@ impl<L: Sharing> OpenBook<L> {
     }
 
     /// One take, which the seat counts if the request was appended.
-    pub fn take(
+    fn take(
         &mut self,
         alloc: Global,
         word: &Length<L>,
@@ -107,7 +97,7 @@ impl<L: Sharing> OpenBook<L> {
     }
 
     /// Serves a request: it is taken, and its receipt is made behind that.
-    pub fn serve(
+    fn serve(
         &mut self,
         alloc: Global,
         word: &Length<L>,
@@ -134,7 +124,7 @@ impl<L: Sharing> OpenBook<L> {
     }
 
     /// Serves these requests, one behind the other.
-    pub fn serve_each<J: Drop>(
+    fn serve_each<J: Drop>(
         &mut self,
         alloc: Global,
         word: &Length<L>,
@@ -181,11 +171,15 @@ impl<L: Sharing> OpenBook<L> {
         ensures after { self.new ≡ (if is_fresh result then self.old ++ Entered (Take moment request.now) ∷ [] else self.old) }
         ensures count { seat.new ≡ (if is_fresh result then seat.old + 1 else seat.old) }
     {
+        let Ok(row) = self.journal.row_of_take(moment, request, &plan) else {
+            return Err(BookRefusal::OutOfMemory);
+        };
         let mut seen = self.seen.again();
         if !seen.add_take(word, moment, request) {
             return Err(BookRefusal::OutOfMemory);
         }
         let answered = self.book.commit(plan);
+        self.journal.add(row);
         seat.add_one(&mut self.counted);
         self.takes += 1;
         self.seen = seen;
@@ -193,60 +187,111 @@ impl<L: Sharing> OpenBook<L> {
     }
 
     /// One look at the clock.
-    pub fn sweep(&mut self, word: &Length<L>, moment: Moment) -> Result<u64, BookRefusal>
+    fn sweep(&mut self, word: &Length<L>, moment: Moment) -> Result<u64, BookRefusal>
         ensures answer { SweepsWith (sweep_answer (book_at L.shared.opened self.old) moment) result }
         ensures after { self.new ≡ log_after_sweep self.old moment result }
         ensures legal { IsLegal L.shared.opened.terms (book_at L.shared.opened self.old).history }
         ensures open { (is_closed self.old ≡ false) × (is_closed self.new ≡ false) }
     {
-        let _entries = self.book.history().len();
+        let place = self.book.history().len() as u64;
         let ended = self.book.quote_sweep(moment)?;
         if ended == 0 {
             return Ok(0);
         }
+        let Ok(row) = self.journal.row_of_sweep(place, moment) else {
+            return Err(BookRefusal::OutOfMemory);
+        };
         let mut seen = self.seen.again();
         if !seen.add_sweep(word, moment) {
             return Err(BookRefusal::OutOfMemory);
         }
         let swept = self.book.sweep(moment)?;
+        self.journal.add(row);
         self.seen = seen;
         Ok(swept)
     }
 
-    /// Balance and reserved amount of each account.
-    pub fn snapshot(&self, alloc: Global) -> Result<Vec<(i128, i128)>, AllocError>
-        ensures pairs { IfOk result (λ pairs. pairs.items ≡ standings_of L.shared.opened.terms (book_at L.shared.opened self.now).history) }
+    /// Serves a request. What it comes to is told once the book is stored.
+    pub fn ask(
+        &mut self,
+        alloc: Global,
+        word: &Length<L>,
+        seat: &mut Seat<L>,
+        moment: Moment,
+        request: CcRequest,
+    ) -> Untold<L, Result<Receipt, ServeError>>
+        ensures served { ServesOne L.shared seat.old moment request self.old result.told self.new }
+        ensures count { seat.new ≡ count_after seat.old result.told }
+        ensures behind { result.behind ≡ self.new }
     {
-        standings(alloc, &self.book)
+        let served = self.serve(alloc, word, seat, moment, request);
+        Untold::new(served, self.seen.again())
     }
 
-    /// The book, where these seats have counted its takes and these receipts stand in its history.
-    pub fn close(
-        self,
+    /// Serves these requests, one behind the other. What they come to is told once the book is stored.
+    pub fn ask_all<J: Drop>(
+        &mut self,
         alloc: Global,
-        seats: Vec<Seat<L>>,
-        receipts: &[Receipt],
-    ) -> Result<Book, CloseError>
-        ensures finished { FinishesWith L.shared.opened L.parts seats.items receipts.now result }
-        ensures book { IfOk result (λ book. book ≡ book_at L.shared.opened self) }
+        word: &Length<L>,
+        seat: &mut Seat<L>,
+        asked: Vec<Asked<J>>,
+        served: Vec<Served<J>>,
+    ) -> Untold<L, Vec<Served<J>>>
+        requires none { served.items ≡ [] }
+        requires room { length asked.items ≤ vec_capacity served }
+        ensures served { ServesEach L.shared seat.old self.old asked.items result.told.items self.new seat.new }
+        ensures behind { result.behind ≡ self.new }
+    {
+        let served = self.serve_each(alloc, word, seat, asked, served);
+        Untold::new(served, self.seen.again())
+    }
+
+    /// Ends each session whose deadline is at most the moment. How many it has ended is told once the book is stored.
+    pub fn end_due(
+        &mut self,
+        word: &Length<L>,
+        moment: Moment,
+    ) -> Untold<L, Result<Swept, BookRefusal>>
+        ensures swept { IfOk result.told (IsSweep L.shared moment) }
+        ensures behind { result.behind ≡ self.new }
+    {
+        let swept = match self.sweep(word, moment) {
+            Ok(ended) => {
+                let seen = self.history().seen();
+                Ok(Swept { ended, seen })
+            }
+            Err(refusal) => Err(refusal),
+        };
+        Untold::new(swept, self.seen.again())
+    }
+
+    /// Stores all that waits, in one commit. What is stored is the whole history then. Without that whether it is stored is not
+    /// known: the book is gone, and its history is handed back.
+    pub fn settle(self) -> Result<KeptBook<L, S>, Beginning<L>>
+        ensures kept { IfOk result (λ kept. kept ≡ self) }
+        ensures seen { IfErr result (λ seen. seen ≡ self) }
     {
         let OpenBook {
             book,
             takes,
-            mut counted,
+            counted,
             rest,
-            seen: _,
+            seen,
+            mut journal,
         } = self;
-        let _entries = book.history().len();
-        match first_stray(alloc, &book, receipts) {
-            Ok(None) => {}
-            Ok(Some(place)) => return Err(CloseError::ReceiptNotInHistory { place, book }),
-            Err(_) => return Err(CloseError::OutOfMemory { book }),
+        let waiting = journal.waiting.len() as u64;
+        let place = (book.history().len() as u64).saturating_sub(waiting);
+        match journal.store(place) {
+            Ok(()) => Ok(KeptBook {
+                book,
+                takes,
+                counted,
+                rest,
+                seen,
+                journal,
+            }),
+            Err(_) => Err(seen),
         }
-        if count_of(&mut counted, rest, seats) != takes {
-            return Err(CloseError::CountsDiffer { book });
-        }
-        Ok(book)
     }
 }
 
@@ -258,40 +303,4 @@ fn why_of(refusal: BookRefusal) -> ServeRefusal
         BookRefusal::Full { limit } => ServeRefusal::Full { limit },
         BookRefusal::OutOfMemory => ServeRefusal::OutOfMemory,
     }
-}
-
-/// Balance and reserved amount of each account.
-fn standings(alloc: Global, book: &Book) -> Result<Vec<(i128, i128)>, AllocError>
-    ensures { IfOk result (λ pairs. pairs.items ≡ standings_of book.now.terms book.now.history) }
-{
-    let mut pairs = Vec::new(alloc);
-    for account in 0..book.accounts().len() {
-        let (Some(balance), Some(reserved)) = (book.balance(account), book.reserved(account)) else {
-            unreachable!();
-        };
-        pairs.push((balance, reserved))?;
-    }
-    Ok(pairs)
-}
-
-/// What the seats have counted. With all parts of the ledger that is its total.
-fn count_of<L: Sharing>(
-    counted: &mut ledger::Book<L>,
-    mut all: Share<L>,
-    seats: Vec<Seat<L>>,
-) -> u64
-    requires none { (all.parts ≡ 0) × (all.amount ≡ 0) }
-    requires small { counted.old.total < 2 ^ 64 }
-    ensures sum { result ≡ sum seats.items }
-    ensures whole { length seats.items ≡ L.parts → result ≡ counted.old.total }
-{
-    let mut takes = 0;
-    for seat in seats {
-        let (count, share) = seat.into_parts();
-        all.merge(share);
-        counted.audit(&mut all);
-        takes += count;
-    }
-    counted.audit(&mut all);
-    takes
 }

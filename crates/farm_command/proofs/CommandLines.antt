@@ -56,7 +56,7 @@ all_are_known = (
         (sub.Front, refl),
         (
           (sub.Send, refl),
-          ((sub.Check, refl), ((sub.Audit, refl), ((sub.Schedule, refl), ((sub.Picture, refl), ((sub.Words, refl), tt))))),
+          ((sub.Check, refl), ((sub.Audit, refl), ((sub.Schedule, refl), ((sub.Book, refl), ((sub.Picture, refl), ((sub.Words, refl), tt)))))),
         ),
       ),
     ),

@@ -1,5 +1,5 @@
 -- What the words of a command line ask for, as clap reads them, and why they are refused.
-use Rattle.std.specs.Prelude.{◌≡◌, ◌≢◌, ◌⊎◌, ◌<◌, ◌^◌, ℕ, List, Bool, true, false, Option, Some, None, codes, map, option_map}
+use Rattle.std.specs.Prelude.{◌≡◌, ◌≢◌, ◌⊎◌, ◌<◌, ◌^◌, ℕ, List, [], ◌∷◌, Bool, true, false, Option, Some, None, codes, map, option_map}
 use Rattle.std.specs.Str.{bytes_eq}
 use Rattle.std.specs.Str.Parse.{IsNumeral, digits_value, without_leading_plus}
 use Rattle.clap.specs.Kinds.{Kinds, IsAmong}
@@ -9,6 +9,7 @@ use Rattle.clap.specs.declared.error.kind.ErrorKind.TheVariants.{DisplayHelp, Di
 use Rattle.log.specs.declared.level.LevelFilter.{LevelFilter}
 use Rattle.log.specs.declared.level.LevelFilter.TheVariants.{Info}
 use Rattle.log.specs.Level.{parse_filter}
+use Rattle.farm_command.specs.declared.book_task.BookTask.{BookTask}
 use Rattle.farm_command.specs.declared.subcommand.Subcommand.{Subcommand}
 use Rattle.farm_command.specs.declared.subcommand.Subcommand.TheVariants as sub
 use Rattle.farm_command.specs.declared.word.Word.{Word}
@@ -22,12 +23,13 @@ use Rattle.farm_command.specs.declared.command.Process.{Process}
 use Rattle.farm_command.specs.declared.command.AuditAction.{AuditAction}
 use Rattle.farm_command.specs.declared.command.AuditAction.TheVariants as audit
 use Rattle.farm_command.specs.declared.command.Audit.{Audit}
+use Rattle.farm_command.specs.declared.command.BookCommand.{BookCommand}
 use Rattle.farm_command.specs.declared.command.Picture.{Picture}
 use Rattle.farm_command.specs.declared.command.Command.{Command}
 use Rattle.farm_command.specs.declared.command.Command.TheVariants as command
 use Rattle.farm_command.specs.declared.fault.CliFault.{CliFault}
 use Rattle.farm_command.specs.declared.fault.CliFault.TheVariants as fault
-use Rattle.farm_command.specs.CommandLine.{id_of, name_of}
+use Rattle.farm_command.specs.CommandLine.{id_of, name_of, task_word}
 
 -- ---- the subcommand of a command
 
@@ -49,6 +51,7 @@ subcommand_for (command.Run run) = of_action run.action
 subcommand_for (command.Process process) = of_task process.task
 subcommand_for (command.Check check) = sub.Check
 subcommand_for (command.Audit records) = of_audit records.action
+subcommand_for (command.Book book) = sub.Book
 subcommand_for (command.Picture picture) = sub.Picture
 subcommand_for command.Words = sub.Words
 
@@ -98,6 +101,7 @@ HasReports rows process =
     (value_in word.Status rows ≡ option_map (λ s. s.now) process.status)
     × (value_in word.Token rows ≡ option_map (λ s. s.now) process.token)
     × (value_in word.Record rows ≡ option_map (λ s. s.now) process.record_path)
+    × (value_in word.Book rows ≡ option_map (λ s. s.now) process.book)
 
 abbrev pub HasProcess : List Row → Process → Type 0
 HasProcess rows process =
@@ -107,6 +111,12 @@ HasProcess rows process =
 abbrev pub HasAudit : List Row → Audit → Type 0
 HasAudit rows records =
     (value_in word.Site rows ≡ Some records.site.now) × (all_of (id_of word.Records) rows ≡ Some (map (λ s. s.now) records.records.items))
+
+-- two operands: what is done, and the file
+abbrev pub HasBook : List Row → BookCommand → Type 0
+HasBook rows book =
+    (value_in word.Site rows ≡ Some book.site.now)
+    × (all_of (id_of word.TaskAndFile) rows ≡ Some (task_word book.task ∷ book.file.now ∷ []))
 
 abbrev pub HasPicture : List Row → Picture → Type 0
 HasPicture rows picture =
@@ -118,6 +128,7 @@ HasOptions rows (command.Run run) = HasRun rows run
 HasOptions rows (command.Process process) = HasProcess rows process
 HasOptions rows (command.Check check) = value_in word.Site rows ≡ Some check.site.now
 HasOptions rows (command.Audit records) = HasAudit rows records
+HasOptions rows (command.Book book) = HasBook rows book
 HasOptions rows (command.Picture picture) = HasPicture rows picture
 HasOptions rows command.Words = Unit {0}
 
@@ -145,9 +156,23 @@ must_have sub.Audit word.Site = true
 must_have sub.Audit word.Records = true
 must_have sub.Schedule word.Site = true
 must_have sub.Schedule word.Records = true
+must_have sub.Book word.Site = true
+must_have sub.Book word.TaskAndFile = true
 must_have s w = false
 
--- whose values it reads as numbers or as a level
+-- fewer than two operands
+abbrev pub AreFew : Option (List Text) → Type 0
+AreFew None = Unit {0}
+AreFew (Some []) = Unit {0}
+AreFew (Some (task ∷ [])) = Unit {0}
+AreFew (Some (task ∷ file ∷ more)) = ⊥
+
+-- it is not there; of the operands of `book` not both are
+abbrev pub IsMissing : Word → List Row → Type 0
+IsMissing word.TaskAndFile rows = AreFew (all_of (id_of word.TaskAndFile) rows)
+IsMissing w rows = value_in w rows ≡ None
+
+-- whose values it reads as numbers, as a level, or as a task
 abbrev pub reads : Subcommand → Word → Bool
 reads sub.Relay word.Answers = true
 reads sub.Relay word.Log = true
@@ -156,21 +181,31 @@ reads sub.Front word.Log = true
 reads sub.Send word.Log = true
 reads sub.Picture word.From = true
 reads sub.Picture word.To = true
+reads sub.Book word.TaskAndFile = true
 reads s w = false
 
--- a value that is no number, or too large, or no step; or no level
+-- two operands of which the first is no task, or more than two
+abbrev pub AreWrong : Option (List Text) → Type 0
+AreWrong None = ⊥
+AreWrong (Some []) = ⊥
+AreWrong (Some (word ∷ [])) = ⊥
+AreWrong (Some (word ∷ file ∷ [])) = (task : BookTask) → word ≢ task_word task
+AreWrong (Some (word ∷ file ∷ third ∷ more)) = Unit {0}
+
+-- a value that is no number, or too large, or no step; or no level; or operands that are no task and a file
 abbrev pub IsMalformed : Word → List Row → Type 0
 IsMalformed word.Answers rows = (count : ℕ) → ¬ IsCount (value_in word.Answers rows) count
 IsMalformed word.Log rows = (level : LevelFilter) → ¬ IsLevel (value_in word.Log rows) level
 IsMalformed word.From rows = (step : Option ℕ) → ¬ IsStep (value_in word.From rows) step
 IsMalformed word.To rows = (step : Option ℕ) → ¬ IsStep (value_in word.To rows) step
+IsMalformed word.TaskAndFile rows = AreWrong (all_of (id_of word.TaskAndFile) rows)
 IsMalformed w rows = ⊥
 
 -- what the subcommand must have is not among what was found, or the value is none that it reads; or memory ran out
 abbrev pub IsFaultOf : Subcommand → List Row → CliFault → Type 0
 IsFaultOf s rows (fault.Asked text) = ⊥
 IsFaultOf s rows (fault.Refused text) = ⊥
-IsFaultOf s rows (fault.Missing w) = (must_have s w ≡ true) × (value_in w rows ≡ None)
+IsFaultOf s rows (fault.Missing w) = (must_have s w ≡ true) × IsMissing w rows
 IsFaultOf s rows (fault.Malformed w) = (reads s w ≡ true) × IsMalformed w rows
 IsFaultOf s rows fault.Elsewhere = ⊥
 IsFaultOf s rows fault.NotUtf8 = ⊥

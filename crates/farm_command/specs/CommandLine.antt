@@ -3,6 +3,8 @@ use Rattle.std.specs.Prelude.{List, [], ◌∷◌, Some, true, codes}
 use Rattle.clap.specs.Walk.{Rule, Text}
 use Rattle.clap.specs.Simple.{App, new_app, new_rule, with_rule, with_subcommand}
 use Rattle.clap.specs.declared.builder.action.ArgAction.TheVariants.{Append, SetTrue}
+use Rattle.farm_command.specs.declared.book_task.BookTask.{BookTask}
+use Rattle.farm_command.specs.declared.book_task.BookTask.TheVariants as task
 use Rattle.farm_command.specs.declared.subcommand.Subcommand.{Subcommand}
 use Rattle.farm_command.specs.declared.subcommand.Subcommand.TheVariants as sub
 use Rattle.farm_command.specs.declared.word.Word.{Word}
@@ -18,10 +20,12 @@ id_of word.Answers = codes "answers"
 id_of word.Status = codes "status"
 id_of word.Token = codes "token"
 id_of word.Record = codes "record"
+id_of word.Book = codes "book"
 id_of word.Log = codes "log"
 id_of word.From = codes "from"
 id_of word.To = codes "to"
 id_of word.Records = codes "records"
+id_of word.TaskAndFile = codes "task-and-file"
 
 -- the name of a subcommand
 abbrev pub name_of : Subcommand → Text
@@ -33,8 +37,16 @@ name_of sub.Send = codes "send"
 name_of sub.Check = codes "check"
 name_of sub.Audit = codes "audit"
 name_of sub.Schedule = codes "schedule"
+name_of sub.Book = codes "book"
 name_of sub.Picture = codes "picture"
 name_of sub.Words = codes "words"
+
+-- the word for what is done with a book on disk
+abbrev pub task_word : BookTask → Text
+task_word task.Create = codes "create"
+task_word task.Check = codes "check"
+task_word task.Report = codes "report"
+task_word task.Export = codes "export"
 
 -- `--NAME VALUE`
 abbrev pub option_named : Text → Rule
@@ -47,9 +59,17 @@ option w = option_named (id_of w)
 abbrev pub skipped_option : Rule
 skipped_option = record (new_rule (codes "skipped")) { long = Some (codes "skipped"); action = Some SetTrue }
 
+-- operands, as many as there are
+abbrev pub operands_named : Text → Rule
+operands_named id = record (new_rule id) { action = Some Append; value_names = 1 }
+
 -- `RECORD..`
 abbrev pub records_rule : Rule
-records_rule = record (new_rule (codes "records")) { action = Some Append; value_names = 1 }
+records_rule = operands_named (id_of word.Records)
+
+-- `TASK FILE`
+abbrev pub task_and_file_rule : Rule
+task_and_file_rule = operands_named (id_of word.TaskAndFile)
 
 -- a subcommand with these options
 abbrev pub added_options : App → List Word → App
@@ -65,11 +85,12 @@ line_of sub.Replay = with_rule (with_options (codes "replay") (word.Site ∷ [])
 line_of sub.Report = with_rule (with_options (codes "report") (word.Site ∷ [])) skipped_option
 line_of sub.Relay =
     with_options (codes "relay") (word.Site ∷ word.Name ∷ word.Answers ∷ word.Status ∷ word.Token ∷ word.Record ∷ word.Log ∷ [])
-line_of sub.Front = with_options (codes "front") (word.Site ∷ word.Answers ∷ word.Status ∷ word.Token ∷ word.Record ∷ word.Log ∷ [])
+line_of sub.Front = with_options (codes "front") (word.Site ∷ word.Book ∷ word.Answers ∷ word.Status ∷ word.Token ∷ word.Record ∷ word.Log ∷ [])
 line_of sub.Send = with_options (codes "send") (word.Site ∷ word.Client ∷ word.Peer ∷ word.Record ∷ word.Log ∷ [])
 line_of sub.Check = with_options (codes "check") (word.Site ∷ [])
 line_of sub.Audit = with_rule (with_options (codes "audit") (word.Site ∷ [])) records_rule
 line_of sub.Schedule = with_rule (with_options (codes "schedule") (word.Site ∷ [])) records_rule
+line_of sub.Book = with_rule (with_options (codes "book") (word.Site ∷ [])) task_and_file_rule
 line_of sub.Picture = with_options (codes "picture") (word.Site ∷ word.From ∷ word.To ∷ [])
 line_of sub.Words = with_options (codes "words") []
 
@@ -83,10 +104,10 @@ abbrev pub with_lines : App → List Subcommand → App
 with_lines line [] = line
 with_lines line (s ∷ rest) = with_lines (with_subcommand line (line_of s).top) rest
 
--- each subcommand, in the order of the help: what runs a schedule or serves, then what looks at a site, at records, at a run or at messages
+-- each subcommand, in the order of the help: what runs a schedule or serves, then what looks at a site, at records, at a book, at a run or at messages
 abbrev pub subcommands : List Subcommand
 subcommands =
-    sub.Replay ∷ sub.Report ∷ sub.Relay ∷ sub.Front ∷ sub.Send ∷ sub.Check ∷ sub.Audit ∷ sub.Schedule ∷ sub.Picture ∷ sub.Words ∷ []
+    sub.Replay ∷ sub.Report ∷ sub.Relay ∷ sub.Front ∷ sub.Send ∷ sub.Check ∷ sub.Audit ∷ sub.Schedule ∷ sub.Book ∷ sub.Picture ∷ sub.Words ∷ []
 
 abbrev pub command_line : App
 command_line = with_lines program subcommands

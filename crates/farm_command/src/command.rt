@@ -1,5 +1,6 @@
 //! What a command line asks for.
 
+use crate::book_task::BookTask;
 use log::LevelFilter;
 
 /// What is printed of a run.
@@ -44,6 +45,8 @@ pub struct Process<'a> {
     pub token: Option<&'a str>,
     /// The path of the record of what happens, if there is to be one.
     pub record_path: Option<&'a str>,
+    /// The path of the file with the book of the fronts, if it is not kept in memory alone.
+    pub book: Option<&'a str>,
     /// What it logs on standard error.
     pub level: LevelFilter,
 }
@@ -74,6 +77,16 @@ pub struct Audit<'a> {
     pub records: Vec<&'a str>,
 }
 
+/// An account book on disk.
+#[derive(Drop)]
+pub struct BookCommand<'a> {
+    pub task: BookTask,
+    /// The path of the site file.
+    pub site: &'a str,
+    /// The path of the file with the book.
+    pub file: &'a str,
+}
+
 /// The picture of a part of a run of the schedule on standard input.
 #[derive(Drop)]
 pub struct Picture<'a> {
@@ -96,6 +109,8 @@ pub enum Command<'a> {
     Check(Check<'a>),
     /// `audit` and `schedule`.
     Audit(Audit<'a>),
+    /// `book`.
+    Book(BookCommand<'a>),
     /// `picture`.
     Picture(Picture<'a>),
     /// `words`: the messages on standard input in words.

@@ -3,11 +3,12 @@
 //! - [`command_of`]: what the words behind a program's name ask for, a [`Command`], or why they are none ([`CliFault`]).
 //! - [`words_of`]: these words.
 //! - [`Status`], [`end`], [`refuse`]: the exit statuses of all programs, and how one ends.
-//! - [`Word`]: the options that may be missing or malformed, as they are told.
+//! - [`Word`]: the options and operands that may be missing or malformed, as they are told.
 //!
 //! Each program reads the same command line, and carries out its own commands alone ([`CliFault::Elsewhere`]).
 #![tactic(auto)]
 
+mod book_task;
 mod command;
 mod fault;
 mod lines;
@@ -17,7 +18,10 @@ mod subcommand;
 mod word;
 mod words;
 
-pub use command::{Action, Audit, AuditAction, Check, Command, Picture, Process, Run, Task};
+pub use book_task::BookTask;
+pub use command::{
+    Action, Audit, AuditAction, BookCommand, Check, Command, Picture, Process, Run, Task,
+};
 pub use fault::CliFault;
 pub use reading::command_of;
 pub use status::{Status, Stream, end, refuse};

@@ -4,7 +4,7 @@ ghost use Rattle.std.specs.Prelude.{◌≡◌, ◌∷◌, [], codes, false, IfOk
 ghost use Rattle.clap.specs.declared.builder.command.Command.TheViews.{out-Command as fields_of};
 ghost use Rattle.clap.specs.Simple.{with_rule, with_subcommand};
 ghost use Rattle.clap.specs.Words.{app_of};
-ghost use Rattle.farm_command.specs.CommandLine.{command_line, line_of, option_named, program, records_rule, skipped_option, with_lines, with_options};
+ghost use Rattle.farm_command.specs.CommandLine.{command_line, line_of, operands_named, option_named, program, records_rule, skipped_option, with_lines, with_options};
 ghost use Rattle.farm_command.specs.declared.word.Word.TheVariants as word;
 ghost use Rattle.farm_command.specs.declared.subcommand.Subcommand.TheVariants as sub;
 
@@ -47,18 +47,25 @@ fn with_skipped<'a>(line: Line<'a>, alloc: Global) -> Result<Line<'a>, AllocErro
     line.arg(skipped)
 }
 
-/// The line with the operands `RECORD..`.
-fn with_records<'a>(line: Line<'a>, alloc: Global) -> Result<Line<'a>, AllocError>
+/// The line with operands.
+fn with_operands<'a>(
+    line: Line<'a>,
+    alloc: Global,
+    id: &'a str,
+    value_name: &'a str,
+    help: &'a str,
+) -> Result<Line<'a>, AllocError>
     ensures shape { (fields_of line.entry).has_globals ≡ false →
-        IfOk result (λ made. app_of made ≡ with_rule (app_of line.entry) records_rule) }
+        IfOk result (λ made. app_of made
+        ≡ with_rule (app_of line.entry) (operands_named id.entry.now)) }
     ensures local { (fields_of line.entry).has_globals ≡ false →
         IfOk result (λ made. (fields_of made).has_globals ≡ false) }
 {
-    let records = Arg::new(alloc, "records")
+    let operands = Arg::new(alloc, id)
         .action(ArgAction::Append)
-        .value_name("RECORD")
-        .help("What a process of the farm wrote down");
-    line.arg(records)
+        .value_name(value_name)
+        .help(help);
+    line.arg(operands)
 }
 
 /// `replay` or `report`.
@@ -133,7 +140,9 @@ fn front_line<'a>(alloc: Global) -> Result<Line<'a>, AllocError>
 {
     let bare = Line::new(alloc, "front").about("Serves as all fronts of the site, over TCP");
     let sited = with_site(bare, alloc)?;
-    let ending = with_ends(sited, alloc)?;
+    let help = "The file with the account book; without it the book is lost with the process";
+    let booked = with_option(sited, alloc, "book", "FILE", help)?;
+    let ending = with_ends(booked, alloc)?;
     with_log(ending, alloc)
 }
 
@@ -167,7 +176,19 @@ fn audit_line<'a>(alloc: Global, name: &'a str, about: &'a str) -> Result<Line<'
     ensures local { IfOk result (λ line. (fields_of line).has_globals ≡ false) }
 {
     let sited = with_site(Line::new(alloc, name).about(about), alloc)?;
-    with_records(sited, alloc)
+    let help = "What a process of the farm wrote down";
+    with_operands(sited, alloc, "records", "RECORD", help)
+}
+
+/// `book`.
+fn book_line<'a>(alloc: Global) -> Result<Line<'a>, AllocError>
+    ensures shape { IfOk result (λ line. app_of line ≡ line_of sub.Book) }
+    ensures local { IfOk result (λ line. (fields_of line).has_globals ≡ false) }
+{
+    let about = "Makes, checks and prints an account book on disk";
+    let sited = with_site(Line::new(alloc, "book").about(about), alloc)?;
+    let help = "create, check, report or export, and the file with the book";
+    with_operands(sited, alloc, "task-and-file", "TASK FILE", help)
 }
 
 /// `picture`.
@@ -227,6 +248,7 @@ fn line_for<'a>(alloc: Global, subcommand: Subcommand) -> Result<Line<'a>, Alloc
             let about = "Prints the order of the records of a farm, as a schedule";
             audit_line(alloc, "schedule", about)
         }
+        Subcommand::Book => book_line(alloc),
         Subcommand::Picture => picture_line(alloc),
         Subcommand::Words => Ok(words_line(alloc)),
     }
@@ -274,6 +296,7 @@ pub fn command_line<'a>(alloc: Global) -> Result<Line<'a>, AllocError>
         Subcommand::Check,
         Subcommand::Audit,
         Subcommand::Schedule,
+        Subcommand::Book,
         Subcommand::Picture,
         Subcommand::Words,
     ];

@@ -1,14 +1,17 @@
 //! What the words of the command line ask for, by what clap finds in them.
 
-ghost use Rattle.std.specs.Prelude.{◌≡◌, ◌<◌, ℕ, Option, [], None, Some, codes, map, option_map, string_bytes, IfErr, IfOk, true, ◌⊎◌};
+ghost use Rattle.std.specs.Prelude.{◌≡◌, ◌<◌, ℕ, Option, [], ◌∷◌, None, Some, codes, map, option_map, string_bytes, IfErr, IfOk, true, ◌⊎◌};
 ghost use Rattle.clap.specs.Kinds.{HasKind, Kinds};
 ghost use Rattle.clap.specs.Walk.{all_of};
 ghost use Rattle.clap.specs.Words.{fault_of, found_of, kind_of, rows_of, subcommand_of, subcommand_rows_of, takes};
 ghost use Rattle.farm_command.specs.declared.subcommand.Subcommand.TheVariants as sub;
-ghost use Rattle.farm_command.specs.CommandLine.{command_line, id_of};
-ghost use Rattle.farm_command.specs.Asked.{HasAudit, HasProcess, HasOptions, HasPicture, HasReports, HasRun, IsCount, IsFaultBy, IsFaultIn, IsFaultOf, IsLevel, IsMalformed, IsOfKinds, IsPlain, IsReadFrom, IsStep, IsUnknown, of_audit, of_task, skipped_in, subcommand_for, value_in};
+ghost use Rattle.farm_command.specs.CommandLine.{command_line, id_of, task_word};
+ghost use Rattle.farm_command.specs.Asked.{AreFew, AreWrong, HasAudit, HasBook, HasProcess, HasOptions, HasPicture, HasReports, HasRun, IsCount, IsFaultBy, IsFaultIn, IsFaultOf, IsLevel, IsMalformed, IsOfKinds, IsPlain, IsReadFrom, IsStep, IsUnknown, of_audit, of_task, skipped_in, subcommand_for, value_in};
 
-use crate::command::{Action, Audit, AuditAction, Check, Command, Picture, Process, Run, Task};
+use crate::book_task::{BookTask, task_named};
+use crate::command::{
+    Action, Audit, AuditAction, BookCommand, Check, Command, Picture, Process, Run, Task,
+};
 use crate::fault::CliFault;
 use crate::lines::command_line;
 use crate::subcommand::{Subcommand, subcommand_named};
@@ -107,6 +110,36 @@ fn records_in<'a>(alloc: Global, found: &ArgMatches<'a>) -> Result<Vec<&'a str>,
     }
 }
 
+/// What two operands ask for: what is done, and the file.
+fn task_and_file<'a>(operands: &[&'a str]) -> Result<(BookTask, &'a str), CliFault>
+    ensures value { IfOk result (λ read. map (λ s. s.now) operands.now
+        ≡ task_word read.0 ∷ read.1.now ∷ []) }
+    ensures fault { IfErr result (λ fault.
+        ((fault ≡ CliFault.Missing Word.TaskAndFile) × AreFew (Some (map (λ s. s.now) operands.now)))
+        ⊎ ((fault ≡ CliFault.Malformed Word.TaskAndFile) × AreWrong (Some (map (λ s. s.now) operands.now)))) }
+{
+    match operands {
+        [] | [_] => Err(CliFault::Missing(Word::TaskAndFile)),
+        [word, file] => match task_named(word) {
+            Some(task) => Ok((task, *file)),
+            None => Err(CliFault::Malformed(Word::TaskAndFile)),
+        },
+        [_, _, _, ..] => Err(CliFault::Malformed(Word::TaskAndFile)),
+    }
+}
+
+/// The operands of `book`.
+fn operands_in<'a>(found: &ArgMatches<'a>) -> Result<(BookTask, &'a str), CliFault>
+    ensures value { IfOk result (λ read. all_of (id_of Word.TaskAndFile) (rows_of (found_of found.now))
+        ≡ Some (task_word read.0 ∷ read.1.now ∷ [])) }
+    ensures fault { IfErr result (IsFaultOf sub.Book (rows_of (found_of found.now))) }
+{
+    let Some(operands) = found.get_strs("task-and-file") else {
+        return Err(CliFault::Missing(Word::TaskAndFile));
+    };
+    task_and_file(operands)
+}
+
 /// A run, by what was found for `replay` or `report`.
 fn run_in<'a>(action: Action, found: &ArgMatches<'a>) -> Run<'a>
     ensures { (result.action ≡ action) × HasRun (rows_of (found_of found.now)) result }
@@ -134,6 +167,7 @@ fn process_of<'a>(
         status: value_of(found, Word::Status),
         token: value_of(found, Word::Token),
         record_path: value_of(found, Word::Record),
+        book: value_of(found, Word::Book),
         level,
     }
 }
@@ -205,6 +239,16 @@ fn audit_in<'a>(
     })
 }
 
+/// What was found for `book`.
+fn book_in<'a>(found: &ArgMatches<'a>) -> Result<BookCommand<'a>, CliFault>
+    ensures book { IfOk result (HasBook (rows_of (found_of found.now))) }
+    ensures fault { IfErr result (IsFaultOf sub.Book (rows_of (found_of found.now))) }
+{
+    let site = text_in(found, Word::Site)?;
+    let (task, file) = operands_in(found)?;
+    Ok(BookCommand { task, site, file })
+}
+
 /// What was found for `picture`.
 fn picture_in<'a>(found: &ArgMatches<'a>) -> Result<Picture<'a>, CliFault>
     ensures picture { IfOk result (HasPicture (rows_of (found_of found.now))) }
@@ -235,6 +279,7 @@ fn command_by<'a>(
         Subcommand::Check => Ok(Command::Check(check_in(found)?)),
         Subcommand::Audit => Ok(Command::Audit(audit_in(alloc, AuditAction::Audit, found)?)),
         Subcommand::Schedule => Ok(Command::Audit(audit_in(alloc, AuditAction::Schedule, found)?)),
+        Subcommand::Book => Ok(Command::Book(book_in(found)?)),
         Subcommand::Picture => Ok(Command::Picture(picture_in(found)?)),
         Subcommand::Words => Ok(Command::Words),
     }

@@ -15,6 +15,7 @@ pub enum Subcommand {
     Check,
     Audit,
     Schedule,
+    Book,
     Picture,
     Words,
 }
@@ -33,6 +34,7 @@ pub fn subcommand_named(name: &str) -> Option<Subcommand>
         "check" => Some(Subcommand::Check),
         "audit" => Some(Subcommand::Audit),
         "schedule" => Some(Subcommand::Schedule),
+        "book" => Some(Subcommand::Book),
         "picture" => Some(Subcommand::Picture),
         "words" => Some(Subcommand::Words),
         _ => None,

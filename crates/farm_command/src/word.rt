@@ -16,11 +16,14 @@ pub enum Word {
     Status,
     Token,
     Record,
+    Book,
     Log,
     From,
     To,
     /// The operands of `audit` and `schedule`.
     Records,
+    /// The two operands of `book`.
+    TaskAndFile,
 }
 
 impl Word {
@@ -37,10 +40,12 @@ impl Word {
             Word::Status => "status",
             Word::Token => "token",
             Word::Record => "record",
+            Word::Book => "book",
             Word::Log => "log",
             Word::From => "from",
             Word::To => "to",
             Word::Records => "records",
+            Word::TaskAndFile => "task-and-file",
         }
     }
 
@@ -48,12 +53,13 @@ impl Word {
     pub fn value_name(self) -> &'static str {
         match self {
             Word::Name | Word::Client | Word::Peer => "NAME",
-            Word::Site | Word::Token | Word::Record => "FILE",
+            Word::Site | Word::Token | Word::Record | Word::Book => "FILE",
             Word::Status => "ADDRESS",
             Word::Answers => "N",
             Word::Log => "LEVEL",
             Word::From | Word::To => "STEP",
             Word::Records => "RECORD",
+            Word::TaskAndFile => "TASK FILE",
         }
     }
 }
@@ -62,6 +68,7 @@ impl fmt::Display for Word {
     fn fmt<W: fmt::Write>(&self, f: &mut fmt::Formatter<W>) -> fmt::Result {
         match self {
             Word::Records => f.write_str("RECORD.."),
+            Word::TaskAndFile => f.write_str("TASK FILE"),
             Word::Site
             | Word::Name
             | Word::Client
@@ -70,6 +77,7 @@ impl fmt::Display for Word {
             | Word::Status
             | Word::Token
             | Word::Record
+            | Word::Book
             | Word::Log
             | Word::From
             | Word::To => { write!(f, "--{} {}", self.id(), self.value_name()) }

@@ -1,5 +1,7 @@
 //! Why the program does not do what it is asked to do.
 
+use book_file::FileError;
+use book_opening::BookFault;
 use farm_access::AccessFault;
 use farm_client::LinesFault;
 use farm_command::{CliFault, Status};
@@ -52,6 +54,12 @@ pub enum Fault {
     NoToken,
     #[error("the record cannot be opened: {0}")]
     Record(io::Error),
+    /// The book in the file is not opened. The file is as it was.
+    #[error("the book cannot be opened: {0}")]
+    Book(BookFault),
+    /// The disk of the book has failed, or has no room: whether what was charged last stands is not known.
+    #[error("the book cannot be stored: whether what was charged last stands is not known")]
+    BookNotStored,
     /// The connection of a client has ended before each request was answered.
     #[error("the connection has ended")]
     Ended,
@@ -101,23 +109,25 @@ impl Fault {
             | Fault::Lines(LinesFault::OutOfMemory)
             | Fault::Loop(LoopFault::OutOfMemory)
             | Fault::Start(StartFault::OutOfMemory)
+            | Fault::Book(BookFault::OutOfMemory | BookFault::File(FileError::OutOfMemory))
             | Fault::OutOfMemory => Status::OutOfMemory,
             Fault::Site(_)
             | Fault::Access(_)
             | Fault::Place(PlaceFault::NoAddress | PlaceFault::UnknownName { .. })
             | Fault::Lines(LinesFault::NoMessage { .. })
+            | Fault::Book(BookFault::OtherTerms(_) | BookFault::DamagedTerms | BookFault::Row(_))
             | Fault::NoToken => Status::Refused,
             Fault::SiteFile
             | Fault::Read
             | Fault::Write
             | Fault::Loop(LoopFault::Sockets(_))
-            | Fault::Start(
-                StartFault::NoWorker | StartFault::NoClock | StartFault::UnknownNode { .. },
-            )
+            | Fault::Start(StartFault::NoWorker | StartFault::UnknownNode { .. })
             | Fault::Status(_)
             | Fault::TokenFile
             | Fault::TokenSeen
             | Fault::Record(_)
+            | Fault::Book(BookFault::File(_))
+            | Fault::BookNotStored
             | Fault::Ended => Status::Failed,
         }
     }

@@ -3,21 +3,27 @@
 ghost use Rattle.std.specs.Prelude.{◌≡◌, ◌<◌, ◌≤◌, ◌*◌, length};
 ghost use Rattle.dia_base.specs.declared.number.NodeNo.{NodeNo};
 ghost use Rattle.farm_base.specs.CheckedSite.{IsChecked};
+ghost use Rattle.book_journal.specs.Kept.{IsKeptBy, IsSettled};
 ghost use Rattle.pool_node.specs.Fronts.{site_of};
 
 use crate::fault::Fault;
 use crate::serving::serve_over;
 use crate::setting::Setting;
 use crate::waker::LoopWaker;
+use book_file::FileBook;
+use book_journal::Journal;
+use book_opening::serving_book;
+use book_store::RowStore;
 use cc_book::Book;
 use cc_shared::{BlankHistory, SharedBook};
 use dia_avp::ViewWire;
 use dia_base::NodeNo;
+use farm_clock::Timer;
 use farm_loop::Sockets;
 use farm_place::{Place, fronts_of, place_of};
 use farm_world::empty_book;
 use front_pool::Pooling;
-use pool_node::{PoolFronts, seats_for, start_fronts};
+use pool_node::{PoolFronts, Timing, seats_for, start_fronts};
 use std::marker::Brand;
 use std::net::Net;
 use std::random::RandomSource;
@@ -35,7 +41,7 @@ struct FrontSockets {
 }
 
 /// Serves as all fronts of the site, each with as many workers as the site says, until so many answers were sent, 0 for
-/// ever, or until it is asked to end.
+/// ever, or until it is asked to end. Its book is opened before anything is connected or listens.
 pub fn serve_fronts<O>(setting: &Setting<'_, O>, answers: u64) -> Result<(), Fault>
 where
     O: Threads + Wait + Net + Clock + RandomSource + Copy + Send + 'static,
@@ -44,21 +50,30 @@ where
     let (alloc, site) = (setting.rt.alloc(), setting.site);
     let nodes = fronts_of(alloc, site)?;
     let listening = sockets_of(setting, &nodes)?;
-    let book = empty_book(alloc, site)?;
+    let timer = Timer::start(setting.os)?;
     let Some(workers) = seats_for(nodes.len(), site.workers) else {
         return Err(Fault::OutOfMemory);
     };
     let workers = workers.max(1);
-    serve_on::<Brand, O>(
-        setting,
-        nodes,
-        listening,
-        Blank::new(workers),
-        BlankHistory::new(),
-        book,
-        workers,
-        answers,
-    )
+    let empty = empty_book(alloc, site)?;
+    match serving_book(setting.rt, setting.command.book, empty) {
+        Ok((journal, book)) => {
+            let timing = Timing::on(timer, &book);
+            serve_on::<Brand, O>(
+                setting,
+                nodes,
+                listening,
+                Blank::new(workers),
+                BlankHistory::new(),
+                book,
+                journal,
+                timing,
+                workers,
+                answers,
+            )
+        }
+        Err(fault) => Err(Fault::Book(fault)),
+    }
 }
 
 /// The sockets of these fronts.
@@ -93,7 +108,7 @@ fn place_at<O>(setting: &Setting<'_, O>, node: NodeNo) -> Result<Place, Fault>
     place_of(setting.rt.alloc(), setting.site, node).map_err(Fault::Place)
 }
 
-/// Serves as these fronts, on this book, with so many workers.
+/// Serves as these fronts, on this book, which the journal keeps, with so many workers.
 fn serve_on<L, O>(
     setting: &Setting<'_, O>,
     nodes: Vec<NodeNo>,
@@ -101,6 +116,8 @@ fn serve_on<L, O>(
     blank: Blank,
     history: BlankHistory,
     book: Book,
+    journal: Journal<FileBook>,
+    timing: Timing,
     workers: u64,
     answers: u64,
 ) -> Result<(), Fault>
@@ -112,6 +129,8 @@ where
     requires parts { (blank.parts ≡ L.parts) × (blank.parts ≡ workers) }
     requires book { book ≡ L.shared.opened }
     requires history { history ≡ L.shared.log }
+    requires kept { IsKeptBy ⟦<FileBook as RowStore>⟧.is_clean ⟦<FileBook as RowStore>⟧.is_ready ⟦<FileBook as RowStore>⟧.rows journal book }
+    requires settled { IsSettled journal }
     requires some { 0 < workers }
     requires enough { length nodes.items * setting.now.site.now.workers ≤ workers }
     requires site { (front : NodeNo) → L.site front ≡ site_of setting.now.site.now front }
@@ -121,8 +140,18 @@ where
         sockets,
         waker,
     } = listening;
-    let fronts = start_on::<L, O>(setting, &nodes, waker, blank, history, book, workers)?;
-    serve_over(setting, &nodes, fronts, places, sockets, answers)
+    let fronts = start_on::<L, O>(
+        setting, &nodes, waker, blank, history, book, journal, timing, workers,
+    )?;
+    serve_over(
+        setting,
+        &nodes,
+        fronts,
+        places,
+        sockets,
+        timing.timer,
+        answers,
+    )
 }
 
 /// Starts these fronts on this book. Their workers wake the loop of the process.
@@ -133,8 +162,10 @@ fn start_on<L, O>(
     blank: Blank,
     history: BlankHistory,
     book: Book,
+    journal: Journal<FileBook>,
+    timing: Timing,
     workers: u64,
-) -> Result<PoolFronts<L, O>, Fault>
+) -> Result<PoolFronts<L, FileBook, O>, Fault>
 where
     L: Pooling + Send + Sync + 'static,
     O: Threads + Wait + Clock + Copy + Send + 'static,
@@ -143,21 +174,27 @@ where
     requires parts { (blank.parts ≡ L.parts) × (blank.parts ≡ workers) }
     requires book { book ≡ L.shared.opened }
     requires history { history ≡ L.shared.log }
+    requires kept { IsKeptBy ⟦<FileBook as RowStore>⟧.is_clean ⟦<FileBook as RowStore>⟧.is_ready ⟦<FileBook as RowStore>⟧.rows journal book }
+    requires settled { IsSettled journal }
     requires some { 0 < workers }
     requires enough { length nodes.now * setting.now.site.now.workers ≤ workers }
     requires site { (front : NodeNo) → L.site front ≡ site_of setting.now.site.now front }
 {
     let (alloc, site) = (setting.rt.alloc(), setting.site);
-    let Ok((shared, seats)) = SharedBook::<L>::share(alloc, blank, history, book, workers) else {
+    let shared = SharedBook::<L, FileBook>::share_kept(
+        alloc, blank, history, book, journal, workers,
+    );
+    let Ok((shared, seats)) = shared else {
         return Err(Fault::OutOfMemory);
     };
-    let fronts = start_fronts::<ViewWire, L, O, LoopWaker>(
+    let fronts = start_fronts::<ViewWire, L, FileBook, O, LoopWaker>(
         *setting.os,
         alloc,
         shared,
         seats,
         site,
         nodes,
+        timing,
         waker,
     );
     let mut fronts = fronts?;

@@ -7,6 +7,7 @@ use crate::turns::serve;
 use crate::view::Booked;
 use crate::watching::Watching;
 use dia_base::NodeNo;
+use farm_clock::Timer;
 use farm_loop::{Live, Sockets};
 use farm_place::Place;
 use std::alloc::Global;
@@ -32,20 +33,22 @@ pub fn serve_alone<N: Booked, O: Threads + Wait + Net + Clock + RandomSource>(
     answers: u64,
 ) -> Result<(), Fault> {
     let sockets = Sockets::new(setting.os, setting.rt.alloc())?;
-    serve_over(setting, &[number], node, places, sockets, answers)
+    let timer = Timer::start(setting.os)?;
+    serve_over(setting, &[number], node, places, sockets, timer, answers)
 }
 
-/// Serves as these nodes, which stand at these places, over these sockets.
+/// Serves as these nodes, which stand at these places, over these sockets and by this timer.
 pub fn serve_over<N: Booked, O: Threads + Wait + Net + Clock + RandomSource>(
     setting: &Setting<'_, O>,
     numbers: &[NodeNo],
     node: N,
     places: Vec<Place>,
     sockets: Sockets,
+    timer: Timer,
     answers: u64,
 ) -> Result<(), Fault> {
     let (alloc, site) = (setting.rt.alloc(), setting.site);
-    let live = Live::over(setting.os, alloc, site, sockets, node, places)?;
+    let live = Live::over(setting.os, alloc, site, sockets, node, places, timer)?;
     serve_recorded(setting, numbers, live, answers)
 }
 

@@ -10,7 +10,8 @@ use std::net::Net;
 use std::rt::Clock;
 use std::sync::Wait;
 
-/// One turn. What happened is written to the record before anything goes to the sockets.
+/// One turn. What happened is written to the record before anything goes to the sockets. The process ends where its book is not
+/// stored: what was answered before that is.
 pub fn turn<O: Net + Clock, N: Booked>(
     setting: &Setting<'_, O>,
     recording: &mut Record,
@@ -20,6 +21,9 @@ pub fn turn<O: Net + Clock, N: Booked>(
     N::tell(live);
     recording.write(setting.log, live);
     live.answer(setting.os, setting.log, setting.site, moment)?;
+    if live.serving.node().has_failed() {
+        return Err(Fault::BookNotStored);
+    }
     Ok(())
 }
 

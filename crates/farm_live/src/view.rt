@@ -1,5 +1,6 @@
 //! What a serving process says of itself.
 
+use book_store::RowStore;
 use cc_book::Book;
 use dia_base::{NodeNo, PENDING_LIMIT};
 use farm_base::Site;
@@ -28,6 +29,9 @@ pub trait Booked: Node + Drop {
     /// How many answers were dropped that nobody waited for.
     fn strangers(&self) -> u64;
 
+    /// Whether something that its book has done was not stored: the process is to end then.
+    fn has_failed(&self) -> bool;
+
     /// How many answers were dropped since their request has another End-to-End Identifier.
     fn mismatched(&self) -> u64;
 
@@ -54,6 +58,10 @@ impl Booked for MatchingRelay {
 
     fn strangers(&self) -> u64 {
         0
+    }
+
+    fn has_failed(&self) -> bool {
+        false
     }
 
     fn mismatched(&self) -> u64 {
@@ -85,6 +93,10 @@ impl Booked for Sender {
         0
     }
 
+    fn has_failed(&self) -> bool {
+        false
+    }
+
     fn mismatched(&self) -> u64 {
         0
     }
@@ -101,7 +113,7 @@ impl Booked for Sender {
     }
 }
 
-impl<L: Pooling, R: Wait + Drop> Booked for PoolFronts<L, R> {
+impl<L: Pooling, S: RowStore + Drop, R: Wait + Drop> Booked for PoolFronts<L, S, R> {
     fn book(&self) -> Option<BookFigures> {
         Some(self.figures())
     }
@@ -114,11 +126,15 @@ impl<L: Pooling, R: Wait + Drop> Booked for PoolFronts<L, R> {
         PoolFronts::strangers(self)
     }
 
+    fn has_failed(&self) -> bool {
+        PoolFronts::has_failed(self)
+    }
+
     fn mismatched(&self) -> u64 {
         0
     }
 
-    fn tell(live: &mut Live<PoolFronts<L, R>>) {
+    fn tell(live: &mut Live<PoolFronts<L, S, R>>) {
         live.serving.record_node();
     }
 

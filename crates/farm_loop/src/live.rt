@@ -134,10 +134,11 @@ impl<N: Node + Drop> Live<N> {
         places: Vec<Place>,
     ) -> Result<Self, LoopFault> {
         let sockets = Sockets::new(os, alloc)?;
-        Live::over(os, alloc, site, sockets, node, places)
+        let timer = Timer::start(os)?;
+        Live::over(os, alloc, site, sockets, node, places, timer)
     }
 
-    /// The same over sockets of which somebody has the waker.
+    /// The same over sockets of which somebody has the waker. All moments are those of the timer.
     pub fn over<O: Clock>(
         os: &O,
         alloc: Global,
@@ -145,8 +146,8 @@ impl<N: Node + Drop> Live<N> {
         sockets: Sockets,
         node: N,
         places: Vec<Place>,
+        timer: Timer,
     ) -> Result<Self, LoopFault> {
-        let timer = Timer::start(os)?;
         let moment = timer.now(os)?;
         let dials = dials_of(alloc, site, &places)?;
         let (addresses, locals) = ends_of(alloc, places)?;

@@ -1,6 +1,7 @@
 //! Why a pool does not do what it is told.
 
 use crate::site::Pooling;
+use book_store::RowStore;
 use cc_shared::{Seat, SharedBook};
 use dia_message::Message;
 
@@ -15,7 +16,7 @@ pub enum SubmitError {
 /// A pool that was not started, for want of memory or of a thread: no thread of it runs. The handle is the one that was
 /// handed in, and there are as many seats as were.
 #[derive(Drop)]
-pub struct StartFailed<L: Pooling> {
-    pub shared: SharedBook<L>,
+pub struct StartFailed<L: Pooling, S: RowStore> {
+    pub shared: SharedBook<L, S>,
     pub seats: Vec<Seat<L>>,
 }

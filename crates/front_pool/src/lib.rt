@@ -16,7 +16,7 @@
 //!
 //! ```text
 //! let queue = PoolQueue { front, name, realm, profile, timer, jobs: 1024 };
-//! let mut pool = Pool::start::<ViewWire, _, _>(&rt, alloc, shared.another()?, seats, Wakes { waker }, queue)?;
+//! let mut pool = Pool::start::<ViewWire, _, _, _>(&rt, alloc, shared.another()?, seats, Wakes { waker }, queue)?;
 //! let number = pool.submit(&rt, conn, request)?;          // a full queue hands the request back
 //! while let Some(finished) = pool.collect(&rt) {
 //!     send(finished.conn, finished.answer);

@@ -16,7 +16,7 @@ use crate::error::SubmitError;
 use crate::job::{Finished, Job, Stopped, is_of};
 use crate::queues::{FinishedPass, FinishedQueue, JobPass, JobQueue, Puts, TakesAnswered};
 use crate::site::Pooling;
-use cc_shared::{Seat, SharedBook};
+use cc_shared::Seat;
 use dia_base::{ConnId, NodeNo};
 use dia_message::Message;
 use std::alloc::Global;
@@ -41,7 +41,6 @@ pub struct Pool<L: Pooling> {
     finished: Arc<FinishedQueue<L>>,
     finished_pass: FinishedPass,
     control: Arc<Control>,
-    shared: SharedBook<L>,
     workers: Vec<JoinHandle<Seat<L>>>,
     /// Empty, with room for the seat of each worker.
     seats: Vec<Seat<L>>,
@@ -83,7 +82,6 @@ impl<L: Pooling> Pool<L> {
         desk: Desk<L, G>,
         job_pass: JobPass,
         finished_pass: FinishedPass,
-        shared: SharedBook<L>,
         workers: Vec<JoinHandle<Seat<L>>>,
         seats: Vec<Seat<L>>,
     ) -> Self
@@ -108,7 +106,6 @@ impl<L: Pooling> Pool<L> {
             finished,
             finished_pass,
             control,
-            shared,
             workers,
             seats,
             last: 0,
@@ -215,7 +212,6 @@ impl<L: Pooling> Pool<L> {
             finished,
             finished_pass,
             control,
-            shared: _,
             workers,
             seats,
             last: _,

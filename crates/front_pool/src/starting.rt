@@ -13,6 +13,7 @@ use crate::pool::{Pool, joined};
 use crate::queues::{FinishedPass, JobPass};
 use crate::site::{PoolQueue, Pooling};
 use crate::worker::Worker;
+use book_store::RowStore;
 use cc_shared::{Seat, SharedBook};
 use dia_avp::Wire;
 use std::alloc::Global;
@@ -22,18 +23,19 @@ use std::thread;
 use std::thread::{JoinHandle, Threads};
 
 /// A thread for one worker more, or its seat, where there is no memory or no thread for it.
-fn hire<W, L, R, G>(
+fn hire<W, L, S, R, G>(
     rt: &R,
     alloc: Global,
     desk: &Desk<L, G>,
     job_pass: &mut JobPass,
     finished_pass: &mut FinishedPass,
-    shared: &SharedBook<L>,
+    shared: &SharedBook<L, S>,
     seat: Seat<L>,
 ) -> Result<JoinHandle<Seat<L>>, Seat<L>>
 where
     W: Wire + Send + 'static,
     L: Pooling + Send + Sync + 'static,
+    S: RowStore + Drop + Send + 'static,
     R: Threads + Wait + Clock + Copy + Send + 'static,
     G: Gate + Drop + Send + Sync + 'static,
     requires site { arc_value desk.now.site ≡ L.site desk.now.front }
@@ -66,16 +68,17 @@ impl<L: Pooling + Send + Sync + 'static> Pool<L> {
     /// Starts a worker for each seat, each in a thread of its own, and all on this book. Where memory or a thread is missing,
     /// those that were started are ended and joined, and the handle and the seats handed back. The caller keeps a handle
     /// for [`SharedBook::finish`].
-    pub fn start<W, R, G>(
+    pub fn start<W, S, R, G>(
         rt: &R,
         alloc: Global,
-        shared: SharedBook<L>,
+        shared: SharedBook<L, S>,
         seats: Vec<Seat<L>>,
         gate: G,
         queue: PoolQueue,
-    ) -> Result<Pool<L>, StartFailed<L>>
+    ) -> Result<Pool<L>, StartFailed<L, S>>
     where
         W: Wire + Send + 'static,
+        S: RowStore + Drop + Send + 'static,
         R: Threads + Wait + Clock + Copy + Send + 'static,
         G: Gate + Drop + Send + Sync + 'static,
         requires jobs { 0 < queue.jobs }
@@ -93,7 +96,7 @@ impl<L: Pooling + Send + Sync + 'static> Pool<L> {
             return Err(StartFailed { shared, seats });
         };
         for seat in seats {
-            match hire::<W, L, R, G>(
+            match hire::<W, L, S, R, G>(
                 rt,
                 alloc,
                 &desk,
@@ -107,15 +110,7 @@ impl<L: Pooling + Send + Sync + 'static> Pool<L> {
             }
         }
         if back.is_empty() {
-            return Ok(Pool::of_workers(
-                alloc,
-                desk,
-                job_pass,
-                finished_pass,
-                shared,
-                workers,
-                back,
-            ));
+            return Ok(Pool::of_workers(alloc, desk, job_pass, finished_pass, workers, back));
         }
         desk.control.stop();
         let seats = joined(rt, workers, back);

@@ -14,6 +14,7 @@ use crate::gate::Gate;
 use crate::job::{Finished, Job};
 use crate::queues::{FinishedPass, JobPass, Puts, Takes};
 use crate::site::Pooling;
+use book_store::RowStore;
 use cc_shared::{Asked, Seat, Served, SharedBook};
 use dia_avp::Wire;
 use std::alloc::Global;
@@ -32,15 +33,15 @@ const NO_ROOM: u64 = 1;
 /// A worker: what it shares with the others of its pool, and what is its own. Contracts see its front, the jobs that it has
 /// taken, those that it has finished, and what its seat has counted.
 #[derive(Drop)]
-pub struct Worker<L: Pooling, G> {
+pub struct Worker<L: Pooling, S: RowStore, G> {
     desk: Desk<L, G>,
     job_pass: JobPass,
     finished_pass: FinishedPass,
-    shared: SharedBook<L>,
+    shared: SharedBook<L, S>,
     seat: Seat<L>,
 }
 
-impl<L: Pooling, G> Model for Worker<L, G> {
+impl<L: Pooling, S: RowStore, G> Model for Worker<L, S, G> {
     ghost use Rattle.std.specs.Prelude.{◌≡◌, false};
     ghost use Rattle.std.specs.Arc.{arc_value};
     ghost use Rattle.crossbeam_queue.specs.Passes.{IsPassOf, view as known_to};
@@ -55,13 +56,13 @@ impl<L: Pooling, G> Model for Worker<L, G> {
         × ((known_to w.job_pass).by_pool ≡ false) × ((known_to w.finished_pass).by_pool ≡ false) };
 }
 
-impl<L: Pooling, G: Gate + Drop> Worker<L, G> {
+impl<L: Pooling, S: RowStore + Drop, G: Gate + Drop> Worker<L, S, G> {
     /// A worker that has done nothing yet.
     pub fn new(
         desk: Desk<L, G>,
         job_pass: JobPass,
         finished_pass: FinishedPass,
-        shared: SharedBook<L>,
+        shared: SharedBook<L, S>,
         seat: Seat<L>,
     ) -> Self
         requires site { arc_value desk.site ≡ L.site desk.front }

@@ -1,5 +1,5 @@
 -- What is collected goes on from what was collected before.
-use Rattle.std.proofs.Common.{◌≡◌, ◌<◌, ℕ, Bool, true, List, [], ◌++◌, Result, Ok, Err, length, get_or, refl, sym, subst}
+use Rattle.std.proofs.Common.{◌≡◌, ◌<◌, ℕ, Bool, true, [], ◌++◌, Result, Ok, Err, length, get_or, refl, sym, subst}
 use Rattle.std.specs.Prelude.{slice_set, IfOk, MatchBool, MatchResult}
 use Rattle.dia_base.specs.declared.number.NodeNo.{NodeNo}
 use Rattle.dia_message.specs.Traffic.{Traffic}

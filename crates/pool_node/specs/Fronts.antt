@@ -1,5 +1,5 @@
 -- The fronts of a process, each with its workers, and what they do at each event of a node.
-use Rattle.std.specs.Prelude.{◌≡◌, ◌==◌, ◌<◌, ℕ, Bool, true, MatchBool, not, List, [], ◌∷◌, ◌++◌, filter, length, map, position, Option, Some, None, Result, Ok, Err, MatchOption, MatchResult, get_or, slice_get, slice_set, if◌then◌else◌}
+use Rattle.std.specs.Prelude.{◌≡◌, ◌==◌, ◌<◌, ℕ, Bool, true, MatchBool, not, List, [], ◌∷◌, ◌++◌, filter, length, map, position, Option, Some, None, Result, Ok, Err, MatchOption, get_or, slice_get, slice_set, if◌then◌else◌}
 use Rattle.dia_base.specs.declared.number.ConnId.{ConnId}
 use Rattle.dia_base.specs.declared.number.Moment.{Moment}
 use Rattle.dia_base.specs.declared.number.NodeNo.{NodeNo}
@@ -54,9 +54,9 @@ pub record FrontsState : Type 0 where
   pub next_sweep : NextSweep
   pub figures : BookFigures
 
--- fronts of which nothing was collected, on a book that is swept at the first tick
-abbrev pub with_fronts : List FrontState → FrontsState
-with_fronts fronts = record { fronts = fronts; next_sweep = From (record { 0 = 0 }); figures = no_figures }
+-- fronts of which nothing was collected, on a book that is swept from this moment on
+abbrev pub with_fronts : Moment → List FrontState → FrontsState
+with_fronts first fronts = record { fronts = fronts; next_sweep = From first; figures = no_figures }
 
 -- these fronts, each with so many workers, before anything has happened to them
 abbrev pub new_fronts : List NodeNo → ℕ → ℕ → List FrontState

@@ -11,6 +11,7 @@ use crate::events::BookEvents;
 use crate::figures::BookFigures;
 use crate::front::PoolFront;
 use crate::sweeping::NextSweep;
+use book_store::RowStore;
 use cc_book::BookRefusal;
 use cc_shared::{ClosedBook, SharedBook, Swept};
 use dia_avp::Wire;
@@ -31,18 +32,19 @@ pub const COLLECT_LIMIT: u32 = 1_024;
 /// So many octets of answers end the collecting at a front, at one event: as many as a turn reads of a connection.
 pub const COLLECT_OCTETS: usize = 262_144;
 
-/// All fronts of a site in one process, on one book, each with workers of its own. `R` is what their threads run on.
+/// All fronts of a site in one process, on one book, each with workers of its own. `S` is what the book is stored in, `R` what
+/// their threads run on.
 #[derive(Drop)]
-pub struct PoolFronts<L: Pooling, R> {
+pub struct PoolFronts<L: Pooling, S: RowStore, R> {
     rt: R,
-    shared: SharedBook<L>,
+    shared: SharedBook<L, S>,
     fronts: Vec<PoolFront<L>>,
     next_sweep: NextSweep,
     figures: BookFigures,
     events: BookEvents,
 }
 
-impl<L: Pooling, R> Model for PoolFronts<L, R> {
+impl<L: Pooling, S: RowStore, R> Model for PoolFronts<L, S, R> {
     ghost use Rattle.pool_node.specs.Fronts.{FrontsState};
 
     ghost Value = { FrontsState };
@@ -100,16 +102,24 @@ fn ended_by(swept: Result<Swept, BookRefusal>) -> Result<u64, BookRefusal>
     }
 }
 
-impl<L: Pooling, R: Wait> PoolFronts<L, R> {
-    /// These fronts, whose workers serve on this book.
-    pub fn new(rt: R, alloc: Global, shared: SharedBook<L>, fronts: Vec<PoolFront<L>>) -> Self
-        ensures { result ≡ with_fronts fronts.items }
+impl<L: Pooling, S: RowStore + Drop, R: Wait> PoolFronts<L, S, R> {
+    /// These fronts, whose workers serve on this book. It is swept from this moment on.
+    pub fn new(
+        rt: R,
+        alloc: Global,
+        shared: SharedBook<L, S>,
+        fronts: Vec<PoolFront<L>>,
+        first_sweep: Moment,
+    ) -> Self
+        ensures { result ≡ with_fronts first_sweep fronts.items }
     {
         PoolFronts {
             rt,
             shared,
             fronts,
-            next_sweep: NextSweep::From { moment: Moment(0) },
+            next_sweep: NextSweep::From {
+                moment: first_sweep,
+            },
             figures: BookFigures::nothing(),
             events: BookEvents::off(alloc),
         }
@@ -141,6 +151,11 @@ impl<L: Pooling, R: Wait> PoolFronts<L, R> {
         ensures { self.new ≡ self.old }
     {
         self.events.begin();
+    }
+
+    /// Whether something that the book has done was not stored. The process is to end then: whether it stands is not known.
+    pub fn has_failed(&self) -> bool {
+        self.shared.has_failed()
     }
 
     /// What the book has come to, as far as answers were collected.
@@ -223,7 +238,7 @@ impl<L: Pooling, R: Wait> PoolFronts<L, R> {
     }
 }
 
-impl<L: Pooling, R: Drop> PoolFronts<L, R> {
+impl<L: Pooling, S: RowStore + Drop, R: Drop> PoolFronts<L, S, R> {
     /// Ends all workers, and closes the book. What they have finished and nobody has collected is told. The book, with all of its
     /// history; none where memory was missing.
     pub fn end<T: Threads + Wait + Clock>(
@@ -255,7 +270,7 @@ impl<L: Pooling, R: Drop> PoolFronts<L, R> {
     }
 }
 
-impl<L: Pooling, R: Wait> Node for PoolFronts<L, R> {
+impl<L: Pooling, S: RowStore + Drop, R: Wait> Node for PoolFronts<L, S, R> {
     ghost on_event = { OnFrontsEvent L.site L.shared };
 
     fn on_up(&mut self, alloc: Global, local: NodeNo, _peer: NodeNo, conn: ConnId) -> Reaction {
@@ -301,7 +316,7 @@ impl<L: Pooling, R: Wait> Node for PoolFronts<L, R> {
 }
 
 /// Their charges, refusals and sweeps.
-impl<L: Pooling, R> Recorded for PoolFronts<L, R> {
+impl<L: Pooling, S: RowStore + Drop, R> Recorded for PoolFronts<L, S, R> {
     fn tell_events(&mut self, alloc: Global, recorder: &mut Recorder) {
         self.events.tell(alloc, recorder);
     }

@@ -8,7 +8,8 @@
 //!
 //! - [`BookFigures`]: what the book has come to, as far as answers were collected. [`PoolFronts::end`] ends all workers and
 //!   gives the book back.
-//! - [`NextSweep`]: when the book is swept next: once a second at most, and never again once it is full.
+//! - [`NextSweep`]: when the book is swept next: once a second at most, and never again once it is full. [`Timing`]: when it is
+//!   swept first, and from when on time goes on.
 //! - [`BookEvents`]: what the fronts have done that nobody else can tell of, for those who record it.
 //!
 //! What the node does at each event stands in `specs/Fronts`, and how many octets go out then in `specs/Measure`.
@@ -21,6 +22,7 @@ mod front;
 mod fronts;
 mod start;
 mod sweeping;
+mod timing;
 
 pub use events::BookEvents;
 pub use figures::BookFigures;
@@ -28,3 +30,4 @@ pub use front::PoolFront;
 pub use fronts::{COLLECT_LIMIT, COLLECT_OCTETS, PoolFronts};
 pub use start::{Bell, StartFault, seats_for, start_fronts};
 pub use sweeping::{NextSweep, SWEEP_INTERVAL};
+pub use timing::Timing;

@@ -6,6 +6,8 @@ ghost use Rattle.pool_node.specs.Fronts.{new_front, new_fronts, site_of, with_fr
 
 use crate::front::PoolFront;
 use crate::fronts::PoolFronts;
+use crate::timing::Timing;
+use book_store::RowStore;
 use cc_shared::{Seat, SharedBook};
 use dia_avp::Wire;
 use dia_base::NodeNo;
@@ -26,8 +28,6 @@ pub enum StartFault {
     /// A worker has no thread, or no memory.
     #[error("a worker cannot be started")]
     NoWorker,
-    #[error("the clock cannot be read")]
-    NoClock,
     #[error("node {} is none of the site", node.0)]
     UnknownNode { node: NodeNo },
 }
@@ -81,10 +81,10 @@ fn take_seats<L: Pooling>(seats: &mut Vec<Seat<L>>, count: u32) -> Result<Vec<Se
 }
 
 /// Starts a front, with a worker for each seat.
-fn start_front<W, L, R, K>(
+fn start_front<W, L, S, R, K>(
     rt: &R,
     alloc: Global,
-    shared: &SharedBook<L>,
+    shared: &SharedBook<L, S>,
     seats: Vec<Seat<L>>,
     site: &Site,
     node: NodeNo,
@@ -94,6 +94,7 @@ fn start_front<W, L, R, K>(
 where
     W: Wire + Send + 'static,
     L: Pooling + Send + Sync + 'static,
+    S: RowStore + Drop + Send + 'static,
     R: Threads + Wait + Clock + Copy + Send + 'static,
     K: Wake + Drop + Send + Sync + 'static,
     requires site { (front : NodeNo) → L.site front ≡ site_of site.now front }
@@ -111,7 +112,7 @@ where
         jobs: site.queue as usize,
     };
     let handle = shared.another()?;
-    match Pool::<L>::start::<W, R, Wakes<Bell<K>>>(
+    match Pool::<L>::start::<W, S, R, Wakes<Bell<K>>>(
         rt,
         alloc,
         handle,
@@ -132,10 +133,10 @@ pub fn seats_for(fronts: usize, workers: u32) -> Option<u64>
 }
 
 /// Starts the next front, with as many workers as the site says.
-fn start_next<W, L, R, K>(
+fn start_next<W, L, S, R, K>(
     rt: &R,
     alloc: Global,
-    shared: &SharedBook<L>,
+    shared: &SharedBook<L, S>,
     seats: &mut Vec<Seat<L>>,
     site: &Site,
     node: NodeNo,
@@ -145,6 +146,7 @@ fn start_next<W, L, R, K>(
 where
     W: Wire + Send + 'static,
     L: Pooling + Send + Sync + 'static,
+    S: RowStore + Drop + Send + 'static,
     R: Threads + Wait + Clock + Copy + Send + 'static,
     K: Wake + Drop + Send + Sync + 'static,
     requires site { (front : NodeNo) → L.site front ≡ site_of site.now front }
@@ -155,14 +157,14 @@ where
 {
     let own = take_seats(seats, site.workers)?;
     let waker = Arc::try_clone(waker)?;
-    start_front::<W, L, R, K>(rt, alloc, shared, own, site, node, timer, Bell { waker })
+    start_front::<W, L, S, R, K>(rt, alloc, shared, own, site, node, timer, Bell { waker })
 }
 
 /// Starts these fronts, one after the other.
-fn start_each<W, L, R, K>(
+fn start_each<W, L, S, R, K>(
     rt: &R,
     alloc: Global,
-    shared: &SharedBook<L>,
+    shared: &SharedBook<L, S>,
     seats: &mut Vec<Seat<L>>,
     site: &Site,
     nodes: &[NodeNo],
@@ -172,6 +174,7 @@ fn start_each<W, L, R, K>(
 where
     W: Wire + Send + 'static,
     L: Pooling + Send + Sync + 'static,
+    S: RowStore + Drop + Send + 'static,
     R: Threads + Wait + Clock + Copy + Send + 'static,
     K: Wake + Drop + Send + Sync + 'static,
     requires site { (front : NodeNo) → L.site front ≡ site_of site.now front }
@@ -181,38 +184,49 @@ where
 {
     let mut fronts = Vec::with_capacity(alloc, nodes.len())?;
     for node in nodes {
-        let front = start_next::<W, L, R, K>(rt, alloc, shared, seats, site, *node, timer, waker)?;
+        let front = start_next::<W, L, S, R, K>(
+            rt, alloc, shared, seats, site, *node, timer, waker,
+        )?;
         fronts.push(front)?;
     }
     Ok(fronts)
 }
 
 /// Starts these fronts of a site, on one book, each with as many workers as the site says, for each of which there is a seat
-/// ([`seats_for`]). The workers wake by `waker` when they have an answer. Where that fails, the process has no use for those that were started.
-pub fn start_fronts<W, L, R, K>(
+/// ([`seats_for`]). The workers wake by `waker` when they have an answer. Where that fails, the process has no use for those that
+/// were started.
+pub fn start_fronts<W, L, S, R, K>(
     rt: R,
     alloc: Global,
-    shared: SharedBook<L>,
+    shared: SharedBook<L, S>,
     seats: Vec<Seat<L>>,
     site: &Site,
     nodes: &[NodeNo],
+    timing: Timing,
     waker: K,
-) -> Result<PoolFronts<L, R>, StartFault>
+) -> Result<PoolFronts<L, S, R>, StartFault>
 where
     W: Wire + Send + 'static,
     L: Pooling + Send + Sync + 'static,
+    S: RowStore + Drop + Send + 'static,
     R: Threads + Wait + Clock + Copy + Send + 'static,
     K: Wake + Drop + Send + Sync + 'static,
     requires site { (front : NodeNo) → L.site front ≡ site_of site.now front }
     requires queue { 0 < site.now.queue }
     requires seats { length nodes.now * site.now.workers ≤ length seats.items }
-    ensures { IfOk result (λ fronts. fronts ≡ with_fronts (new_fronts nodes.now site.now.workers site.now.queue)) }
+    ensures { IfOk result (λ fronts. fronts ≡ with_fronts timing.first_sweep (new_fronts nodes.now site.now.workers site.now.queue)) }
 {
     let mut seats = seats;
-    let timer = Timer::start(&rt).map_err(|_| StartFault::NoClock)?;
     let waker = Arc::new(alloc, waker)?;
-    let fronts = start_each::<W, L, R, K>(
-        &rt, alloc, &shared, &mut seats, site, nodes, timer, &waker,
+    let fronts = start_each::<W, L, S, R, K>(
+        &rt,
+        alloc,
+        &shared,
+        &mut seats,
+        site,
+        nodes,
+        timing.timer,
+        &waker,
     )?;
-    Ok(PoolFronts::new(rt, alloc, shared, fronts))
+    Ok(PoolFronts::new(rt, alloc, shared, fronts, timing.first_sweep))
 }

@@ -7,13 +7,14 @@
 //!   and a session are answered; and a stop while one of two workers holds a job.
 //! - `fronts`: answers of two fronts, many at a time, a session that is due, a full book, and a record. No other program runs
 //!   them so but the one that serves.
-//! - `messages`: requests besides the first debit. `told`: what stands in a book.
+//! - `messages`: requests besides the first debit. `nowhere`: what their books are stored in, nothing. `told`: what stands in a book.
 //!
 //! What it must print, `stdout`, was worked out by hand, in this order. It is the same however the threads run.
 #![tactic(auto)]
 
 mod fronts;
 mod messages;
+mod nowhere;
 mod shared;
 mod told;
 mod workers;

@@ -1,6 +1,7 @@
 //! The node, what its workers wake, and how events are told.
 
 use crate::fronts::site::CLIENT;
+use crate::nowhere::Nowhere;
 use crate::told::print_book;
 use anyhow::Context;
 use cc_shared::ClosedBook;
@@ -38,7 +39,7 @@ impl Wake for Rings {
 /// The fronts, how often their workers have waked, and by what they charge.
 #[derive(Drop)]
 pub struct Running<'a, L: Pooling, R> {
-    pub fronts: PoolFronts<L, R>,
+    pub fronts: PoolFronts<L, Nowhere, R>,
     pub rings: &'a AtomicU64,
     pub timer: Timer,
     pub recorder: Recorder,

@@ -7,6 +7,7 @@ ghost use Rattle.pool_node.specs.Fronts.{site_of};
 use crate::fronts::running::{Rings, Running};
 use crate::fronts::site::{CLIENT, FIRST, SECOND, site};
 use crate::messages::INITIAL;
+use crate::nowhere::Nowhere;
 use cc_book::Book;
 use cc_shared::{BlankHistory, SharedBook};
 use dia_avp::ViewWire;
@@ -15,7 +16,7 @@ use farm_base::Site;
 use farm_clock::Timer;
 use farm_record::Recorder;
 use front_pool::Pooling;
-use pool_node::{PoolFronts, start_fronts};
+use pool_node::{PoolFronts, Timing, start_fronts};
 use samples_given::{ONE_ACCOUNT, book, debit, message};
 use std::alloc::{AllocError, Global};
 use std::marker::Brand;
@@ -140,7 +141,7 @@ fn start<L, R>(
     blank: Blank,
     history: BlankHistory,
     book: Book,
-) -> anyhow::Result<PoolFronts<L, R>>
+) -> anyhow::Result<PoolFronts<L, Nowhere, R>>
 where
     L: Pooling + Send + Sync + 'static,
     R: Threads + Wait + Clock + Copy + Send + 'static,
@@ -152,14 +153,16 @@ where
     requires history { history ≡ L.shared.log }
     requires site { (front : NodeNo) → L.site front ≡ site_of site.now front }
 {
-    match SharedBook::<L>::share(alloc, blank, history, book, 2) {
-        Ok((shared, seats)) => Ok(start_fronts::<ViewWire, L, R, Rings>(
+    let timing = Timing::on(Timer::start(rt)?, &book);
+    match SharedBook::<L, Nowhere>::share(alloc, blank, history, book, 2) {
+        Ok((shared, seats)) => Ok(start_fronts::<ViewWire, L, Nowhere, R, Rings>(
             *rt,
             alloc,
             shared,
             seats,
             site,
             &[FIRST, SECOND],
+            timing,
             waker,
         )?),
         Err(_) => Err(AllocError.into()),
@@ -186,7 +189,7 @@ fn perform<L: Pooling, R: Threads + Wait + Clock + Print + Copy>(
 fn print_fronts<L: Pooling, R: Threads + Wait + Clock + Print + Copy>(
     rt: &R,
     alloc: Global,
-    fronts: PoolFronts<L, R>,
+    fronts: PoolFronts<L, Nowhere, R>,
     rings: &AtomicU64,
     sample: Sample,
 ) -> anyhow::Result<()> {

@@ -3,6 +3,7 @@
 ghost use Rattle.std.specs.Prelude.{◌≡◌, ◌<◌};
 
 use crate::messages::debit_request;
+use crate::nowhere::Nowhere;
 use crate::shared::lines::{print_finished, print_served};
 use anyhow::Context;
 use cc_book::Book;
@@ -16,7 +17,7 @@ use std::sync::ledger::Blank;
 /// A handle on a shared book, seats at it, and the receipts that were given.
 #[derive(Drop)]
 pub struct Table<L: Sharing> {
-    pub shared: SharedBook<L>,
+    pub shared: SharedBook<L, Nowhere>,
     pub seats: Vec<Seat<L>>,
     pub receipts: Vec<Receipt>,
 }
@@ -35,7 +36,7 @@ pub fn share<L: Sharing>(
     requires book { book ≡ L.shared.opened }
     requires history { history ≡ L.shared.log }
 {
-    match SharedBook::<L>::share(alloc, blank, history, book, seats) {
+    match SharedBook::<L, Nowhere>::share(alloc, blank, history, book, seats) {
         Ok((shared, seats)) => Ok(Table {
             shared,
             seats,

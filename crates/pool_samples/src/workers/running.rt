@@ -2,6 +2,7 @@
 
 ghost use Rattle.std.specs.Prelude.{◌≡◌, ◌<◌, IfOk};
 
+use crate::nowhere::Nowhere;
 use anyhow::{Context, bail};
 use cc_book::Book;
 use cc_shared::{BlankHistory, Receipt, Seat, SharedBook};
@@ -32,7 +33,7 @@ const IDLE: u64 = 20;
 #[derive(Drop)]
 pub struct Running<L: Pooling> {
     pub pool: Pool<L>,
-    pub shared: SharedBook<L>,
+    pub shared: SharedBook<L, Nowhere>,
     /// By which its requests are charged.
     pub timer: Timer,
     pub finished: Vec<Finished>,
@@ -41,7 +42,7 @@ pub struct Running<L: Pooling> {
 /// A pool that was stopped.
 #[derive(Drop)]
 pub struct Ended<L: Pooling> {
-    pub shared: SharedBook<L>,
+    pub shared: SharedBook<L, Nowhere>,
     pub seats: Vec<Seat<L>>,
     pub collected: Vec<Finished>,
     /// The jobs that were finished by then, and not collected.
@@ -90,12 +91,13 @@ where
     requires site { L.site queue.front ≡ record { name = queue.name; realm = queue.realm; profile = queue.profile } }
     requires some { 0 < workers }
 {
-    let Ok((shared, seats)) = SharedBook::<L>::share(alloc, blank, history, book, workers) else {
+    let Ok((shared, seats)) = SharedBook::<L, Nowhere>::share(alloc, blank, history, book, workers)
+    else {
         return Err(AllocError.into());
     };
     let handle = shared.another()?;
     let timer = queue.timer;
-    match Pool::<L>::start::<ViewWire, R, G>(rt, alloc, handle, seats, gate, queue) {
+    match Pool::<L>::start::<ViewWire, Nowhere, R, G>(rt, alloc, handle, seats, gate, queue) {
         Ok(pool) => Ok(Running {
             pool,
             shared,

@@ -1,7 +1,8 @@
-use Rattle.std.proofs.Common.{◌≡◌, ◌++◌, ◌∷◌, [], List, length, ap, sym, ◌∙◌, arith, length-append}
+use Rattle.std.proofs.Common.{◌≡◌, ◌++◌, ◌∷◌, [], List, Bool, length, ap, sym, subst, cond, ◌∙◌, arith, length-append}
 use Rattle.cc_book.specs.declared.entry.Entry.TheVariants.{Take}
-use Rattle.cc_book.specs.Planning.{after_plan}
+use Rattle.cc_book.specs.Planning.{after_plan, answer_planned}
 use Rattle.cc_book.specs.Taking.{Ledger, with_take}
+use Rattle.book_journal.specs.Kept.{IsKeptBy}
 use Rattle.cc_shared.specs.declared.logged.Logged.{Logged}
 use Rattle.cc_shared.specs.declared.logged.Logged.TheVariants.{Entered}
 use Rattle.cc_shared.specs.History.{book_at, entries_in, is_closed}
@@ -18,8 +19,8 @@ overflow_add-self g c =
     let longer : length c.add_take.new.self ≡ length (log ++ more ∷ []) = ap length added in
     omega (arith, few, longer, length-append log (more ∷ []), c.self.invariant.2, c.seen.invariant.0, ap length c.seen.view_is, c.seen.ranges)
 
-pub invariant_of-self : goal.invariant_of-self
-invariant_of-self g c =
+pub invariant_of-self-2 : goal.invariant_of-self-2
+invariant_of-self-2 g c =
     let opened = g.L.Sharing.shared.opened in
     let log = c.self.inside.seen in
     let more = Entered (Take c.args.moment c.args.request.now) in
@@ -29,11 +30,20 @@ invariant_of-self g c =
     ∙ ap (λ (l : List Logged). after_plan (book_at opened l) c.args.plan) c.self.view_is
     ∙ c.requires.after
     ∙ ap (λ (l : List Logged). with_take (book_at opened l) c.args.moment c.args.request.now) (sym c.self.view_is)
-    ∙ book_at-take opened log c.args.moment c.args.request.now in (
+    ∙ book_at-take opened log c.args.moment c.args.request.now in
+    let before : Ledger = book_at opened c.args.self.now in
+    let same : c.self.inside.book ≡ before = c.self.invariant.0 ∙ ap (λ (l : List Logged). book_at opened l) c.self.view_is in
+    let kept = subst (λ (l : Ledger). IsKeptBy g.S.RowStore.is_clean g.S.RowStore.is_ready g.S.RowStore.rows c.self.inside.journal l) same c.self.invariant.6 in
+    let after : after_plan before c.args.plan ≡ cond (answer_planned c.args.plan).fresh (with_take before c.args.moment c.args.request.now) before =
+    c.requires.after ∙ sym (ap (λ (b : Bool). cond b (with_take before c.args.moment c.args.request.now) before) c.requires.fresh) in
+    let next = c.in-Ok.ensures.row before c.requires.good after kept in
+    let longer = c.add.ensures.kept before (after_plan before c.args.plan) (c.row_of_take.ensures.kept before kept) next in
+    let end : after_plan before c.args.plan ≡ c.commit-answered.new.self = sym (c.commit-answered.ensures.after ∙ ap (λ (l : Ledger). after_plan l c.args.plan) same) in (
       is ∙ ap (λ (l : List Logged). book_at opened l) (sym added),
       ap is_closed added ∙ open_goes_on log (Take c.args.moment c.args.request.now) c.self.invariant.1,
       (let one = one_take_more log c.args.moment c.args.request.now in let same = ap (λ (l : List Logged). takes_in (entries_in l)) added in omega (arith, one, same, c.self.invariant.2)),
       (let counted = c.add_one.ensures.takes in omega (arith, counted, c.self.invariant.3)),
       c.self.invariant.4,
       c.self.invariant.5,
+      subst (λ (l : Ledger). IsKeptBy g.S.RowStore.is_clean g.S.RowStore.is_ready g.S.RowStore.rows c.add.new.self l) end longer,
     )

@@ -1,6 +1,8 @@
-use Rattle.std.proofs.Common.{◌≡◌, ◌++◌, ◌∷◌, [], List, ap, sym, ◌∙◌}
+use Rattle.std.proofs.Common.{◌≡◌, ◌++◌, ◌∷◌, [], List, length, ap, sym, subst, ◌∙◌}
 use Rattle.cc_book.specs.declared.entry.Entry.TheVariants.{Sweep}
 use Rattle.cc_book.specs.Taking.{Ledger, with_sweep}
+use Rattle.cc_book.specs.declared.entry.Entry.{Entry}
+use Rattle.book_journal.specs.Kept.{IsKeptBy}
 use Rattle.cc_shared.specs.declared.logged.Logged.{Logged}
 use Rattle.cc_shared.specs.declared.logged.Logged.TheVariants.{Entered}
 use Rattle.cc_shared.specs.History.{book_at, entries_in, is_closed}
@@ -21,13 +23,18 @@ invariant_of-self-2 g c =
     c.in_ok-swept.ensures.after
     ∙ swept_book c.self.inside.book moment c.in_ok-swept.swept some
     ∙ ap (λ (l : Ledger). with_sweep l moment) c.self.invariant.0
-    ∙ book_at-sweep opened log moment in (
+    ∙ book_at-sweep opened log moment in
+    let before = c.self.inside.book in
+    let next = c.in-Ok.ensures.row before (ap (λ (h : List Entry). length h) c.history.ensures.entries) c.self.invariant.6 in
+    let longer = c.add.ensures.kept before (with_sweep before moment) (c.row_of_sweep.ensures.kept before c.self.invariant.6) next in
+    let end : with_sweep before moment ≡ c.sweep.new.self = sym (c.in_ok-swept.ensures.after ∙ swept_book before moment c.in_ok-swept.swept some) in (
       is ∙ ap (λ (l : List Logged). book_at opened l) (sym added),
       ap is_closed added ∙ open_goes_on log (Sweep moment) c.self.invariant.1,
       ap (λ (l : List Logged). takes_in (entries_in l)) added ∙ (no_take_more log moment ∙ c.self.invariant.2),
       c.self.invariant.3,
       c.self.invariant.4,
       c.self.invariant.5,
+      subst (λ (l : Ledger). IsKeptBy g.S.RowStore.is_clean g.S.RowStore.is_ready g.S.RowStore.rows c.add.new.self l) end longer,
     )
 
 pub returns-clause-open : goal.returns-clause-open

@@ -1,4 +1,4 @@
-use Rattle.std.proofs.Common.{◌≡◌, rules}
+use Rattle.std.proofs.Common.{rules}
 use Rattle.front_pool.proofs.Serving.{works_refused}
 use Rattle.front_pool.proofs.worker.Worker.serve_all.Goals as goal
 

@@ -1,0 +1,184 @@
+//! A book that is open, of which everything is stored: what stands behind the lock until it is closed.
+
+ghost use Rattle.std.specs.Prelude.{◌≡◌, ◌+◌, ◌<◌, ◌^◌, [], IfOk, length, sum, false};
+ghost use Rattle.cc_book.specs.History.{IsLegal};
+ghost use Rattle.cc_shared.specs.Closing.{FinishesWith};
+ghost use Rattle.cc_shared.specs.History.{book_at, is_closed};
+ghost use Rattle.cc_shared.specs.Sharing.{standings_of};
+ghost use Rattle.book_journal.specs.Kept.{IsKeptBy, IsSettled};
+
+use crate::checking::first_stray;
+use crate::error::CloseError;
+use crate::history::Beginning;
+use crate::open::OpenBook;
+use crate::receipt::Receipt;
+use crate::seat::Seat;
+use crate::sharing::Sharing;
+use book_journal::Journal;
+use book_store::RowStore;
+use cc_book::Book;
+use std::alloc::{AllocError, Global};
+use std::marker::Model;
+use std::sync::ledger;
+use std::sync::ledger::Share;
+
+/// An open book ([`OpenBook`]) of which nothing waits to be stored: what is stored is its whole history. Contracts see its history
+/// since it is shared.
+#[derive(Drop)]
+pub struct KeptBook<L: Sharing, S: RowStore> {
+    pub book: Book,
+    pub takes: u64,
+    pub counted: ledger::Book<L>,
+    pub rest: Share<L>,
+    pub seen: Beginning<L>,
+    pub journal: Journal<S>,
+}
+
+impl<L: Sharing, S: RowStore> Model for KeptBook<L, S> {
+    ghost use Rattle.std.specs.Prelude.{◌≡◌, List, false};
+    ghost use Rattle.book_journal.specs.Kept.{IsKeptBy, IsSettled};
+    ghost use Rattle.cc_shared.specs.declared.logged.Logged.{Logged as Record};
+    ghost use Rattle.cc_shared.specs.History.{book_at, entries_in, is_closed};
+    ghost use Rattle.cc_shared.specs.Sharing.{takes_in};
+
+    ghost Value = { List Record };
+
+    ghost view = { λ b. b.seen };
+
+    ghost invariant = { λ b. (b.book ≡ book_at L.shared.opened b.seen) × (is_closed b.seen ≡ false) × (takes_in (entries_in b.seen) ≡ b.takes)
+        × (b.counted.total ≡ b.takes) × (b.rest.parts ≡ 0) × (b.rest.amount ≡ 0)
+        × IsKeptBy S.is_clean S.is_ready S.rows b.journal b.book × IsSettled b.journal };
+}
+
+impl<L: Sharing, S: RowStore + Drop> KeptBook<L, S> {
+    /// The book of which the sharing is named, with nothing more.
+    pub fn new(
+        book: Book,
+        counted: ledger::Book<L>,
+        rest: Share<L>,
+        seen: Beginning<L>,
+        journal: Journal<S>,
+    ) -> Self
+        requires book { book ≡ L.shared.opened }
+        requires counted { counted.total ≡ 0 }
+        requires rest { (rest.parts ≡ 0) × (rest.amount ≡ 0) }
+        requires seen { seen ≡ [] }
+        requires kept { IsKeptBy S.is_clean S.is_ready S.rows journal book }
+        requires settled { IsSettled journal }
+        ensures { result ≡ [] }
+    {
+        KeptBook {
+            book,
+            takes: 0,
+            counted,
+            rest,
+            seen,
+            journal,
+        }
+    }
+
+    /// The book, which may be asked.
+    pub fn open(self) -> OpenBook<L, S>
+        ensures { result ≡ self }
+    {
+        let KeptBook {
+            book,
+            takes,
+            counted,
+            rest,
+            seen,
+            journal,
+        } = self;
+        OpenBook {
+            book,
+            takes,
+            counted,
+            rest,
+            seen,
+            journal,
+        }
+    }
+
+    /// The whole history.
+    pub fn history(&self) -> &Beginning<L>
+        ensures log { result.now ≡ self.now }
+        ensures open { is_closed self.now ≡ false }
+        ensures legal { IsLegal L.shared.opened.terms (book_at L.shared.opened self.now).history }
+    {
+        let _entries = self.book.history().len();
+        &self.seen
+    }
+
+    /// Balance and reserved amount of each account.
+    pub fn snapshot(&self, alloc: Global) -> Result<Vec<(i128, i128)>, AllocError>
+        ensures pairs { IfOk result (λ pairs. pairs.items ≡ standings_of L.shared.opened.terms (book_at L.shared.opened self.now).history) }
+    {
+        standings(alloc, &self.book)
+    }
+
+    /// The book, where these seats have counted its takes and these receipts stand in its history.
+    pub fn close(
+        self,
+        alloc: Global,
+        seats: Vec<Seat<L>>,
+        receipts: &[Receipt],
+    ) -> Result<Book, CloseError>
+        ensures finished { FinishesWith L.shared.opened L.parts seats.items receipts.now result }
+        ensures book { IfOk result (λ book. book ≡ book_at L.shared.opened self) }
+    {
+        let KeptBook {
+            book,
+            takes,
+            mut counted,
+            rest,
+            seen: _,
+            journal: _,
+        } = self;
+        let _entries = book.history().len();
+        match first_stray(alloc, &book, receipts) {
+            Ok(None) => {}
+            Ok(Some(place)) => return Err(CloseError::ReceiptNotInHistory { place, book }),
+            Err(_) => return Err(CloseError::OutOfMemory { book }),
+        }
+        if count_of(&mut counted, rest, seats) != takes {
+            return Err(CloseError::CountsDiffer { book });
+        }
+        Ok(book)
+    }
+}
+
+/// Balance and reserved amount of each account.
+fn standings(alloc: Global, book: &Book) -> Result<Vec<(i128, i128)>, AllocError>
+    ensures { IfOk result (λ pairs. pairs.items ≡ standings_of book.now.terms book.now.history) }
+{
+    let mut pairs = Vec::new(alloc);
+    for account in 0..book.accounts().len() {
+        let (Some(balance), Some(reserved)) = (book.balance(account), book.reserved(account)) else {
+            unreachable!();
+        };
+        pairs.push((balance, reserved))?;
+    }
+    Ok(pairs)
+}
+
+/// What the seats have counted. With all parts of the ledger that is its total.
+fn count_of<L: Sharing>(
+    counted: &mut ledger::Book<L>,
+    mut all: Share<L>,
+    seats: Vec<Seat<L>>,
+) -> u64
+    requires none { (all.parts ≡ 0) × (all.amount ≡ 0) }
+    requires small { counted.old.total < 2 ^ 64 }
+    ensures sum { result ≡ sum seats.items }
+    ensures whole { length seats.items ≡ L.parts → result ≡ counted.old.total }
+{
+    let mut takes = 0;
+    for seat in seats {
+        let (count, share) = seat.into_parts();
+        all.merge(share);
+        counted.audit(&mut all);
+        takes += count;
+    }
+    counted.audit(&mut all);
+    takes
+}

@@ -1,0 +1,119 @@
+//! Why a task is not done.
+
+ghost use Rattle.std.specs.Prelude.{◌≡◌};
+ghost use Rattle.farm_book.specs.Ending.{status_of, status_of_book, status_of_file, status_of_journal, status_of_store};
+
+use book_entries::RowRefusal;
+use book_file::FileError;
+use book_journal::JournalError;
+use book_lines::LinesFault;
+use book_opening::BookFault;
+use book_store::RowError;
+use farm_command::Status;
+use farm_site::SiteFault;
+use sqlite_trees::error::StoreError;
+use std::alloc::AllocError;
+use thiserror::Error;
+
+/// Why a task is not done. What is stored is as it was.
+#[derive(Debug, Drop, Error)]
+pub enum TaskFault {
+    #[error("the site file cannot be read")]
+    SiteFile,
+    #[error("{0}")]
+    Site(SiteFault),
+    #[error("the book is not made: {0}")]
+    NotMade(BookFault),
+    #[error("the book is not read: {0}")]
+    NotRead(BookFault),
+    /// Its entries are not told.
+    #[error("{0}")]
+    Lines(LinesFault),
+    #[error("the output cannot be written")]
+    Write,
+    #[error("out of memory")]
+    OutOfMemory,
+}
+
+impl TaskFault {
+    /// How the program ends by this fault.
+    pub fn status(&self) -> Status
+        ensures { result ≡ status_of self.now }
+    {
+        match self {
+            TaskFault::SiteFile | TaskFault::Write => Status::Failed,
+            TaskFault::NotMade(fault) | TaskFault::NotRead(fault) => book_status(*fault),
+            TaskFault::Site(SiteFault::OutOfMemory)
+            | TaskFault::Lines(LinesFault::OutOfMemory)
+            | TaskFault::OutOfMemory => Status::OutOfMemory,
+            TaskFault::Site(_) | TaskFault::Lines(_) => Status::Refused,
+        }
+    }
+}
+
+/// How the program ends by a fault of a book.
+fn book_status(fault: BookFault) -> Status
+    ensures { result ≡ status_of_book fault }
+{
+    match fault {
+        BookFault::File(error) => file_status(error),
+        BookFault::Row(error) => journal_status(error),
+        BookFault::OtherTerms(_) | BookFault::DamagedTerms => Status::Refused,
+        BookFault::OutOfMemory => Status::OutOfMemory,
+    }
+}
+
+/// How the program ends by a fault of a file: one that is not there, is in use, or that the system does not read or write, has
+/// failed; one that is read, and is no book, is refused.
+fn file_status(error: FileError) -> Status
+    ensures { result ≡ status_of_file error }
+{
+    match error {
+        FileError::Missing | FileError::Busy | FileError::Io(_) => Status::Failed,
+        FileError::Store(error) => store_status(error),
+        FileError::OutOfMemory => Status::OutOfMemory,
+        FileError::Exists
+        | FileError::NoBooksFile
+        | FileError::NoBook
+        | FileError::OtherFormat
+        | FileError::DamagedBook
+        | FileError::StandsElsewhere
+        | FileError::Damaged(_)
+        | FileError::Full => Status::Refused,
+    }
+}
+
+/// How the program ends by a fault of the disk, or by a page that is not what was written.
+fn store_status(error: StoreError) -> Status
+    ensures { result ≡ status_of_store error }
+{
+    match error {
+        StoreError::OutOfMemory => Status::OutOfMemory,
+        StoreError::Corrupt => Status::Refused,
+        StoreError::Io | StoreError::Full | StoreError::Broken | StoreError::Unstorable =>
+            Status::Failed,
+    }
+}
+
+/// How the program ends by a row that is not taken.
+fn journal_status(error: JournalError) -> Status
+    ensures { result ≡ status_of_journal error }
+{
+    match error {
+        JournalError::Unread {
+            why: RowError::Store(error),
+            ..
+        } => store_status(error),
+        JournalError::Refused {
+            why: RowRefusal::OutOfMemory,
+            ..
+        } => Status::OutOfMemory,
+        JournalError::Unread { .. } | JournalError::Refused { .. } => Status::Refused,
+    }
+}
+
+impl From<AllocError> for TaskFault {
+    fn from(_: AllocError) -> TaskFault {
+        TaskFault::OutOfMemory
+    }
+}

@@ -1,0 +1,202 @@
+#!/usr/bin/env python3
+"""A book on disk over the row site, worked out from the rules alone (docs/BOOK.md, docs/DEFINITIONS.md).
+
+    stored_book.py fill FILE            writes entries of each kind into a book without one, which `farm book create` made
+    stored_book.py check|report|export FILE
+                                        prints what `farm book` must print of it
+    stored_book.py identity FILE        prints which book it is
+    stored_book.py harm FILE PLACE      changes the moment of the row at a place
+    stored_book.py cut FILE             takes the last row away
+
+It reads and writes the file by SQLite itself, and shares nothing with the program.
+"""
+import sqlite3
+import sys
+
+import stored_rows as rows
+from book import Book
+from credit_control import (CHECK_BALANCE, DIRECT_DEBITING, EVENT, INITIAL, PRICE_ENQUIRY, REFUND_ACCOUNT, TERMINATION,
+                            UPDATE, Request, Service)
+from row_site import CC_TOTAL_OCTETS, ROW_SITE
+
+# Time, octets, and service-specific units.
+COUNTS = 420, CC_TOTAL_OCTETS, 417
+TYPES = {INITIAL: "initial", UPDATE: "update", TERMINATION: "termination", EVENT: "event"}
+ACTIONS = {None: "-", DIRECT_DEBITING: "direct-debiting", REFUND_ACCOUNT: "refund-account", CHECK_BALANCE: "check-balance",
+           PRICE_ENQUIRY: "price-enquiry"}
+
+# ---- a history with an entry of each kind
+
+FIRST, SECOND = [(0, "491700000001")], [(0, "491700000002")]
+
+
+def of(asked, used=0):
+    asked = None if asked is None else {CC_TOTAL_OCTETS: asked}
+    return Service(10, None, asked, {code: used if code == CC_TOTAL_OCTETS else 0 for code in COUNTS})
+
+
+def event(number, action, subscribers, asked):
+    return Request("c1;1;1", number, EVENT, action, subscribers, [of(asked)])
+
+
+# The moment of each entry with its request; none at a look at the clock, two times 600 seconds behind the last request of
+# the session.
+STORY = [
+    (1_000, event(0, DIRECT_DEBITING, FIRST, 3200)),
+    (2_000, Request("c1;2", 0, INITIAL, None, FIRST, [of(3200)])),
+    (3_000, Request("c1;2", 1, UPDATE, None, [], [of(4000, 3200)])),
+    (4_000, Request('c1 "3"\n%é', 7, TERMINATION, None, [], [])),
+    (5_000, event(1, CHECK_BALANCE, SECOND, 3200)),
+    (6_000, event(2, PRICE_ENQUIRY, [], 3200)),
+    (7_000, event(3, REFUND_ACCOUNT, SECOND, 1000)),
+    (1_203_000, None),
+]
+
+
+class Entry:
+    """An entry as the book takes it: the account that it charges, its debit and its reply, none of them at a sweep."""
+
+    def __init__(self, book, place, moment, request):
+        self.place, self.moment, self.request = place, moment, request
+        if request is None:
+            book.sweep(moment)
+            return
+        opener = book.sessions[request.session].account if request.session in book.sessions else None
+        self.account = opener if request.kind in (UPDATE, TERMINATION) else book.account_of(request)
+        before = sum(book.balances.values())
+        self.reply = book.take(request, moment)
+        self.debit = before - sum(book.balances.values())
+
+
+def history():
+    """The entries of the story, and the book behind them."""
+    book = Book(ROW_SITE)
+    return [Entry(book, place, *step) for place, step in enumerate(STORY)], book
+
+
+# ---- as rows
+
+
+def step_of(entry):
+    if entry.request is None:
+        return b"\0"
+    request, reply = entry.request, entry.reply
+    services = [rows.service(*service.name, service.bare,
+                             None if service.asked is None else [service.asked.get(code) for code in COUNTS],
+                             [service.used[code] for code in COUNTS]) for service in request.services]
+    asked = rows.request(request.session.encode(), request.number, request.kind, request.action,
+                         [(kind, text.encode()) for kind, text in request.subscribers], services)
+    answered = rows.reply(reply.code, [rows.service_reply(it.group, it.identifier, it.bare, it.code, it.unit, it.granted, it.validity, it.last)
+                                       for it in reply.services],
+                          None if reply.cost is None else (reply.cost, ROW_SITE.exponent, ROW_SITE.currency), reply.check)
+    return rows.taken(asked, answered, entry.debit)
+
+
+def stored(entries):
+    """The octets of each row."""
+    made, before = [], bytes(16)
+    for entry in entries:
+        made.append(rows.chained(before, entry.place, entry.moment, step_of(entry)))
+        before = made[-1][-16:]
+    return made
+
+
+# ---- as lines
+
+
+def optional(value):
+    return "-" if value is None else str(value)
+
+
+def quoted(text):
+    octets = text.encode()
+    return '"' + "".join(chr(octet) if 32 < octet < 127 and octet not in b'"%' else f"%{octet:02X}" for octet in octets) + '"'
+
+
+def line_of(entry):
+    head = f"entry {entry.place} moment {entry.moment}"
+    request = entry.request
+    if request is None:
+        return f"{head} sweep"
+    account = f'{entry.account[0]} {quoted(entry.account[1])}' if entry.account else "- -"
+    reply = entry.reply
+    words = [f"{head} charge session {quoted(request.session)} number {request.number}",
+             f"type {TYPES[request.kind]} action {ACTIONS[request.action]} account {account} debit {entry.debit}",
+             f"result {reply.code} cost {'-' if reply.cost is None else f'{reply.cost}e{ROW_SITE.exponent}'} check {optional(reply.check)}"]
+    for it in request.services:
+        asked = [None] * 3 if it.asked is None else [it.asked.get(code) for code in COUNTS]
+        words += ["asked", *map(optional, it.name), *map(optional, asked), "used", *(str(it.used[code]) for code in COUNTS)]
+    for it in reply.services:
+        words += ["granted", optional(it.group), optional(it.identifier), str(it.code), optional(it.granted)]
+    return " ".join(words)
+
+
+# ---- the file
+
+
+def opened(path):
+    file = sqlite3.connect(path)
+    file.execute("PRAGMA journal_mode = WAL")
+    return file
+
+
+def fill(path):
+    made = stored(history()[0])
+    standing = rows.number(len(made), 8) + made[-1][8:16] + made[-1][-16:]
+    with opened(path) as file:
+        file.executemany("INSERT INTO entry (rowid, octets) VALUES (?, ?)", enumerate(made))
+        file.execute("UPDATE book SET octets = ? WHERE rowid = 1", (standing,))
+    file.close()
+
+
+def harm(path, place):
+    with opened(path) as file:
+        octets, = file.execute("SELECT octets FROM entry WHERE rowid = ?", (place,)).fetchone()
+        file.execute("UPDATE entry SET octets = ? WHERE rowid = ?", (octets[:15] + bytes([octets[15] ^ 1]) + octets[16:], place))
+    file.close()
+
+
+def cut(path):
+    with opened(path) as file:
+        file.execute("DELETE FROM entry WHERE rowid = (SELECT max(rowid) FROM entry)")
+    file.close()
+
+
+def identity_of(path):
+    with sqlite3.connect(f"file:{path}?mode=ro&immutable=1", uri=True) as file:
+        about, = file.execute("SELECT octets FROM book WHERE rowid = 0").fetchone()
+    file.close()
+    return about[4:20].hex()
+
+
+def identity(path):
+    yield identity_of(path)
+
+
+def check(path):
+    entries, _ = history()
+    charges = sum(entry.request is not None for entry in entries)
+    yield f"book {identity_of(path)}"
+    yield f"entries {len(entries)} charges {charges} sweeps {len(entries) - charges}"
+    yield f"last {entries[-1].moment}"
+    yield f"sum {stored(entries)[-1][-16:].hex()}"
+
+
+def report(_):
+    return "".join(history()[1].report()).splitlines()
+
+
+def export(_):
+    return map(line_of, history()[0])
+
+
+def main():
+    task, path, *more = sys.argv[1:]
+    if task in ("fill", "harm", "cut"):
+        {"fill": fill, "harm": harm, "cut": cut}[task](path, *map(int, more))
+    else:
+        print(*{"identity": identity, "check": check, "report": report, "export": export}[task](path), sep="\n")
+
+
+if __name__ == "__main__":
+    main()
