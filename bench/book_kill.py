@@ -24,9 +24,8 @@ from pathlib import Path
 
 sys.dont_write_bytecode = True
 
-from loaded import (CAPABILITIES, CREDIT_CONTROL, EVENT, ORIGIN_HOST, ORIGIN_REALM, PROGRAM, REALM, REQUEST, RESULT_CODE, SERVICES,  # noqa: E402
-                    SUCCESS, LIMIT_REACHED, Avp, Message, Otherwise, body_of, code_in, end_when_told, first, free_ports, group, number, split,
-                    spelled, text)
+from loaded import (CAPABILITIES, CREDIT_CONTROL, EVENT, ORIGIN_HOST, ORIGIN_REALM, PROGRAM, REALM, REQUEST, SUCCESS, LIMIT_REACHED,  # noqa: E402
+                    Avp, Message, Otherwise, body_of, code_in, end_when_told, free_ports, group, number, split, spelled, text)
 
 BOOK_PROGRAM = PROGRAM.parent.parent.parent / "farm_book/out/farm_book"
 CLIENT, UNANSWERED, PATIENCE, RETRANSMITTED = "c1", 32, 20, 0x10
@@ -43,7 +42,7 @@ def site(port):
     return f"""
 realm = "{REALM}"
 validity = 600
-limit = 2000000
+limit = 1048576
 currency = 978
 exponent = -2
 node = [{{ name = "f1.example", kind = "front", address = "127.0.0.1:{port}" }}, {{ name = "{CLIENT}.example", kind = "client" }}]
@@ -156,7 +155,7 @@ class Client:
         """What each account has paid, by the answers."""
         paid = Counter()
         for serial, (_, body) in self.answered.items():
-            code = code_in(split(first(split(body), SERVICES).value))
+            code = code_in(split(body))
             if code not in (SUCCESS, LIMIT_REACHED):
                 raise Otherwise(f"request {serial} is answered {code}")
             paid[account_of(serial)] += COST if code == SUCCESS else 0
