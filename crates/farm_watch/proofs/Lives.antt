@@ -5,20 +5,22 @@ use Rattle.dia_base.specs.declared.number.Moment.{Moment}
 use Rattle.dia_base.specs.declared.number.NodeNo.{NodeNo}
 use Rattle.dia_message.specs.declared.message.Message.{Message}
 use Rattle.farm_watch.specs.Capabilities.{avps_in, greeting_to, is_success, is_up}
-use Rattle.farm_watch.specs.Life.{Event, came, ticked, closed, Phase, before_up, while_up, after_end, IsLife, acts_from, effect_of, life_of}
+use Rattle.farm_watch.specs.Life.{Event, came, ticked, closed, Phase, before_up, while_up, while_leaving, after_end, IsLife, acts_from, effect_of, life_of}
 use Rattle.farm_watch.specs.PeerMessages.{dwr, kind_of}
-use Rattle.farm_watch.specs.Table.{Connection, Effect, asks, drops, drops_where, has_passed, hears, identifier_after, on_close, on_greeting, on_kind, on_tick, stays}
+use Rattle.farm_watch.specs.Table.{Connection, Effect, asks, drops, drops_where, has_passed, hears, identifier_after, on_close, on_goodbye, on_greeting, on_kind, on_tick, stays}
 use Rattle.farm_watch.specs.declared.acts.Act.{Act}
 use Rattle.farm_watch.specs.declared.acts.Act.TheVariants.{PeerUp}
 use Rattle.farm_watch.specs.declared.kind.MessageKind.{MessageKind}
 use Rattle.farm_watch.specs.declared.kind.MessageKind.TheVariants.{Cer, Cea, Dwr, Dwa, Dpr, Dpa, Other}
 use Rattle.farm_watch.specs.declared.reading.Greeting.{Greeting}
 use Rattle.farm_watch.specs.declared.reading.Greeting.TheVariants.{Unwelcome, NothingInCommon, Welcome}
+use Rattle.farm_watch.specs.declared.site.Goodbyes.{Goodbyes}
+use Rattle.farm_watch.specs.declared.site.Goodbyes.TheVariants.{EndAtOnce, LeaveClosing}
 use Rattle.farm_watch.specs.declared.site.Side.{Side}
 use Rattle.farm_watch.specs.declared.site.Side.TheVariants.{Connects, Accepts}
 use Rattle.farm_watch.specs.declared.site.WatchSite.{WatchSite}
 use Rattle.farm_watch.specs.declared.watch.Waits.{Waits}
-use Rattle.farm_watch.specs.declared.watch.Waits.TheVariants.{ForCer, ForCea, ForMessage, ForDwa, ForDpa, ForNothing}
+use Rattle.farm_watch.specs.declared.watch.Waits.TheVariants.{ForCer, ForCea, ForMessage, ForDwa, ForDpa, ForClose, ForNothing}
 
 abbrev pub phase_of : Waits → Phase
 phase_of (ForCer since) = before_up
@@ -26,6 +28,7 @@ phase_of (ForCea node since) = before_up
 phase_of (ForMessage since) = while_up
 phase_of (ForDwa since) = while_up
 phase_of (ForDpa since) = while_up
+phase_of (ForClose since) = while_leaving
 phase_of ForNothing = after_end
 
 abbrev pub conn_with : Waits → ℕ → Connection
@@ -47,6 +50,11 @@ keeps-cea conn moment node rest true succeeded = λ h. h
 keeps-cea conn moment node rest false true = λ h. h
 keeps-cea conn moment node rest false false = λ h. h
 
+keeps-goodbye : (site : WatchSite) (waits : Waits) (sent : ℕ) (moment : Moment) (message : Message) (rest : List Act) (goodbyes : Goodbyes)
+    → Keeps while_up (on_goodbye goodbyes site (conn_with waits sent) moment message) rest
+keeps-goodbye site waits sent moment message rest EndAtOnce = λ h. h
+keeps-goodbye site waits sent moment message rest LeaveClosing = λ h. h
+
 keeps-kind : (site : WatchSite) (nodes : List NodeNo) (sent : ℕ) (moment : Moment) (message : Message) (rest : List Act) (waits : Waits) (kind : MessageKind)
     → Keeps (phase_of waits) (on_kind site nodes (conn_with waits sent) moment message waits kind) rest
 keeps-kind site nodes sent moment message rest (ForCer since) Cer =
@@ -59,14 +67,14 @@ keeps-kind site nodes sent moment message rest (ForMessage since) Cer = λ h. h
 keeps-kind site nodes sent moment message rest (ForMessage since) Cea = λ h. h
 keeps-kind site nodes sent moment message rest (ForMessage since) Dwr = λ h. h
 keeps-kind site nodes sent moment message rest (ForMessage since) Dwa = λ h. h
-keeps-kind site nodes sent moment message rest (ForMessage since) Dpr = λ h. h
+keeps-kind site nodes sent moment message rest (ForMessage since) Dpr = keeps-goodbye site (ForMessage since) sent moment message rest site.goodbyes
 keeps-kind site nodes sent moment message rest (ForMessage since) Dpa = λ h. h
 keeps-kind site nodes sent moment message rest (ForMessage since) Other = λ h. h
 keeps-kind site nodes sent moment message rest (ForDwa since) Cer = λ h. h
 keeps-kind site nodes sent moment message rest (ForDwa since) Cea = λ h. h
 keeps-kind site nodes sent moment message rest (ForDwa since) Dwr = λ h. h
 keeps-kind site nodes sent moment message rest (ForDwa since) Dwa = λ h. h
-keeps-kind site nodes sent moment message rest (ForDwa since) Dpr = λ h. h
+keeps-kind site nodes sent moment message rest (ForDwa since) Dpr = keeps-goodbye site (ForDwa since) sent moment message rest site.goodbyes
 keeps-kind site nodes sent moment message rest (ForDwa since) Dpa = λ h. h
 keeps-kind site nodes sent moment message rest (ForDwa since) Other = λ h. h
 keeps-kind site nodes sent moment message rest (ForDpa since) Cer = λ h. h
@@ -76,6 +84,13 @@ keeps-kind site nodes sent moment message rest (ForDpa since) Dwa = λ h. h
 keeps-kind site nodes sent moment message rest (ForDpa since) Dpr = λ h. h
 keeps-kind site nodes sent moment message rest (ForDpa since) Dpa = λ h. h
 keeps-kind site nodes sent moment message rest (ForDpa since) Other = λ h. h
+keeps-kind site nodes sent moment message rest (ForClose since) Cer = λ h. h
+keeps-kind site nodes sent moment message rest (ForClose since) Cea = λ h. h
+keeps-kind site nodes sent moment message rest (ForClose since) Dwr = λ h. h
+keeps-kind site nodes sent moment message rest (ForClose since) Dwa = λ h. h
+keeps-kind site nodes sent moment message rest (ForClose since) Dpr = λ h. h
+keeps-kind site nodes sent moment message rest (ForClose since) Dpa = λ h. h
+keeps-kind site nodes sent moment message rest (ForClose since) Other = λ h. h
 keeps-kind site nodes sent moment message rest ForNothing Cer = λ h. h
 keeps-kind site nodes sent moment message rest ForNothing Cea = λ h. h
 keeps-kind site nodes sent moment message rest ForNothing Dwr = λ h. h
@@ -102,6 +117,7 @@ keeps-tick site sent moment rest (ForCea node since) = keeps-late (conn_with (Fo
 keeps-tick site sent moment rest (ForMessage since) = keeps-watchdog site since sent moment rest (has_passed site since moment)
 keeps-tick site sent moment rest (ForDwa since) = keeps-late (conn_with (ForDwa since) sent) rest (has_passed site since moment) (λ x. x)
 keeps-tick site sent moment rest (ForDpa since) = keeps-late (conn_with (ForDpa since) sent) rest (has_passed site since moment) (λ x. x)
+keeps-tick site sent moment rest (ForClose since) = keeps-late (conn_with (ForClose since) sent) rest (has_passed site since moment) (λ x. x)
 keeps-tick site sent moment rest ForNothing = λ h. h
 
 keeps-close : (site : WatchSite) (sent : ℕ) (moment : Moment) (rest : List Act) (waits : Waits)
@@ -111,6 +127,7 @@ keeps-close site sent moment rest (ForCea node since) = λ h. h
 keeps-close site sent moment rest (ForMessage since) = λ h. h
 keeps-close site sent moment rest (ForDwa since) = λ h. h
 keeps-close site sent moment rest (ForDpa since) = λ h. h
+keeps-close site sent moment rest (ForClose since) = λ h. h
 keeps-close site sent moment rest ForNothing = λ h. h
 
 keeps-event : (site : WatchSite) (conn : Connection) (rest : List Act) (event : Event) → Keeps (phase_of conn.waits) (effect_of site conn event) rest

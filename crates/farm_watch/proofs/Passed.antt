@@ -1,26 +1,28 @@
 -- Each row of the table passes what it has to.
-use Rattle.std.proofs.Common.{◌≡◌, ℕ, List, [], ◌∷◌, ◌++◌, Bool, true, false, refl, sym, ap, ◌∙◌, append_assoc}
+use Rattle.std.proofs.Common.{◌≡◌, ℕ, List, [], ◌∷◌, ◌++◌, Bool, true, false, refl, sym, ap, ◌∙◌}
 use Rattle.std.specs.Prelude.{◌==◌, ◌||◌, if◌then◌else◌}
 use Rattle.dia_base.specs.declared.number.Moment.{Moment}
 use Rattle.dia_base.specs.declared.number.NodeNo.{NodeNo}
 use Rattle.dia_message.specs.declared.message.Message.{Message}
 use Rattle.farm_watch.specs.Capabilities.{avps_in, greeting_to, is_success, is_up}
-use Rattle.farm_watch.specs.Life.{Event, came, ticked, closed, Phase, before_up, while_up, after_end, acts_from, effect_of, life_of}
+use Rattle.farm_watch.specs.Life.{Event, came, ticked, closed, Phase, before_up, while_up, while_leaving, after_end, acts_from, effect_of, life_of}
 use Rattle.farm_watch.specs.Numbers.{capabilities_exchange, device_watchdog, disconnect_peer}
 use Rattle.farm_watch.specs.Passing.{brought, brought_by, is_of_life, passed, phase_behind, unless_of_life}
 use Rattle.farm_watch.specs.PeerMessages.{dwr, either, kind_of}
-use Rattle.farm_watch.specs.Table.{Connection, Effect, asks, beginning, drops, drops_where, has_passed, hears, identifier_after, on_close, on_greeting, on_kind, on_tick, stays}
+use Rattle.farm_watch.specs.Table.{Connection, Effect, asks, beginning, drops, drops_where, has_passed, hears, identifier_after, on_close, on_goodbye, on_greeting, on_kind, on_tick, stays}
 use Rattle.farm_watch.specs.declared.acts.Act.{Act}
 use Rattle.farm_watch.specs.declared.acts.Act.TheVariants.{PeerUp}
 use Rattle.farm_watch.specs.declared.kind.MessageKind.{MessageKind}
 use Rattle.farm_watch.specs.declared.kind.MessageKind.TheVariants.{Cer, Cea, Dwr, Dwa, Dpr, Dpa, Other}
 use Rattle.farm_watch.specs.declared.reading.Greeting.{Greeting}
 use Rattle.farm_watch.specs.declared.reading.Greeting.TheVariants.{Unwelcome, NothingInCommon, Welcome}
+use Rattle.farm_watch.specs.declared.site.Goodbyes.{Goodbyes}
+use Rattle.farm_watch.specs.declared.site.Goodbyes.TheVariants.{EndAtOnce, LeaveClosing}
 use Rattle.farm_watch.specs.declared.site.Side.{Side}
 use Rattle.farm_watch.specs.declared.site.Side.TheVariants.{Connects, Accepts}
 use Rattle.farm_watch.specs.declared.site.WatchSite.{WatchSite}
 use Rattle.farm_watch.specs.declared.watch.Waits.{Waits}
-use Rattle.farm_watch.specs.declared.watch.Waits.TheVariants.{ForCer, ForCea, ForMessage, ForDwa, ForDpa, ForNothing}
+use Rattle.farm_watch.specs.declared.watch.Waits.TheVariants.{ForCer, ForCea, ForMessage, ForDwa, ForDpa, ForClose, ForNothing}
 use Rattle.farm_watch.proofs.Lives.{conn_with, phase_of}
 
 -- ---- which kinds are of a connection's life
@@ -75,6 +77,11 @@ row-cea node since-node since sent moment true succeeded = (refl, λ rest. refl)
 row-cea node since-node since sent moment false true = (refl, λ rest. refl)
 row-cea node since-node since sent moment false false = (refl, λ rest. refl)
 
+row-goodbye : (site : WatchSite) (waits : Waits) (sent : ℕ) (moment : Moment) (message : Message) (goodbyes : Goodbyes) → is_of_life message ≡ true
+    → Row while_up (unless_of_life message) (on_goodbye goodbyes site (conn_with waits sent) moment message)
+row-goodbye site waits sent moment message EndAtOnce is = (refl, of_life message is)
+row-goodbye site waits sent moment message LeaveClosing is = (refl, of_life message is)
+
 abbrev mine : Waits → Message → List Message
 mine waits m = brought (phase_of waits) (came [] (record { 0 = 0 }) m)
 
@@ -89,14 +96,14 @@ row-kind site nodes sent moment message (ForMessage since) Cer is = (refl, of_li
 row-kind site nodes sent moment message (ForMessage since) Cea is = (refl, of_life message is)
 row-kind site nodes sent moment message (ForMessage since) Dwr is = (refl, of_life message is)
 row-kind site nodes sent moment message (ForMessage since) Dwa is = (refl, of_life message is)
-row-kind site nodes sent moment message (ForMessage since) Dpr is = (refl, of_life message is)
+row-kind site nodes sent moment message (ForMessage since) Dpr is = row-goodbye site (ForMessage since) sent moment message site.goodbyes is
 row-kind site nodes sent moment message (ForMessage since) Dpa is = (refl, λ rest. refl)
 row-kind site nodes sent moment message (ForMessage since) Other is = (refl, λ rest. refl)
 row-kind site nodes sent moment message (ForDwa since) Cer is = (refl, of_life message is)
 row-kind site nodes sent moment message (ForDwa since) Cea is = (refl, of_life message is)
 row-kind site nodes sent moment message (ForDwa since) Dwr is = (refl, of_life message is)
 row-kind site nodes sent moment message (ForDwa since) Dwa is = (refl, of_life message is)
-row-kind site nodes sent moment message (ForDwa since) Dpr is = (refl, of_life message is)
+row-kind site nodes sent moment message (ForDwa since) Dpr is = row-goodbye site (ForDwa since) sent moment message site.goodbyes is
 row-kind site nodes sent moment message (ForDwa since) Dpa is = (refl, λ rest. refl)
 row-kind site nodes sent moment message (ForDwa since) Other is = (refl, λ rest. refl)
 row-kind site nodes sent moment message (ForDpa since) Cer is = (refl, of_life message is)
@@ -106,6 +113,13 @@ row-kind site nodes sent moment message (ForDpa since) Dwa is = (refl, of_life m
 row-kind site nodes sent moment message (ForDpa since) Dpr is = (refl, of_life message is)
 row-kind site nodes sent moment message (ForDpa since) Dpa is = (refl, of_life message is)
 row-kind site nodes sent moment message (ForDpa since) Other is = (refl, λ rest. refl)
+row-kind site nodes sent moment message (ForClose since) Cer is = (refl, of_life message is)
+row-kind site nodes sent moment message (ForClose since) Cea is = (refl, of_life message is)
+row-kind site nodes sent moment message (ForClose since) Dwr is = (refl, of_life message is)
+row-kind site nodes sent moment message (ForClose since) Dwa is = (refl, of_life message is)
+row-kind site nodes sent moment message (ForClose since) Dpr is = (refl, of_life message is)
+row-kind site nodes sent moment message (ForClose since) Dpa is = (refl, λ rest. refl)
+row-kind site nodes sent moment message (ForClose since) Other is = (refl, λ rest. refl)
 row-kind site nodes sent moment message ForNothing Cer is = (refl, λ rest. refl)
 row-kind site nodes sent moment message ForNothing Cea is = (refl, λ rest. refl)
 row-kind site nodes sent moment message ForNothing Dwr is = (refl, λ rest. refl)
@@ -129,6 +143,7 @@ row-tick site sent moment (ForCea node since) = row-late (ForCea node since) sen
 row-tick site sent moment (ForMessage since) = row-watchdog site since sent moment (has_passed site since moment)
 row-tick site sent moment (ForDwa since) = row-late (ForDwa since) sent (has_passed site since moment) (refl, λ rest. refl)
 row-tick site sent moment (ForDpa since) = row-late (ForDpa since) sent (has_passed site since moment) (refl, λ rest. refl)
+row-tick site sent moment (ForClose since) = row-late (ForClose since) sent (has_passed site since moment) (refl, λ rest. refl)
 row-tick site sent moment ForNothing = (refl, λ rest. refl)
 
 row-close : (site : WatchSite) (sent : ℕ) (moment : Moment) (waits : Waits) → Row (phase_of waits) [] (on_close site moment (conn_with waits sent) waits)
@@ -137,12 +152,14 @@ row-close site sent moment (ForCea node since) = (refl, λ rest. refl)
 row-close site sent moment (ForMessage since) = (refl, λ rest. refl)
 row-close site sent moment (ForDwa since) = (refl, λ rest. refl)
 row-close site sent moment (ForDpa since) = (refl, λ rest. refl)
+row-close site sent moment (ForClose since) = (refl, λ rest. refl)
 row-close site sent moment ForNothing = (refl, λ rest. refl)
 
 -- what an event brings depends on the phase and the message alone
 brought_same : (phase : Phase) (nodes : List NodeNo) (moment : Moment) (m : Message) → brought phase (came [] (record { 0 = 0 }) m) ≡ brought phase (came nodes moment m)
 brought_same before_up nodes moment m = refl
 brought_same while_up nodes moment m = refl
+brought_same while_leaving nodes moment m = refl
 brought_same after_end nodes moment m = refl
 
 row-came : (site : WatchSite) (conn : Connection) (nodes : List NodeNo) (moment : Moment) (message : Message)
@@ -154,11 +171,13 @@ row-came site conn nodes moment message =
 quiet-ticked : (phase : Phase) (moment : Moment) → [] ≡ brought phase (ticked moment)
 quiet-ticked before_up moment = refl
 quiet-ticked while_up moment = refl
+quiet-ticked while_leaving moment = refl
 quiet-ticked after_end moment = refl
 
 quiet-closed : (phase : Phase) (moment : Moment) → [] ≡ brought phase (closed moment)
 quiet-closed before_up moment = refl
 quiet-closed while_up moment = refl
+quiet-closed while_leaving moment = refl
 quiet-closed after_end moment = refl
 
 row-event : (site : WatchSite) (conn : Connection) (event : Event) → Row (phase_of conn.waits) (brought (phase_of conn.waits) event) (effect_of site conn event)

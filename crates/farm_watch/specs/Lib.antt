@@ -1,7 +1,10 @@
 pub mod Capabilities
+pub mod Causes
+pub mod Parting
 pub mod Life
 pub mod Numbers
 pub mod PeerMessages
 pub mod Table
 pub mod WatchExample
 pub mod Passing
+pub mod Numbering

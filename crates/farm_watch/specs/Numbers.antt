@@ -40,6 +40,9 @@ vendor_id = 266
 abbrev pub disconnect_cause : ℕ
 disconnect_cause = 273
 
+abbrev pub origin_state_id : ℕ
+origin_state_id = 278
+
 -- ---- Result-Codes
 
 abbrev pub success : ℕ
@@ -47,3 +50,11 @@ success = 2001
 
 abbrev pub no_common_application : ℕ
 no_common_application = 5010
+
+-- ---- values of Disconnect-Cause (5.4.3)
+
+abbrev pub busy : ℕ
+busy = 1
+
+abbrev pub do_not_want_to_talk_to_you : ℕ
+do_not_want_to_talk_to_you = 2

@@ -2,11 +2,11 @@
 -- not of the connection's own life.
 use Rattle.std.specs.Prelude.{◌==◌, ◌||◌, Bool, List, [], ◌∷◌, ◌++◌, if◌then◌else◌}
 use Rattle.dia_message.specs.declared.message.Message.{Message}
-use Rattle.farm_watch.specs.Life.{Event, Phase, after_end, before_up, came, closed, effect_of, ticked, while_up}
+use Rattle.farm_watch.specs.Life.{Event, Phase, after_end, before_up, came, closed, effect_of, ticked, while_leaving, while_up}
 use Rattle.farm_watch.specs.Numbers.{capabilities_exchange, device_watchdog, disconnect_peer}
 use Rattle.farm_watch.specs.Table.{Connection}
 use Rattle.farm_watch.specs.declared.acts.Act.{Act}
-use Rattle.farm_watch.specs.declared.acts.Act.TheVariants.{Send, PeerUp, Pass, Drop}
+use Rattle.farm_watch.specs.declared.acts.Act.TheVariants.{Send, PeerUp, PeerLeaves, Pass, Drop}
 use Rattle.farm_watch.specs.declared.site.WatchSite.{WatchSite}
 
 -- an exchange of capabilities (5.3), a watchdog (5.5), or a goodbye (5.4)
@@ -22,6 +22,7 @@ abbrev pub passed : List Act → List Message
 passed [] = []
 passed (Send m ∷ acts) = passed acts
 passed (PeerUp node ∷ acts) = passed acts
+passed (PeerLeaves cause ∷ acts) = passed acts
 passed (Pass m ∷ acts) = unless_of_life m ++ passed acts
 passed (Drop ∷ acts) = passed acts
 
@@ -30,12 +31,14 @@ abbrev pub phase_behind : Phase → List Act → Phase
 phase_behind phase [] = phase
 phase_behind phase (Send m ∷ acts) = phase_behind phase acts
 phase_behind phase (PeerUp node ∷ acts) = phase_behind while_up acts
+phase_behind phase (PeerLeaves cause ∷ acts) = phase_behind while_leaving acts
 phase_behind phase (Pass m ∷ acts) = phase_behind phase acts
 phase_behind phase (Drop ∷ acts) = after_end
 
 -- what an event brings for the node
 abbrev pub brought : Phase → Event → List Message
 brought while_up (came nodes moment m) = unless_of_life m
+brought while_leaving (came nodes moment m) = unless_of_life m
 brought before_up (came nodes moment m) = []
 brought after_end (came nodes moment m) = []
 brought phase (ticked moment) = []

@@ -1,5 +1,5 @@
 -- The messages between two neighbours, octet for octet (RFC 6733, sections 5.3 to 5.5).
-use Rattle.std.specs.Prelude.{ℕ, List, [], ◌∷◌, ◌++◌, Bool, true, false, ◌==◌, codes, flat_map, if◌then◌else◌, pos}
+use Rattle.std.specs.Prelude.{ℕ, List, [], ◌∷◌, ◌++◌, Bool, true, false, ◌==◌, codes, flat_map, if◌then◌else◌, Option, Some, None, pos}
 use Rattle.dia_base.specs.Codes.{auth_application_id, origin_host, origin_realm, product_name, result_code, credit_control_application}
 use Rattle.dia_avp.specs.declared.avp.RawAvp.{RawAvp}
 use Rattle.dia_avp.specs.AvpList.{written_list}
@@ -14,7 +14,7 @@ use Rattle.farm_watch.specs.declared.site.Application.TheVariants.{Relay, Credit
 use Rattle.farm_watch.specs.declared.site.HostAddress.{HostAddress}
 use Rattle.farm_watch.specs.declared.site.HostAddress.TheVariants.{V4, V6}
 use Rattle.farm_watch.specs.declared.site.WatchSite.{WatchSite}
-use Rattle.farm_watch.specs.Numbers.{capabilities_exchange, device_watchdog, disconnect_peer, common_messages, relay_application, host_ip_address, vendor_specific_application_id, supported_vendor_id, vendor_id, disconnect_cause}
+use Rattle.farm_watch.specs.Numbers.{capabilities_exchange, device_watchdog, disconnect_peer, common_messages, relay_application, host_ip_address, vendor_specific_application_id, supported_vendor_id, vendor_id, disconnect_cause, origin_state_id}
 
 -- ---- which message it is
 
@@ -72,6 +72,18 @@ own_part site =
     ++ avp_of product_name (Utf8String (codes "Diameter relay farm")) ∷ []
     ++ avp_of auth_application_id (Unsigned32 (application_number site.application)) ∷ []
 
+-- which state it has not lost, if it tells one (8.16)
+abbrev pub state_in : Option ℕ → List RawAvp
+state_in None = []
+state_in (Some state) = avp_of origin_state_id (Unsigned32 state) ∷ []
+
+abbrev pub state_part : WatchSite → List RawAvp
+state_part site = state_in site.state
+
+-- it stands in each message of this command but a goodbye's
+abbrev pub state_beside : WatchSite → ℕ → List RawAvp
+state_beside site command = if command == disconnect_peer then [] else state_part site
+
 -- credit control as an application of a vendor (6.11)
 abbrev pub vendor_application : ℕ → List RawAvp
 vendor_application vendor =
@@ -83,9 +95,9 @@ vendor_part vendor =
     avp_of supported_vendor_id (Unsigned32 vendor)
     ∷ avp_of vendor_specific_application_id (Grouped (written_list (vendor_application vendor))) ∷ []
 
--- what it can do, and for each vendor in order that it speaks credit control for that one (5.3)
+-- what it can do, its state, and for each vendor in order that it speaks credit control for that one (5.3)
 abbrev pub capabilities_part : WatchSite → List RawAvp
-capabilities_part site = own_part site ++ flat_map vendor_part site.advertised
+capabilities_part site = own_part site ++ state_part site ++ flat_map vendor_part site.advertised
 
 abbrev pub result_part : ℕ → List RawAvp
 result_part code = avp_of result_code (Unsigned32 code) ∷ []
@@ -109,12 +121,12 @@ cea site code request = message_of (answer_header request) (result_part code ++ 
 
 -- Device-Watchdog-Request (5.5.1)
 unfoldable pub dwr : WatchSite → ℕ → Message
-dwr site identifier = message_of (request_header device_watchdog identifier) (origin_part site)
+dwr site identifier = message_of (request_header device_watchdog identifier) (origin_part site ++ state_part site)
 
 -- Disconnect-Peer-Request (5.4.1)
 unfoldable pub dpr : WatchSite → ℕ → Message
 dpr site identifier = message_of (request_header disconnect_peer identifier) (origin_part site ++ cause_part)
 
--- Device-Watchdog-Answer (5.5.2) and Disconnect-Peer-Answer (5.4.2): the same but for the command, which is the request's
+-- Device-Watchdog-Answer (5.5.2) and Disconnect-Peer-Answer (5.4.2), by the command, which is the request's
 unfoldable pub success_to : WatchSite → Header → Message
-success_to site request = message_of (answer_header request) (result_part 2001 ++ origin_part site)
+success_to site request = message_of (answer_header request) (result_part 2001 ++ origin_part site ++ state_beside site request.command)

@@ -4,19 +4,22 @@ use Rattle.dia_base.specs.declared.number.Moment.{Moment}
 use Rattle.dia_base.specs.declared.number.NodeNo.{NodeNo}
 use Rattle.dia_message.specs.declared.message.Message.{Message}
 use Rattle.farm_watch.specs.Capabilities.{avps_in, greeting_to, is_success, is_up}
+use Rattle.farm_watch.specs.Causes.{cause_in}
 use Rattle.farm_watch.specs.Numbers.{no_common_application, success}
 use Rattle.farm_watch.specs.PeerMessages.{cea, cer, dpr, dwr, kind_of, success_to}
 use Rattle.farm_watch.specs.declared.acts.Act.{Act}
-use Rattle.farm_watch.specs.declared.acts.Act.TheVariants.{Send, PeerUp, Pass, Drop}
+use Rattle.farm_watch.specs.declared.acts.Act.TheVariants.{Send, PeerUp, PeerLeaves, Pass, Drop}
 use Rattle.farm_watch.specs.declared.kind.MessageKind.{MessageKind}
 use Rattle.farm_watch.specs.declared.kind.MessageKind.TheVariants.{Cer, Cea, Dwr, Dwa, Dpr, Dpa, Other}
 use Rattle.farm_watch.specs.declared.reading.Greeting.{Greeting}
 use Rattle.farm_watch.specs.declared.reading.Greeting.TheVariants.{Unwelcome, NothingInCommon, Welcome}
+use Rattle.farm_watch.specs.declared.site.Goodbyes.{Goodbyes}
+use Rattle.farm_watch.specs.declared.site.Goodbyes.TheVariants.{EndAtOnce, LeaveClosing}
 use Rattle.farm_watch.specs.declared.site.Side.{Side}
 use Rattle.farm_watch.specs.declared.site.Side.TheVariants.{Connects, Accepts}
 use Rattle.farm_watch.specs.declared.site.WatchSite.{WatchSite}
 use Rattle.farm_watch.specs.declared.watch.Waits.{Waits}
-use Rattle.farm_watch.specs.declared.watch.Waits.TheVariants.{ForCer, ForCea, ForMessage, ForDwa, ForDpa, ForNothing}
+use Rattle.farm_watch.specs.declared.watch.Waits.TheVariants.{ForCer, ForCea, ForMessage, ForDwa, ForDpa, ForClose, ForNothing}
 
 -- a connection: what it waits for, and the identifier of the last request of its own that it sent, 0 before the first
 pub record Connection : Type 0 where
@@ -80,6 +83,15 @@ abbrev pub on_cea : List NodeNo → Connection → Moment → NodeNo → List �
 on_cea up conn moment node body =
     if is_up up node then drops conn else if is_success (avps_in body) then hears (PeerUp node ∷ []) conn moment else drops conn
 
+-- A node says goodbye: it is answered, and the connection ends; or the node here is told that it leaves, and why, and the other end
+-- is to close it, which the node at this end waits for from then on (5.4).
+abbrev pub on_goodbye : Goodbyes → WatchSite → Connection → Moment → Message → Effect
+on_goodbye EndAtOnce site conn moment message = sends_and_drops conn (success_to site message.header)
+on_goodbye LeaveClosing site conn moment message = record {
+  acts = Send (success_to site message.header) ∷ PeerLeaves (cause_in (avps_in message.body)) ∷ [];
+  next = record conn { waits = ForClose moment };
+}
+
 abbrev pub on_kind : WatchSite → List NodeNo → Connection → Moment → Message → Waits → MessageKind → Effect
 -- The side that was connected to waits for CER; any other first message ends the connection (5.3, 5.6).
 on_kind site up conn moment message (ForCer since) Cer = on_greeting site conn moment message (greeting_to site up (avps_in message.body))
@@ -89,8 +101,8 @@ on_kind site up conn moment message (ForCea node since) Cea = on_cea up conn mom
 on_kind site up conn moment message (ForCea node since) _ = drops conn
 -- The node at the other end is up. DWR is answered (5.5.1).
 on_kind site up conn moment message (ForMessage since) Dwr = hears (Send (success_to site message.header) ∷ []) conn moment
--- DPR is answered, and the connection ends (5.4).
-on_kind site up conn moment message (ForMessage since) Dpr = sends_and_drops conn (success_to site message.header)
+-- DPR is answered, and the connection ends, or is to be closed by the other end (5.4).
+on_kind site up conn moment message (ForMessage since) Dpr = on_goodbye site.goodbyes site conn moment message
 -- DWA says that the node lives, and no more; capabilities are exchanged once (5.5.2, 5.6).
 on_kind site up conn moment message (ForMessage since) Dwa = hears [] conn moment
 on_kind site up conn moment message (ForMessage since) Cer = hears [] conn moment
@@ -100,7 +112,7 @@ on_kind site up conn moment message (ForMessage since) Dpa = hears (Pass message
 on_kind site up conn moment message (ForMessage since) Other = hears (Pass message ∷ []) conn moment
 -- It is the same while a DWR is not answered: any message counts as an answer (5.5).
 on_kind site up conn moment message (ForDwa since) Dwr = hears (Send (success_to site message.header) ∷ []) conn moment
-on_kind site up conn moment message (ForDwa since) Dpr = sends_and_drops conn (success_to site message.header)
+on_kind site up conn moment message (ForDwa since) Dpr = on_goodbye site.goodbyes site conn moment message
 on_kind site up conn moment message (ForDwa since) Dwa = hears [] conn moment
 on_kind site up conn moment message (ForDwa since) Cer = hears [] conn moment
 on_kind site up conn moment message (ForDwa since) Cea = hears [] conn moment
@@ -115,6 +127,15 @@ on_kind site up conn moment message (ForDpa since) Dwa = stays conn
 on_kind site up conn moment message (ForDpa since) Cer = stays conn
 on_kind site up conn moment message (ForDpa since) Cea = stays conn
 on_kind site up conn moment message (ForDpa since) Other = goes_on (Pass message ∷ []) conn
+-- The other end has said goodbye, and is to close the connection (5.4). DWR is answered, and DPR again; what the node waits for is
+-- taken until then.
+on_kind site up conn moment message (ForClose since) Dwr = goes_on (Send (success_to site message.header) ∷ []) conn
+on_kind site up conn moment message (ForClose since) Dpr = goes_on (Send (success_to site message.header) ∷ []) conn
+on_kind site up conn moment message (ForClose since) Dwa = stays conn
+on_kind site up conn moment message (ForClose since) Cer = stays conn
+on_kind site up conn moment message (ForClose since) Cea = stays conn
+on_kind site up conn moment message (ForClose since) Dpa = goes_on (Pass message ∷ []) conn
+on_kind site up conn moment message (ForClose since) Other = goes_on (Pass message ∷ []) conn
 -- The connection has ended.
 on_kind site up conn moment message ForNothing kind = stays conn
 
@@ -135,6 +156,8 @@ on_tick site moment conn (ForMessage since) =
 on_tick site moment conn (ForDwa since) = drops_where (has_passed site since moment) conn
 -- DPR was not answered for an interval (5.4).
 on_tick site moment conn (ForDpa since) = drops_where (has_passed site since moment) conn
+-- The other end has not closed it for an interval (5.4).
+on_tick site moment conn (ForClose since) = drops_where (has_passed site since moment) conn
 on_tick site moment conn ForNothing = stays conn
 
 abbrev pub after_tick : WatchSite → Moment → Connection → Effect
@@ -150,6 +173,8 @@ on_close site moment conn (ForCea node since) = drops conn
 on_close site moment conn (ForMessage since) = asks conn (dpr site (identifier_after conn.sent)) (ForDpa moment)
 on_close site moment conn (ForDwa since) = asks conn (dpr site (identifier_after conn.sent)) (ForDpa moment)
 on_close site moment conn (ForDpa since) = stays conn
+-- The other end has said so before.
+on_close site moment conn (ForClose since) = drops conn
 on_close site moment conn ForNothing = stays conn
 
 abbrev pub after_close : WatchSite → Moment → Connection → Effect

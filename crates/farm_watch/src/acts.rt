@@ -2,6 +2,7 @@
 
 ghost use Rattle.std.specs.Prelude.{◌≡◌, [], ◌∷◌, ◌++◌, option_to_list, IfNone};
 
+use crate::cause::DisconnectCause;
 use dia_base::NodeNo;
 use dia_message::Message;
 use std::marker::Model;
@@ -13,6 +14,8 @@ pub enum Act {
     Send(Message),
     /// The node at its other end is up: that node tells and is told messages on it from now on.
     PeerUp(NodeNo),
+    /// The node at its other end has said goodbye, for this cause: it gets no new request, and is to close the connection.
+    PeerLeaves(DisconnectCause),
     /// The message is the node's.
     Pass(Message),
     /// It ends, once what was sent before is out.
@@ -61,6 +64,21 @@ impl Acts {
             first: Some(first),
             second: Some(second),
         }
+    }
+
+    /// The first act and the second one, if there are such.
+    pub(crate) fn into_parts(self) -> (Option<Act>, Option<Act>)
+        ensures { self ≡ option_to_list result.0 ++ option_to_list result.1 }
+    {
+        let Acts { first, second } = self;
+        (first, second)
+    }
+
+    /// These acts.
+    pub(crate) fn of_parts(first: Option<Act>, second: Option<Act>) -> Self
+        ensures { result ≡ option_to_list first ++ option_to_list second }
+    {
+        Acts { first, second }
     }
 
     /// Takes the first act that is left off, if there is one.

@@ -26,8 +26,16 @@ pub const VENDOR_ID: u32 = 266;
 
 pub const DISCONNECT_CAUSE: u32 = 273;
 
+pub const ORIGIN_STATE_ID: u32 = 278;
+
 /// A Result-Code.
 pub const SUCCESS: u32 = 2001;
 
 /// A Result-Code.
 pub const NO_COMMON_APPLICATION: u32 = 5010;
+
+/// A Disconnect-Cause.
+pub const BUSY: u32 = 1;
+
+/// A Disconnect-Cause.
+pub const DO_NOT_WANT_TO_TALK_TO_YOU: u32 = 2;

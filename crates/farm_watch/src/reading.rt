@@ -96,7 +96,10 @@ pub(crate) fn is_up(up: &[NodeNo], node: NodeNo) -> bool
 }
 
 /// The AVPs of a split, none where the octets are no list of AVPs.
-fn readable(split: Result<Vec<RawAvp>, AvpFault>, alloc: Global) -> Result<Vec<RawAvp>, AllocError>
+pub(crate) fn readable(
+    split: Result<Vec<RawAvp>, AvpFault>,
+    alloc: Global,
+) -> Result<Vec<RawAvp>, AllocError>
     ensures { (octets : List ℕ) → Answers (Reads octets) split → IfOk result (λ avps. avps.items ≡ avps_in octets) }
 {
     match split {
@@ -114,13 +117,13 @@ fn is_of(avp: &RawAvp, code: u32) -> bool
     avp.code == code && avp.vendor == 0
 }
 
-fn first_of(avps: &[RawAvp], code: u32) -> Option<&RawAvp>
+pub(crate) fn first_of(avps: &[RawAvp], code: u32) -> Option<&RawAvp>
     ensures { option_copied result ≡ find (is_of code) avps.now }
 {
     avps.iter().find(|avp| is_of(avp, code))
 }
 
-fn has_number(avp: &RawAvp, number: u32) -> bool
+pub(crate) fn has_number(avp: &RawAvp, number: u32) -> bool
     ensures { result ≡ has_number number avp.now }
 {
     match u32_of(avp) {

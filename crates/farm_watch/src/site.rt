@@ -42,6 +42,16 @@ pub struct Neighbour {
     pub node: NodeNo,
 }
 
+/// What a node does with a connection whose other end says goodbye, by Disconnect-Peer-Request (RFC 6733, section 5.4). It
+/// answers that in either case.
+#[derive(Clone, Copy, Debug, PartialEq, Eq)]
+pub enum Goodbyes {
+    /// It ends the connection at once.
+    EndAtOnce,
+    /// It sends no request there, still takes what comes, and leaves it to the other end to close, for an interval at most.
+    LeaveClosing,
+}
+
 /// What a node knows of itself and of its neighbours, for all of its connections.
 #[derive(Debug, Drop)]
 pub struct WatchSite {
@@ -58,6 +68,9 @@ pub struct WatchSite {
     pub neighbours: Listing<Neighbour>,
     /// How long it waits for a message, and then for the answer to its own: in milliseconds.
     pub interval: u32,
+    pub goodbyes: Goodbyes,
+    /// Its Origin-State-Id, if it tells one: another one says that its sessions were lost (RFC 6733, section 8.16).
+    pub state: Option<u32>,
 }
 
 /// The side of a connection that a node is on.

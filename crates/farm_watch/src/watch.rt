@@ -4,14 +4,15 @@ ghost use Rattle.std.specs.Prelude.{◌≡◌, [], ◌∷◌, IfOk, OnOk, OnErr,
 ghost use Rattle.farm_watch.specs.declared.acts.Act.TheVariants as act;
 ghost use Rattle.farm_watch.specs.declared.kind.MessageKind.TheVariants.{Other};
 ghost use Rattle.farm_watch.specs.PeerMessages.{kind_of};
-ghost use Rattle.farm_watch.specs.Table.{after_close, after_message, after_tick, asks, beginning, drops, ended, has_passed, hears, identifier_after, on_cea, on_greeting, drops_where};
+ghost use Rattle.farm_watch.specs.Table.{after_close, after_message, after_tick, asks, beginning, drops, ended, has_passed, hears, identifier_after, on_cea, on_goodbye, on_greeting, drops_where};
 ghost use Rattle.farm_watch.specs.Capabilities.{avps_in, greeting_to};
 
 use crate::acts::{Act, Acts};
+use crate::cause::cause_in;
 use crate::codes::{NO_COMMON_APPLICATION, SUCCESS};
 use crate::kind::{MessageKind, kind_of};
 use crate::reading::{Greeting, greeting_to, is_success, is_up};
-use crate::site::{Side, WatchSite};
+use crate::site::{Goodbyes, Side, WatchSite};
 use crate::writing::{cea, cer, dpr, dwr, success_to};
 use dia_avp::Wire;
 use dia_base::{Moment, NodeNo};
@@ -36,6 +37,8 @@ pub enum Waits {
     ForDwa { since: Moment },
     /// The node at the other end was told at this moment that the connection ends.
     ForDpa { since: Moment },
+    /// The node at the other end has said so at this moment, and is to close it.
+    ForClose { since: Moment },
     /// It has ended.
     ForNothing,
 }
@@ -146,10 +149,10 @@ impl Watch {
                 Ok(Acts::of_one(Act::Send(answer)))
             }
             // 5.4
-            (
-                Waits::ForMessage { .. } | Waits::ForDwa { .. } | Waits::ForDpa { .. },
-                MessageKind::Dpr,
-            ) => {
+            (Waits::ForMessage { .. } | Waits::ForDwa { .. }, MessageKind::Dpr) => {
+                self.part::<W>(alloc, site, moment, &message)
+            }
+            (Waits::ForDpa { .. }, MessageKind::Dpr) => {
                 let answer = success_to(alloc, site, &message.header)?;
                 self.waits = Waits::ForNothing;
                 Ok(Acts::of_two(Act::Send(answer), Act::Drop))
@@ -179,6 +182,16 @@ impl Watch {
                 Ok(Acts::none())
             }
             (Waits::ForDpa { .. }, MessageKind::Other) => Ok(Acts::of_one(Act::Pass(message))),
+            // 5.4
+            (Waits::ForClose { .. }, MessageKind::Dwr | MessageKind::Dpr) => {
+                let answer = success_to(alloc, site, &message.header)?;
+                Ok(Acts::of_one(Act::Send(answer)))
+            }
+            (Waits::ForClose { .. }, MessageKind::Dwa | MessageKind::Cer | MessageKind::Cea) => {
+                Ok(Acts::none())
+            }
+            (Waits::ForClose { .. }, MessageKind::Dpa) => Ok(Acts::of_one(Act::Pass(message))),
+            (Waits::ForClose { .. }, MessageKind::Other) => Ok(Acts::of_one(Act::Pass(message))),
             (
                 Waits::ForNothing,
                 MessageKind::Cer
@@ -209,7 +222,8 @@ impl Watch {
             Waits::ForCer { since }
             | Waits::ForCea { since, .. }
             | Waits::ForDwa { since }
-            | Waits::ForDpa { since } => Ok(self.end_where(has_passed(site, since, moment))),
+            | Waits::ForDpa { since }
+            | Waits::ForClose { since } => Ok(self.end_where(has_passed(site, since, moment))),
             Waits::ForMessage { since } => {
                 if !has_passed(site, since, moment) {
                     return Ok(Acts::none());
@@ -234,7 +248,7 @@ impl Watch {
         ensures err { OnErr result (self.new ≡ self.old) }
     {
         match self.waits {
-            Waits::ForCer { .. } | Waits::ForCea { .. } => Ok(self.end()),
+            Waits::ForCer { .. } | Waits::ForCea { .. } | Waits::ForClose { .. } => Ok(self.end()),
             Waits::ForMessage { .. } | Waits::ForDwa { .. } => {
                 let identifier = self.next_identifier();
                 let request = dpr(alloc, site, identifier)?;
@@ -268,6 +282,32 @@ impl Watch {
                 let answer = cea(alloc, site, SUCCESS, &message.header)?;
                 self.waits = Waits::ForMessage { since: moment };
                 Ok(Acts::of_two(Act::Send(answer), Act::PeerUp(node)))
+            }
+        }
+    }
+
+    /// The node at the other end says that the connection ends.
+    fn part<W: Wire>(
+        &mut self,
+        alloc: Global,
+        site: &WatchSite,
+        moment: Moment,
+        message: &Message,
+    ) -> Result<Acts, AllocError>
+        ensures acts { IfOk result (λ acts. acts ≡ (on_goodbye site.now.goodbyes site.now self.old moment message.now).acts) }
+        ensures next { OnOk result (self.new ≡ (on_goodbye site.now.goodbyes site.now self.old moment message.now).next) }
+        ensures err { OnErr result (self.new ≡ self.old) }
+    {
+        let answer = success_to(alloc, site, &message.header)?;
+        match site.goodbyes {
+            Goodbyes::EndAtOnce => {
+                self.waits = Waits::ForNothing;
+                Ok(Acts::of_two(Act::Send(answer), Act::Drop))
+            }
+            Goodbyes::LeaveClosing => {
+                let cause = cause_in::<W>(alloc, &message.body)?;
+                self.waits = Waits::ForClose { since: moment };
+                Ok(Acts::of_two(Act::Send(answer), Act::PeerLeaves(cause)))
             }
         }
     }

@@ -5,11 +5,12 @@ ghost use Rattle.dia_avp.specs.AvpList.{written, written_list};
 ghost use Rattle.dia_dict.specs.declared.value.Typed.TheVariants.{Address, Unsigned32};
 ghost use Rattle.farm_watch.specs.Numbers.{host_ip_address};
 ghost use Rattle.dia_dict.specs.Reading.{avp_of, avp_with, flags_of};
-ghost use Rattle.farm_watch.specs.PeerMessages.{address_octets, answer_header, capabilities_part, cause_part, cea, cer, dpr, dwr, origin_part, own_part, request_header, result_part, success_to, vendor_application, vendor_part};
+ghost use Rattle.farm_watch.specs.PeerMessages.{address_octets, answer_header, capabilities_part, cause_part, cea, cer, dpr, dwr, origin_part, own_part, request_header, result_part, state_part, success_to, vendor_application, vendor_part};
 
 use crate::codes::{
     CAPABILITIES_EXCHANGE, COMMON_MESSAGES, DEVICE_WATCHDOG, DISCONNECT_CAUSE, DISCONNECT_PEER,
-    HOST_IP_ADDRESS, SUCCESS, SUPPORTED_VENDOR_ID, VENDOR_ID, VENDOR_SPECIFIC_APPLICATION_ID,
+    HOST_IP_ADDRESS, ORIGIN_STATE_ID, SUCCESS, SUPPORTED_VENDOR_ID, VENDOR_ID,
+    VENDOR_SPECIFIC_APPLICATION_ID,
 };
 use crate::site::{HostAddress, WatchSite};
 use byteorder::{BigEndian, ByteOrder};
@@ -73,6 +74,7 @@ pub(crate) fn dwr(alloc: Global, site: &WatchSite, identifier: u32) -> Result<Me
 {
     let mut body = Vec::new(alloc);
     push_origin(&mut body, site)?;
+    push_state(&mut body, site)?;
     Ok(Message {
         header: request_header(DEVICE_WATCHDOG, identifier),
         body: Octets::from_vec(body)?,
@@ -105,6 +107,9 @@ pub(crate) fn success_to(
     let mut body = Vec::new(alloc);
     push_u32(&mut body, RESULT_CODE, SUCCESS)?;
     push_origin(&mut body, site)?;
+    if request.command != DISCONNECT_PEER {
+        push_state(&mut body, site)?;
+    }
     Ok(Message {
         header: answer_header(request),
         body: Octets::from_vec(body)?,
@@ -193,6 +198,16 @@ fn push_own(alloc: Global, body: &mut Vec<u8>, site: &WatchSite) -> Result<(), A
     push_u32(body, AUTH_APPLICATION_ID, site.application.number())
 }
 
+/// Adds Origin-State-Id, if the node tells it.
+fn push_state(body: &mut Vec<u8>, site: &WatchSite) -> Result<(), AllocError>
+    ensures { OnOk result (body.new.items ≡ body.old.items ++ written_list (state_part site.now)) }
+{
+    match site.state {
+        Some(state) => push_u32(body, ORIGIN_STATE_ID, state),
+        None => Ok(()),
+    }
+}
+
 /// Credit control as an application of the vendor.
 fn vendor_application(alloc: Global, vendor: u32) -> Result<Vec<u8>, AllocError>
     ensures group { IfOk result (λ group. group.items ≡ written_list (vendor_application vendor)) }
@@ -228,5 +243,6 @@ fn push_capabilities(alloc: Global, body: &mut Vec<u8>, site: &WatchSite) -> Res
     ensures { OnOk result (body.new.items ≡ body.old.items ++ written_list (capabilities_part site.now)) }
 {
     push_own(alloc, body, site)?;
+    push_state(body, site)?;
     push_vendors(alloc, body, site.advertised.as_slice())
 }

@@ -1,3 +1,4 @@
+pub mod Among
 pub mod Cases
 pub mod Descending
 pub mod Holding
@@ -19,3 +20,4 @@ pub mod Giving
 pub mod Laps
 pub mod Rising
 pub mod MatchedRuns
+pub mod PartingRuns

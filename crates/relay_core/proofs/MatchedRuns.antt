@@ -10,6 +10,7 @@ use Rattle.relay_hops.specs.declared.row.Held.{Held}
 use Rattle.relay_hops.specs.declared.row.Origin.{Origin}
 use Rattle.relay_hops.specs.PendingTable.{held_at, under}
 use Rattle.relay_hops.proofs.InUse.{its_hop}
+use Rattle.relay_peers.specs.declared.peers.Link.{Link}
 use Rattle.relay_peers.specs.declared.peers.LinkedPeer.{LinkedPeer}
 use Rattle.relay_core.specs.declared.node.RelaySite.{RelaySite}
 use Rattle.relay_core.specs.declared.matching.Matching.{Matching}
@@ -25,7 +26,9 @@ use Rattle.relay_core.specs.Promise.{HasCome}
 use Rattle.relay_core.specs.RelayRun.{IsIdle, IsRun, OnEvent, RelayStep}
 use Rattle.relay_core.specs.RelayRun as plain
 use Rattle.relay_core.specs.RelayState.{RelayState, peer_on}
-use Rattle.relay_core.specs.RelayStep.{OnAnswer, OnMessage, OnRequest, sent_back, dropped, ignored, row_of}
+use Rattle.relay_core.specs.RelayStep.{OnAnswer, sent_back, dropped, ignored, row_of}
+use Rattle.relay_core.specs.Staying.{OnEventAmong, OnMessageAmong, OnRequestAmong}
+use Rattle.relay_core.proofs.Among.{event-among}
 use Rattle.relay_core.proofs.Descending.{same_end}
 use Rattle.relay_core.proofs.Holding.{Holding, RowCause, cause_of}
 use Rattle.relay_core.proofs.Keeping.{goes_on}
@@ -137,34 +140,36 @@ own_answer acts relay after conn to came answer rest _ h ends (sent_back held or
 own_answer acts relay after conn to came answer rest _ h ends (dropped held rows pending none w) e = absurd cc
 own_answer acts relay after conn to came answer rest _ h ends (ignored none) e = absurd cc
 
-own_received : (matching : Matching) (acts : List Act) (relay after : RelayState) (conn to : ConnId) (came answer : Message) (rest sent : Traffic) (peer : Option LinkedPeer)
+own_received : (matching : Matching) (acts : List Act) (staying : List Link) (relay after : RelayState) (conn to : ConnId) (came answer : Message) (rest sent : Traffic) (peer : Option LinkedPeer)
     → peer_on relay.node conn ≡ peer → compares_end matching ≡ true → Holding acts relay.pending.rows → is_dropped matching relay conn came ≡ false
-    → came.header.request ≡ false → MatchOption peer (IsIdle relay sent after) (λ sender. OnMessage relay conn sender.name came sent after)
+    → came.header.request ≡ false → MatchOption peer (IsIdle relay sent after) (λ sender. OnMessageAmong staying relay conn sender.name came sent after)
     → sent ≡ (to, answer) ∷ rest → AnswersItsOwn acts conn came to answer
-own_received matching acts relay after conn to came answer rest sent None is compares h stays flag step e =
+own_received matching acts staying relay after conn to came answer rest sent None is compares h stays flag step e =
     absurd (let none : [] ≡ (to, answer) ∷ rest = sym step.0 ∙ e in cc)
-own_received matching acts relay after conn to came answer rest sent (Some sender) is compares h stays flag step e =
+own_received matching acts staying relay after conn to came answer rest sent (Some sender) is compares h stays flag step e =
     own_answer acts relay after conn to came answer rest sent h
     (λ held pending. ends_alike matching relay conn came sender held compares is flag pending stays)
-    (at_false came.header.request (OnRequest relay conn sender.name came sent after) (OnAnswer relay conn came sent after) flag step) e
+    (at_false came.header.request (OnRequestAmong staying relay conn sender.name came sent after) (OnAnswer relay conn came sent after) flag step) e
 
-own_step : (matching : Matching) (acts : List Act) (before after : RelayState) (event : RelayEvent) (sent : Traffic) → compares_end matching ≡ true
-    → Holding acts before.pending.rows → drops_at matching before event ≡ false → OnEvent before event sent after
+pub own_step : (matching : Matching) (acts : List Act) (staying : List Link) (before after : RelayState) (event : RelayEvent) (sent : Traffic) → compares_end matching ≡ true
+    → Holding acts before.pending.rows → drops_at matching before event ≡ false → OnEventAmong staying before event sent after
     → AnswersOwn acts (record { before = before; event = event; sent = sent; after = after })
-own_step matching acts before after event sent compares h stays step conn to came answer rest is flag e =
+own_step matching acts staying before after event sent compares h stays step conn to came answer rest is flag e =
     let taken : drops_at matching before (Received conn came) ≡ false = ap (drops_at matching before) (sym is) ∙ stays in
-    own_received matching acts before after conn to came answer rest sent (peer_on before.node conn) refl compares h taken flag
-    (subst (λ (x : RelayEvent). OnEvent before x sent after) is step) e
+    own_received matching acts staying before after conn to came answer rest sent (peer_on before.node conn) refl compares h taken flag
+    (subst (λ (x : RelayEvent). OnEventAmong staying before x sent after) is step) e
 
 pub answers_own : (site : RelaySite) (start : ℕ) (matching : Matching) {events : List RelayEvent} {outs : List Out} {past : List RelayStep} {last : RelayState}
     → compares_end matching ≡ true → IsMatchedRun matching (relay_at site start) events outs past last → AnswerOwn past
 answers_own site start matching compares not_begun = tt
 answers_own site start matching compares (one_more events event outs out past before after run stays step) =
-    let s = goes_on site start (as_taken matching (relay_at site start) run).2 in
-    (own_step matching (acts_of past) before after event out.items compares s.kept.holding stays step, answers_own site start matching compares run)
+    let s = goes_on site start (as_taken matching (relay_at site start) run).2 in (
+      own_step matching (acts_of past) before.node.peers.links before after event out.items compares s.kept.holding stays (event-among before after event out.items step),
+      answers_own site start matching compares run,
+    )
 answers_own site start matching compares (one_dropped events event outs out past before run drops silent) = answers_own site start matching compares run
 
-ends_if : (b : Bool) (past : List RelayStep) → (b ≡ true → AnswerOwn past) → MatchBool b (AnswerOwn past) (Unit {0})
+pub ends_if : (b : Bool) (past : List RelayStep) → (b ≡ true → AnswerOwn past) → MatchBool b (AnswerOwn past) (Unit {0})
 ends_if true past f = f refl
 ends_if false past f = tt
 

@@ -14,6 +14,7 @@ use Rattle.relay_hops.specs.declared.row.Row.{Row}
 use Rattle.relay_hops.specs.PendingTable.{IsMap, held_at, under, again, resent, orphaned, but_from}
 use Rattle.relay_hops.proofs.LookUps.{moved-rest}
 use Rattle.relay_peers.specs.declared.peers.LinkedPeer.{LinkedPeer}
+use Rattle.relay_peers.specs.declared.peers.Link.{Link}
 use Rattle.relay_peers.specs.PeerTable.{peer_in}
 use Rattle.relay_core.specs.declared.node.RelayNode.{RelayNode}
 use Rattle.relay_core.specs.declared.error.RelayError.{RelayError}
@@ -21,12 +22,13 @@ use Rattle.relay_core.specs.declared.run.RelayEvent.{RelayEvent}
 use Rattle.relay_core.specs.declared.run.RelayEvent.TheVariants.{Up, Received, Lost, Restart}
 use Rattle.relay_core.specs.Acts.{Act, happened, sent, acts_with, is_under, one, requests_in, answers_in}
 use Rattle.relay_core.specs.Connecting.{up_fault, after_up}
-use Rattle.relay_core.specs.Failover.{RequestFailover, forgotten, sent_again, given_up, Failover, none_left, least_first, OnConnLost, after_end, without_origins}
+use Rattle.relay_core.specs.Failover.{RequestFailover, forgotten, sent_again, given_up, Failover, none_left, least_first, after_end, without_origins}
 use Rattle.relay_core.specs.Forwarding.{with_record}
 use Rattle.relay_core.specs.Promise.{LosesNoRequest, comes_from, forgets, is_from}
-use Rattle.relay_core.specs.RelayRun.{IsIdle, OnEvent}
+use Rattle.relay_core.specs.RelayRun.{IsIdle}
+use Rattle.relay_core.specs.Staying.{OnConnLostAmong, OnEventAmong, OnMessageAmong, OnRequestAmong, node_among, relay_among}
 use Rattle.relay_core.specs.RelayState.{RelayState, peer_on}
-use Rattle.relay_core.specs.RelayStep.{OnRequest, refused, forwarded, OnAnswer, sent_back, dropped, ignored, OnMessage, row_of, held_for}
+use Rattle.relay_core.specs.RelayStep.{OnRequest, refused, forwarded, OnAnswer, sent_back, dropped, ignored, row_of, held_for}
 use Rattle.relay_core.proofs.Holding.{Holding, count-with, holding-orphans}
 use Rattle.relay_core.proofs.OnceEach.{IsGone, cause-held, gone, not_gone}
 use Rattle.relay_core.proofs.Promising.{acts_with-more, refusal-flag, refusal-hop}
@@ -151,12 +153,12 @@ requests-same : (conn : ConnId) (hop : ℕ) (items : Traffic) (acts : List Act) 
 requests-same conn hop [] acts = refl
 requests-same conn hop (item ∷ items) acts = requests-same conn hop items (sent item.0 item.1 ∷ acts)
 
-even-lost : (conn : ConnId) (hop : ℕ) (before after : RelayState) (lost : ConnId) (items : Traffic) (acts : List Act) → (lost.0 == conn.0) ≡ false → Holding acts before.pending.rows → OnConnLost before lost items after
+even-lost : (conn : ConnId) (hop : ℕ) (staying : List Link) (before after : RelayState) (lost : ConnId) (items : Traffic) (acts : List Act) → (lost.0 == conn.0) ≡ false → Holding acts before.pending.rows → OnConnLostAmong staying before lost items after
     → Even conn hop before.pending.rows after.pending.rows (acts_with items (happened (Lost lost) ∷ []))
-even-lost conn hop before after lost items acts other h step =
+even-lost conn hop staying before after lost items acts other h step =
     let orphans = holding-orphans lost acts before.pending.rows h in
     let now = happened (Lost lost) ∷ [] in
-    let all = even-failover conn hop (after_end lost before.node) lost now (none_on before.node.peers.links lost) orphans.map
+    let all = even-failover conn hop (after_end lost (node_among staying before.node)) lost now (none_on staying lost) orphans.map
     (λ on held e. (cause-held acts lost on (without_origins lost before.pending.rows) held orphans.causes e).flag) step.failover in
     let many = as_many conn hop lost before.pending.rows other in
     let same = requests-same conn hop items now in
@@ -194,28 +196,29 @@ none_here conn hop node on message up none = by_key (message.header.request && i
         let same = same_conn on conn (and_parts (on.0 == conn.0) (message.header.hop == hop) key.1).0 in
         absurd (let no : is_some (peer_on node conn) ≡ false = ap (λ (c : ConnId). is_some (peer_on node c)) (sym same) ∙ ap is_some none in cc)
 
-even-message : (conn : ConnId) (hop : ℕ) (before after : RelayState) (on : ConnId) (sender : List ℕ) (message : Message) (items : Traffic) (flag : Bool) → message.header.request ≡ flag
-    → MatchBool flag (OnRequest before on sender message items after) (OnAnswer before on message items after) → Even conn hop before.pending.rows after.pending.rows (acts_with items (happened (Received on message) ∷ []))
-even-message conn hop before after on sender message items true is step = even-request conn hop before after on sender message items is step
-even-message conn hop before after on sender message items false is step = even-answer conn hop before after on message items is step
+even-message : (conn : ConnId) (hop : ℕ) (staying : List Link) (before after : RelayState) (on : ConnId) (sender : List ℕ) (message : Message) (items : Traffic) (flag : Bool) → message.header.request ≡ flag
+    → MatchBool flag (OnRequestAmong staying before on sender message items after) (OnAnswer before on message items after) → Even conn hop before.pending.rows after.pending.rows (acts_with items (happened (Received on message) ∷ []))
+even-message conn hop staying before after on sender message items true is step = even-request conn hop (relay_among staying before) (relay_among staying after) on sender message items is step.does
+even-message conn hop staying before after on sender message items false is step = even-answer conn hop before after on message items is step
 
-even-received : (conn : ConnId) (hop : ℕ) (before after : RelayState) (on : ConnId) (message : Message) (items : Traffic) (peer : Option LinkedPeer) → is_some (peer_on before.node conn) ≡ true → peer_on before.node on ≡ peer
-    → MatchOption peer (IsIdle before items after) (λ sender. OnMessage before on sender.name message items after) → Even conn hop before.pending.rows after.pending.rows (acts_with items (happened (Received on message) ∷ []))
-even-received conn hop before after on message items None up none m = even-idle conn hop (Received on message) before after items (none_here conn hop before.node on message up none) m
-even-received conn hop before after on message items (Some sender) up is m = even-message conn hop before after on sender.name message items message.header.request refl m
+even-received : (conn : ConnId) (hop : ℕ) (staying : List Link) (before after : RelayState) (on : ConnId) (message : Message) (items : Traffic) (peer : Option LinkedPeer) → is_some (peer_on before.node conn) ≡ true → peer_on before.node on ≡ peer
+    → MatchOption peer (IsIdle before items after) (λ sender. OnMessageAmong staying before on sender.name message items after) → Even conn hop before.pending.rows after.pending.rows (acts_with items (happened (Received on message) ∷ []))
+even-received conn hop staying before after on message items None up none m = even-idle conn hop (Received on message) before after items (none_here conn hop before.node on message up none) m
+even-received conn hop staying before after on message items (Some sender) up is m = even-message conn hop staying before after on sender.name message items message.header.request refl m
 
-maybe-lost : (conn : ConnId) (hop : ℕ) (before after : RelayState) (lost : ConnId) (items : Traffic) (acts : List Act) (peer : Option NodeNo) → (lost.0 == conn.0) ≡ false → Holding acts before.pending.rows
-    → MatchOption peer (IsIdle before items after) (λ _. OnConnLost before lost items after) → Even conn hop before.pending.rows after.pending.rows (acts_with items (happened (Lost lost) ∷ []))
-maybe-lost conn hop before after lost items acts None other h m = even-idle conn hop (Lost lost) before after items refl m
-maybe-lost conn hop before after lost items acts (Some peer) other h m = even-lost conn hop before after lost items acts other h m
+maybe-lost : (conn : ConnId) (hop : ℕ) (staying : List Link) (before after : RelayState) (lost : ConnId) (items : Traffic) (acts : List Act) (peer : Option NodeNo) → (lost.0 == conn.0) ≡ false → Holding acts before.pending.rows
+    → MatchOption peer (IsIdle before items after) (λ _. OnConnLostAmong staying before lost items after) → Even conn hop before.pending.rows after.pending.rows (acts_with items (happened (Lost lost) ∷ []))
+maybe-lost conn hop staying before after lost items acts None other h m = even-idle conn hop (Lost lost) before after items refl m
+maybe-lost conn hop staying before after lost items acts (Some peer) other h m = even-lost conn hop staying before after lost items acts other h m
 
-even-event : (conn : ConnId) (hop : ℕ) (acts : List Act) (before after : RelayState) (event : RelayEvent) (items : Traffic) → is_some (peer_on before.node conn) ≡ true → forgets conn event ≡ false → Holding acts before.pending.rows
-    → OnEvent before event items after → Even conn hop before.pending.rows after.pending.rows (acts_with items (happened event ∷ []))
-even-event conn hop acts before after (Up peer on) items up stays h step = even-up conn hop peer on before after items (up_fault before peer on) step
-even-event conn hop acts before after (Received on message) items up stays h step = even-received conn hop before after on message items (peer_on before.node on) up refl step
-even-event conn hop acts before after (Lost lost) items up stays h step = maybe-lost conn hop before after lost items acts (peer_in before.node.peers.links lost) stays h step
-even-event conn hop acts before after Restart items up stays h step = absurd cc
+even-event : (conn : ConnId) (hop : ℕ) (acts : List Act) (staying : List Link) (before after : RelayState) (event : RelayEvent) (items : Traffic) → is_some (peer_on before.node conn) ≡ true → forgets conn event ≡ false → Holding acts before.pending.rows
+    → OnEventAmong staying before event items after → Even conn hop before.pending.rows after.pending.rows (acts_with items (happened event ∷ []))
+even-event conn hop acts staying before after (Up peer on) items up stays h step = even-up conn hop peer on before after items (up_fault before peer on) step
+even-event conn hop acts staying before after (Received on message) items up stays h step = even-received conn hop staying before after on message items (peer_on before.node on) up refl step
+even-event conn hop acts staying before after (Lost lost) items up stays h step = maybe-lost conn hop staying before after lost items acts (peer_in before.node.peers.links lost) stays h step
+even-event conn hop acts staying before after Restart items up stays h step = absurd cc
 
-pub loses_none : (acts : List Act) (before after : RelayState) (event : RelayEvent) (items : Traffic) → Holding acts before.pending.rows → OnEvent before event items after
+-- where these stay
+pub loses_none : (acts : List Act) (staying : List Link) (before after : RelayState) (event : RelayEvent) (items : Traffic) → Holding acts before.pending.rows → OnEventAmong staying before event items after
     → LosesNoRequest (record { before = before; event = event; sent = items; after = after })
-loses_none acts before after event items h step = λ conn hop up stays. even-event conn hop acts before after event items up stays h step
+loses_none acts staying before after event items h step = λ conn hop up stays. even-event conn hop acts staying before after event items up stays h step

@@ -13,14 +13,16 @@ use Rattle.relay_hops.specs.PendingTable.{IsMap, IsMoved, hop_of, has_key, held_
 use Rattle.relay_hops.proofs.InUse.{its_hop}
 use Rattle.relay_hops.proofs.LookUps.{count-free}
 use Rattle.relay_hops.proofs.Rows.{IsMap-less, IsMap-more, row_of_key}
+use Rattle.relay_peers.specs.declared.peers.Link.{Link}
 use Rattle.relay_peers.specs.PeerTable.{peer_in}
 use Rattle.relay_core.specs.declared.node.RelayNode.{RelayNode}
 use Rattle.relay_core.specs.declared.run.RelayEvent.{RelayEvent}
 use Rattle.relay_core.specs.Acts.{Act, is_in_use, last_sent}
-use Rattle.relay_core.specs.Failover.{RequestFailover, forgotten, sent_again, given_up, Failover, none_left, least_first, OnConnLost, avps_in, after_end, without_origins}
+use Rattle.relay_core.specs.Failover.{RequestFailover, forgotten, sent_again, given_up, Failover, none_left, least_first, avps_in, after_end, without_origins}
 use Rattle.relay_core.specs.Promise.{EachForAnother, FailsOverOnce}
 use Rattle.relay_core.specs.Promise.EachForAnother.{none_more, one_more}
-use Rattle.relay_core.specs.RelayRun.{IsIdle, OnEvent}
+use Rattle.relay_core.specs.RelayRun.{IsIdle}
+use Rattle.relay_core.specs.Staying.{OnConnLostAmong, OnEventAmong, node_among}
 use Rattle.relay_core.specs.RelayState.{RelayState}
 use Rattle.relay_core.specs.RelayStep.{row_of}
 use Rattle.relay_core.proofs.Holding.{Holding, RowCause, count-with, holding-orphans}
@@ -118,20 +120,21 @@ each_goes_out name realm node lost acts least n r down map known (least_first ho
 zero_least : (n : ℕ) → 0 ≤ n
 zero_least n = omega arith
 
-by_peer : (name realm : List ℕ) (acts : List Act) (before after : RelayState) (lost : ConnId) (items : Traffic) (peer : Option NodeNo) → before.node.name ≡ name → before.node.realm ≡ realm
-    → Holding acts before.pending.rows → Unanswered before.node acts before.pending.rows → MatchOption peer (IsIdle before items after) (λ _. OnConnLost before lost items after)
+by_peer : (name realm : List ℕ) (acts : List Act) (staying : List Link) (before after : RelayState) (lost : ConnId) (items : Traffic) (peer : Option NodeNo) → before.node.name ≡ name → before.node.realm ≡ realm
+    → Holding acts before.pending.rows → Unanswered before.node acts before.pending.rows → MatchOption peer (IsIdle before items after) (λ _. OnConnLostAmong staying before lost items after)
     → EachForAnother name realm acts lost 0 items
-by_peer name realm acts before after lost items None n r h u idle = subst (λ (xs : Traffic). EachForAnother name realm acts lost 0 xs) (sym idle.0) (none_more 0)
-by_peer name realm acts before after lost items (Some peer) n r h u step =
+by_peer name realm acts staying before after lost items None n r h u idle = subst (λ (xs : Traffic). EachForAnother name realm acts lost 0 xs) (sym idle.0) (none_more 0)
+by_peer name realm acts staying before after lost items (Some peer) n r h u step =
     let orphans = holding-orphans lost acts before.pending.rows h in
     let waits : OfPending (IsWaiting before.node acts) (without_origins lost before.pending.rows) =
     pending-orphans (IsWaiting before.node acts) (IsWaiting before.node acts) lost before.pending.rows (λ to hop w. w) u.waiting in
-    each_goes_out name realm (after_end lost before.node) lost acts 0 n r (none_on before.node.peers.links lost) orphans.map
+    each_goes_out name realm (after_end lost (node_among staying before.node)) lost acts 0 n r (none_on staying lost) orphans.map
     (λ hop held e. (zero_least hop, (waits lost hop (ap is_some e)).in_use, last-held acts lost hop (without_origins lost before.pending.rows) held orphans.causes e))
     step.failover
 
-pub fails_over : (name realm : List ℕ) (acts : List Act) (before after : RelayState) (event : RelayEvent) (items : Traffic) → before.node.name ≡ name → before.node.realm ≡ realm
-    → Holding acts before.pending.rows → Unanswered before.node acts before.pending.rows → OnEvent before event items after
+-- requests go again to those that stay
+pub fails_over : (name realm : List ℕ) (acts : List Act) (staying : List Link) (before after : RelayState) (event : RelayEvent) (items : Traffic) → before.node.name ≡ name → before.node.realm ≡ realm
+    → Holding acts before.pending.rows → Unanswered before.node acts before.pending.rows → OnEventAmong staying before event items after
     → FailsOverOnce name realm acts (record { before = before; event = event; sent = items; after = after })
-fails_over name realm acts before after event items n r h u step = λ lost is.
-    by_peer name realm acts before after lost items (peer_in before.node.peers.links lost) n r h u (subst (λ (e : RelayEvent). OnEvent before e items after) is step)
+fails_over name realm acts staying before after event items n r h u step = λ lost is.
+    by_peer name realm acts staying before after lost items (peer_in before.node.peers.links lost) n r h u (subst (λ (e : RelayEvent). OnEventAmong staying before e items after) is step)

@@ -31,7 +31,7 @@ use Rattle.relay_core.specs.RelayStep.{OnRequest, OnAnswer, refused, forwarded, 
 use Rattle.relay_core.proofs.Holding.{Holding, Counted, come_more, cause_of, count-with, last_is_sent, holding-event, holding-answer, holding-less, holding-more, counted-event, counted-request, counted-same, counted-answer}
 use Rattle.relay_core.proofs.Reaching.{next_hop-never}
 use Rattle.relay_core.proofs.Rules.{forwarded-by}
-use Rattle.relay_core.proofs.Unanswered.{OfPending, AreLinked, IsWaiting, WasWaiting, same_conn, waiting-failover_one, waiting-elsewhere, was_in_use}
+use Rattle.relay_core.proofs.Unanswered.{OfPending, AreLinked, Within, IsWaiting, WasWaiting, same_conn, waiting-failover_one, waiting-elsewhere, was_in_use}
 
 -- what is so of a run up to here
 pub record Kept (name realm : List ℕ) (acts : List Act) (rows : List Row) : Type 0 where
@@ -295,12 +295,13 @@ pub acts_with-more : (items more : Traffic) (acts : List Act) → acts_with (ite
 acts_with-more [] more acts = refl
 acts_with-more (item ∷ items) more acts = acts_with-more items more (sent item.0 item.1 ∷ acts)
 
-pub kept-failover : (name realm : List ℕ) (node : RelayNode) (lost : ConnId) {rows left : List Row} {items : Traffic} (acts : List Act) → node.name ≡ name → node.realm ≡ realm
-    → peer_in node.peers.links lost ≡ None → AreLinked node → Failover node lost rows items left → OfPending (WasWaiting node lost acts) rows
+-- The requests are routed by a node with no more connections.
+pub kept-failover : (name realm : List ℕ) (routing node : RelayNode) (lost : ConnId) {rows left : List Row} {items : Traffic} (acts : List Act) → routing.name ≡ name → routing.realm ≡ realm
+    → Within node routing → peer_in node.peers.links lost ≡ None → AreLinked node → Failover routing lost rows items left → OfPending (WasWaiting node lost acts) rows
     → Kept name realm acts rows → IsUnused acts lost → HasEnded acts lost → Kept name realm (acts_with items acts) left × OfPending (IsWaiting node (acts_with items acts)) left
-kept-failover name realm node lost acts n r down linked (none_left rows none) waits k unused now = (k, waiting-elsewhere node lost rows acts none waits)
-kept-failover name realm node lost acts n r down linked (least_first hop held rows between left items more at_hop least step rest) waits k unused now =
-    let one_done = kept-failover_one name realm node lost held rows between items acts n r down step (was_in_use node lost hop held rows acts at_hop waits) k unused now in
-    let wait = waiting-failover_one node lost held rows between items acts linked down step k.holding one_done.0.holding.map waits in
+kept-failover name realm routing node lost acts n r within down linked (none_left rows none) waits k unused now = (k, waiting-elsewhere node lost rows acts none waits)
+kept-failover name realm routing node lost acts n r within down linked (least_first hop held rows between left items more at_hop least step rest) waits k unused now =
+    let one_done = kept-failover_one name realm routing lost held rows between items acts n r (within lost down) step (was_in_use node lost hop held rows acts at_hop waits) k unused now in
+    let wait = waiting-failover_one routing node lost held rows between items acts within linked down step k.holding one_done.0.holding.map waits in
     subst (λ (all : List Act). Kept name realm all left × OfPending (IsWaiting node all) left) (sym (acts_with-more items more acts))
-    (kept-failover name realm node lost (acts_with items acts) n r down linked rest wait one_done.0 one_done.1 one_done.2)
+    (kept-failover name realm routing node lost (acts_with items acts) n r within down linked rest wait one_done.0 one_done.1 one_done.2)

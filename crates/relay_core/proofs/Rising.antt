@@ -124,7 +124,7 @@ abbrev IsHigh : ℕ → Type 0
 IsHigh hop = (2147483648 ≤ hop) × (hop < 4294967296)
 
 -- What a run has given, as numbers, and what may be lost.
-record Counts (first : ℕ) (past : List RelayStep) (table : PendingTable) : Type 0 where
+pub record Counts (first : ℕ) (past : List RelayStep) (table : PendingTable) : Type 0 where
   numbers : List ℕ
   count : ℕ
   hops : given_in past ≡ map identifier_of numbers
@@ -138,7 +138,7 @@ record Counts (first : ℕ) (past : List RelayStep) (table : PendingTable) : Typ
   high : (hop : ℕ) → has_hop table.rows hop ≡ true → IsHigh hop
   highest : HaveHighestBit past
 
-begins : (site : RelaySite) (start : ℕ) → Counts (start % 2147483648) [] (relay_at site start).pending
+pub begins : (site : RelaySite) (start : ℕ) → Counts (start % 2147483648) [] (relay_at site start).pending
 unfolding IsFalling
 begins site start =
     let below = mod_below start 2147483648 (omega arith) in
@@ -245,7 +245,7 @@ again_more : (first : ℕ) (past : List RelayStep) (before after : RelayState) (
     → SendsAgain before.pending sent after.pending → Counts first (record { before = before; event = event; sent = sent; after = after } ∷ past) after.pending
 again_more first past before after event sent c none again = none_more first past before after event sent c none again.none (λ hop e. c.high hop (again.same hop e))
 
-step_more : (first : ℕ) (past : List RelayStep) (before after : RelayState) (event : RelayEvent) (sent : Traffic) → Counts first past before.pending → GivesAt event before.pending sent after.pending
+pub step_more : (first : ℕ) (past : List RelayStep) (before after : RelayState) (event : RelayEvent) (sent : Traffic) → Counts first past before.pending → GivesAt event before.pending sent after.pending
     → Counts first (record { before = before; event = event; sent = sent; after = after } ∷ past) after.pending
 step_more first past before after (Up peer conn) sent c gives = again_more first past before after (Up peer conn) sent c refl gives
 step_more first past before after (Received conn came) sent c gives = received_more first past before after conn came sent after.pending refl c gives
@@ -360,5 +360,8 @@ comes_late {first = first} {table = table} c later between earlier hop e =
     first_of : (x : ℕ) (xs : List ℕ) → IsFalling (x ∷ xs) → AllByRecursion (λ y. y < x) xs
     first_of x xs f = f.0
 
+pub rising-of : {first : ℕ} {past : List RelayStep} {table : PendingTable} → Counts first past table → GivesRising past
+rising-of c = record { late = comes_late c; highest = c.highest }
+
 pub rising-kept : (site : RelaySite) (start : ℕ) {events : List RelayEvent} {outs : List Out} {past : List RelayStep} {last : RelayState} → IsRun (relay_at site start) events outs past last → GiveInTurn past → GivesRising past
-rising-kept site start run gives = let c = counts site start run gives in record { late = comes_late c; highest = c.highest }
+rising-kept site start run gives = rising-of (counts site start run gives)

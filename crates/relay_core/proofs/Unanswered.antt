@@ -83,13 +83,17 @@ same_conn a b e = ap conn_id (eqb-true a.0 b.0 e)
     conn_id : ℕ → ConnId
     conn_id n = record { 0 = n }
 
-some_unless : (o : Option NodeNo) → (o ≡ None → ⊥) → is_some o ≡ true
+pub some_unless : (o : Option NodeNo) → (o ≡ None → ⊥) → is_some o ≡ true
 some_unless None f = absurd (f refl)
 some_unless (Some peer) f = refl
 
 -- a request goes out on the connection of a linked peer
 pub reached_linked : (node : RelayNode) → AreLinked node → (to : ConnId) → (peer_in node.peers.links to ≡ None → ⊥) → is_some (peer_on node to) ≡ true
 reached_linked node linked to f = linked to (some_unless (peer_in node.peers.links to) f)
+
+-- on a connection that no peer of the first is up on, none of the other is
+abbrev pub Within : RelayNode → RelayNode → Type 0
+Within node routing = (conn : ConnId) → peer_in node.peers.links conn ≡ None → peer_in routing.peers.links conn ≡ None
 
 -- ---- a peer comes up
 
@@ -130,7 +134,7 @@ apart true true link links lost to other e f rest = absurd (let same : (lost.0 =
 apart true false link links lost to other e f rest = rest
 apart false c link links lost to other e f rest = ap (λ (b : Bool). cond b (Some link) (find (is_on to) (without_conn links lost))) f ∙ ap (λ (o : Option Link). cond c (Some link) o) rest
 
-found_apart : (links : List Link) (lost to : ConnId) → (lost.0 == to.0) ≡ false → find (is_on to) (without_conn links lost) ≡ find (is_on to) links
+pub found_apart : (links : List Link) (lost to : ConnId) → (lost.0 == to.0) ≡ false → find (is_on to) (without_conn links lost) ≡ find (is_on to) links
 found_apart [] lost to other = refl
 found_apart (link ∷ links) lost to other = apart (is_on lost link) (is_on to link) link links lost to other refl refl (found_apart links lost to other)
 
@@ -230,29 +234,30 @@ unanswered-nothing node acts none = record {
 unanswered-sent : (node : RelayNode) (conn : ConnId) (message : Message) (acts : List Act) (rows : List Row) → Unanswered node acts rows → Unanswered node (sent conn message ∷ acts) rows
 unanswered-sent node conn message acts rows u = record { linked = u.linked; waiting = λ to hop e. waiting-sent node conn message acts to hop (u.waiting to hop e) }
 
-pub unanswered-request : (relay next : RelayState) (conn : ConnId) (sender : List ℕ) (request : Message) (items : Traffic) (acts : List Act) → request.header.request ≡ true
-    → OnRequest relay conn sender request items next → IsMap next.pending.rows → Unanswered relay.node acts relay.pending.rows
-    → Unanswered next.node (acts_with items (happened (Received conn request) ∷ acts)) next.pending.rows
-unanswered-request relay next conn sender request items acts flag step map u = go step map
+-- It is routed by a relay with no more connections: it goes out on the connection of a peer that is up.
+pub unanswered-request : (node : RelayNode) (relay next : RelayState) (conn : ConnId) (sender : List ℕ) (request : Message) (items : Traffic) (acts : List Act) → request.header.request ≡ true
+    → Within node relay.node → OnRequest relay conn sender request items next → IsMap next.pending.rows → Unanswered node acts relay.pending.rows
+    → Unanswered node (acts_with items (happened (Received conn request) ∷ acts)) next.pending.rows
+unanswered-request node relay next conn sender request items acts flag within step map u = go step map
   where
-    came : Unanswered relay.node (happened (Received conn request) ∷ acts) relay.pending.rows
+    came : Unanswered node (happened (Received conn request) ∷ acts) relay.pending.rows
     came =
-        unanswered-event relay.node (Received conn request) acts relay.pending.rows
+        unanswered-event node (Received conn request) acts relay.pending.rows
         (λ to hop e. absurd (let no : ends to hop (Received conn request) ≡ false = ap (λ (b : Bool). not b && is_under to hop conn request) flag in cc)) u
 
     go : {out : Traffic} {after : RelayState} → OnRequest relay conn sender request out after → IsMap after.pending.rows
-        → Unanswered after.node (acts_with out (happened (Received conn request) ∷ acts)) after.pending.rows
-    go (refused refusal e) m = unanswered-sent relay.node conn (refusal_of relay.node.name relay.node.realm request refusal) (happened (Received conn request) ∷ acts) relay.pending.rows came
+        → Unanswered node (acts_with out (happened (Received conn request) ∷ acts)) after.pending.rows
+    go (refused refusal e) m = unanswered-sent node conn (refusal_of relay.node.name relay.node.realm request refusal) (happened (Received conn request) ∷ acts) relay.pending.rows came
     go (forwarded to hop rows count e free w) m =
         let message = under hop (with_record sender request) in
         let row = row_of to (held_for conn request message) in
         let now = happened (Received conn request) ∷ acts in
         let way = (forwarded-by relay sender request (avps_of request.body) to e).2 in
-        let more = unanswered-sent relay.node to message now relay.pending.rows came in
+        let more = unanswered-sent node to message now relay.pending.rows came in
         record {
           linked = u.linked;
-          waiting = pending-more (IsWaiting relay.node (sent to message ∷ now)) row relay.pending.rows rows w m
-              (record { in_use = in_use-now to message now flag; up = reached_linked relay.node u.linked to (λ none. next_hop-never relay.node to none (outgoing (Some sender) way.0) request.header.application way.3) })
+          waiting = pending-more (IsWaiting node (sent to message ∷ now)) row relay.pending.rows rows w m
+              (record { in_use = in_use-now to message now flag; up = reached_linked node u.linked to (λ none. next_hop-never relay.node to (within to none) (outgoing (Some sender) way.0) request.header.application way.3) })
               more.waiting;
         }
 
@@ -318,17 +323,17 @@ was-sent : (node : RelayNode) (lost conn : ConnId) (message : Message) (acts : L
 was-sent node lost conn message acts to hop w = record { here = w.here; elsewhere = λ other. waiting-sent node conn message acts to hop (w.elsewhere other) }
 
 -- one request is forgotten, goes out again, or is given up
-pub waiting-failover_one : (node : RelayNode) (lost : ConnId) (held : Held) (rows left : List Row) (items : Traffic) (acts : List Act) → AreLinked node → peer_in node.peers.links lost ≡ None
-    → RequestFailover node lost held rows items left → Holding acts rows → IsMap left
+pub waiting-failover_one : (routing node : RelayNode) (lost : ConnId) (held : Held) (rows left : List Row) (items : Traffic) (acts : List Act) → Within node routing → AreLinked node
+    → peer_in node.peers.links lost ≡ None → RequestFailover routing lost held rows items left → Holding acts rows → IsMap left
     → OfPending (WasWaiting node lost acts) rows → OfPending (WasWaiting node lost (acts_with items acts)) left
-waiting-failover_one node lost held rows left items acts linked down step h map waits = go step map
+waiting-failover_one routing node lost held rows left items acts within linked down step h map waits = go step map
   where
     less : (conn : ConnId) (message : Message) (others : List Row) → IsWith (row_of lost held) others rows → OfPending (WasWaiting node lost (sent conn message ∷ acts)) others
     less conn message others w =
         pending-less (WasWaiting node lost acts) (WasWaiting node lost (sent conn message ∷ acts)) (row_of lost held) others rows w h.map
         (λ to hop free was. was-sent node lost conn message acts to hop was) waits
 
-    go : {out : Traffic} {after : List Row} → RequestFailover node lost held rows out after → IsMap after → OfPending (WasWaiting node lost (acts_with out acts)) after
+    go : {out : Traffic} {after : List Row} → RequestFailover routing lost held rows out after → IsMap after → OfPending (WasWaiting node lost (acts_with out acts)) after
     go (forgotten after from w) m = pending-less (WasWaiting node lost acts) (WasWaiting node lost acts) (row_of lost held) after rows w h.map (λ to hop free was. was) waits
     go (sent_again origin to hop after from way free w) m =
         let parts = moved-rest (row_of lost held) (resent to hop (row_of lost held)) rows after w in
@@ -336,14 +341,14 @@ waiting-failover_one node lost held rows left items acts linked down step h map 
         let message = again hop held.request in
         pending-more (WasWaiting node lost (sent to message ∷ acts)) (resent to hop (row_of lost held)) parts.0 after parts.2 m
         (record {
-          here = λ same. absurd (next_hop-never node lost down (avps_in (avps_of held.request.body)) held.request.header.application (way ∙ ap (λ (conn : ConnId). Ok conn) (sym (same_conn lost to same))));
+          here = λ same. absurd (next_hop-never routing lost (within lost down) (avps_in (avps_of held.request.body)) held.request.header.application (way ∙ ap (λ (conn : ConnId). Ok conn) (sym (same_conn lost to same))));
           elsewhere = λ _. record {
             in_use = in_use-now to message acts cause.flag;
-            up = reached_linked node linked to (λ none. next_hop-never node to none (avps_in (avps_of held.request.body)) held.request.header.application way);
+            up = reached_linked node linked to (λ none. next_hop-never routing to (within to none) (avps_in (avps_of held.request.body)) held.request.header.application way);
           };
         })
         (less to message parts.0 parts.1)
-    go (given_up origin code after from way w) m = less origin.conn (under origin.hop (refusal_of node.name node.realm held.request (refusal_with code))) after w
+    go (given_up origin code after from way w) m = less origin.conn (under origin.hop (refusal_of routing.name routing.realm held.request (refusal_with code))) after w
 
 -- nothing is left on the lost connection
 pub waiting-elsewhere : (node : RelayNode) (lost : ConnId) (rows : List Row) (acts : List Act) → ((hop : ℕ) → held_at rows lost hop ≡ None) → OfPending (WasWaiting node lost acts) rows → OfPending (IsWaiting node acts) rows

@@ -17,3 +17,5 @@ pub mod StepExample
 pub mod Giving
 pub mod AnswerMatching
 pub mod MatchedRun
+pub mod Staying
+pub mod PartingRun

@@ -1,8 +1,9 @@
 //! Laws of what relays pass on: what a server reads in a request, and what it is answered, does not depend
 //! on the relays on its way (RFC 6733, section 6.1.9); and of their runs.
 
-ghost use Rattle.std.specs.Prelude.{◌≡◌, ◌↔◌, ◌+◌, ℕ, List, length, false, Ok};
+ghost use Rattle.std.specs.Prelude.{◌≡◌, ◌↔◌, ◌+◌, ℕ, List, length, false, None, Ok};
 ghost use Rattle.dia_base.specs.declared.number.ConnId.{ConnId};
+ghost use Rattle.dia_base.specs.declared.number.NodeNo.{NodeNo};
 ghost use Rattle.dia_avp.specs.declared.avp.RawAvp.{RawAvp};
 ghost use Rattle.dia_avp.specs.AvpList.{HasSpelling};
 ghost use Rattle.dia_avp.specs.AvpReading.{split_of};
@@ -24,16 +25,21 @@ ghost use Rattle.relay_core.specs.Connecting.{relay_at};
 ghost use Rattle.relay_core.specs.FirstForwarding.{client_name, forwarded_debit};
 ghost use Rattle.relay_core.specs.Forwarding.{with_record, Descends};
 ghost use Rattle.relay_core.specs.Giving.{GiveInTurn, GivesRising};
-ghost use Rattle.relay_core.specs.MatchedRun.{AnswerOwn, IsMatchedRun};
+ghost use Rattle.relay_core.specs.MatchedRun.{AnswerOwn, IsMatchedRun, MatchesEnds};
+ghost use Rattle.relay_core.specs.PartingRun.{IsPartingRun, PartingEvent};
 ghost use Rattle.relay_core.specs.Promise.{KeepsPromise};
-ghost use Rattle.relay_core.specs.RelayRun.{IsRun, RelayStep};
+ghost use Rattle.relay_core.specs.RelayRun.{IsRun, OnEvent, RelayStep};
 ghost use Rattle.relay_core.specs.RelayState.{RelayState};
 ghost use Rattle.relay_core.specs.RelayStep.{OnRequest, refusal_to};
+ghost use Rattle.relay_core.specs.Staying.{AsksAmong, OnEventAmong, staying_after};
 ghost use Rattle.relay_core.specs.Verdict.{decision};
 ghost use Rattle.relay_core.specs.declared.matching.Matching.{Matching};
 ghost use Rattle.relay_core.specs.declared.matching.Matching.TheVariants.{EndToEnd, HopByHop};
 ghost use Rattle.relay_core.specs.declared.node.RelaySite.{RelaySite};
 ghost use Rattle.relay_core.specs.declared.run.RelayEvent.{RelayEvent};
+ghost use Rattle.relay_core.specs.declared.run.RelayEvent.TheVariants.{Received, Up};
+ghost use Rattle.relay_peers.specs.declared.peers.Link.{Link};
+ghost use Rattle.relay_peers.specs.PeerTable.{peer_in, without_conn};
 
 use cc_view::{forwarded_requests, profiles_read_no_more};
 use dia_avp::one_avp_more;
@@ -115,6 +121,39 @@ pub fn runs_by_hop_are_runs()
 pub fn answers_have_the_end_of_their_request()
     ensures { (site : RelaySite) (start : ℕ) (events : List RelayEvent) (outs : List Out) (past : List RelayStep) (last : RelayState) →
         IsMatchedRun EndToEnd (relay_at site start) events outs past last → AnswerOwn past }
+{}
+
+/// A relay some of whose peers leave keeps the promise of every relay, whatever happens to it, and whoever leaves: what it sends
+/// has its cause, each request that it has sent is answered, goes out again or is given up at most once, and none is lost. Its
+/// identifiers rise, and where it compares End-to-End Identifiers each answer has that of its request (RFC 6733, section 5.4).
+pub fn parting_relays_keep_their_promise()
+    ensures promise { (site : RelaySite) (start : ℕ) (matching : Matching) (events : List PartingEvent) (past : List RelayStep) (last : RelayState) (staying : List Link) →
+        IsPartingRun matching (relay_at site start) events past last staying → KeepsPromise site.name site.realm past }
+    ensures rising { (site : RelaySite) (start : ℕ) (matching : Matching) (events : List PartingEvent) (past : List RelayStep) (last : RelayState) (staying : List Link) →
+        IsPartingRun matching (relay_at site start) events past last staying → GiveInTurn past → GivesRising past }
+    ensures ends { (site : RelaySite) (start : ℕ) (matching : Matching) (events : List PartingEvent) (past : List RelayStep) (last : RelayState) (staying : List Link) →
+        IsPartingRun matching (relay_at site start) events past last staying → MatchesEnds matching past }
+{}
+
+/// No request goes to a peer that leaves, be it new or sent again: each that is sent at an event goes to a peer that stays. Who
+/// leaves stays no more, and does not again on the same connection.
+pub fn requests_go_to_those_that_stay()
+    ensures asks { (staying : List Link) (relay : RelayState) (event : RelayEvent) (sent : Traffic) (next : RelayState) →
+        OnEventAmong staying relay event sent next → AsksAmong (staying_after relay event staying) sent }
+    ensures leaves { (staying : List Link) (conn : ConnId) → peer_in (without_conn staying conn) conn ≡ None }
+    ensures away { (staying : List Link) (relay : RelayState) (event : RelayEvent) (conn : ConnId) → peer_in staying conn ≡ None → ((p : NodeNo) → event ≡ Up p conn → ⊥) →
+        peer_in (staying_after relay event staying) conn ≡ None }
+{}
+
+/// Whoever leaves, with an answer a relay does what every relay does: the answers of those who leave go where they went.
+pub fn answers_of_those_who_leave_are_answers()
+    ensures { (staying : List Link) (relay : RelayState) (conn : ConnId) (answer : Message) (sent : Traffic) (next : RelayState) → answer.header.request ≡ false →
+        OnEventAmong staying relay (Received conn answer) sent next ↔ OnEvent relay (Received conn answer) sent next }
+{}
+
+/// Where nobody leaves, what any relay does is what this one does.
+pub fn relays_that_nobody_leaves_are_relays()
+    ensures { (relay : RelayState) (event : RelayEvent) (sent : Traffic) (next : RelayState) → OnEvent relay event sent next → OnEventAmong relay.node.peers.links relay event sent next }
 {}
 
 /// The worked example: the first debit, as a relay forwards it that has it from `c1.example`, has the

@@ -4,19 +4,22 @@
 //! - [`Relay`]: a relay with its events, `conn_up`, `on_message`, `conn_lost` and `restart`, and `run` over a
 //!   list of [`RelayEvent`]. After want of memory, and every other [`RelayError`], it is as it was.
 //! - [`MatchingRelay`]: a relay that compares End-to-End Identifiers too, or does not ([`Matching`]).
+//! - [`PartingRelay`]: the same where peers leave: those that have said goodbye get no new request.
 //! - [`RelaySite`]: what it is set up with; [`RelayNode`]: the same with the peers that are up.
 //! - [`FailoverChoice`], [`PlannedFailover`]: what is prepared before a connection is given up.
 //! - [`descending_goes_on`], [`descendants_read_alike`], [`loops_are_not_forwarded`],
 //!   [`loops_are_refused`], [`returning_requests_loop`], [`relays_keep_their_promise`],
 //!   [`identifiers_come_back_late`], [`matched_runs_are_runs`], [`runs_by_hop_are_runs`],
-//!   [`answers_have_the_end_of_their_request`]: laws, functions without a
+//!   [`answers_have_the_end_of_their_request`], [`parting_relays_keep_their_promise`],
+//!   [`requests_go_to_those_that_stay`], [`answers_of_those_who_leave_are_answers`],
+//!   [`relays_that_nobody_leaves_are_relays`]: laws, functions without a
 //!   body. `rule_examples` has a worked example for each rule, `step_examples` one for each case of an event.
 //!
 //! The thirteen rules stand in `specs/Verdict`, with `specs/NextHop`; what may change in a request in
 //! `specs/Forwarding`; a message that comes in `specs/RelayStep`; a lost connection in `specs/Failover`, with
 //! its plan in `specs/FailoverPlan`; a run in `specs/RelayRun`, and what is promised of it in
 //! `specs/Promise`, over the acts of `specs/Acts`; End-to-End Identifiers in `specs/AnswerMatching` and
-//! `specs/MatchedRun`.
+//! `specs/MatchedRun`; peers that leave in `specs/Staying` and `specs/PartingRun`.
 //!
 //! ```
 //! use dia_avp::ViewWire;
@@ -44,6 +47,7 @@ mod matched_run;
 mod matching;
 mod node;
 mod outgoing;
+mod parting;
 mod reading;
 mod recording;
 mod relay;
@@ -54,13 +58,16 @@ mod step_examples;
 pub use error::RelayError;
 pub use failover::{FailoverChoice, PlannedFailover};
 pub use laws::{
-    answers_have_the_end_of_their_request, descendants_read_alike, descending_goes_on,
-    first_forwarding, identifiers_come_back_late, loops_are_not_forwarded, loops_are_refused,
-    matched_runs_are_runs, relays_keep_their_promise, returning_requests_loop,
+    answers_have_the_end_of_their_request, answers_of_those_who_leave_are_answers,
+    descendants_read_alike, descending_goes_on, first_forwarding, identifiers_come_back_late,
+    loops_are_not_forwarded, loops_are_refused, matched_runs_are_runs,
+    parting_relays_keep_their_promise, relays_keep_their_promise,
+    relays_that_nobody_leaves_are_relays, requests_go_to_those_that_stay, returning_requests_loop,
     runs_by_hop_are_runs,
 };
 pub use matching::{Matching, MatchingRelay};
 pub use node::{RelayNode, RelaySite};
+pub use parting::PartingRelay;
 pub use relay::Relay;
 pub use rule_examples::{
     a_full_relay_refuses_last, a_linked_host_is_the_only_candidate,
@@ -78,5 +85,6 @@ pub use step_examples::{
     a_restart_forgets_all, answers_go_to_the_origin_under_its_identifier,
     answers_of_another_end_are_dropped, forwarded_requests_are_kept_with_their_origin,
     linked_peers_come_up_once, lost_connections_fail_over,
-    refused_requests_are_answered_and_not_kept, unknown_connections_change_nothing,
+    refused_requests_are_answered_and_not_kept, requests_go_past_who_leaves,
+    unknown_connections_change_nothing,
 };

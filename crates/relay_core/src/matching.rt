@@ -58,7 +58,7 @@ impl MatchingRelay {
     }
 
     /// Whether a message is dropped that came on a connection. It takes no memory.
-    fn drops(&self, conn: ConnId, message: &Message) -> bool
+    pub(crate) fn drops(&self, conn: ConnId, message: &Message) -> bool
         ensures { result ≡ is_dropped self.now.matching self.now.relay conn message.now }
     {
         self.matching.compares_end()

@@ -1,17 +1,21 @@
 //! Worked examples: what a relay does at one event (RFC 6733, sections 5.5.4, 6.1 and 6.2). Nothing else may be done.
 
-ghost use Rattle.std.specs.Prelude.{◌≡◌, ◌∷◌, [], None, Some, true};
+ghost use Rattle.std.specs.Prelude.{◌≡◌, ◌∷◌, [], None, Some, Ok, Err, map, true};
 ghost use Rattle.cc_view.specs.FirstDebit.{answer_message, debit_message};
 ghost use Rattle.relay_hops.specs.PendingTable.{again, under};
-ghost use Rattle.relay_routes.specs.RouteExample.{node};
+ghost use Rattle.relay_routes.specs.RouteExample.{f1, node};
+ghost use Rattle.relay_peers.specs.PeerTable.{conn_in};
+ghost use Rattle.cc_view.specs.declared.code.ResultCode.TheVariants.{UnableToDeliver};
 ghost use Rattle.relay_core.specs.declared.error.RelayError.TheVariants.{PeerUp, UnknownPeer};
 ghost use Rattle.relay_core.specs.declared.matching.Matching.TheVariants.{EndToEnd, HopByHop};
 ghost use Rattle.relay_core.specs.AnswerMatching.{is_dropped};
 ghost use Rattle.relay_core.specs.Connecting.{after_restart, new_relay, up_fault};
 ghost use Rattle.relay_core.specs.FirstForwarding.{forwarded_debit};
 ghost use Rattle.relay_core.specs.RelayState.{with_rows};
+ghost use Rattle.relay_core.specs.Staying.{staying_after};
+ghost use Rattle.relay_core.specs.declared.run.RelayEvent.TheVariants.{Up};
 ghost use Rattle.relay_core.specs.RuleExample.{all_up, but_for, c1, client_up, conn, request_with, site_of_r1};
-ghost use Rattle.relay_core.specs.StepExample.{DoesOnly, DoesOnlyBy, DoesUnder, DoesUnderNew, of_end, debit_again_on, debit_on, lost, of_c1, received, refused_with};
+ghost use Rattle.relay_core.specs.StepExample.{DoesOnly, DoesOnlyAmong, DoesOnlyBy, DoesUnder, DoesUnderNew, but_on, way_again_among, way_among, of_end, debit_again_on, debit_on, lost, of_c1, received, refused_with};
 
 /// A request that is refused is answered where it came from, with E and the relay's name, and is not pending. The first
 /// names nobody, DIAMETER_APPLICATION_UNSUPPORTED; the second meets no candidate, DIAMETER_UNABLE_TO_DELIVER.
@@ -74,6 +78,19 @@ pub fn lost_connections_fail_over()
     ensures no_origin { DoesOnly (with_rows (debit_on 2 5 None ∷ []) all_up) (lost 2) [] (but_for 2 all_up) }
     // What came on the connection waits on, and its answer will go nowhere.
     ensures origin { DoesOnly (with_rows (debit_on 2 5 of_c1 ∷ []) all_up) (lost 1) [] (with_rows (debit_on 2 5 None ∷ []) (but_for 1 all_up)) }
+{}
+
+/// Where f1 has said goodbye, a request goes to f2, and where f2 has too, to r2; where all have, it is refused,
+/// DIAMETER_UNABLE_TO_DELIVER. One of c1 goes to f1 though c1 has said goodbye itself. What was sent to f2 goes again to r2,
+/// past f1, once f2 is lost. An answer of f1 goes where it went. Once f1 comes up on another connection, it stays.
+pub fn requests_go_past_who_leaves()
+    ensures all { way_among (but_on []) ≡ Ok 2 }
+    ensures new { map way_among (but_on (2 ∷ []) ∷ but_on (2 ∷ 3 ∷ []) ∷ but_on (2 ∷ 3 ∷ 4 ∷ []) ∷ []) ≡ Ok 3 ∷ Ok 4 ∷ Err 3002 ∷ [] }
+    ensures asker { way_among (but_on (1 ∷ [])) ≡ Ok 2 }
+    ensures again { map (λ staying. way_again_among staying 3) (but_on [] ∷ but_on (2 ∷ []) ∷ but_on (2 ∷ 4 ∷ []) ∷ []) ≡ Ok (conn 2) ∷ Ok (conn 4) ∷ Err UnableToDeliver ∷ [] }
+    ensures answers { DoesOnlyAmong (but_on (2 ∷ [])) (with_rows (debit_on 2 5 of_c1 ∷ []) all_up) (received 2 (under 5 answer_message))
+        ((conn 1, answer_message) ∷ []) (with_rows [] all_up) }
+    ensures back { conn_in (staying_after (but_for 2 all_up) (Up f1 (conn 9)) (but_on (2 ∷ []))) f1 ≡ Some (conn 9) }
 {}
 
 /// Only a linked peer that is not up comes up, on a connection that no other peer has.

@@ -1,11 +1,11 @@
 -- Links stay one to one, and what is found in them after a change.
-use Rattle.std.proofs.Common.{◌≡◌, ℕ, ◌==◌, Bool, true, false, cond, not, is_some, List, Option, Some, None, option_map, refl, ap, sym, ◌∙◌, arith}
-use Rattle.std.specs.List.{find}
+use Rattle.std.proofs.Common.{◌≡◌, ℕ, ◌==◌, ◌&&◌, Bool, true, false, cond, not, is_some, List, [], ◌∷◌, Option, Some, None, option_map, refl, ap, sym, ◌∙◌, arith}
+use Rattle.std.specs.List.{filter, find}
 use Rattle.std.proofs.lemmas.Bool.{eqb-true, eq-eqb}
 use Rattle.dia_base.specs.declared.number.NodeNo.{NodeNo}
 use Rattle.dia_base.specs.declared.number.ConnId.{ConnId}
 use Rattle.relay_peers.specs.declared.peers.Link.{Link}
-use Rattle.relay_peers.specs.PeerTable.{IsOneToOne, is_of, is_on, conn_in, peer_in, with_link, without_conn, but_for}
+use Rattle.relay_peers.specs.PeerTable.{IsOneToOne, is_of, is_on, conn_in, peer_in, is_other, with_link, with_staying, without_conn, but_for}
 use Rattle.dia_base.proofs.Counting.{count_push, count-filter}
 use Rattle.dia_base.proofs.Finding.{found_passes}
 use Rattle.relay_peers.proofs.Finding.{find_push, or_else, found_by_both, kept, find-filter}
@@ -41,6 +41,44 @@ OneToOne-without links conn one = record {
   peers = λ peer. let le = one.peers peer in omega (arith, count-filter (is_of peer) (λ link. not (is_on conn link)) links);
   conns = λ other. let le = one.conns other in omega (arith, count-filter (is_on other) (λ link. not (is_on conn link)) links);
 }
+
+left_step : (taken passes : Bool) (test : Link → Bool) (link : Link) (rest : List Link) → test link ≡ passes → (taken ≡ true → passes ≡ false) → is_some (find test rest) ≡ false
+    → is_some (find test (cond taken (link ∷ rest) rest)) ≡ false
+left_step false passes test link rest is apart none = none
+left_step true true test link rest is apart none = absurd (let both : true ≡ false = apart refl in cc)
+left_step true false test link rest is apart none = ap (λ (b : Bool). is_some (cond b (Some link) (find test rest))) is ∙ none
+
+-- nobody of a peer, and nobody on a connection, is left where those were taken out
+none_left : (test take : Link → Bool) (links : List Link) → ((link : Link) → take link ≡ true → test link ≡ false) → is_some (find test (filter take links)) ≡ false
+none_left test take [] apart = refl
+none_left test take (link ∷ links) apart =
+    left_step (take link) (test link) test link (filter take links) refl (apart link) (none_left test take links apart)
+
+not_of : (a b : Bool) → (not a && not b) ≡ true → (a ≡ false) × (b ≡ false)
+not_of true b e = absurd cc
+not_of false true e = absurd cc
+not_of false false e = (refl, refl)
+
+no_link : (o : Option Link) → is_some o ≡ false → is_some (conn_of o) ≡ false
+no_link None e = refl
+no_link (Some link) e = absurd cc
+
+no_link_peer : (o : Option Link) → is_some o ≡ false → is_some (peer_of o) ≡ false
+no_link_peer None e = refl
+no_link_peer (Some link) e = absurd cc
+
+-- a peer comes up anew
+pub OneToOne-staying : (links : List Link) (peer : NodeNo) (conn : ConnId) → IsOneToOne links → IsOneToOne (with_staying links peer conn)
+OneToOne-staying links peer conn one =
+    let others = filter (is_other peer conn) links in
+    let left : IsOneToOne others = record {
+      peers = λ other. let le = one.peers other in omega (arith, count-filter (is_of other) (is_other peer conn) links);
+      conns = λ other. let le = one.conns other in omega (arith, count-filter (is_on other) (is_other peer conn) links);
+    } in
+    OneToOne-with_link others peer conn
+    (no_link (find (is_of peer) others) (none_left (is_of peer) (is_other peer conn) links (λ link e. (not_of (is_of peer link) (is_on conn link) e).0)))
+    (no_link_peer (find (is_on conn) others) (none_left (is_on conn) (is_other peer conn) links (λ link e. (not_of (is_of peer link) (is_on conn link) e).1)))
+    left
 
 joined : (b : Bool) (o : Option Link) (link : Link) → (b ≡ true → o ≡ None) → conn_of (or_else o (cond b (Some link) None)) ≡ cond b (Some link.conn) (conn_of o)
 joined true None link e = refl

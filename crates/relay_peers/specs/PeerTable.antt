@@ -1,5 +1,5 @@
 -- The peers of a node and their connections (RFC 6733, sections 2.1 and 2.6): a finite map from peers to connections.
-use Rattle.std.specs.Prelude.{ℕ, ◌≤◌, ◌==◌, not, Bool, List, ◌∷◌, [], ◌++◌, filter, find, count_by, Option, Some, None, option_map, if◌then◌else◌}
+use Rattle.std.specs.Prelude.{ℕ, ◌≤◌, ◌==◌, ◌&&◌, not, Bool, List, ◌∷◌, [], ◌++◌, filter, find, count_by, Option, Some, None, option_map, if◌then◌else◌}
 use Rattle.dia_base.specs.Folding.{same_folded}
 use Rattle.dia_base.specs.declared.number.NodeNo.{NodeNo}
 use Rattle.dia_base.specs.declared.number.ConnId.{ConnId}
@@ -43,6 +43,14 @@ with_link links peer conn = links ++ record { peer = peer; conn = conn } ∷ []
 
 abbrev pub without_conn : List Link → ConnId → List Link
 without_conn links conn = filter (λ link. not (is_on conn link)) links
+
+-- a link of another peer on another connection
+abbrev pub is_other : NodeNo → ConnId → Link → Bool
+is_other peer conn link = not (is_of peer link) && not (is_on conn link)
+
+-- the links of the peers that stay, with one that comes up: what was known of the peer or of the connection is so no more
+abbrev pub with_staying : List Link → NodeNo → ConnId → List Link
+with_staying staying peer conn = with_link (filter (is_other peer conn) staying) peer conn
 
 -- a peer's connection, but for one that has ended
 abbrev pub but_for : ConnId → Option ConnId → Option ConnId

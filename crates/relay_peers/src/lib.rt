@@ -3,6 +3,7 @@
 //!
 //! - [`Peers`]: the linked peers, found by number and by identity, and a map from those that are up to their
 //!   connections. A peer has one connection at most, and a connection one peer.
+//! - [`Staying`]: the connections of those that have not said goodbye.
 //! - [`LinkedPeer`], [`Link`], [`UpFault`]: what it holds, and why a peer does not come up.
 //! - [`each_finds_the_other`], [`conns_after_up`], [`conns_after_down`]: laws, functions without a body;
 //!   [`peers_are_found_without_case`], [`peers_are_up_on_one_connection`]: worked examples, likewise.
@@ -27,9 +28,11 @@
 
 mod laws;
 mod peers;
+mod staying;
 
 pub use laws::{
     conns_after_down, conns_after_up, each_finds_the_other, peers_are_found_without_case,
     peers_are_up_on_one_connection,
 };
 pub use peers::{Link, LinkedPeer, Peers, UpFault};
+pub use staying::Staying;

@@ -4,9 +4,11 @@ ghost use Rattle.std.specs.Prelude.{◌≡◌, [], IsSome, IsNone, OnOk, OnErr, 
 ghost use Rattle.std.specs.Option.{option_copied};
 ghost use Rattle.relay_peers.specs.PeerTable.{IsOneToOne, conn_in, peer_in, peer_numbered, peer_named, kind_in, with_link, without_conn};
 
+use crate::staying::Staying;
 use dia_base::{ConnId, Identity, NodeKind, NodeNo};
 use std::alloc::Global;
 use std::marker::Model;
+use std::mem::swap;
 use thiserror::Error;
 
 /// A node that the site links with the relay: its number, the identity under which it sends, and what
@@ -100,6 +102,15 @@ impl Peers {
         ensures { self.new ≡ record { linked = self.old.linked; links = [] } }
     {
         self.links.clear();
+    }
+
+    /// The connections of the peers that are up are those that stood in the other place, and the other way round. It takes no
+    /// memory.
+    pub fn exchange(&mut self, staying: &mut Staying)
+        ensures links { self.new ≡ record { linked = self.old.linked; links = staying.old } }
+        ensures staying { staying.new ≡ self.old.links }
+    {
+        swap(&mut self.links, &mut staying.links);
     }
 
     /// The connection of a peer, if it is up. It takes no memory.

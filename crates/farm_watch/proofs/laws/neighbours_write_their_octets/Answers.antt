@@ -44,3 +44,27 @@ returns-clause-cer_of_vendors c = refl
 pub returns-clause-cea_of_vendor : goal.returns-clause-cea_of_vendor
 unfolding decode_pairs split_of split_from octets_of cea cer dpr dwr success_to
 returns-clause-cea_of_vendor c = refl
+
+pub returns-clause-cea_of_state : goal.returns-clause-cea_of_state
+unfolding decode_pairs split_of split_from octets_of cea cer dpr dwr success_to
+returns-clause-cea_of_state c = refl
+
+pub returns-clause-cer_of_state : goal.returns-clause-cer_of_state
+unfolding decode_pairs split_of split_from octets_of cea cer dpr dwr success_to
+returns-clause-cer_of_state c = refl
+
+pub returns-clause-dwr_of_state : goal.returns-clause-dwr_of_state
+unfolding decode_pairs split_of split_from octets_of cea cer dpr dwr success_to
+returns-clause-dwr_of_state c = refl
+
+pub returns-clause-dwa_of_state : goal.returns-clause-dwa_of_state
+unfolding decode_pairs split_of split_from octets_of cea cer dpr dwr success_to
+returns-clause-dwa_of_state c = refl
+
+pub returns-clause-dpr_of_state : goal.returns-clause-dpr_of_state
+unfolding decode_pairs split_of split_from octets_of cea cer dpr dwr success_to
+returns-clause-dpr_of_state c = refl
+
+pub returns-clause-dpa_of_state : goal.returns-clause-dpa_of_state
+unfolding decode_pairs split_of split_from octets_of cea cer dpr dwr success_to
+returns-clause-dpa_of_state c = refl
