@@ -26,6 +26,14 @@ KeepsIn is_clean is_ready rows (Some store) waiting sum ledger = Keeps is_clean 
 abbrev pub IsKeptBy : {S : Type 0} → (S → Type 0) → (S → Type 0) → (S → List (List ℕ)) → Journal S → Ledger → Type 0
 IsKeptBy is_clean is_ready rows journal ledger = KeepsIn is_clean is_ready rows journal.store journal.waiting.items journal.sum.0 ledger
 
+-- it is stored, and not in memory alone
+abbrev pub IsStoredIn : {S : Type 0} → Option S → Type 0
+IsStoredIn None = ⊥
+IsStoredIn (Some store) = Unit {0}
+
+abbrev pub IsStored : {S : Type 0} → Journal S → Type 0
+IsStored journal = IsStoredIn journal.store
+
 -- what it is stored in can be used
 abbrev pub IsSoundIn : {S : Type 0} → (S → Type 0) → (S → Type 0) → Journal S → Type 0
 IsSoundIn is_clean is_ready journal = IfSome journal.store (λ store. is_clean store → is_ready store)

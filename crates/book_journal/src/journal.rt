@@ -75,6 +75,7 @@ impl<S: RowStore> Journal<S> {
     pub fn in_memory(alloc: Global) -> Journal<S>
         ensures kept { (ledger : Ledger) → IsKeptBy S.is_clean S.is_ready S.rows result ledger }
         ensures settled { IsSettled result }
+        ensures memory { result.store ≡ None }
     {
         Journal {
             alloc,

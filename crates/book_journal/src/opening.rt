@@ -3,7 +3,7 @@
 ghost use Rattle.std.specs.Prelude.{◌≡◌, ◌<◌, [], ℕ, List, IfOk, IfSome, OnOk, OnErr, length, slice_index_or};
 ghost use Rattle.book_entries.specs.Replayed.{HasTaken, stored_in, sum_in};
 ghost use Rattle.book_store.specs.Table.{Stored};
-ghost use Rattle.book_journal.specs.Kept.{IsKeptBy, IsSettled, IsUnder};
+ghost use Rattle.book_journal.specs.Kept.{IsKeptBy, IsSettled, IsStored, IsUnder};
 
 use crate::error::JournalError;
 use crate::journal::Journal;
@@ -80,6 +80,7 @@ pub fn open_journal<S: RowStore + Drop>(
     requires none { book.history ≡ [] }
     ensures kept { IfOk result (λ opened. IsKeptBy S.is_clean S.is_ready S.rows opened.0 opened.1) }
     ensures settled { IfOk result (λ opened. IsSettled opened.0) }
+    ensures stored { IfOk result (λ opened. IsStored opened.0) }
     ensures under { IfOk result (λ opened. IsUnder book opened.1) }
     ensures clean { IfOk result (λ opened. IfSome opened.0.store (λ now. S.is_clean now → S.is_clean store)) }
     ensures same { IfOk result (λ opened. IfSome opened.0.store (λ now. S.is_clean now → S.rows now ≡ S.rows store)) }

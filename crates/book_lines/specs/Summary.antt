@@ -1,5 +1,5 @@
 -- What a book comes to, as text.
-use Rattle.std.specs.Prelude.{ℕ, ◌-◌, Bool, true, false, List, [], ◌∷◌, length, codes, count_by, Option, None, Some, slice_get}
+use Rattle.std.specs.Prelude.{ℕ, ◌-◌, ◌*◌, nat_lt, if◌then◌else◌, Bool, true, false, List, [], ◌∷◌, length, codes, count_by, Option, None, Some, slice_get}
 use Rattle.std.specs.List.{concat}
 use Rattle.std.specs.Fmt.{decimal}
 use Rattle.byteorder.specs.Endian.{big_bytes}
@@ -38,8 +38,21 @@ counts_text entries charges = concat (
     line_feed ∷ codes "entries " ∷ decimal entries ∷ codes " charges " ∷ decimal charges
     ∷ codes " sweeps " ∷ decimal (entries - charges) ∷ line_feed ∷ codes "last" ∷ [])
 
--- `book IDENTITY`, `entries N charges C sweeps S`, `last MOMENT` and `sum SUM`, a line each
-abbrev pub summary_of : Identity → List Entry → Sum → List ℕ
-summary_of identity history sum = concat (
+-- a book has 90 hundredths of the entries that it can have, or more
+abbrev pub is_nearly_full : ℕ → ℕ → Bool
+is_nearly_full entries limit = if nat_lt (entries * 100) (limit * 90) then false else true
+
+-- `look: ..` of a book that is nearly full
+abbrev pub filling_text : ℕ → ℕ → List ℕ
+filling_text entries limit = concat (
+    codes "look: the book is nearly full: " ∷ decimal entries ∷ codes " of " ∷ decimal limit ∷ codes " entries" ∷ line_feed ∷ [])
+
+-- none of another one
+abbrev pub filling_line : ℕ → ℕ → List ℕ
+filling_line entries limit = if is_nearly_full entries limit then filling_text entries limit else []
+
+-- `book IDENTITY`, `entries N charges C sweeps S`, `last MOMENT` and `sum SUM`, a line each, and one more where the book is nearly full
+abbrev pub summary_of : Identity → List Entry → Sum → ℕ → List ℕ
+summary_of identity history sum limit = concat (
     codes "book " ∷ digits identity.0 ∷ counts_text (length history) (count_by is_charge history)
-    ∷ optional_text (last_moment history) ∷ line_feed ∷ codes "sum " ∷ digits sum.0 ∷ line_feed ∷ [])
+    ∷ optional_text (last_moment history) ∷ line_feed ∷ codes "sum " ∷ digits sum.0 ∷ line_feed ∷ filling_line (length history) limit ∷ [])

@@ -1,7 +1,7 @@
 //! What a book comes to.
 
-ghost use Rattle.std.specs.Prelude.{◌≡◌, ◌≤◌, IfOk, count_by, length, string_bytes};
-ghost use Rattle.book_lines.specs.Summary.{counts_text, digits, is_charge, last_moment, made_line, summary_of};
+ghost use Rattle.std.specs.Prelude.{◌≡◌, ◌≤◌, ◌++◌, IfOk, OnOk, count_by, length, string_bytes};
+ghost use Rattle.book_lines.specs.Summary.{counts_text, digits, filling_line, filling_text, is_charge, is_nearly_full, last_moment, made_line, summary_of};
 
 use crate::words::push_optional;
 use book_rows::{Identity, Sum};
@@ -64,14 +64,45 @@ pub fn made_line(alloc: Global, identity: Identity) -> Result<Vec<u8>, AllocErro
     Ok(out)
 }
 
-/// Which book it is, how many entries it has, of each kind, and the moment and the sum of the last.
+/// Whether a book has 90 hundredths or more of the entries that it can have.
+pub fn is_nearly_full(entries: u64, limit: u64) -> bool
+    ensures { result ≡ is_nearly_full entries limit }
+{
+    let (entries, limit) = (u128::from(entries), u128::from(limit));
+    entries * 100 >= limit * 90
+}
+
+fn filling_text(alloc: Global, entries: u64, limit: u64) -> Result<String, AllocError>
+    ensures { IfOk result (λ text. string_bytes text ≡ filling_text entries limit) }
+{
+    format!(in alloc; "look: the book is nearly full: {entries} of {limit} entries\n")
+}
+
+/// Adds a line where a book is nearly full.
+fn push_filling(
+    alloc: Global,
+    out: &mut Vec<u8>,
+    entries: u64,
+    limit: u64,
+) -> Result<(), AllocError>
+    ensures { OnOk result (out.new.items ≡ out.old.items ++ filling_line entries limit) }
+{
+    if is_nearly_full(entries, limit) {
+        out.extend_from_slice(filling_text(alloc, entries, limit)?.as_bytes())?;
+    }
+    Ok(())
+}
+
+/// Which book it is, how many entries it has, of each kind, and the moment and the sum of the last; and whether it is nearly full, of
+/// so many entries that it can have.
 pub fn summary(
     alloc: Global,
     identity: Identity,
     history: &[Entry],
     sum: Sum,
+    limit: u64,
 ) -> Result<Vec<u8>, AllocError>
-    ensures { IfOk result (λ text. text.items ≡ summary_of identity history.now sum) }
+    ensures { IfOk result (λ text. text.items ≡ summary_of identity history.now sum limit) }
 {
     let identity = digits(alloc, identity.0)?;
     let counts = counts_text(alloc, history.len(), charges_in(history))?;
@@ -84,5 +115,6 @@ pub fn summary(
     out.extend_from_slice(b"\nsum ")?;
     out.extend_from_slice(sum.as_bytes())?;
     out.extend_from_slice(b"\n")?;
+    push_filling(alloc, &mut out, history.len() as u64, limit)?;
     Ok(out)
 }

@@ -1,7 +1,8 @@
 //! An account book as text: what it comes to, and its entries, one on a line.
 //!
 //! - [`made_line`]: which book was made.
-//! - [`summary`]: which book it is, how many entries it has, of each kind, and the moment and the sum of the last.
+//! - [`summary`]: which book it is, how many entries it has, of each kind, and the moment and the sum of the last; and a line that
+//!   begins with `look:` where it is nearly full ([`is_nearly_full`]).
 //! - [`entry_lines`]: a line for each entry: what was asked, what it was answered, and what it debited.
 //!
 //! The exact texts are `made_line` and `summary_of` in `specs/Summary`, and `lines_of` in `specs/Lines`, over the words of `specs/Words`.
@@ -14,6 +15,6 @@ mod fault;
 mod services;
 mod words;
 
-pub use counts::{made_line, summary};
+pub use counts::{is_nearly_full, made_line, summary};
 pub use entries::entry_lines;
 pub use fault::LinesFault;

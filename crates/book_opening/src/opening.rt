@@ -1,6 +1,6 @@
 //! Making a book on disk, and opening it.
 
-ghost use Rattle.std.specs.Prelude.{◌≡◌, [], IfOk, IfSome, Ok, OnOk};
+ghost use Rattle.std.specs.Prelude.{◌≡◌, ◌/◌, ◌%◌, ◌^◌, [], Err, IfErr, IfNone, IfOk, IfSome, None, Ok, OnOk, is_some, true};
 ghost use Rattle.book_entries.specs.Replayed.{sum_in};
 ghost use Rattle.book_rows.specs.About.{whole};
 ghost use Rattle.book_terms.specs.Terms.{terms as terms_form};
@@ -15,14 +15,44 @@ use book_store::RowStore;
 use book_terms::{first_difference, read_terms, spell_terms};
 use cc_book::{Book, Terms};
 use dia_avp::Octets;
+use farm_clock::Timer;
 use std::alloc::Global;
 use std::hash::{BuildHasher, RandomState};
 
-/// An identity that is drawn at random.
+/// How many Origin-State-Ids there are.
+const STATES: u64 = 4_294_967_296;
+
+/// An identity: its highest 32 bits are the second, since 1970, in which it is drawn, and the others are drawn at random.
 fn drawn(rt: &HostRuntime) -> Result<Identity, BookFault> {
+    let seconds = Timer::start(rt)?.first().0 / 1_000 % STATES;
     let random = RandomState::new(rt)?;
-    let (high, low) = (random.hash_one(&0_u8), random.hash_one(&1_u8));
-    Ok(Identity((high as u128) << 64 | low as u128))
+    let (high, low) = (random.hash_one(&0_u8) % STATES, random.hash_one(&1_u8));
+    Ok(Identity(u128::from(seconds) << 96 | u128::from(high) << 64 | u128::from(low)))
+}
+
+/// The Origin-State-Id of who serves on the book of this identity (RFC 6733, section 8.16): the second in which the book was made, since
+/// 1970, or a number by chance where a release before this format of identities made it. It stays for the book's life.
+pub fn state_id_of(identity: Identity) -> u32
+    ensures { result ≡ (identity.0 / 2 ^ 96) % 2 ^ 32 }
+{
+    (identity.0 >> 96) as u32
+}
+
+/// The identity of the book in a store, and the store.
+fn identity_in<S: RowStore + Drop>(alloc: Global, store: S) -> Result<(S, Identity), BookFault>
+    requires { S.is_clean store → S.is_ready store }
+{
+    let mut store = store;
+    let about = about_of(alloc, &mut store)?;
+    Ok((store, about.identity))
+}
+
+/// The identity of the book in a file. It lets go of the file.
+pub fn identity_at(rt: &HostRuntime, path: &str) -> Result<Identity, BookFault> {
+    let file = open_file(rt, path)?;
+    let (file, identity) = identity_in(rt.alloc(), file)?;
+    close_file(file)?;
+    Ok(identity)
 }
 
 /// Refuses a book that was made under other terms than these.
@@ -37,6 +67,7 @@ fn check_terms(alloc: Global, about: &About, terms: &Terms) -> Result<(), BookFa
 }
 
 /// The book in a store, under the terms of an empty book, where they are its own.
+#[tactic(auto, using(crate::proofs::Stored::has_store))]
 fn open_in<S: RowStore + Drop>(
     alloc: Global,
     store: S,
@@ -46,6 +77,7 @@ fn open_in<S: RowStore + Drop>(
     requires none { empty.history ≡ [] }
     ensures kept { IfOk result (λ opened. IsKeptBy S.is_clean S.is_ready S.rows opened.0 opened.1) }
     ensures settled { IfOk result (λ opened. IsSettled opened.0) }
+    ensures stored { IfOk result (λ opened. is_some opened.0.store ≡ true) }
     ensures under { IfOk result (λ opened. IsUnder empty opened.1) }
     ensures terms { IfOk result (λ opened. IfSome opened.0.store (λ now. S.is_clean now → IsOfTerms (S.about now) empty.terms)) }
 {
@@ -68,6 +100,7 @@ pub fn open_book(
     requires { empty.history ≡ [] }
     ensures kept { IfOk result (λ opened. IsKeptBy ⟦<FileBook as RowStore>⟧.is_clean ⟦<FileBook as RowStore>⟧.is_ready ⟦<FileBook as RowStore>⟧.rows opened.0 opened.1) }
     ensures settled { IfOk result (λ opened. IsSettled opened.0) }
+    ensures stored { IfOk result (λ opened. is_some opened.0.store ≡ true) }
     ensures under { IfOk result (λ opened. IsUnder empty opened.1) }
     ensures terms { IfOk result (λ opened. IfSome opened.0.store (λ now. ⟦<FileBook as RowStore>⟧.is_clean now → IsOfTerms (⟦<FileBook as RowStore>⟧.about now) empty.terms)) }
 {
@@ -79,6 +112,7 @@ pub fn open_book(
 fn in_memory<S: RowStore>(alloc: Global, empty: Book) -> (Journal<S>, Book)
     ensures kept { IsKeptBy S.is_clean S.is_ready S.rows result.0 result.1 }
     ensures settled { IsSettled result.0 }
+    ensures memory { result.0.store ≡ None }
     ensures book { result.1 ≡ empty }
 {
     (Journal::in_memory(alloc), empty)
@@ -93,10 +127,28 @@ pub fn serving_book(
     requires { empty.history ≡ [] }
     ensures kept { IfOk result (λ opened. IsKeptBy ⟦<FileBook as RowStore>⟧.is_clean ⟦<FileBook as RowStore>⟧.is_ready ⟦<FileBook as RowStore>⟧.rows opened.0 opened.1) }
     ensures settled { IfOk result (λ opened. IsSettled opened.0) }
+    ensures under { IfOk result (λ opened. IsUnder empty opened.1) }
+    ensures stored { IfOk result (λ opened. is_some opened.0.store ≡ is_some path.entry) }
+    ensures terms { IfOk result (λ opened. IfSome opened.0.store (λ now. ⟦<FileBook as RowStore>⟧.is_clean now → IsOfTerms (⟦<FileBook as RowStore>⟧.about now) empty.terms)) }
+    ensures memory { IfNone path.entry (IfOk result (λ opened. (opened.0.store ≡ None) × (opened.1 ≡ empty))) }
 {
     match path {
         Some(path) => open_book(rt, path, empty),
         None => Ok(in_memory(rt.alloc(), empty)),
+    }
+}
+
+/// A book that was opened, where it may be served on. Where it may not, the file is let go of as it was.
+pub fn where_allowed<S: RowStore + Drop, E>(
+    opened: (Journal<S>, Book),
+    allowed: Result<(), E>,
+) -> Result<(Journal<S>, Book), E>
+    ensures same { IfOk result (λ served. served ≡ opened) }
+    ensures why { IfErr result (λ why. allowed ≡ Err why) }
+{
+    match allowed {
+        Ok(()) => Ok(opened),
+        Err(why) => Err(why),
     }
 }
 

@@ -1,5 +1,5 @@
 -- What sessions hold, and openings as balances.
-use Rattle.std.proofs.Common.{◌≡◌, ℕ, zero, suc, ◌+◌, ◌<◌, ◌≤◌, Bool, true, false, cond, eqb, List, [], ◌∷◌, ◌++◌, length, map, take, drop, get_or, not, All, Some, subst, sym, ap, ◌∙◌, arith, rules}
+use Rattle.std.proofs.Common.{◌≡◌, ℕ, zero, suc, ◌+◌, ◌<◌, ◌≤◌, Bool, true, false, cond, eqb, List, [], ◌∷◌, ◌++◌, length, map, take, drop, get_or, not, All, Some, refl, subst, sym, ap, ◌∙◌, arith, rules}
 use Rattle.std.proofs.Math.Seq.{drop-cons}
 use Rattle.std.specs.Prelude.{slice_get}
 use Rattle.std.proofs.lemmas.List.{map-append, take_more}
@@ -8,16 +8,7 @@ use Rattle.cc_book.specs.declared.session.OpenSession.{OpenSession}
 use Rattle.std.proofs.lemmas.Option.{get_or_from_slice_get, slice_get_within}
 use Rattle.cc_view.specs.declared.request.Service.{Service}
 use Rattle.cc_book.specs.declared.session.Hold.{Hold}
-use Rattle.cc_book.specs.Standing.{held_by_all, held_in, holds_beside, is_named, reserved_in}
-
--- what sessions hold of one account is a part of what they hold of all
-pub reserved_in-part : (account : ℕ) (sessions : List OpenSession) → reserved_in account sessions ≤ held_by_all sessions
-reserved_in-part account [] = omega arith
-reserved_in-part account (session ∷ sessions) = by (eqb session.account account) (reserved_in-part account sessions) where
-  by : (same : Bool) → reserved_in account sessions ≤ held_by_all sessions
-      → cond same (held_in session.holds) 0 + reserved_in account sessions ≤ held_in session.holds + held_by_all sessions
-  by true part = omega arith
-  by false part = omega arith
+use Rattle.cc_book.specs.Standing.{held_in, holds_beside, is_named, reserved_in}
 
 pub openings-more : (accounts : List Account) (i : ℕ) (d : Account) → i < length accounts
     → map (λ (a : Account). a.opening) (take (i + 1) accounts) ≡ map (λ (a : Account). a.opening) (take i accounts) ++ (get_or accounts i d).opening ∷ []
@@ -30,7 +21,8 @@ same_account a b e = search rules
 -- what a session of the account adds, while the sessions are added up from the front
 pub reserved_in-next : (account : ℕ) (sessions : List OpenSession) (i reserved : ℕ) (session : OpenSession)
     → reserved + reserved_in account (drop i sessions) ≡ reserved_in account sessions
-    → i < length sessions → session ≡ get_or sessions i session → session.account ≡ account → reserved + held_in session.holds ≤ held_by_all sessions
+    → i < length sessions → session ≡ get_or sessions i session → session.account ≡ account
+    → reserved + held_in session.holds ≤ reserved_in account sessions
 reserved_in-next account sessions i reserved session sum lt is own =
     let first = drop-cons sessions i session lt in
     let parts : reserved_in account (drop i sessions) ≡ cond (eqb session.account account) (held_in session.holds) 0 + reserved_in account
@@ -39,15 +31,19 @@ reserved_in-next account sessions i reserved session sum lt is own =
     (sym is) in
     let here : cond (eqb session.account account) (held_in session.holds) 0 ≡ held_in session.holds =
     ap (λ (b : Bool). cond b (held_in session.holds) 0) (same_account session.account account own) in
-    let most = reserved_in-part account sessions in
     omega arith
 
 -- ---- one open session
 
 pub held-at : (sessions : List OpenSession) (place : ℕ) (session : OpenSession) → slice_get sessions place ≡ Some session
-    → held_in session.holds ≤ held_by_all sessions
+    → held_in session.holds ≤ reserved_in session.account sessions
 held-at [] place session there = absurd cc
-held-at (s ∷ sessions) zero session there = let same : held_in s.holds ≡ held_in session.holds = cc in omega arith
+held-at (s ∷ sessions) zero session there =
+    let same : s ≡ session = cc in
+    let own : cond (eqb s.account session.account) (held_in s.holds) 0 ≡ held_in session.holds =
+    ap (λ (x : OpenSession). cond (eqb x.account session.account) (held_in x.holds) 0) same
+    ∙ ap (λ (b : Bool). cond b (held_in session.holds) 0) (same_account session.account session.account refl) in
+    omega arith
 held-at (s ∷ sessions) (suc place) session there = let more = held-at sessions place session there in omega arith
 
 pub account-at : (count : ℕ) (sessions : List OpenSession) (place : ℕ) (session : OpenSession) → slice_get sessions place ≡ Some session

@@ -1,11 +1,10 @@
 -- What a book keeps beside its history.
-use Rattle.std.proofs.Common.{◌≡◌, ℕ, suc, ◌&&◌, ◌+◌, ◌<◌, ◌≤◌, ◌^◌, List, [], ◌∷◌, ◌++◌, length, map, take, drop, get_or, Option, Some, None, Ok, Err, Bool, true, false, cond, refl, sym, ap, subst, ◌∙◌, arith, length-append}
-use Rattle.std.specs.Prelude.{ℤ, IfSome, IsErrAnd, IsOk, IsSome, MatchOption, Result, is_ok, nat_abs, negsuc, pos, ◌≤ℤ◌, find, unwrap_or, slice_get, slice_index_or}
-use Rattle.std.specs.List.{fold}
+use Rattle.std.proofs.Common.{◌≡◌, ℕ, suc, ◌&&◌, ◌<◌, ◌≤◌, ◌^◌, List, [], ◌∷◌, ◌++◌, length, map, take, drop, get_or, Option, Some, None, Ok, Err, Bool, true, false, cond, refl, sym, ap, subst, ◌∙◌, arith, length-append}
+use Rattle.std.specs.Prelude.{ℤ, IfSome, IsErrAnd, IsOk, IsSome, IsTrue, MatchOption, Result, is_ok, nat_abs, pos, find, unwrap_or, slice_get, slice_index_or}
+use Rattle.std.specs.List.{AllByRecursion, fold}
 use Rattle.std.proofs.Math.ListN.{get_or-append}
 use Rattle.std.proofs.Math.Seq.{drop-cons, get_or-append_seam}
 use Rattle.std.proofs.lemmas.List.{get_or_default, length-map, length-take-le, map-append, take-append-drop}
-use Rattle.std.proofs.lemmas.Int.{ints}
 use Rattle.std.proofs.lemmas.List.Sums.{fold-append}
 use Rattle.std.proofs.lemmas.Option.{get_or_from_slice_get, slice_get_within}
 use Rattle.dia_base.specs.declared.number.Moment.{Moment}
@@ -20,7 +19,8 @@ use Rattle.cc_book.specs.declared.entry.Entry.{Entry}
 use Rattle.cc_book.specs.declared.entry.Entry.TheVariants.{Take}
 use Rattle.cc_book.specs.declared.session.OpenSession.{OpenSession}
 use Rattle.cc_book.specs.declared.terms.Terms.{Terms}
-use Rattle.cc_book.specs.AccountMachine.{post, posting_of, postings_of, repeat_reply, reply_to}
+use Rattle.cc_book.specs.AccountMachine.{charged_account, post, posting_of, postings_of, repeat_reply, reply_to}
+use Rattle.cc_book.specs.Bounds.{IsBounded, MovesLittle, OpensSmall, bears_in, bears_request}
 use Rattle.cc_book.specs.Duplicate.{Key, key_of}
 use Rattle.cc_book.specs.History.{IsKeptAt, IsNew}
 use Rattle.cc_book.specs.Posting.{Posting}
@@ -28,19 +28,20 @@ use Rattle.cc_book.specs.Balance.{balance_of, open_sessions_of, reserved_of, spe
 use Rattle.cc_book.specs.Standing.{IsOutcome, IsPlacedIn, IsSmall, Stands, after_change, after_debit, change_at, change_of, change_open, is_session, next_sessions, place_in, reserved_in, sessions_after}
 use Rattle.cc_book.specs.Session.{open_count, opens, outlasts}
 use Rattle.cc_book.proofs.Sums.{all_placed, charged_account-within}
-use Rattle.cc_book.proofs.Stands.{open_count-stands, reserved-stands, small-stands}
+use Rattle.cc_book.proofs.Stands.{open_count-stands, reserved-stands}
+use Rattle.cc_book.proofs.Bounds.{borne-stands, bounded-push, few-bear, moves-little, small-bounded}
 use Rattle.cc_book.specs.declared.book.Answered.{Answered}
 use Rattle.cc_book.specs.declared.book.BookRefusal.{BookRefusal}
 use Rattle.cc_book.specs.declared.book.BookRefusal.TheVariants.{OutOfMemory}
 use Rattle.cc_book.specs.declared.plan.Plan.{Plan}
 use Rattle.cc_book.specs.declared.plan.Taken.{Taken}
 use Rattle.cc_book.specs.Planning.{IsTaking, PlansWith}
-use Rattle.cc_book.specs.Taking.{AnswersRepeat, IsBook, Ledger, answer_of}
+use Rattle.cc_book.specs.Taking.{AnswersRepeat, IsBook, Ledger, answer_of, answer_within}
 use Rattle.cc_book.proofs.Sessions.{open_at_place}
 use Rattle.cc_book.proofs.Replies.{answer_of-fresh, answer_of-kept}
 use Rattle.cc_book.proofs.Outcomes.{take-stands}
 use Rattle.cc_book.proofs.Keys.{IsLegal-empty, IsLegal-push}
-use Rattle.cc_book.proofs.Postings.{postings_of-push}
+use Rattle.cc_book.proofs.Postings.{all_push, postings_of-length, postings_of-push}
 
 -- ---- the replies of a history
 
@@ -58,17 +59,6 @@ replies-stay terms before (entry ∷ history) place d lt =
     replies-stay terms (post terms before entry) history place d (omega arith)
     ∙ ap (λ (rs : List (Option CcReply)). get_or rs place d) (map-append (λ (p : Posting). p.reply) before (posting ∷ []))
     ∙ get_or-append (replies_in before) (replies_in (posting ∷ [])) d place (omega arith)
-
-fold-length : (terms : Terms) (before : List Posting) (history : List Entry) → length (fold (post terms) before history) ≡ length before + length history
-fold-length terms before [] = omega arith
-fold-length terms before (entry ∷ history) =
-    let more = fold-length terms (post terms before entry) history in
-    let long = length-append before (posting_of terms before entry ∷ []) in
-    omega arith
-
-pub postings_of-length : (terms : Terms) (history : List Entry) → length (postings_of terms history) ≡ length history
-unfolding postings_of
-postings_of-length terms history = let all = fold-length terms [] history in omega arith
 
 -- the reply at a place is that of its entry after the entries before it
 replies-at : (terms : Terms) (before after : List Entry) (entry : Entry) (d : Option CcReply)
@@ -128,32 +118,34 @@ open_count-within validity (posting ∷ after) =
 
 -- ---- a book without entries, and with one more
 
-pub IsBook-empty : (terms : Terms) (limit : ℕ) (balances : List ℤ) → limit ≤ 2 ^ 20 → Stands terms [] balances [] → IsBook terms limit [] [] balances []
+pub IsBook-empty : (terms : Terms) (limit : ℕ) (balances : List ℤ) → OpensSmall terms → IsBounded balances [] → Stands terms [] balances []
+    → IsBook terms limit [] [] balances []
 unfolding postings_of sessions_after
-IsBook-empty terms limit balances most stands = record {
+IsBook-empty terms limit balances openings bounded stands = record {
   legal = IsLegal-empty terms;
   within = omega arith;
-  most = most;
   replies_kept = refl;
-  stands =
-      stands;
+  stands = stands;
   sessions_left = refl;
+  bounded = bounded;
+  openings = openings;
+  moved = tt;
 }
 
 pub IsBook-push : (terms : Terms) (limit : ℕ) (history : List Entry) (replies : List (Option CcReply)) (balances : List ℤ) (sessions : List OpenSession)
     (moment : Moment) (request : CcRequest) (outcome : Outcome)
     → IsBook terms limit history replies balances sessions → IsNew history (key_of request) → length history < limit
+    → IsTrue (bears_request terms (postings_of terms history) request)
     → IsOutcome terms (postings_of terms history) sessions moment request outcome
     → IsBook terms limit (history ++ Take moment request ∷ []) (replies ++ Some outcome.reply ∷ []) (after_debit balances outcome.account outcome.debit)
     (after_change sessions outcome.change)
-IsBook-push terms limit history replies balances sessions moment request outcome book new room does =
+IsBook-push terms limit history replies balances sessions moment request outcome book new room borne does =
     let before = postings_of terms history in
     let long = length-append history (Take moment request ∷ []) in
     let next = postings_of-push terms history (Take moment request) in
     record {
       legal = IsLegal-push terms history moment request book.legal new;
       within = omega arith;
-      most = book.most;
       replies_kept = ap (λ (rs : List (Option CcReply)). rs ++ Some outcome.reply ∷ []) book.replies_kept
           ∙ ap (λ (r : CcReply). replies_in before ++ Some r ∷ []) does.reply
           ∙ sym (ap replies_in next ∙ map-append (λ (p : Posting). p.reply) before (posting_of terms before (Take moment request) ∷ []));
@@ -162,6 +154,10 @@ IsBook-push terms limit history replies balances sessions moment request outcome
       sessions_left = ap (after_change sessions) does.change
           ∙ ap (λ (ss : List OpenSession). after_change ss (change_of ss request moment (posting_of terms before (Take moment request)))) book.sessions_left
           ∙ sym (ap (sessions_after terms.validity) next ∙ sessions_after-push terms.validity before (posting_of terms before (Take moment request)));
+      bounded = bounded-push book.stands moment request outcome does borne book.bounded;
+      openings = book.openings;
+      moved = subst (AllByRecursion MovesLittle) (sym next)
+          (all_push MovesLittle before (posting_of terms before (Take moment request)) book.moved (moves-little terms before sessions moment request outcome does));
     }
 
 -- ---- what a book has is what its history has left
@@ -182,11 +178,7 @@ module _ {terms : Terms} (history : List Entry) {balances : List ℤ} {sessions 
 
 pub small-book : {terms : Terms} {limit : ℕ} {history : List Entry} {replies : List (Option CcReply)} {balances : List ℤ} {sessions : List OpenSession}
     → IsBook terms limit history replies balances sessions → IsSmall terms balances sessions
-small-book {terms} {limit} {history} book =
-    let long = postings_of-length terms history in
-    let within = book.within in
-    let most = book.most in
-    small-stands book.stands (omega arith)
+small-book book = small-bounded book.stands book.bounded
 
 pub sessions-within : {terms : Terms} {limit : ℕ} {history : List Entry} {replies : List (Option CcReply)} {balances : List ℤ} {sessions : List OpenSession}
     → IsBook terms limit history replies balances sessions → length sessions ≤ length history
@@ -224,6 +216,16 @@ pub no_memory : (expected : Result Answered BookRefusal) (result : Result Plan B
 no_memory expected (Ok plan) fine h = absurd h
 no_memory expected (Err e) fine h = let P : BookRefusal → Type 0 = λ f. PlansWith expected (Err f) in subst P (sym h) fine
 
+-- a book that answers by value as by count, under another name
+pub within-now : {ledger now : Ledger} (request : CcRequest) → ledger ≡ now → answer_within ledger request ≡ answer_of ledger request
+    → answer_within now request ≡ answer_of now request
+within-now request is same = subst (λ (l : Ledger). answer_within l request ≡ answer_of l request) is same
+
+pub within-ok : {ledger now : Ledger} (request : CcRequest) → ledger ≡ now → answer_within ledger request ≡ answer_of ledger request
+    → IsOk (answer_of ledger request) → IsOk (answer_within now request)
+within-ok request is same fine = subst (λ (l : Ledger). IsOk (answer_within l request)) is
+    (subst (λ (r : Result Answered BookRefusal). IsOk r) (sym same) fine)
+
 some_if : {X : Type 0} (P : X → Type 0) (found : Option X) (x : X) → found ≡ Some x → IfSome found P → P x
 some_if {X = X} P found x is so = subst (λ (o : Option X). IfSome o P) is so
 
@@ -258,6 +260,33 @@ module _ {terms : Terms} {limit : ℕ} {history : List Entry} {replies : List (O
   unfolding reply_to
   answer-fresh moment request outcome new room does =
       answer_of-fresh (ledger_of terms limit history) request (length history) outcome.reply new refl room does.reply
+
+  -- whether the account that a request charges bears it is told by what the book has
+  pub borne-book : (request : CcRequest) (account : Option ℕ) → account ≡ charged_account terms (postings_of terms history) request
+      → bears_in balances sessions account ≡ bears_request terms (postings_of terms history) request
+  borne-book request account is =
+      ap (bears_in balances sessions) is
+      ∙ borne-stands book.stands (charged_account terms (postings_of terms history) request)
+      (charged_account-within terms (postings_of terms history) request (all_placed terms history))
+
+  pub borne-by : (request : CcRequest) (account : Option ℕ) → account ≡ charged_account terms (postings_of terms history) request
+      → bears_in balances sessions account ≡ true → IsTrue (bears_request terms (postings_of terms history) request)
+  borne-by request account is bears = sym (borne-book request account is) ∙ bears
+
+  -- that account is one of the book's
+  pub charged-within : (request : CcRequest) (account : Option ℕ) → account ≡ charged_account terms (postings_of terms history) request
+      → (place : ℕ) → account ≡ Some place → place < length balances
+  charged-within request account is place some =
+      let known = charged_account-within terms (postings_of terms history) request (all_placed terms history) in
+      let here = subst (λ (a : Option ℕ). MatchOption a (Unit {0}) (λ p. p < length terms.accounts)) (sym is ∙ some) known in
+      let long = book.stands.accounts in
+      omega (arith, here)
+
+  -- and where the book is short, it does
+  pub short-bears : (request : CcRequest) → limit ≤ 2 ^ 20 → length history < limit → bears_request terms (postings_of terms history) request ≡ true
+  short-bears request short room =
+      let long = postings_of-length terms history in
+      few-bear terms (postings_of terms history) (charged_account terms (postings_of terms history) request) book.openings book.moved (omega arith)
 
   -- what a plan does, it does to the sessions that the book has
   pub taking-outcome : (taken : Taken) → IsTaking (ledger_of terms limit history) taken
@@ -321,22 +350,11 @@ same-book {terms} {limit} history other_history replies other_replies balances o
     (subst (λ (rs : List (Option CcReply)). IsBook terms limit other_history rs balances sessions) r
     (subst (λ (es : List Entry). IsBook terms limit es replies balances sessions) h book)))
 
-abs-below : (z : ℤ) (bound : ℕ) → negsuc bound ≤ℤ z → z ≤ℤ pos bound → nat_abs z ≤ bound + 1
-abs-below (pos n) bound least most = omega (arith, ints)
-abs-below (negsuc n) bound least most = omega (arith, ints)
-
 -- a balance stays below 2 ^ 124 in size
 pub small-balance : {terms : Terms} {limit : ℕ} {history : List Entry} {replies : List (Option CcReply)} {balances : List ℤ} {sessions : List OpenSession}
     → IsBook terms limit history replies balances sessions
     → (account : ℕ) (d : ℤ) → account < length balances → nat_abs (slice_index_or balances account d) < 2 ^ 124
-small-balance {terms} {limit} {history} {replies} {balances} book account d lt =
-    let long = postings_of-length terms history in
-    let within = book.within in
-    let limited = book.most in
-    let known : account < length terms.accounts = omega (arith, book.stands.accounts) in
-    let same = get_or_default balances account d (pos 0) lt in
-    let least : negsuc (2 ^ 123 + 2 ^ 122) ≤ℤ slice_index_or balances account (pos 0) = omega (arith, ints, book.stands.least account known) in
-    let most : slice_index_or balances account (pos 0) ≤ℤ pos (2 ^ 123 + 2 ^ 122) = omega (arith, ints, book.stands.most account known) in
-    let size = abs-below (slice_index_or balances account (pos 0)) (2 ^ 123 + 2 ^ 122) least most in
-    let moved : nat_abs (slice_index_or balances account d) ≡ nat_abs (slice_index_or balances account (pos 0)) = ap nat_abs same in
+small-balance {balances = balances} book account d lt =
+    let size = book.bounded.balance account lt in
+    let moved : nat_abs (slice_index_or balances account d) ≡ nat_abs (slice_index_or balances account (pos 0)) = ap nat_abs (get_or_default balances account d (pos 0) lt) in
     omega arith

@@ -1,5 +1,5 @@
 -- What a request does, kind by kind, from the sessions that are open.
-use Rattle.std.proofs.Common.{◌≡◌, ℕ, ◌+◌, ◌<◌, ◌≤◌, ◌^◌, Bool, true, false, cond, ◌&&◌, List, [], ◌++◌, length, Option, Some, None, refl, sym, ap, subst, ◌∙◌, arith}
+use Rattle.std.proofs.Common.{◌≡◌, ℕ, ◌+◌, ◌-◌, ◌<◌, ◌≤◌, ◌^◌, Bool, true, false, cond, ◌&&◌, List, [], ◌++◌, length, Option, Some, None, refl, sym, ap, subst, ◌∙◌, arith}
 use Rattle.std.specs.Prelude.{ℤ, pos, negsuc, ◌+ℤ◌, ◌-ℤ◌, ◌≤ℤ◌, is_some, slice_get, slice_index_or, unwrap_or, find, IfSome}
 use Rattle.std.specs.Option.{option_and_then}
 use Rattle.std.proofs.lemmas.Int.{ints}
@@ -116,6 +116,26 @@ module _ {terms : Terms} {before : List Posting} {balances : List ℤ} {sessions
       → opener_account terms.validity before request.session ≡ Some session.account
   opener-open place session at there = ap (λ (o : Option Opened). option_and_then (λ (now : Opened). now.account) o)
       (open-stands s request.session place session at there).0
+
+  -- the account that a request charges, by what stands
+  pub charged-own : (kind : RequestKind) → request.kind ≡ kind
+      → account_by kind (account_of terms.accounts request.subscriptions) (opener_account terms.validity before request.session)
+      ≡ account_of terms.accounts request.subscriptions
+      → account_of terms.accounts request.subscriptions ≡ charged_account terms before request
+  charged-own kind is own = sym (charged kind is ∙ own)
+
+  pub charged-closed : (kind : RequestKind) → request.kind ≡ kind → place_in sessions request.session ≡ None
+      → account_by kind (account_of terms.accounts request.subscriptions) (opener_account terms.validity before request.session)
+      ≡ opener_account terms.validity before request.session
+      → None ≡ charged_account terms before request
+  charged-closed kind is none of_opener = sym (charged kind is ∙ of_opener ∙ opener-closed none)
+
+  pub charged-open : (kind : RequestKind) (place : ℕ) (session : OpenSession) → request.kind ≡ kind → place_in sessions request.session ≡ Some place
+      → slice_get sessions place ≡ Some session
+      → account_by kind (account_of terms.accounts request.subscriptions) (opener_account terms.validity before request.session)
+      ≡ opener_account terms.validity before request.session
+      → Some session.account ≡ charged_account terms before request
+  charged-open kind place session is at there of_opener = sym (charged kind is ∙ of_opener ∙ opener-open place session at there)
 
   -- an INITIAL of an open session
   pub initial-open : (place : ℕ) (session : OpenSession) → request.kind ≡ Initial → place_in sessions request.session ≡ Some place
@@ -335,7 +355,7 @@ module _ {terms : Terms} {before : List Posting} {balances : List ℤ} {sessions
   pub event-outcome : (account : Option ℕ) (total : Option ℕ) → request.kind ≡ Event → account ≡ account_of terms.accounts request.subscriptions
       → IfSome account (λ place. place < length terms.accounts)
       → total ≡ total_of terms.tariffs request.services
-      → negsuc (2 ^ 103) ≤ℤ action_debit (unwrap_or total 0)
+      → negsuc (2 ^ 103 - 1) ≤ℤ action_debit (unwrap_or total 0)
       (event_reply terms request.services account (free_in balances sessions account) request.action).code request.action
       → action_debit (unwrap_or total 0) (event_reply terms request.services account (free_in balances sessions account) request.action).code
       request.action ≤ℤ pos (2 ^ 103)

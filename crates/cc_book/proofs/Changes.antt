@@ -1,5 +1,5 @@
 -- What a request does to the open sessions: none changes, one opens, one goes on, or one ends.
-use Rattle.std.proofs.Common.{◌≡◌, ℕ, suc, ◌+◌, ◌*◌, ◌^◌, ◌<◌, ◌≤◌, Bool, true, false, cond, ◌&&◌, List, [], ◌∷◌, ◌++◌, length, Option, Some, None, refl, sym, ap, subst, ◌∙◌, arith, slice_get, slice_set, remove, find, option_map, length-append, append-nil, All, take, drop}
+use Rattle.std.proofs.Common.{◌≡◌, ℕ, suc, ◌+◌, ◌<◌, Bool, true, false, cond, ◌&&◌, List, [], ◌∷◌, ◌++◌, length, Option, Some, None, refl, sym, ap, subst, ◌∙◌, arith, slice_get, slice_set, remove, find, option_map, append-nil, All, take, drop}
 use Rattle.std.proofs.lemmas.Bool.{and_right}
 use Rattle.std.specs.Prelude.{ℤ}
 use Rattle.std.specs.List.{AllByRecursion}
@@ -14,7 +14,7 @@ use Rattle.cc_book.specs.declared.terms.Terms.{Terms}
 use Rattle.cc_book.specs.Duplicate.{same_session}
 use Rattle.cc_book.specs.Posting.{Posting}
 use Rattle.cc_book.specs.Session.{Opened, left_after, next_session, opened_at, opens, session_by, session_of}
-use Rattle.cc_book.specs.Standing.{Stands, alive_weight, grants_weight, held_by_all, held_in, holds_weight, ids_weight, is_session, open_weight, opened_as, prolonged, sessions_weight}
+use Rattle.cc_book.specs.Standing.{Stands, alive_weight, grants_weight, holds_weight, ids_weight, is_session, open_weight, opened_as, prolonged, sessions_weight}
 use Rattle.cc_book.proofs.Alive.{IsLeft, Weight, alive_weight-push, ends, going_on, grants_weight-own, holds_weight-ended, ids_weight-append, ids_weight-at, ids_weight-left, is_ending, kept, left-others, open_weight-push, sessions_weight-append, sessions_weight-at, sessions_weight-left, taken}
 use Rattle.cc_book.proofs.Sessions.{IsAt, Others, OwnIds, find-at, find-behind, find-beside, find-others, others-append, own_ids-push, own_ids-remove, own_ids-set, same_session-equal, same_session-met, same_session-self, session_there}
 
@@ -25,11 +25,6 @@ pub record Sit (terms : Terms) (before : List Posting) (sessions : List OpenSess
   pub known : All (λ session. session.account < length terms.accounts) sessions
   pub holds : (weight : Weight) → alive_weight weight terms.validity before ≡ sessions_weight weight sessions
   pub count : (weight : List ℕ → ℕ) → open_weight weight terms.validity before ≡ ids_weight weight sessions
-  pub held : held_by_all sessions ≤ length before * 2 ^ 89
-
-held_by_all-append : (xs ys : List OpenSession) → held_by_all (xs ++ ys) ≡ held_by_all xs + held_by_all ys
-held_by_all-append [] ys = omega arith
-held_by_all-append (x ∷ xs) ys = let more = held_by_all-append xs ys in omega arith
 
 module _ {terms : Terms} {before : List Posting} {balances : List ℤ} {sessions : List OpenSession} (s : Stands terms before balances sessions)
     (moment : Moment) (request : CcRequest) (posting : Posting) where
@@ -113,7 +108,6 @@ module _ {terms : Terms} {before : List Posting} {balances : List ℤ} {sessions
         let push = count-push weight in
         let nothing : cond (opens q) (weight request.session) 0 ≡ 0 = ap (λ (b : Bool). cond b (weight request.session) 0) unopened in
         let all = ids_weight-left request posting.settles weight sessions left in omega arith);
-    held = let held = s.held in omega (arith, length-append before (q ∷ []));
   }
 
   -- ---- a session opens
@@ -122,9 +116,8 @@ module _ {terms : Terms} {before : List Posting} {balances : List ℤ} {sessions
   opened a = record { id = request.session; account = a; last = moment; holds = posting.grants }
 
   pub sits-opened : (a : ℕ) → opens q ≡ true → posting.account ≡ Some a → a < length terms.accounts → Others request.session sessions
-      → held_in posting.grants ≤ 2 ^ 89
       → Sit terms (before ++ q ∷ []) (sessions ++ opened a ∷ [])
-  sits-opened a does charged lt others most = record {
+  sits-opened a does charged lt others = record {
     session = session-by (sessions ++ opened a ∷ [])
         (next-opened (found sessions request.session) does
         ∙ ap (λ (o : Option ℕ). Some (opened_at terms.validity o moment.0)) charged
@@ -142,7 +135,6 @@ module _ {terms : Terms} {before : List Posting} {balances : List ℤ} {sessions
         let one : cond (opens q) (weight request.session) 0 ≡ weight request.session = ap (λ (b : Bool). cond b (weight request.session) 0) does in
         let all = ids_weight-left request posting.settles weight sessions (left-others request posting.settles sessions others) in
         let parts = ids_weight-append weight sessions (opened a ∷ []) in omega arith);
-    held = let held = s.held in omega (arith, length-append before (q ∷ []), held_by_all-append sessions (opened a ∷ []));
   }
 
   -- ---- the session of the request goes on, or ends
@@ -166,16 +158,12 @@ module _ {terms : Terms} {before : List Posting} {balances : List ℤ} {sessions
     none_opened : (weight : List ℕ → ℕ) → cond (opens q) (weight request.session) 0 ≡ 0
     none_opened weight = ap (λ (b : Bool). cond b (weight request.session) 0) unopened
 
-    held_there : held_by_all sessions ≡ held_by_all at.front + (held_in session.holds + held_by_all at.back)
-    held_there = ap held_by_all at.split ∙ held_by_all-append at.front (session ∷ at.back)
-
     pub sits-going_on : (holds : List Hold) → is_ending request.kind ≡ false
         → ((now : Opened) → session_by terms.validity now moment.0 request.kind ≡ Some (opened_at terms.validity now.account moment.0))
         → ((weight : Weight) → holds_weight (kept request posting.settles weight) session.id session.account session.holds + grants_weight weight
         terms.validity q [] posting.grants ≡ holds_weight weight session.id session.account holds)
-        → held_in holds ≤ held_in session.holds + 2 ^ 89
         → Sit terms (before ++ q ∷ []) (slice_set sessions place (prolonged session moment holds))
-    sits-going_on holds stays prolongs weigh most =
+    sits-going_on holds stays prolongs weigh =
         let now = prolonged session moment holds in
         record {
           session = session-by (slice_set sessions place now)
@@ -205,10 +193,6 @@ module _ {terms : Terms} {before : List Posting} {balances : List ℤ} {sessions
               let later : ids_weight weight (slice_set sessions place now) ≡ ids_weight weight (at.front ++ now ∷ at.back) =
               ap (ids_weight weight) (at.set_there now) in
               let parts = ids_weight-append weight at.front (now ∷ at.back) in omega arith);
-          held =
-              let held = s.held in
-              let later : held_by_all (slice_set sessions place now) ≡ held_by_all (at.front ++ now ∷ at.back) = ap held_by_all (at.set_there now) in
-              omega (arith, held_there, length-append before (q ∷ []), held_by_all-append at.front (now ∷ at.back));
         }
 
     pub sits-ended : request.kind ≡ Termination → posting.grants ≡ [] → Sit terms (before ++ q ∷ []) (remove sessions place)
@@ -240,8 +224,4 @@ module _ {terms : Terms} {before : List Posting} {balances : List ℤ} {sessions
               let gone : going_on request weight session.id ≡ 0 = ap (λ (b : Bool). cond b 0 (weight session.id)) ended in
               let later : ids_weight weight (remove sessions place) ≡ ids_weight weight (at.front ++ at.back) = ap (ids_weight weight) at.removed in
               let parts = ids_weight-append weight at.front at.back in omega arith);
-          held =
-              let held = s.held in
-              let later : held_by_all (remove sessions place) ≡ held_by_all (at.front ++ at.back) = ap held_by_all at.removed in
-              omega (arith, held_there, length-append before (q ∷ []), held_by_all-append at.front at.back);
         }

@@ -62,7 +62,7 @@ made-most most (Some grant) le = by (is_refused grant) where
   by true = tt
   by false = le
 
-granted-most : (tariffs : List Tariff) (free : ℤ) (service : Service) (tariff : Tariff) → 0 < tariff.block → tariff_of tariffs service ≡ Some tariff
+pub granted-most : (tariffs : List Tariff) (free : ℤ) (service : Service) (tariff : Tariff) → 0 < tariff.block → tariff_of tariffs service ≡ Some tariff
     → IfSome (grant_to tariffs free service) (λ made. made.held ≤ cost_of tariff tariff.greatest)
 granted-most tariffs free service tariff some is =
     subst (λ (found : Option Tariff). IfSome (option_and_then (λ (t : Tariff). option_map (grant_of t free) (asked_of t service)) found)

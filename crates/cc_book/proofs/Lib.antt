@@ -7,6 +7,7 @@ mod Granting
 mod Greatest
 mod Holding
 mod Paying
+mod Ranges
 mod Refusing
 mod Reserving
 mod SweepLaws
@@ -14,6 +15,7 @@ mod Unnamed
 pub mod Alive
 pub mod Amounts
 pub mod Books
+pub mod Bounds
 pub mod ByKind
 pub mod Changes
 pub mod InOrder

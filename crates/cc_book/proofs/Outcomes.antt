@@ -1,6 +1,6 @@
 -- What stands after one more request.
-use Rattle.std.proofs.Common.{◌≡◌, ℕ, ◌+◌, ◌^◌, ◌<◌, ◌≤◌, Bool, true, false, cond, not, ◌&&◌, eqb, List, [], ◌∷◌, ◌++◌, length, Option, Some, None, is_some, refl, sym, ap, subst, ◌∙◌, arith, slice_get, slice_index_or, find, option_map, unwrap_or, length-set, length-append, get_or-set_same, get_or-set_other, MatchOption}
-use Rattle.std.specs.Prelude.{ℤ, pos, negsuc, ◌-ℤ◌, ◌≤ℤ◌}
+use Rattle.std.proofs.Common.{◌≡◌, ℕ, ◌+◌, ◌<◌, Bool, true, false, cond, not, ◌&&◌, eqb, List, [], ◌∷◌, ◌++◌, length, Option, Some, None, is_some, refl, sym, ap, subst, ◌∙◌, arith, slice_get, slice_index_or, find, option_map, unwrap_or, length-set, get_or-set_same, get_or-set_other, MatchOption}
+use Rattle.std.specs.Prelude.{ℤ, pos, ◌-ℤ◌}
 use Rattle.std.proofs.lemmas.Bool.{and_parts, and_right, eqb-false}
 use Rattle.std.proofs.lemmas.Int.{ints}
 use Rattle.dia_base.specs.declared.number.Moment.{Moment}
@@ -16,20 +16,18 @@ use Rattle.cc_book.specs.declared.terms.Terms.{Terms}
 use Rattle.cc_book.specs.AccountMachine.{account_by, account_of, charged_account, free_to_grant, grants_after, grants_by, grants_with, holds_from, opener_account, post, posting_of, reply_after, settles_after, settles_by}
 use Rattle.cc_book.specs.Posting.{Posting, debit_to, is_account}
 use Rattle.cc_book.specs.Session.{Opened, is_initial_kind, is_open, is_success, next_session, opens, session_by}
-use Rattle.cc_book.specs.Standing.{IsOutcome, Stands, after_change, after_debit, change_at, change_closed, change_of, change_open, grants_weight, held_in, holds_beside, holds_weight, is_session, opened_as, place_in}
+use Rattle.cc_book.specs.Standing.{IsOutcome, Stands, after_change, after_debit, change_at, change_closed, change_of, change_open, grants_weight, holds_beside, holds_weight, is_session, opened_as, place_in}
 use Rattle.cc_book.proofs.Alive.{Weight, grants_weight-own, holds_weight-append, holds_weight-beside, holds_weight-left, is_ending, kept, left-others, left-quiet}
 use Rattle.cc_book.proofs.Changes.{Sit, next-there, next-unopened, no_grants, sits-ended, sits-going_on, sits-opened, sits-same}
 use Rattle.cc_book.proofs.Sessions.{IsAt, Others, equal_number, find-at, find-others, is_at_place, open_at_place, others-closed}
 use Rattle.cc_book.proofs.Stands.{closed-stands, open-stands, update_settles}
 use Rattle.cc_book.proofs.Postings.{debits_to-push}
 use Rattle.cc_book.proofs.Looking.{account_of-within}
-use Rattle.cc_book.proofs.Amounts.{held_in-beside}
-use Rattle.cc_book.proofs.InOrder.{held_in-append}
 
 -- ---- a request debits its account
 
 -- a debit moves the balance of its account, and no other one
-after_debit-at : (balances : List ℤ) (charged : Option ℕ) (debit : ℤ) (account : ℕ) → account < length balances
+pub after_debit-at : (balances : List ℤ) (charged : Option ℕ) (debit : ℤ) (account : ℕ) → account < length balances
     → slice_index_or (after_debit balances charged debit) account (pos 0) ≡ slice_index_or balances account (pos 0) -ℤ cond (is_account account charged) debit
     (pos 0)
 after_debit-at balances None debit account lt = omega (arith, ints)
@@ -45,7 +43,7 @@ after_debit-at balances (Some other) debit account lt = by (eqb account other) r
       omega (arith, ints)
 
 -- and the accounts stay as many
-after_debit-length : (balances : List ℤ) (charged : Option ℕ) (debit : ℤ) → length (after_debit balances charged debit) ≡ length balances
+pub after_debit-length : (balances : List ℤ) (charged : Option ℕ) (debit : ℤ) → length (after_debit balances charged debit) ≡ length balances
 after_debit-length balances None debit = refl
 after_debit-length balances (Some account) debit = length-set balances account (slice_index_or balances account (pos 0) -ℤ debit)
 
@@ -122,7 +120,7 @@ module _ (terms : Terms) (before : List Posting) (moment : Moment) (request : Cc
 -- ---- the sessions after a request
 
 module _ {terms : Terms} {before : List Posting} {balances : List ℤ} {sessions : List OpenSession} (s : Stands terms before balances sessions)
-    (moment : Moment) (request : CcRequest) (most : held_in (grants_after terms before request) ≤ 2 ^ 89) where
+    (moment : Moment) (request : CcRequest) where
   abbrev posted : Posting
   posted = posting_of terms before (Take moment request)
 
@@ -150,7 +148,7 @@ module _ {terms : Terms} {before : List Posting} {balances : List ℤ} {sessions
         let known = opener_known terms before moment request does in
         subst (λ (a : ℕ). SitsAfter (Opens (record { id = request.session; account = a; last = moment; holds = grants_after terms before request })))
         (sym (ap (λ (o : Option ℕ). unwrap_or o 0) known.1))
-        (sits-opened s moment request posted known.0 does known.1 known.2 others most)
+        (sits-opened s moment request posted known.0 does known.1 known.2 others)
     by false unopened =
         let closed : is_open terms.validity request.session before ≡ false = ap is_some (closed-stands s request.session none) in
         let same : next_session terms.validity request.session found posted ≡ found =
@@ -189,7 +187,6 @@ module _ {terms : Terms} {before : List Posting} {balances : List ℤ} {sessions
         (unopened-unsettled terms before moment request (settled-by Initial kind)) session.holds (ap is_ending kind)
         (λ now. ap (session_by terms.validity now moment.0) kind)
         (initial_weight kind)
-        (omega arith)
 
     -- an UPDATE ends the holds of the services that it names, and adds what is granted to it
     update_weight : request.kind ≡ Update → (weight : Weight)
@@ -217,8 +214,6 @@ module _ {terms : Terms} {before : List Posting} {balances : List ℤ} {sessions
         (holds_beside request.services session.holds ++ grants_after terms before request) (ap is_ending kind)
         (λ now. ap (session_by terms.validity now moment.0) kind)
         (update_weight kind)
-        (let parts = held_in-append (holds_beside request.services session.holds) (grants_after terms before request) in
-        let less = held_in-beside request.services session.holds in omega arith)
 
     -- a TERMINATION ends its session, and all that it holds
     sits-termination : request.kind ≡ Termination → SitsAfter (change_open request moment (grants_after terms before request) Termination place session)
@@ -259,12 +254,6 @@ module _ {terms : Terms} {before : List Posting} {balances : List ℤ} {sessions
 
 -- ---- what stands after a request
 
--- the debit of an account is small
-small_debit : (b : Bool) (debit : ℤ) → negsuc (2 ^ 103) ≤ℤ debit → debit ≤ℤ pos (2 ^ 103)
-    → (negsuc (2 ^ 103) ≤ℤ cond b debit (pos 0)) × (cond b debit (pos 0) ≤ℤ pos (2 ^ 103))
-small_debit true debit least most = (least, most)
-small_debit false debit least most = (omega (arith, ints), omega (arith, ints))
-
 pub take-stands : {terms : Terms} {before : List Posting} {balances : List ℤ} {sessions : List OpenSession} {moment : Moment} {request : CcRequest}
     {outcome : Outcome}
     → Stands terms before balances sessions → IsOutcome terms before sessions moment request outcome
@@ -275,29 +264,17 @@ take-stands {terms} {before} {balances} {sessions} {moment} {request} {outcome} 
       let moved = moves account lt in
       let old = s.balance account lt in
       let debits = debits_to-push account before posting in omega (arith, ints));
-  least = λ account lt. (
-      let moved = moves account lt in
-      let old = s.least account lt in
-      let small = small_debit (is_account account outcome.account) outcome.debit d.least d.most in omega (arith, ints, same_debit account, grown));
-  most = λ account lt. (
-      let moved = moves account lt in
-      let old = s.most account lt in
-      let small = small_debit (is_account account outcome.account) outcome.debit d.least d.most in omega (arith, ints, same_debit account, grown));
   session = sits.session;
   own_ids = sits.own_ids;
   known = sits.known;
   holds = sits.holds;
   count = sits.count;
-  held = sits.held;
 } where
   posting : Posting
   posting = posting_of terms before (Take moment request)
 
   long : length (after_debit balances outcome.account outcome.debit) ≡ length balances
   long = after_debit-length balances outcome.account outcome.debit
-
-  grown : length (before ++ posting ∷ []) ≡ length before + 1
-  grown = length-append before (posting ∷ [])
 
   same_debit : (account : ℕ) → cond (is_account account outcome.account) outcome.debit (pos 0) ≡ debit_to account posting
   same_debit account =
@@ -311,4 +288,4 @@ take-stands {terms} {before} {balances} {sessions} {moment} {request} {outcome} 
       ∙ ap (λ (z : ℤ). slice_index_or balances account (pos 0) -ℤ z) (same_debit account)
 
   sits : Sit terms (before ++ posting ∷ []) (after_change sessions outcome.change)
-  sits = subst (λ (change : Change). Sit terms (before ++ posting ∷ []) (after_change sessions change)) (sym d.change) (sits-changed s moment request d.grants)
+  sits = subst (λ (change : Change). Sit terms (before ++ posting ∷ []) (after_change sessions change)) (sym d.change) (sits-changed s moment request)

@@ -1,5 +1,5 @@
 -- Histories and what their entries did.
-use Rattle.std.proofs.Common.{◌≡◌, ℕ, ◌+◌, ◌<◌, cond, List, [], ◌∷◌, ◌++◌, length, All, take, get_or, ap, ◌∙◌, arith}
+use Rattle.std.proofs.Common.{◌≡◌, ℕ, ◌+◌, ◌<◌, cond, List, [], ◌∷◌, ◌++◌, length, length-append, All, take, get_or, ap, ◌∙◌, arith}
 use Rattle.std.specs.Prelude.{pos, ◌+ℤ◌, ◌-ℤ◌}
 use Rattle.std.specs.List.{fold, AllByRecursion}
 use Rattle.std.proofs.lemmas.Int.{ints}
@@ -20,9 +20,20 @@ pub postings_of-push : (terms : Terms) (history : List Entry) (entry : Entry)
 unfolding postings_of
 postings_of-push terms history entry = fold-append (post terms) [] history (entry ∷ [])
 
-push : (P : Posting → Type 0) (before : List Posting) (posting : Posting) → AllByRecursion P before → P posting → AllByRecursion P (before ++ posting ∷ [])
-push P [] posting all one = (one, tt)
-push P (first ∷ before) posting all one = (all.0, push P before posting all.1 one)
+fold-length : (terms : Terms) (before : List Posting) (history : List Entry) → length (fold (post terms) before history) ≡ length before + length history
+fold-length terms before [] = omega arith
+fold-length terms before (entry ∷ history) =
+    let more = fold-length terms (post terms before entry) history in
+    let long = length-append before (posting_of terms before entry ∷ []) in
+    omega arith
+
+pub postings_of-length : (terms : Terms) (history : List Entry) → length (postings_of terms history) ≡ length history
+unfolding postings_of
+postings_of-length terms history = let all = fold-length terms [] history in omega arith
+
+pub all_push : (P : Posting → Type 0) (before : List Posting) (posting : Posting) → AllByRecursion P before → P posting → AllByRecursion P (before ++ posting ∷ [])
+all_push P [] posting all one = (one, tt)
+all_push P (first ∷ before) posting all one = (all.0, all_push P before posting all.1 one)
 
 fold_all : (P : Posting → Type 0) (Q : Entry → Type 0) (terms : Terms) (before : List Posting) (history : List Entry)
     → ((before : List Posting) (entry : Entry) → AllByRecursion P before → Q entry → P (posting_of terms before entry)) → AllByRecursion P before
@@ -30,7 +41,7 @@ fold_all : (P : Posting → Type 0) (Q : Entry → Type 0) (terms : Terms) (befo
 fold_all P Q terms before [] each all entries = all
 fold_all P Q terms before (entry ∷ history) each all entries =
     fold_all P Q terms (post terms before entry) history each
-    (push P before (posting_of terms before entry) all (each before entry all (All-head Q entry history entries))) (All-tail Q entry history entries)
+    (all_push P before (posting_of terms before entry) all (each before entry all (All-head Q entry history entries))) (All-tail Q entry history entries)
 
 -- what is true of each posting: it follows from the postings before it, and from what is true of each entry
 pub postings_all : (P : Posting → Type 0) (Q : Entry → Type 0) (terms : Terms) (history : List Entry)

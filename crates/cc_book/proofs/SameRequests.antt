@@ -1,5 +1,5 @@
 -- Whether requests are equal, part by part: what `==` says of their parts, and what the specification's comparison says.
-use Rattle.std.proofs.Common.{◌≡◌, ◌≢◌, ℕ, Bool, true, false, cond, ◌&&◌, eqb, List, Option, Some, None, refl, ap, sym, subst, ◌∙◌}
+use Rattle.std.proofs.Common.{◌≡◌, ◌≢◌, ℕ, Bool, true, false, cond, ◌&&◌, eqb, List, Option, Some, None, refl, ap, sym, ◌∙◌}
 use Rattle.std.specs.Bool.{Decides}
 use Rattle.std.specs.Cmp.{booleans_Decides}
 use Rattle.std.specs.Cmp.Lexicographic.{pointwise}
@@ -15,7 +15,7 @@ use Rattle.cc_view.specs.declared.request.RequestedAction.TheVariants.{DirectDeb
 use Rattle.cc_view.specs.declared.request.Service.{Service}
 use Rattle.cc_view.specs.declared.request.Subscription.{Subscription}
 use Rattle.cc_view.specs.Request.Number.{action_number, kind_number}
-use Rattle.cc_book.specs.Content.{same_action, same_kind, same_request, same_service, same_subscription}
+use Rattle.cc_book.specs.Content.{same_action, same_kind, same_request}
 
 -- ---- lists, numbers, services and subscriptions
 

@@ -1,9 +1,9 @@
 -- What stands after postings: readings of it, and how it changes with a request.
-use Rattle.std.proofs.Common.{◌≡◌, ℕ, zero, suc, ◌+◌, ◌<◌, ◌≤◌, ◌^◌, Bool, true, false, cond, ◌&&◌, eqb, List, [], ◌∷◌, ◌++◌, length, Option, Some, None, is_some, refl, sym, ap, subst, ◌∙◌, arith, slice_get, slice_index_or, find, option_map, map, All}
-use Rattle.std.specs.Prelude.{ℤ, pos, negsuc, ◌+ℤ◌, ◌-ℤ◌, ◌≤ℤ◌}
+use Rattle.std.proofs.Common.{◌≡◌, ℕ, zero, suc, ◌+◌, ◌<◌, Bool, true, false, cond, ◌&&◌, eqb, List, [], ◌∷◌, ◌++◌, length, Option, Some, None, is_some, refl, sym, ap, subst, ◌∙◌, arith, slice_get, slice_index_or, find, option_map, map}
+use Rattle.std.specs.Prelude.{ℤ, pos, ◌+ℤ◌, ◌-ℤ◌}
 use Rattle.std.specs.Option.{option_and_then}
 use Rattle.std.proofs.lemmas.Int.{ints}
-use Rattle.std.proofs.lemmas.List.{get_or_default, length-map}
+use Rattle.std.proofs.lemmas.List.{length-map}
 use Rattle.std.proofs.lemmas.List.Sums.{sum_by-cons}
 use Rattle.cc_view.specs.declared.request.CcRequest.{CcRequest}
 use Rattle.cc_view.specs.declared.request.RequestKind.{RequestKind}
@@ -16,7 +16,7 @@ use Rattle.cc_book.specs.AccountMachine.{account_by, account_of, charged_account
 use Rattle.cc_book.specs.Posting.{Posting, is_account, debit_to, debits_to}
 use Rattle.cc_book.specs.Reservation.{held_after, is_alive, reserved_by}
 use Rattle.cc_book.specs.Session.{Opened, is_open, open_count, opens, outlasts, session_of}
-use Rattle.cc_book.specs.Standing.{IsSmall, Stands, alive_weight, grants_weight, held_in, holds_beside, holds_weight, ids_weight, is_session, open_weight, opened_as, place_in, reserved_in, sessions_weight}
+use Rattle.cc_book.specs.Standing.{Stands, alive_weight, grants_weight, held_in, holds_beside, holds_weight, ids_weight, is_session, open_weight, opened_as, place_in, reserved_in, sessions_weight}
 use Rattle.cc_book.proofs.Alive.{Weight, alive_weight-push, holds_weight-beside, is_ending, kept, left-others, sessions_weight-append, sessions_weight-at, sessions_weight-left}
 use Rattle.cc_book.proofs.Sessions.{equal_number, find-at, find-others, is_at_place, others-closed, same_number, session_there}
 use Rattle.cc_book.proofs.Postings.{debits_to-push}
@@ -192,45 +192,25 @@ module _ {terms : Terms} {before : List Posting} {balances : List ℤ} {sessions
       let stands = s.holds (reserving a) in
       omega (arith, ints)
 
--- ---- amounts are small
-
-pub small-stands : {terms : Terms} {before : List Posting} {balances : List ℤ} {sessions : List OpenSession} → Stands terms before balances sessions
-    → length before ≤ 2 ^ 20 → IsSmall terms balances sessions
-small-stands {terms} {before} {balances} {sessions} s short = record {
-  accounts = s.accounts;
-  least = λ k d lt. (
-      let least = s.least k (omega (arith, s.accounts)) in
-      let same = get_or_default balances k d (pos 0) lt in omega (arith, ints));
-  most = λ k d lt. (
-      let most = s.most k (omega (arith, s.accounts)) in
-      let same = get_or_default balances k d (pos 0) lt in omega (arith, ints));
-  held = let held = s.held in omega arith;
-  known = s.known;
-}
-
 -- ---- before the first request
 
-opening_at-map : (accounts : List Account) (k : ℕ) → k < length accounts
+pub opening_at-map : (accounts : List Account) (k : ℕ) → k < length accounts
     → slice_index_or (map (λ (a : Account). a.opening) accounts) k (pos 0) ≡ opening_at accounts k
 opening_at-map [] k lt = absurd (omega arith)
 opening_at-map (a ∷ accounts) zero lt = refl
 opening_at-map (a ∷ accounts) (suc k) lt = opening_at-map accounts k (omega arith)
 
 pub empty-stands : (terms : Terms) (balances : List ℤ) → balances ≡ map (λ account. account.opening) terms.accounts
-    → All (λ balance. negsuc (2 ^ 63) ≤ℤ balance) balances → All (λ balance. balance ≤ℤ pos (2 ^ 63)) balances
     → Stands terms [] balances []
-empty-stands terms balances openings least most =
+empty-stands terms balances openings =
     let long : length balances ≡ length terms.accounts = ap length openings ∙ length-map terms.accounts (λ (a : Account). a.opening) in
     record {
       accounts = long;
       balance = λ account lt. (
           let opening = ap (λ (zs : List ℤ). slice_index_or zs account (pos 0)) openings ∙ opening_at-map terms.accounts account lt in omega (arith, ints));
-      least = λ account lt. (let here = least account (pos 0) (omega arith) in omega (arith, ints));
-      most = λ account lt. (let here = most account (pos 0) (omega arith) in omega (arith, ints));
       session = λ id. refl;
       own_ids = λ i j d lt below. absurd (omega arith);
       known = λ k d lt. absurd (omega arith);
       holds = λ weight. refl;
       count = λ weight. refl;
-      held = omega arith;
     }

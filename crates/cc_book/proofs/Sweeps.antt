@@ -1,5 +1,5 @@
 -- What stands after a sweep, and what a book answers to it.
-use Rattle.std.proofs.Common.{◌≡◌, ◌≢◌, ℕ, zero, suc, ◌+◌, ◌<◌, ◌≤◌, Bool, true, false, cond, not, leb, List, [], ◌∷◌, ◌++◌, length, Option, Some, None, Result, Ok, Err, inl, inr, refl, sym, ap, subst, ◌∙◌, arith, rules, find, option_map, length-append, get_or}
+use Rattle.std.proofs.Common.{◌≡◌, ◌≢◌, ℕ, zero, suc, ◌<◌, ◌≤◌, Bool, true, false, cond, not, leb, List, [], ◌∷◌, ◌++◌, length, Option, Some, None, Result, Ok, Err, inl, inr, refl, sym, ap, subst, ◌∙◌, arith, rules, find, option_map, length-append, get_or}
 use Rattle.std.specs.Prelude.{ℤ, count_by}
 use Rattle.std.specs.List.{AllByRecursion}
 use Rattle.std.specs.Option.{option_and_then}
@@ -22,17 +22,18 @@ use Rattle.cc_book.specs.declared.session.OpenSession.{OpenSession}
 use Rattle.cc_book.specs.declared.terms.Terms.{Terms}
 use Rattle.cc_book.specs.AccountMachine.{post, postings_of}
 use Rattle.cc_book.specs.Balance.{open_sessions_of}
+use Rattle.cc_book.specs.Bounds.{MovesLittle}
 use Rattle.cc_book.specs.History.{ended_sessions}
 use Rattle.cc_book.specs.Posting.{Posting}
 use Rattle.cc_book.specs.Session.{Opened, next_session, open_count, session_of}
-use Rattle.cc_book.specs.Standing.{Stands, held_by_all, holds_weight, ids_weight, is_due, is_session, opened_as, sessions_after, sessions_weight, without_due}
+use Rattle.cc_book.specs.Standing.{Stands, holds_weight, ids_weight, is_due, is_session, opened_as, reserved_in, sessions_after, sessions_weight, without_due}
 use Rattle.cc_book.specs.Taking.{IsBook, Ledger, answer_to_sweep, sweep_answer}
 use Rattle.cc_book.proofs.Alive.{Weight}
 use Rattle.cc_book.proofs.Books.{open_sessions_of-is, replies_in, sessions_after-push}
 use Rattle.cc_book.proofs.Due.{States, alive_weight-swept, due_in, lasting, lasting_ids, open_weight-swept, swept}
 use Rattle.cc_book.proofs.Ending.{all_keep}
 use Rattle.cc_book.proofs.Keys.{IsLegal-sweep}
-use Rattle.cc_book.proofs.Postings.{debits_to-push, postings_of-push}
+use Rattle.cc_book.proofs.Postings.{all_push, debits_to-push, postings_of-push}
 use Rattle.cc_book.proofs.Sessions.{Others, OwnIds, find-at, find-others, is_at, others_after, same_session-equal}
 use Rattle.cc_book.proofs.Stands.{open_count-stands}
 
@@ -83,11 +84,12 @@ module _ (validity : ℕ) (moment : Moment) where
     by true e more = let here : lasting_ids moment states weight s.id ≡ 0 = ap (λ (b : Bool). cond b 0 (weight s.id)) e in omega arith
     by false e more = let here : lasting_ids moment states weight s.id ≡ weight s.id = ap (λ (b : Bool). cond b 0 (weight s.id)) e in omega arith
 
-  held_by_all-kept : (sessions : List OpenSession) → held_by_all (kept sessions) ≤ held_by_all sessions
-  held_by_all-kept [] = omega arith
-  held_by_all-kept (s ∷ sessions) = by (due s) (held_by_all-kept sessions) where
-    by : (b : Bool) → held_by_all (kept sessions) ≤ held_by_all sessions
-        → held_by_all (cond (not b) (s ∷ kept sessions) (kept sessions)) ≤ held_by_all (s ∷ sessions)
+  -- what they hold of an account is no more than before
+  reserved_in-kept : (account : ℕ) (sessions : List OpenSession) → reserved_in account (kept sessions) ≤ reserved_in account sessions
+  reserved_in-kept account [] = omega arith
+  reserved_in-kept account (s ∷ sessions) = by (due s) (reserved_in-kept account sessions) where
+    by : (b : Bool) → reserved_in account (kept sessions) ≤ reserved_in account sessions
+        → reserved_in account (cond (not b) (s ∷ kept sessions) (kept sessions)) ≤ reserved_in account (s ∷ sessions)
     by true more = omega arith
     by false more = omega arith
 
@@ -156,8 +158,6 @@ module _ {terms : Terms} (history : List Entry) {balances : List ℤ} {sessions 
   sweep-stands = record {
     accounts = s.accounts;
     balance = λ account lt. (let old = s.balance account lt in let debits = debits_to-push account before (swept moment) in omega (arith, ints));
-    least = λ account lt. (let old = s.least account lt in omega (arith, ints, grown));
-    most = λ account lt. (let old = s.most account lt in omega (arith, ints, grown));
     session = λ id. fold-append (next_session terms.validity id) None before (swept moment ∷ []) ∙ ap (option_and_then (left moment)) (s.session id)
         ∙ find-kept terms.validity moment id sessions s.own_ids;
     own_ids = AllPairs-filter (λ (one other : OpenSession). one.id ≢ other.id) (λ (x : OpenSession). not (is_due terms.validity moment x)) sessions s.own_ids;
@@ -168,10 +168,7 @@ module _ {terms : Terms} (history : List Entry) {balances : List ℤ} {sessions 
     count = λ weight.
         open_weight-swept terms.validity moment (λ id. None) weight before
         ∙ s.count (lasting_ids moment states weight) ∙ ids_weight-kept terms.validity moment states weight sessions rights;
-    held = let held = s.held in let less = held_by_all-kept terms.validity moment sessions in omega (arith, grown);
-  } where
-    grown : length (before ++ swept moment ∷ []) ≡ length before + 1
-    grown = length-append before (swept moment ∷ [])
+  }
 
   -- ---- how many sessions it ends
 
@@ -204,13 +201,21 @@ IsBook-sweep terms limit history replies balances sessions moment book room some
     record {
       legal = IsLegal-sweep terms history moment book.legal (omega arith);
       within = omega arith;
-      most = book.most;
       replies_kept = ap (λ (rs : List (Option CcReply)). rs ++ None ∷ []) book.replies_kept
           ∙ sym (ap replies_in next ∙ map-append (λ (p : Posting). p.reply) before (swept moment ∷ []));
       stands = subst (λ (ps : List Posting). Stands terms ps balances (without_due terms.validity moment sessions)) (sym next)
           (sweep-stands history book.stands moment);
       sessions_left = ap (without_due terms.validity moment) book.sessions_left
           ∙ sym (ap (sessions_after terms.validity) next ∙ sessions_after-push terms.validity before (swept moment));
+      bounded = record {
+        balance = book.bounded.balance;
+        held = λ account. (
+            let old = book.bounded.held account in
+            let less = reserved_in-kept terms.validity moment account sessions in omega arith);
+      };
+      openings = book.openings;
+      moved = subst (AllByRecursion MovesLittle) (sym next)
+          (all_push MovesLittle before (swept moment) book.moved (record { debit = omega arith; grants = omega arith }));
     }
 
 -- ---- what a book answers to a sweep

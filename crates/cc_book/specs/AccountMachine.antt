@@ -1,5 +1,6 @@
--- The account machine: the reply to a request as a function of the entries before it, and of nothing else
--- (RFC 8506, sections 5, 6 and 8.41). A request of a session first ends the reservations of the services that it
+-- The account machine: the reply to a request as a function of the entries before it, and of the terms that the book
+-- began with, and of nothing else (RFC 8506, sections 5, 6 and 8.41). `opening` is those terms, and `terms` what holds of
+-- them at the place of the request. A request of a session first ends the reservations of the services that it
 -- names and debits what they used; then grants are made in order. An EVENT touches no session.
 use Rattle.std.specs.Prelude.{ℕ, zero, suc, ◌+◌, ◌^◌, List, [], ◌∷◌, ◌++◌, find, map, Bool, true, false, not, if◌then◌else◌, Option, Some, None, is_none, is_some, unwrap_or, ℤ, pos, ◌-ℤ◌, int_le, nat_lt, ◌&&◌, ◌==◌}
 use Rattle.std.specs.List.{fold, position}
@@ -329,34 +330,45 @@ posting_of terms before (Take moment request) = record {
 }
 posting_of terms before (Sweep moment) = record { entry = Sweep moment; account = None; debit = pos 0; settles = false; grants = []; reply = None }
 
--- each entry with what it did after the entries before it
+-- ---- the terms that hold at a place
+
+-- The terms that hold after postings, where a book began with these: all that a request does, it does under the terms of
+-- its own place. No entry changes them yet.
+abbrev pub terms_at : Terms → List Posting → Terms
+terms_at opening before = opening
+
+-- each entry with what it did after the entries before it, and under the terms of its place
 abbrev pub post : Terms → List Posting → Entry → List Posting
-post terms before entry = before ++ posting_of terms before entry ∷ []
+post opening before entry = before ++ posting_of (terms_at opening before) before entry ∷ []
 
 unfoldable pub postings_of : Terms → List Entry → List Posting
-postings_of terms history = fold (post terms) [] history
+postings_of opening history = fold (post opening) [] history
+
+-- the terms that hold after a history
+abbrev pub terms_of : Terms → List Entry → Terms
+terms_of opening history = terms_at opening (postings_of opening history)
 
 -- the reply to a new request after a history
 unfoldable pub reply_to : Terms → List Entry → CcRequest → CcReply
-reply_to terms history request = reply_after terms (postings_of terms history) request
+reply_to opening history request = reply_after (terms_of opening history) (postings_of opening history) request
 
 -- ---- the reply that is kept
 
 -- The reply to a request whose key a taken one has: the reply to that one, if it is this very request; to another content
 -- DIAMETER_UNABLE_TO_COMPLY alone.
 abbrev pub repeat_reply : Terms → List Entry → CcRequest → CcRequest → CcReply
-repeat_reply terms before taken request = if same_request taken request then reply_to terms before taken else code_alone UnableToComply
+repeat_reply opening before taken request = if same_request taken request then reply_to opening before taken else code_alone UnableToComply
 
 abbrev pub reply_at : Terms → List Entry → CcRequest → Entry → Option CcReply
-reply_at terms before request (Take moment taken) = Some (repeat_reply terms before taken request)
-reply_at terms before request (Sweep moment) = None
+reply_at opening before request (Take moment taken) = Some (repeat_reply opening before taken request)
+reply_at opening before request (Sweep moment) = None
 
 abbrev pub kept_from : Terms → List Entry → List Entry → CcRequest → Option CcReply
-kept_from terms before [] request = None
-kept_from terms before (entry ∷ after) request =
-    if has_key (key_of request) entry then reply_at terms before request entry else kept_from terms (before ++ entry ∷ []) after request
+kept_from opening before [] request = None
+kept_from opening before (entry ∷ after) request =
+    if has_key (key_of request) entry then reply_at opening before request entry else kept_from opening (before ++ entry ∷ []) after request
 
 -- The reply to a request whose key is kept, by the first request with that key and the entries before it; none where the
 -- key is new.
 unfoldable pub kept_reply : Terms → List Entry → CcRequest → Option CcReply
-kept_reply terms history request = kept_from terms [] history request
+kept_reply opening history request = kept_from opening [] history request

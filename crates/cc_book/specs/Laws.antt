@@ -12,7 +12,7 @@ use Rattle.cc_book.specs.declared.entry.Entry.{Entry}
 use Rattle.cc_book.specs.declared.entry.Entry.TheVariants.{Take, Sweep}
 use Rattle.cc_rating.specs.declared.tariff.Tariff.{Tariff}
 use Rattle.cc_book.specs.declared.terms.Terms.{Terms}
-use Rattle.cc_book.specs.AccountMachine.{code_alone, grants_after, postings_of, repeat_reply, reply_to}
+use Rattle.cc_book.specs.AccountMachine.{code_alone, grants_after, postings_of, repeat_reply, reply_to, terms_of}
 use Rattle.cc_book.specs.Balance.{debit_of}
 use Rattle.cc_book.specs.Duplicate.{key_of, same_key}
 use Rattle.cc_book.specs.Posting.{Posting}
@@ -67,4 +67,4 @@ HasLimits (Sweep moment) = Unit {0}
 pub record IsRefused (terms : Terms) (history : List Entry) (request : CcRequest) (code : ResultCode) : Type 0 where
   pub reply : reply_to terms history request ≡ code_alone code
   pub debit : debit_of terms history request ≡ pos 0
-  pub grants : grants_after terms (postings_of terms history) request ≡ []
+  pub grants : grants_after (terms_of terms history) (postings_of terms history) request ≡ []

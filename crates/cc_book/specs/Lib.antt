@@ -1,5 +1,7 @@
 pub mod AccountMachine
 pub mod Balance
+pub mod BoundExample
+pub mod Bounds
 pub mod Content
 pub mod Duplicate
 pub mod History

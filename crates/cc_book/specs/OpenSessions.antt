@@ -35,6 +35,6 @@ pub record GoesOnAt (sessions : List OpenSession) (place : ℕ) (session : OpenS
 abbrev pub FitsIn : Sessions → List ℕ → Change → Type 0
 FitsIn sessions id Stays = Unit {0}
 FitsIn sessions id (Opens session) = (id ≡ session.id) × (place_in sessions.items session.id ≡ None) × (session.account < sessions.accounts)
-    × (held_in session.holds ≤ 2 ^ 110)
-FitsIn sessions id (GoesOn place session) = GoesOnAt sessions.items place session × (held_in session.holds ≤ 2 ^ 110)
+    × (held_in session.holds ≤ 2 ^ 124)
+FitsIn sessions id (GoesOn place session) = GoesOnAt sessions.items place session × (held_in session.holds ≤ 2 ^ 124)
 FitsIn sessions id (Ends place) = place < length sessions.items

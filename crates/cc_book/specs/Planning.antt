@@ -1,12 +1,13 @@
 -- A request in two steps: what it does is planned while the book stays as it is, and then committed.
-use Rattle.std.specs.Prelude.{◌≡◌, ◌<◌, length, false, true, Option, Some, None, MatchOption, Result, Ok, Err, IsOk}
+use Rattle.std.specs.Prelude.{◌≡◌, ◌<◌, length, IsTrue, false, true, Option, Some, None, MatchOption, Result, Ok, Err, IsOk}
 use Rattle.cc_view.specs.declared.request.CcRequest.{CcRequest}
 use Rattle.cc_book.specs.declared.book.Answered.{Answered}
 use Rattle.cc_book.specs.declared.book.BookRefusal.{BookRefusal}
 use Rattle.cc_book.specs.declared.book.BookRefusal.TheVariants.{Full, OutOfMemory}
 use Rattle.cc_book.specs.declared.plan.Plan.{Plan}
 use Rattle.cc_book.specs.declared.plan.Taken.{Taken}
-use Rattle.cc_book.specs.AccountMachine.{postings_of}
+use Rattle.cc_book.specs.AccountMachine.{postings_of, terms_of}
+use Rattle.cc_book.specs.Bounds.{bears_request}
 use Rattle.cc_book.specs.Duplicate.{key_of}
 use Rattle.cc_book.specs.History.{IsNew}
 use Rattle.cc_book.specs.Standing.{IsOutcome, sessions_after}
@@ -28,12 +29,14 @@ pub record IsRepeated (ledger : Ledger) (answered : Answered) : Type 0 where
   pub answer : answer_of ledger request ≡ Ok answered
   pub repeats : answered.fresh ≡ false
 
--- The request is new to this book, which has room for it, and this is what it does after this history.
+-- The request is new to this book, which has room for it, its account bears it, and this is what it does after this
+-- history.
 pub record IsTaking (ledger : Ledger) (taken : Taken) : Type 0 where
   pub new : IsNew ledger.history (key_of taken.request)
   pub room : length ledger.history < ledger.limit
+  pub borne : IsTrue (bears_request (terms_of ledger.terms ledger.history) (postings_of ledger.terms ledger.history) taken.request)
   pub outcome :
-      IsOutcome ledger.terms (postings_of ledger.terms ledger.history) (sessions_after ledger.terms.validity (postings_of ledger.terms ledger.history))
+      IsOutcome (terms_of ledger.terms ledger.history) (postings_of ledger.terms ledger.history) (sessions_after ledger.terms.validity (postings_of ledger.terms ledger.history))
       taken.moment taken.request taken.outcome
 
 -- the request is taken, and answered so

@@ -1,6 +1,6 @@
 -- What a history has left: the balances of the accounts, and the sessions that are open with what they hold. It is
 -- all that the book looks at to answer a request.
-use Rattle.std.specs.Prelude.{◌≡◌, ◌≢◌, ℕ, ◌+◌, ◌*◌, ◌^◌, ◌<◌, ◌≤◌, List, [], ◌∷◌, ◌++◌, length, remove, slice_get, slice_index_or, slice_set, All, AllPairs, Bool, ◌&&◌, not, ◌==◌, nat_le, if◌then◌else◌, Option, Some, None, unwrap_or, find, ℤ, pos, negsuc, ◌-ℤ◌, ◌≤ℤ◌}
+use Rattle.std.specs.Prelude.{◌≡◌, ◌≢◌, ℕ, ◌+◌, ◌-◌, ◌^◌, ◌<◌, ◌≤◌, List, [], ◌∷◌, ◌++◌, length, remove, slice_get, slice_index_or, slice_set, All, AllPairs, Bool, ◌&&◌, not, ◌==◌, nat_le, if◌then◌else◌, Option, Some, None, IfSome, unwrap_or, find, ℤ, pos, negsuc, ◌-ℤ◌, ◌≤ℤ◌}
 use Rattle.std.specs.List.{filter, fold, list_any, position}
 use Rattle.std.specs.Option.{option_map}
 use Rattle.dia_base.specs.declared.number.Moment.{Moment}
@@ -16,7 +16,7 @@ use Rattle.cc_book.specs.declared.entry.Entry.TheVariants.{Take, Sweep}
 use Rattle.cc_book.specs.declared.session.Hold.{Hold}
 use Rattle.cc_book.specs.declared.session.OpenSession.{OpenSession}
 use Rattle.cc_book.specs.declared.terms.Terms.{Terms}
-use Rattle.cc_book.specs.AccountMachine.{charged_account, debit_after, grants_after, opening_at, posting_of, reply_after}
+use Rattle.cc_book.specs.AccountMachine.{account_of, charged_account, debit_after, grants_after, opening_at, posting_of, reply_after}
 use Rattle.cc_book.specs.Duplicate.{same_session}
 use Rattle.cc_book.specs.Posting.{Posting, debits_to}
 use Rattle.cc_book.specs.Reservation.{has_name, is_alive}
@@ -46,11 +46,6 @@ abbrev pub reserved_in : ℕ → List OpenSession → ℕ
 reserved_in account [] = 0
 reserved_in account (session ∷ sessions) = (if session.account == account then held_in session.holds else 0) + reserved_in account sessions
 
--- what sessions hold of all accounts
-abbrev pub held_by_all : List OpenSession → ℕ
-held_by_all [] = 0
-held_by_all (session ∷ sessions) = held_in session.holds + held_by_all sessions
-
 -- what is free of an account, nothing without one
 abbrev pub free_in : List ℤ → List OpenSession → Option ℕ → ℤ
 free_in balances sessions None = pos 0
@@ -63,6 +58,13 @@ is_named services hold = list_any (has_name hold.service) services
 -- the holds of other services than these
 abbrev pub holds_beside : List Service → List Hold → List Hold
 holds_beside services holds = filter (λ hold. not (is_named services hold)) holds
+
+-- The account that a request charges, as far as it can be told without its session: INITIAL and EVENT charge the first
+-- that one of their Subscription-Ids has.
+pub record NamesAccount (terms : Terms) (request : CcRequest) (account : Option ℕ) : Type 0 where
+  pub within : IfSome account (λ place. place < length terms.accounts)
+  pub initial : request.kind ≡ Initial → account ≡ account_of terms.accounts request.subscriptions
+  pub event : request.kind ≡ Event → account ≡ account_of terms.accounts request.subscriptions
 
 -- ---- what a request does to its session
 
@@ -139,7 +141,7 @@ pub record IsOutcome (terms : Terms) (before : List Posting) (sessions : List Op
   pub reply : outcome.reply ≡ reply_after terms before request
   pub change : outcome.change ≡ change_of sessions request moment (posting_of terms before (Take moment request))
   -- in amounts that are small
-  pub least : negsuc (2 ^ 103) ≤ℤ outcome.debit
+  pub least : negsuc (2 ^ 103 - 1) ≤ℤ outcome.debit
   pub most : outcome.debit ≤ℤ pos (2 ^ 103)
   pub grants : held_in (grants_after terms before request) ≤ 2 ^ 89
 
@@ -188,19 +190,16 @@ pub record Stands (terms : Terms) (before : List Posting) (balances : List ℤ) 
   pub accounts : length balances ≡ length terms.accounts
   pub balance : (account : ℕ) → account < length terms.accounts
       → slice_index_or balances account (pos 0) ≡ opening_at terms.accounts account -ℤ debits_to account before
-  pub least : (account : ℕ) → account < length terms.accounts → negsuc (2 ^ 63 + length before * 2 ^ 103) ≤ℤ slice_index_or balances account (pos 0)
-  pub most : (account : ℕ) → account < length terms.accounts → slice_index_or balances account (pos 0) ≤ℤ pos (2 ^ 63 + length before * (2 ^ 103 + 1))
   pub session : (id : List ℕ) → session_of terms.validity id before ≡ option_map (opened_as terms.validity) (find (is_session id) sessions)
   pub own_ids : AllPairs (λ one other. one.id ≢ other.id) sessions
   pub known : All (λ session. session.account < length terms.accounts) sessions
   pub holds : (weight : List ℕ → Option ℕ → Hold → ℕ) → alive_weight weight terms.validity before ≡ sessions_weight weight sessions
   pub count : (weight : List ℕ → ℕ) → open_weight weight terms.validity before ≡ ids_weight weight sessions
-  pub held : held_by_all sessions ≤ length before * 2 ^ 89
 
 -- The amounts are so small that no sum of them leaves 128 bits, and accounts are known.
 pub record IsSmall (terms : Terms) (balances : List ℤ) (sessions : List OpenSession) : Type 0 where
   pub accounts : length balances ≡ length terms.accounts
   pub least : All (λ balance. negsuc (2 ^ 124) ≤ℤ balance) balances
   pub most : All (λ balance. balance ≤ℤ pos (2 ^ 124)) balances
-  pub held : held_by_all sessions ≤ 2 ^ 110
+  pub held : (account : ℕ) → reserved_in account sessions ≤ 2 ^ 124
   pub known : All (λ session. session.account < length terms.accounts) sessions

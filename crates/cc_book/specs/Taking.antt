@@ -1,5 +1,6 @@
 -- What the book answers to a request, and what it keeps.
-use Rattle.std.specs.Prelude.{◌≡◌, ℕ, zero, suc, ◌<◌, ◌≤◌, ◌^◌, List, [], ◌∷◌, ◌++◌, length, map, Bool, true, false, nat_le, if◌then◌else◌, Option, Some, None, unwrap_or, Result, Ok, Err, IsOk, IsOkAnd, ℤ}
+use Rattle.std.specs.Prelude.{◌≡◌, ℕ, zero, suc, ◌<◌, ◌≤◌, List, [], ◌∷◌, ◌++◌, length, map, Bool, true, false, nat_le, if◌then◌else◌, ◌||◌, Option, Some, None, is_some, unwrap_or, Result, Ok, Err, IsOk, IsOkAnd, ℤ}
+use Rattle.std.specs.List.{AllByRecursion}
 use Rattle.dia_base.specs.declared.number.Moment.{Moment}
 use Rattle.cc_view.specs.declared.code.ResultCode.TheVariants.{UnableToComply}
 use Rattle.cc_view.specs.declared.reply.CcReply.{CcReply}
@@ -11,13 +12,14 @@ use Rattle.cc_book.specs.declared.entry.Entry.{Entry}
 use Rattle.cc_book.specs.declared.entry.Entry.TheVariants.{Take, Sweep}
 use Rattle.cc_book.specs.declared.session.OpenSession.{OpenSession}
 use Rattle.cc_book.specs.declared.terms.Terms.{Terms}
-use Rattle.cc_book.specs.AccountMachine.{code_alone, reply_to, kept_reply, postings_of}
+use Rattle.cc_book.specs.AccountMachine.{code_alone, reply_to, kept_reply, postings_of, terms_of}
+use Rattle.cc_book.specs.Bounds.{IsBounded, MovesLittle, OpensSmall, bears_request}
 use Rattle.cc_book.specs.Content.{same_request}
 use Rattle.cc_book.specs.Duplicate.{key_of}
 use Rattle.cc_book.specs.History.{IsLegal, ended_sessions, place_of}
 use Rattle.cc_book.specs.Standing.{Stands, sessions_after}
 
--- a book, as contracts see it
+-- a book, as contracts see it: the terms that it began with, how many entries it may have, and those that it has
 pub record Ledger : Type 0 where
   pub terms : Terms
   pub limit : ℕ
@@ -37,6 +39,16 @@ answer_by ledger request place (Some reply) = Ok (record { reply = reply; place 
 abbrev pub answer_of : Ledger → CcRequest → Result Answered BookRefusal
 answer_of ledger request =
     answer_by ledger request (unwrap_or (place_of ledger.history (key_of request)) 0) (kept_reply ledger.terms ledger.history request)
+
+-- whether a request is kept, or the account that it charges bears it
+abbrev pub is_borne : Ledger → CcRequest → Bool
+is_borne ledger request =
+    is_some (kept_reply ledger.terms ledger.history request) || bears_request (terms_of ledger.terms ledger.history) (postings_of ledger.terms ledger.history) request
+
+-- What the book answers, however many entries it may have: a new request that could bring a balance, or what is held of
+-- an account, beyond its bounds is refused as by a full book.
+abbrev pub answer_within : Ledger → CcRequest → Result Answered BookRefusal
+answer_within ledger request = if is_borne ledger request then answer_of ledger request else Err (Full ledger.limit)
 
 -- The answer to a request with the key of the one that was taken at a place: the reply that is kept there, if it is this
 -- very request, else DIAMETER_UNABLE_TO_COMPLY alone.
@@ -92,11 +104,14 @@ pub record IsBook (terms : Terms) (limit : ℕ) (history : List Entry) (replies 
     (sessions : List OpenSession) : Type 0 where
   pub legal : IsLegal terms history
   pub within : length history ≤ limit
-  -- the most entries that a book may be made for
-  pub most : limit ≤ 2 ^ 20
   pub replies_kept : replies ≡ map (λ posting. posting.reply) (postings_of terms history)
-  pub stands : Stands terms (postings_of terms history) balances sessions
+  pub stands : Stands (terms_of terms history) (postings_of terms history) balances sessions
   pub sessions_left : sessions ≡ sessions_after terms.validity (postings_of terms history)
+  -- amounts are within their bounds, by what they are and not by how many entries there are
+  pub bounded : IsBounded balances sessions
+  -- and began small, and moved little with each entry
+  pub openings : OpensSmall (terms_of terms history)
+  pub moved : AllByRecursion MovesLittle (postings_of terms history)
 
 -- A book has room for all that its limit lets it keep: entries, their replies, and the sessions that they open.
 pub record HasRoom (limit entries replies sessions : ℕ) : Type 0 where

@@ -2,7 +2,7 @@
 
 ghost use Rattle.std.specs.Prelude.{◌≡◌, ◌≢◌, ◌≤◌, ◌<◌, ◌^◌, [], length, nat_abs, Err, IfNone, IfOk, IfSome, if◌then◌else◌, nat_lt, Some, None, pos};
 ghost use Rattle.cc_book.specs.declared.book.BookRefusal.TheVariants.{OutOfMemory};
-ghost use Rattle.cc_book.specs.Taking.{AnswersWith, answer_of};
+ghost use Rattle.cc_book.specs.Taking.{AnswersWith, answer_of, answer_within};
 
 mod planning;
 
@@ -32,6 +32,8 @@ pub struct Answered {
 /// Why the book does not take a request, or does not sweep. It is unchanged then.
 #[derive(Clone, Copy, Debug, PartialEq, Eq, Error)]
 pub enum BookRefusal {
+    /// The history is at its limit, or the account that the request charges does not bear one more: its balance, or
+    /// what sessions have reserved of it, could come to 2^124 in size.
     #[error("the history has {limit} entries, which is its limit")]
     Full { limit: u64 },
     #[error("out of memory")]
@@ -69,7 +71,7 @@ pub struct Book {
 }
 
 impl Model for Book {
-    ghost use Rattle.std.specs.Prelude.{◌≡◌, ◌+◌, length, vec_capacity};
+    ghost use Rattle.std.specs.Prelude.{◌≡◌, ◌+◌, ◌≤◌, ◌^◌, length, vec_capacity};
     ghost use Rattle.cc_book.specs.Places.{HasPlaces, IsIndexed};
     ghost use Rattle.cc_book.specs.Taking.{HasRoom, IsBook, Ledger};
 
@@ -82,7 +84,8 @@ impl Model for Book {
         × HasRoom b.limit (vec_capacity b.history) (vec_capacity b.replies) (length b.history.items + b.standing.sessions.room)
         × (b.standing.sessions.accounts ≡ length b.terms.accounts)
         × IsIndexed b.history.items b.places
-        × HasPlaces b.limit (length b.history.items) b.places };
+        × HasPlaces b.limit (length b.history.items) b.places
+        × (b.limit ≤ 2 ^ 20) };
 }
 
 impl Book {
@@ -90,9 +93,9 @@ impl Book {
     ghost use Rattle.cc_book.specs.History.{IsLegal};
     ghost use Rattle.cc_book.specs.Taking.{Ledger, SweepsWith, is_fresh, sweep_answer, after_sweep_with, with_take};
 
-    /// A book with no entry. It takes up to `limit` entries, which the caller keeps to [`HISTORY_LIMIT`] so that no
-    /// sum of amounts leaves 128 bits, and has room for them from the start, so that no entry is ever moved;
-    /// `validity` is the Validity-Time of grants in seconds.
+    /// A book with no entry. It takes up to `limit` entries, of which the caller makes no more than [`HISTORY_LIMIT`],
+    /// and has room for them from the start, so that no entry is ever moved; `validity` is the Validity-Time of grants
+    /// in seconds.
     pub fn new(
         alloc: Global,
         accounts: Vec<Account>,
@@ -148,6 +151,7 @@ impl Book {
         request: &CcRequest,
     ) -> Result<Answered, BookRefusal>
         ensures answer { AnswersWith (answer_of self.old request.now) result }
+        ensures within { AnswersWith (answer_within self.old request.now) result }
         ensures after { self.new ≡ (if is_fresh result then with_take self.old moment request.now else self.old) }
     {
         let plan = self.plan(alloc, moment, request)?;

@@ -1,9 +1,9 @@
 //! What an EVENT does (RFC 8506, sections 6 and 8.41).
 
-ghost use Rattle.std.specs.Prelude.{◌≡◌, ◌<◌, ◌^◌, ◌≤ℤ◌, List, pos, negsuc, IfOk, IfSome};
+ghost use Rattle.std.specs.Prelude.{◌≡◌, ◌<◌, ◌^◌, ◌≤ℤ◌, List, length, pos, negsuc, IfOk, IfSome};
 ghost use Rattle.dia_base.specs.declared.number.Moment.{Moment};
 ghost use Rattle.cc_view.specs.declared.request.RequestKind.TheVariants.{Event};
-ghost use Rattle.cc_book.specs.AccountMachine.{action_debit, action_reply, check_reply, debiting_reply, event_reply, needs_account, price_reply, total_of};
+ghost use Rattle.cc_book.specs.AccountMachine.{account_of, action_debit, action_reply, check_reply, debiting_reply, event_reply, needs_account, price_reply, total_of};
 ghost use Rattle.cc_book.specs.Posting.{Posting};
 ghost use Rattle.cc_book.specs.Standing.{IsOutcome, IsSmall, Stands};
 
@@ -21,12 +21,14 @@ impl Terms {
         &self,
         alloc: Global,
         standing: &S,
+        account: Option<usize>,
         request: &CcRequest,
     ) -> Result<Outcome, AllocError>
-        requires { IsSmall self.now (S.balances standing.now) (S.sessions standing.now) }
+        requires small { IsSmall self.now (S.balances standing.now) (S.sessions standing.now) }
+        requires account { account ≡ account_of self.now.accounts request.now.subscriptions }
+        requires within { IfSome account (λ place. place < length self.now.accounts) }
         ensures { IfOk result (λ outcome. (before : List Posting) (moment : Moment) → request.now.kind ≡ Event → Stands self.now before (S.balances standing.now) (S.sessions standing.now) → IsOutcome self.now before (S.sessions standing.now) moment request.now outcome) }
     {
-        let account = self.account_of(request);
         let free = standing.free_for(account);
         let total = self.total_of(request.services.as_slice());
         let reply = self.event_reply(alloc, request, account, free, total)?;

@@ -22,7 +22,7 @@ ghost use Rattle.cc_book.specs.declared.book.BookRefusal.TheVariants.{Full};
 ghost use Rattle.cc_book.specs.declared.entry.Entry.{Entry};
 ghost use Rattle.cc_book.specs.declared.entry.Entry.TheVariants.{Take, Sweep};
 ghost use Rattle.cc_book.specs.declared.terms.Terms.{Terms};
-ghost use Rattle.cc_book.specs.AccountMachine.{account_of, charged_account, code_alone, free_after, free_to_grant, grants_after, opening_at, total_of, postings_of, reply_to, kept_reply};
+ghost use Rattle.cc_book.specs.AccountMachine.{account_of, charged_account, code_alone, free_after, free_to_grant, grants_after, opening_at, total_of, postings_of, reply_to, kept_reply, terms_of};
 ghost use Rattle.cc_book.specs.Balance.{debit_of, balance_of, open_sessions_of, reserved_of};
 ghost use Rattle.cc_book.specs.Content.{same_request};
 ghost use Rattle.cc_book.specs.Duplicate.{key_of, same_key};
@@ -114,7 +114,7 @@ pub fn keys_are_session_and_number()
 pub fn balances_move_by_debits()
     ensures by_request { (terms : Terms) (history : List Entry) (moment : Moment) (request : CcRequest) (account : ℕ) →
         balance_of terms (history ++ Take moment request ∷ []) account
-        ≡ balance_of terms history account -ℤ (if is_account account (charged_account terms (postings_of terms history) request) then debit_of terms history request else pos 0) }
+        ≡ balance_of terms history account -ℤ (if is_account account (charged_account (terms_of terms history) (postings_of terms history) request) then debit_of terms history request else pos 0) }
     ensures by_sweep { (terms : Terms) (history : List Entry) (moment : Moment) (account : ℕ) →
         balance_of terms (history ++ Sweep moment ∷ []) account ≡ balance_of terms history account }
 {}
@@ -122,8 +122,8 @@ pub fn balances_move_by_debits()
 /// The balances of all accounts are their opening amounts less all debits: each debit is of one account, once.
 pub fn openings_less_debits_are_balances()
     ensures { (terms : Terms) (history : List Entry) →
-        total_below (length terms.accounts) (λ account. balance_of terms history account)
-        ≡ total_below (length terms.accounts) (λ account. opening_at terms.accounts account) -ℤ debits_of (postings_of terms history) }
+        total_below (length (terms_of terms history).accounts) (λ account. balance_of terms history account)
+        ≡ total_below (length (terms_of terms history).accounts) (λ account. opening_at (terms_of terms history).accounts account) -ℤ debits_of (postings_of terms history) }
 {}
 
 /// A DIRECT_DEBITING debits what the units cost that its reply grants, by the tariffs of its services: nothing
@@ -131,34 +131,34 @@ pub fn openings_less_debits_are_balances()
 /// what sessions hold of it (RFC 8506, section 8.41).
 pub fn debits_pay_for_what_is_granted()
     ensures paid { (terms : Terms) (history : List Entry) (request : CcRequest) → request.kind ≡ Event → request.action ≡ Some DirectDebiting →
-        debit_of terms history request ≡ pos (cost_of_reply terms.tariffs (reply_to terms history request)) }
+        debit_of terms history request ≡ pos (cost_of_reply (terms_of terms history).tariffs (reply_to terms history request)) }
     ensures covered { (terms : Terms) (history : List Entry) (request : CcRequest) (account : ℕ) →
-        request.kind ≡ Event → request.action ≡ Some DirectDebiting → account_of terms.accounts request.subscriptions ≡ Some account →
-        (reply_to terms history request).code ≡ Success → debit_of terms history request ≤ℤ free_after terms (postings_of terms history) account }
+        request.kind ≡ Event → request.action ≡ Some DirectDebiting → account_of (terms_of terms history).accounts request.subscriptions ≡ Some account →
+        (reply_to terms history request).code ≡ Success → debit_of terms history request ≤ℤ free_after (terms_of terms history) (postings_of terms history) account }
     ensures made { (terms : Terms) (history : List Entry) (request : CcRequest) (account total : ℕ) → request.kind ≡ Event →
-        account_of terms.accounts request.subscriptions ≡ Some account → total_of terms.tariffs request.services ≡ Some total → request.action ≡ Some DirectDebiting →
-        pos total ≤ℤ free_after terms (postings_of terms history) account → (reply_to terms history request).code ≡ Success }
+        account_of (terms_of terms history).accounts request.subscriptions ≡ Some account → total_of (terms_of terms history).tariffs request.services ≡ Some total → request.action ≡ Some DirectDebiting →
+        pos total ≤ℤ free_after (terms_of terms history) (postings_of terms history) account → (reply_to terms history request).code ≡ Success }
     ensures too_little { (terms : Terms) (history : List Entry) (request : CcRequest) (account total : ℕ) → request.kind ≡ Event →
-        account_of terms.accounts request.subscriptions ≡ Some account → total_of terms.tariffs request.services ≡ Some total → request.action ≡ Some DirectDebiting →
-        free_after terms (postings_of terms history) account <ℤ pos total → reply_to terms history request ≡ code_alone CreditLimitReached }
+        account_of (terms_of terms history).accounts request.subscriptions ≡ Some account → total_of (terms_of terms history).tariffs request.services ≡ Some total → request.action ≡ Some DirectDebiting →
+        free_after (terms_of terms history) (postings_of terms history) account <ℤ pos total → reply_to terms history request ≡ code_alone CreditLimitReached }
 {}
 
 /// A CHECK_BALANCE tells 0 exactly where a DIRECT_DEBITING of the same units would be made, and else 1 (RFC 8506,
 /// section 8.6).
 pub fn checks_tell_what_is_free()
     ensures enough { (terms : Terms) (history : List Entry) (request : CcRequest) (account total : ℕ) → request.kind ≡ Event →
-        account_of terms.accounts request.subscriptions ≡ Some account → total_of terms.tariffs request.services ≡ Some total → request.action ≡ Some CheckBalance →
-        pos total ≤ℤ free_after terms (postings_of terms history) account → (reply_to terms history request).check ≡ Some 0 }
+        account_of (terms_of terms history).accounts request.subscriptions ≡ Some account → total_of (terms_of terms history).tariffs request.services ≡ Some total → request.action ≡ Some CheckBalance →
+        pos total ≤ℤ free_after (terms_of terms history) (postings_of terms history) account → (reply_to terms history request).check ≡ Some 0 }
     ensures too_little { (terms : Terms) (history : List Entry) (request : CcRequest) (account total : ℕ) → request.kind ≡ Event →
-        account_of terms.accounts request.subscriptions ≡ Some account → total_of terms.tariffs request.services ≡ Some total → request.action ≡ Some CheckBalance →
-        free_after terms (postings_of terms history) account <ℤ pos total → (reply_to terms history request).check ≡ Some 1 }
+        account_of (terms_of terms history).accounts request.subscriptions ≡ Some account → total_of (terms_of terms history).tariffs request.services ≡ Some total → request.action ≡ Some CheckBalance →
+        free_after (terms_of terms history) (postings_of terms history) account <ℤ pos total → (reply_to terms history request).check ≡ Some 1 }
 {}
 
 /// A REFUND_ACCOUNT that succeeds credits what its asked units cost. No other EVENT but a debit moves a balance, and
 /// none that is refused.
 pub fn refunds_are_debits_below_zero()
     ensures refunded { (terms : Terms) (history : List Entry) (request : CcRequest) (total : ℕ) → request.kind ≡ Event → request.action ≡ Some RefundAccount →
-        (reply_to terms history request).code ≡ Success → total_of terms.tariffs request.services ≡ Some total → debit_of terms history request ≡ pos 0 -ℤ pos total }
+        (reply_to terms history request).code ≡ Success → total_of (terms_of terms history).tariffs request.services ≡ Some total → debit_of terms history request ≡ pos 0 -ℤ pos total }
     ensures checked { (terms : Terms) (history : List Entry) (request : CcRequest) → request.kind ≡ Event → request.action ≡ Some CheckBalance → debit_of terms history request ≡ pos 0 }
     ensures enquired { (terms : Terms) (history : List Entry) (request : CcRequest) → request.kind ≡ Event → request.action ≡ Some PriceEnquiry → debit_of terms history request ≡ pos 0 }
     ensures unnamed { (terms : Terms) (history : List Entry) (request : CcRequest) → request.kind ≡ Event → request.action ≡ None → debit_of terms history request ≡ pos 0 }
@@ -382,12 +382,12 @@ pub fn events_leave_sessions_alone()
 /// sections 5.3 and 5.4). Each of its services is paid for.
 pub fn sessions_pay_for_what_is_used()
     ensures initial { (terms : Terms) (history : List Entry) (request : CcRequest) (account : ℕ) → request.kind ≡ Initial →
-        is_open terms.validity request.session (postings_of terms history) ≡ false → account_of terms.accounts request.subscriptions ≡ Some account →
-        debit_of terms history request ≡ pos (used_total terms.tariffs request.services) }
+        is_open terms.validity request.session (postings_of terms history) ≡ false → account_of (terms_of terms history).accounts request.subscriptions ≡ Some account →
+        debit_of terms history request ≡ pos (used_total (terms_of terms history).tariffs request.services) }
     ensures update { (terms : Terms) (history : List Entry) (request : CcRequest) → request.kind ≡ Update →
-        is_open terms.validity request.session (postings_of terms history) ≡ true → debit_of terms history request ≡ pos (used_total terms.tariffs request.services) }
+        is_open terms.validity request.session (postings_of terms history) ≡ true → debit_of terms history request ≡ pos (used_total (terms_of terms history).tariffs request.services) }
     ensures termination { (terms : Terms) (history : List Entry) (request : CcRequest) → request.kind ≡ Termination →
-        is_open terms.validity request.session (postings_of terms history) ≡ true → debit_of terms history request ≡ pos (used_total terms.tariffs request.services) }
+        is_open terms.validity request.session (postings_of terms history) ≡ true → debit_of terms history request ≡ pos (used_total (terms_of terms history).tariffs request.services) }
     ensures each { (tariffs : List Tariff) (services : List Service) → used_total tariffs services ≡ sum_by (used_cost tariffs) services }
 {}
 
@@ -396,7 +396,7 @@ pub fn other_requests_are_refused()
     ensures open_already { (terms : Terms) (history : List Entry) (request : CcRequest) → request.kind ≡ Initial →
         is_open terms.validity request.session (postings_of terms history) ≡ true → IsRefused terms history request UnableToComply }
     ensures no_account { (terms : Terms) (history : List Entry) (request : CcRequest) → request.kind ≡ Initial →
-        is_open terms.validity request.session (postings_of terms history) ≡ false → account_of terms.accounts request.subscriptions ≡ None →
+        is_open terms.validity request.session (postings_of terms history) ≡ false → account_of (terms_of terms history).accounts request.subscriptions ≡ None →
         IsRefused terms history request UserUnknown }
     ensures update { (terms : Terms) (history : List Entry) (request : CcRequest) → request.kind ≡ Update →
         is_open terms.validity request.session (postings_of terms history) ≡ false → IsRefused terms history request UnknownSessionId }
@@ -408,15 +408,15 @@ pub fn other_requests_are_refused()
 /// reservations of its services have ended and their used units are debited, or nothing where that is below zero. So
 /// no grant brings what is free below zero (RFC 8506, section 5.1).
 pub fn grants_are_of_what_is_free()
-    ensures most { (terms : Terms) (history : List Entry) (request : CcRequest) → fault_of terms.tariffs ≡ None →
-        pos (held_in (grants_after terms (postings_of terms history) request)) ≤ℤ int_max (free_to_grant terms (postings_of terms history) request) (pos 0) }
+    ensures most { (terms : Terms) (history : List Entry) (request : CcRequest) → fault_of (terms_of terms history).tariffs ≡ None →
+        pos (held_in (grants_after (terms_of terms history) (postings_of terms history) request)) ≤ℤ int_max (free_to_grant (terms_of terms history) (postings_of terms history) request) (pos 0) }
     ensures left { (terms : Terms) (history : List Entry) (moment : Moment) (request : CcRequest) (account : ℕ) →
-        charged_account terms (postings_of terms history) request ≡ Some account →
-        free_after terms (postings_of terms (history ++ Take moment request ∷ [])) account
-        ≡ free_to_grant terms (postings_of terms history) request -ℤ pos (held_in (grants_after terms (postings_of terms history) request)) }
-    ensures not_below { (terms : Terms) (history : List Entry) (moment : Moment) (request : CcRequest) (account : ℕ) → fault_of terms.tariffs ≡ None →
-        charged_account terms (postings_of terms history) request ≡ Some account → pos 0 ≤ℤ free_to_grant terms (postings_of terms history) request →
-        pos 0 ≤ℤ free_after terms (postings_of terms (history ++ Take moment request ∷ [])) account }
+        charged_account (terms_of terms history) (postings_of terms history) request ≡ Some account →
+        free_after (terms_of terms (history ++ Take moment request ∷ [])) (postings_of terms (history ++ Take moment request ∷ [])) account
+        ≡ free_to_grant (terms_of terms history) (postings_of terms history) request -ℤ pos (held_in (grants_after (terms_of terms history) (postings_of terms history) request)) }
+    ensures not_below { (terms : Terms) (history : List Entry) (moment : Moment) (request : CcRequest) (account : ℕ) → fault_of (terms_of terms history).tariffs ≡ None →
+        charged_account (terms_of terms history) (postings_of terms history) request ≡ Some account → pos 0 ≤ℤ free_to_grant (terms_of terms history) (postings_of terms history) request →
+        pos 0 ≤ℤ free_after (terms_of terms (history ++ Take moment request ∷ [])) (postings_of terms (history ++ Take moment request ∷ [])) account }
 {}
 
 /// What a reply grants to a session is reserved: what an UPDATE reserves, and an INITIAL that is answered
@@ -424,11 +424,11 @@ pub fn grants_are_of_what_is_free()
 /// granted nothing.
 pub fn grants_are_reserved()
     ensures opening { (terms : Terms) (history : List Entry) (request : CcRequest) → request.kind ≡ Initial → (reply_to terms history request).code ≡ Success →
-        held_in (grants_after terms (postings_of terms history) request) ≡ cost_of_reply terms.tariffs (reply_to terms history request) }
+        held_in (grants_after (terms_of terms history) (postings_of terms history) request) ≡ cost_of_reply (terms_of terms history).tariffs (reply_to terms history request) }
     ensures update { (terms : Terms) (history : List Entry) (request : CcRequest) → request.kind ≡ Update →
-        held_in (grants_after terms (postings_of terms history) request) ≡ cost_of_reply terms.tariffs (reply_to terms history request) }
+        held_in (grants_after (terms_of terms history) (postings_of terms history) request) ≡ cost_of_reply (terms_of terms history).tariffs (reply_to terms history request) }
     ensures termination { (terms : Terms) (history : List Entry) (request : CcRequest) → request.kind ≡ Termination →
-        cost_of_reply terms.tariffs (reply_to terms history request) ≡ 0 }
+        cost_of_reply (terms_of terms history).tariffs (reply_to terms history request) ≡ 0 }
 {}
 
 /// A session that is not open holds nothing for any service: what was reserved for it is free again. Where no session
@@ -456,10 +456,10 @@ pub fn requests_leave_other_sessions_alone()
 /// hold of it. An EVENT leaves alone what they hold of its own account too.
 pub fn requests_leave_other_accounts_alone()
     ensures balance { (terms : Terms) (history : List Entry) (moment : Moment) (request : CcRequest) (account : ℕ) →
-        charged_account terms (postings_of terms history) request ≢ Some account →
+        charged_account (terms_of terms history) (postings_of terms history) request ≢ Some account →
         balance_of terms (history ++ Take moment request ∷ []) account ≡ balance_of terms history account }
     ensures reserved { (terms : Terms) (history : List Entry) (moment : Moment) (request : CcRequest) (account : ℕ) →
-        charged_account terms (postings_of terms history) request ≢ Some account →
+        charged_account (terms_of terms history) (postings_of terms history) request ≢ Some account →
         reserved_of terms (history ++ Take moment request ∷ []) account ≡ reserved_of terms history account }
     ensures by_event { (terms : Terms) (history : List Entry) (moment : Moment) (request : CcRequest) (account : ℕ) → request.kind ≡ Event →
         reserved_of terms (history ++ Take moment request ∷ []) account ≡ reserved_of terms history account }

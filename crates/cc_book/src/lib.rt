@@ -17,8 +17,9 @@
 //! in `specs/ServiceRating`, the history in `specs/History`, which requests are one in `specs/Duplicate` and
 //! `specs/Content`, how a request is found in it in `specs/Places`, what it has left in `specs/Standing`, a call in
 //! `specs/Taking`, and its two halves in `specs/Planning`.
-//! `specs/RowExample` and `specs/SessionExample` are worked examples. The functions of `laws` have no body: their
-//! contracts are laws of these definitions.
+//! `specs/Bounds` says which amounts an account bears. `specs/RowExample`, `specs/SessionExample` and
+//! `specs/BoundExample` are worked examples. The functions of `laws` and `bound_laws` have no body: their contracts are
+//! laws of these definitions.
 //!
 //! ```text
 //! let mut book = Book::new(alloc, accounts, tariffs, 600, money, HISTORY_LIMIT)?;
@@ -38,6 +39,7 @@
 mod account;
 mod asking;
 mod book;
+mod bound_laws;
 mod content;
 mod copy;
 mod entry;
@@ -56,6 +58,10 @@ mod terms;
 
 pub use account::{Account, Money};
 pub use book::{Answered, Book, BookRefusal, free_place, kept_answer};
+pub use bound_laws::{
+    accounts_at_their_bound_refuse_requests, accounts_bear_requests_below_their_bounds,
+    entries_move_little, short_books_are_full_at_their_limit, what_is_reserved_is_bounded_too,
+};
 pub use content::same_request;
 pub use copy::{RequestCopy, copy_of_reply};
 pub use entry::Entry;

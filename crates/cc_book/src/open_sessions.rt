@@ -1,10 +1,10 @@
 //! The sessions that are open, by their Session-Id, and what they hold of each account.
 
-ghost use Rattle.std.specs.Prelude.{◌≡◌, ◌+◌, ◌<◌, ◌≤◌, ◌^◌, ◌++◌, ◌∷◌, [], length, remove, slice_set, count_by, not, None, IfOk, MatchOption};
+ghost use Rattle.std.specs.Prelude.{◌≡◌, ℕ, ◌+◌, ◌<◌, ◌≤◌, ◌^◌, ◌++◌, ◌∷◌, [], length, remove, slice_set, count_by, not, None, IfOk, MatchOption};
 ghost use Rattle.std.specs.List.{AllByRecursion};
 ghost use Rattle.indexmap.specs.IndexMap.{values};
 ghost use Rattle.cc_book.specs.OpenSessions.{AreTotals, GoesOnAt};
-ghost use Rattle.cc_book.specs.Standing.{IsOpenAt, held_by_all, held_in, is_due, place_in, reserved_in, without_due};
+ghost use Rattle.cc_book.specs.Standing.{IsOpenAt, held_in, is_due, place_in, reserved_in, without_due};
 
 use crate::session::{OpenSession, held_in};
 use dia_avp::Octets;
@@ -85,8 +85,8 @@ impl OpenSessions {
         requires own { id ≡ session.id }
         requires closed { place_in self.old.items session.id ≡ None }
         requires known { session.account < self.old.accounts }
-        requires held { held_by_all self.old.items ≤ 2 ^ 110 }
-        requires more { held_in session.holds ≤ 2 ^ 110 }
+        requires held { (account : ℕ) → reserved_in account self.old.items ≤ 2 ^ 124 }
+        requires more { held_in session.holds ≤ 2 ^ 124 }
         ensures items { self.new.items ≡ self.old.items ++ session ∷ [] }
         ensures room { self.old.room ≤ self.new.room + 1 }
         ensures accounts { self.new.accounts ≡ self.old.accounts }
@@ -98,8 +98,8 @@ impl OpenSessions {
     /// The session at a place is this one now.
     pub fn go_on(&mut self, place: usize, session: OpenSession)
         requires there { GoesOnAt self.old.items place session }
-        requires held { held_by_all self.old.items ≤ 2 ^ 110 }
-        requires more { held_in session.holds ≤ 2 ^ 110 }
+        requires held { (account : ℕ) → reserved_in account self.old.items ≤ 2 ^ 124 }
+        requires more { held_in session.holds ≤ 2 ^ 124 }
         ensures items { self.new.items ≡ slice_set self.old.items place session }
         ensures room { self.new.room ≡ self.old.room }
         ensures accounts { self.new.accounts ≡ self.old.accounts }
@@ -113,7 +113,7 @@ impl OpenSessions {
     /// The session at a place ends, and all that it holds.
     pub fn end(&mut self, place: usize)
         requires there { place < length self.old.items }
-        requires held { held_by_all self.old.items ≤ 2 ^ 110 }
+        requires held { (account : ℕ) → reserved_in account self.old.items ≤ 2 ^ 124 }
         ensures items { self.new.items ≡ remove self.old.items place }
         ensures room { self.old.room ≤ self.new.room }
         ensures accounts { self.new.accounts ≡ self.old.accounts }
@@ -126,7 +126,7 @@ impl OpenSessions {
 
     /// Ends the sessions that have ended by a moment, with all that they hold.
     pub fn sweep(&mut self, validity: u32, moment: Moment)
-        requires { held_by_all self.old.items ≤ 2 ^ 110 }
+        requires { (account : ℕ) → reserved_in account self.old.items ≤ 2 ^ 124 }
         ensures items { self.new.items ≡ without_due validity moment self.old.items }
         ensures room { self.old.room ≤ self.new.room }
         ensures accounts { self.new.accounts ≡ self.old.accounts }
@@ -149,7 +149,7 @@ fn release(
 )
     requires totals { AreTotals totals.old.items (values sessions.now) }
     requires known { AllByRecursion (λ session. session.account < length totals.old.items) (values sessions.now) }
-    requires held { held_by_all (values sessions.now) ≤ 2 ^ 110 }
+    requires held { (account : ℕ) → reserved_in account (values sessions.now) ≤ 2 ^ 124 }
     ensures totals { AreTotals totals.new.items (without_due validity moment (values sessions.now)) }
     ensures len { length totals.new.items ≡ length totals.old.items }
 {

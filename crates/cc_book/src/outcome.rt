@@ -1,13 +1,13 @@
 //! What a request does to its account and its session.
 
-ghost use Rattle.std.specs.Prelude.{◌≡◌, ◌<◌, List, length, None, Some, pos, IfOk, if◌then◌else◌};
+ghost use Rattle.std.specs.Prelude.{◌≡◌, ◌<◌, List, length, None, Some, pos, IfOk, IfSome, if◌then◌else◌};
 ghost use Rattle.dia_base.specs.declared.number.Moment.{Moment};
 ghost use Rattle.cc_view.specs.declared.code.ResultCode.TheVariants.{UnknownSessionId};
 ghost use Rattle.cc_view.specs.declared.request.RequestKind.TheVariants.{Initial, Update, Termination};
-ghost use Rattle.cc_book.specs.AccountMachine.{account_of, code_alone};
+ghost use Rattle.cc_book.specs.AccountMachine.{account_of, charged_account, code_alone};
 ghost use Rattle.cc_book.specs.Posting.{Posting};
 ghost use Rattle.cc_book.specs.Session.{is_success};
-ghost use Rattle.cc_book.specs.Standing.{IsOutcome, IsSmall, Stands, place_in};
+ghost use Rattle.cc_book.specs.Standing.{IsOutcome, IsSmall, NamesAccount, Stands, place_in};
 ghost use Rattle.cc_book.specs.declared.outcome.Change.TheVariants.{Opens, Stays};
 
 use crate::lookup::Lookup;
@@ -43,22 +43,43 @@ pub struct Outcome {
 }
 
 impl Terms {
-    /// What a request does that is not kept, where so much stands (RFC 8506, sections 5 and 6).
+    /// The account that a request charges, by its place: the first that one of its Subscription-Ids has, and of UPDATE
+    /// and TERMINATION that of their session (RFC 8506, sections 5.3 and 5.4). It takes no memory.
+    pub fn charged_account<S: Lookup>(&self, standing: &S, request: &CcRequest) -> Option<usize>
+        requires { IsSmall self.now (S.balances standing.now) (S.sessions standing.now) }
+        ensures charged { (before : List Posting) → Stands self.now before (S.balances standing.now) (S.sessions standing.now) → result ≡ charged_account self.now before request.now }
+        ensures named { NamesAccount self.now request.now result }
+    {
+        match request.kind {
+            RequestKind::Initial | RequestKind::Event => self.account_of(request),
+            RequestKind::Update | RequestKind::Termination => {
+                let (_place, session) = standing.open_session(&request.session)?;
+                Some(session.account)
+            }
+        }
+    }
+
+    /// What a request does that is not kept, where so much stands (RFC 8506, sections 5 and 6). `account` is what
+    /// `charged_account` answers to it.
     pub fn outcome_of<S: Lookup>(
         &self,
         alloc: Global,
         standing: &S,
+        account: Option<usize>,
         moment: Moment,
         request: &CcRequest,
     ) -> Result<Outcome, AllocError>
-        requires { IsSmall self.now (S.balances standing.now) (S.sessions standing.now) }
+        requires small { IsSmall self.now (S.balances standing.now) (S.sessions standing.now) }
+        requires account { NamesAccount self.now request.now account }
         ensures { IfOk result (λ outcome. (before : List Posting) → Stands self.now before (S.balances standing.now) (S.sessions standing.now) → IsOutcome self.now before (S.sessions standing.now) moment request.now outcome) }
     {
         match request.kind {
-            RequestKind::Initial => self.initial_outcome(alloc, standing, moment, request),
+            RequestKind::Initial => {
+                self.initial_outcome(alloc, standing, account, moment, request)
+            }
             RequestKind::Update => self.update_outcome(alloc, standing, moment, request),
             RequestKind::Termination => self.termination_outcome(alloc, standing, request),
-            RequestKind::Event => self.event_outcome(alloc, standing, request),
+            RequestKind::Event => self.event_outcome(alloc, standing, account, request),
         }
     }
 
@@ -67,13 +88,15 @@ impl Terms {
         &self,
         alloc: Global,
         standing: &S,
+        account: Option<usize>,
         moment: Moment,
         request: &CcRequest,
     ) -> Result<Outcome, AllocError>
-        requires { IsSmall self.now (S.balances standing.now) (S.sessions standing.now) }
+        requires small { IsSmall self.now (S.balances standing.now) (S.sessions standing.now) }
+        requires account { account ≡ account_of self.now.accounts request.now.subscriptions }
+        requires within { IfSome account (λ place. place < length self.now.accounts) }
         ensures { IfOk result (λ outcome. (before : List Posting) → request.now.kind ≡ Initial → Stands self.now before (S.balances standing.now) (S.sessions standing.now) → IsOutcome self.now before (S.sessions standing.now) moment request.now outcome) }
     {
-        let account = self.account_of(request);
         match (standing.open_session(&request.session), account) {
             (Some((place, session)), _) => {
                 let holds = session.holds.as_slice().to_vec(alloc)?;

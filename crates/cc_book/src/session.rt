@@ -65,7 +65,7 @@ impl OpenSession {
 
 /// What the holds add up to.
 pub fn held_in(holds: &[Hold]) -> u128
-    requires { held_in holds.now ≤ 2 ^ 110 }
+    requires { held_in holds.now ≤ 2 ^ 124 }
     ensures { result ≡ held_in holds.now }
 {
     let mut held = 0;

@@ -1,9 +1,9 @@
 //! What a history has left: balances, and the sessions that are open.
 
-ghost use Rattle.std.specs.Prelude.{◌≡◌, ◌<◌, ◌≤◌, ◌^◌, ◌+◌, [], length, map, pos, negsuc, ◌≤ℤ◌, IfOk, All, count_by};
+ghost use Rattle.std.specs.Prelude.{◌≡◌, ℕ, ◌<◌, ◌≤◌, ◌^◌, ◌+◌, ◌-◌, [], length, map, pos, negsuc, ◌≤ℤ◌, IfOk, All, count_by};
 ghost use Rattle.std.specs.Option.{ForSome};
 ghost use Rattle.cc_book.specs.OpenSessions.{FitsIn};
-ghost use Rattle.cc_book.specs.Standing.{after_change, after_debit, held_by_all, is_due, reserved_in, without_due};
+ghost use Rattle.cc_book.specs.Standing.{after_change, after_debit, is_due, reserved_in, without_due};
 
 use crate::account::Account;
 use crate::lookup::Lookup;
@@ -32,8 +32,12 @@ impl Lookup for Standing {
         self.sessions.find(id)
     }
 
-    fn free(&self, account: usize) -> i128 {
-        self.balances[account] - self.reserved(account) as i128
+    fn balance(&self, account: usize) -> i128 {
+        self.balances[account]
+    }
+
+    fn held(&self, account: usize) -> u128 {
+        self.reserved(account)
     }
 }
 
@@ -59,9 +63,7 @@ impl Standing {
 
     /// What the sessions of an account have reserved of it.
     pub fn reserved(&self, account: usize) -> u128
-        requires { held_by_all self.now.sessions.items ≤ 2 ^ 110 }
-        ensures value { result ≡ reserved_in account self.now.sessions.items }
-        ensures most { result ≤ held_by_all self.now.sessions.items }
+        ensures { result ≡ reserved_in account self.now.sessions.items }
     {
         self.sessions.total(account)
     }
@@ -75,7 +77,7 @@ impl Standing {
 
     /// Ends the sessions that have ended by a moment, with all that they hold.
     pub fn sweep(&mut self, validity: u32, moment: Moment)
-        requires { held_by_all self.old.sessions.items ≤ 2 ^ 110 }
+        requires { (account : ℕ) → reserved_in account self.old.sessions.items ≤ 2 ^ 124 }
         ensures sessions { self.new.sessions.items ≡ without_due validity moment self.old.sessions.items }
         ensures room { self.old.sessions.room ≤ self.new.sessions.room }
         ensures accounts { self.new.sessions.accounts ≡ self.old.sessions.accounts }
@@ -89,7 +91,7 @@ impl Standing {
         requires within { ForSome account (λ place. place < length self.old.balances.items) }
         requires least { All (λ balance. negsuc (2 ^ 124) ≤ℤ balance) self.old.balances.items }
         requires most { All (λ balance. balance ≤ℤ pos (2 ^ 124)) self.old.balances.items }
-        requires debit_least { negsuc (2 ^ 103) ≤ℤ debit }
+        requires debit_least { negsuc (2 ^ 103 - 1) ≤ℤ debit }
         requires debit_most { debit ≤ℤ pos (2 ^ 103) }
         ensures balances { self.new.balances.items ≡ after_debit self.old.balances.items account debit }
         ensures sessions { self.new.sessions ≡ self.old.sessions }
@@ -103,7 +105,7 @@ impl Standing {
     pub fn change(&mut self, id: Octets, change: Change)
         requires room { 0 < self.old.sessions.room }
         requires fits { FitsIn self.old.sessions id change }
-        requires held { held_by_all self.old.sessions.items ≤ 2 ^ 110 }
+        requires held { (account : ℕ) → reserved_in account self.old.sessions.items ≤ 2 ^ 124 }
         ensures sessions { self.new.sessions.items ≡ after_change self.old.sessions.items change }
         ensures room { self.old.sessions.room ≤ self.new.sessions.room + 1 }
         ensures accounts { self.new.sessions.accounts ≡ self.old.sessions.accounts }

@@ -6,8 +6,8 @@ ghost use Rattle.cc_book.specs.declared.book.BookRefusal.TheVariants.{OutOfMemor
 use crate::key::kept;
 use crate::standing::Lists;
 use cc_book::{
-    Account, Answered, BookRefusal, Entry, Money, Plan, RequestCopy, Taken, Terms, copy_of_reply,
-    free_place, kept_answer,
+    Account, Answered, BookRefusal, Entry, Lookup, Money, Plan, RequestCopy, Taken, Terms,
+    copy_of_reply, free_place, kept_answer,
 };
 use cc_rating::Tariffs;
 use cc_view::{CcReply, CcRequest};
@@ -28,7 +28,7 @@ pub struct ListBook {
 }
 
 impl Model for ListBook {
-    ghost use Rattle.std.specs.Prelude.{vec_capacity};
+    ghost use Rattle.std.specs.Prelude.{◌≤◌, ◌^◌, vec_capacity};
     ghost use Rattle.cc_book.specs.Taking.{HasRoom, IsBook, Ledger};
 
     ghost Value = { Ledger };
@@ -37,18 +37,19 @@ impl Model for ListBook {
 
     ghost invariant = { λ b.
         IsBook b.terms b.limit b.history.items b.replies.items b.standing.balances.items b.standing.sessions.items
-        × HasRoom b.limit (vec_capacity b.history) (vec_capacity b.replies) (vec_capacity b.standing.sessions) };
+        × HasRoom b.limit (vec_capacity b.history) (vec_capacity b.replies) (vec_capacity b.standing.sessions)
+        × (b.limit ≤ 2 ^ 20) };
 }
 
 impl ListBook {
     ghost use Rattle.cc_book.specs.Balance.{balance_of, reserved_of, open_sessions_of};
     ghost use Rattle.cc_book.specs.History.{IsLegal};
     ghost use Rattle.cc_book.specs.Planning.{IsGoodFor, IsTaking, PlansWith, after_plan, answer_planned};
-    ghost use Rattle.cc_book.specs.Taking.{AnswersWith, Ledger, SweepsWith, answer_of, is_fresh, sweep_answer, after_sweep_with, with_take};
+    ghost use Rattle.cc_book.specs.Taking.{AnswersWith, Ledger, SweepsWith, answer_of, answer_within, is_fresh, sweep_answer, after_sweep_with, with_take};
 
-    /// A book with no entry. It takes up to `limit` entries, which the caller keeps to [`HISTORY_LIMIT`] so that no
-    /// sum of amounts leaves 128 bits, and has room for them from the start, so that no entry is ever moved;
-    /// `validity` is the Validity-Time of grants in seconds.
+    /// A book with no entry. It takes up to `limit` entries, of which the caller makes no more than [`HISTORY_LIMIT`],
+    /// and has room for them from the start, so that no entry is ever moved; `validity` is the Validity-Time of grants
+    /// in seconds.
     pub fn new(
         alloc: Global,
         accounts: Vec<Account>,
@@ -103,6 +104,7 @@ impl ListBook {
         request: &CcRequest,
     ) -> Result<Answered, BookRefusal>
         ensures answer { AnswersWith (answer_of self.old request.now) result }
+        ensures within { AnswersWith (answer_within self.old request.now) result }
         ensures after { self.new ≡ (if is_fresh result then with_take self.old moment request.now else self.old) }
     {
         let plan = self.plan(alloc, moment, request)?;
@@ -110,7 +112,8 @@ impl ListBook {
     }
 
     /// What a request does to the book, which it leaves as it is: all that `take` refuses is refused here, and all the
-    /// memory that it wants is wanted here.
+    /// memory that it wants is wanted here. Full where the history is at its limit, or where a balance, or what is
+    /// reserved of an account, could come to 2^124 in size, which no history of 2^20 entries brings about.
     pub fn plan(
         &self,
         alloc: Global,
@@ -118,6 +121,7 @@ impl ListBook {
         request: &CcRequest,
     ) -> Result<Plan, BookRefusal>
         ensures answer { PlansWith (answer_of self.now request.now) result }
+        ensures within { PlansWith (answer_within self.now request.now) result }
         ensures good { IfOk result (IsGoodFor self.now) }
         ensures after { IfOk result (λ plan. after_plan self.now plan ≡ (if (answer_planned plan).fresh then with_take self.now moment request.now else self.now)) }
     {
@@ -131,9 +135,13 @@ impl ListBook {
         let Some(place) = free_place(&self.history, self.limit) else {
             return Err(BookRefusal::Full { limit: self.limit });
         };
+        let account = self.terms.charged_account(&self.standing, request);
+        if !self.standing.bears_more(account) {
+            return Err(BookRefusal::Full { limit: self.limit });
+        }
         let outcome = self
             .terms
-            .outcome_of(alloc, &self.standing, moment, request)?;
+            .outcome_of(alloc, &self.standing, account, moment, request)?;
         let reply = copy_of_reply(alloc, &outcome.reply)?;
         let request = RequestCopy::of(alloc, request)?;
         Ok(Plan {

@@ -1,8 +1,8 @@
 //! What a history has left, in two lists.
 
-ghost use Rattle.std.specs.Prelude.{◌≡◌, ◌<◌, ◌≤◌, ◌^◌, [], length, map, pos, negsuc, ◌≤ℤ◌, IfOk, IfSome, vec_capacity, vec_len, All, count_by};
+ghost use Rattle.std.specs.Prelude.{◌≡◌, ℕ, ◌-◌, ◌<◌, ◌≤◌, ◌^◌, [], length, map, pos, negsuc, ◌≤ℤ◌, IfOk, IfSome, vec_capacity, vec_len, All, count_by};
 ghost use Rattle.std.specs.Option.{ForSome};
-ghost use Rattle.cc_book.specs.Standing.{after_change, after_debit, held_by_all, is_due, place_in, reserved_in, without_due, IsPlacedIn};
+ghost use Rattle.cc_book.specs.Standing.{after_change, after_debit, is_due, place_in, reserved_in, without_due, IsPlacedIn};
 
 use cc_book::{Account, Change, Lookup, OpenSession, held_in};
 use dia_avp::Octets;
@@ -28,8 +28,12 @@ impl Lookup for Lists {
         Some((place, &self.sessions[place]))
     }
 
-    fn free(&self, account: usize) -> i128 {
-        self.balances[account] - self.reserved(account) as i128
+    fn balance(&self, account: usize) -> i128 {
+        self.balances[account]
+    }
+
+    fn held(&self, account: usize) -> u128 {
+        self.reserved(account)
     }
 }
 
@@ -61,9 +65,8 @@ impl Lists {
 
     /// What the sessions of an account have reserved of it.
     pub fn reserved(&self, account: usize) -> u128
-        requires { held_by_all self.now.sessions.items ≤ 2 ^ 110 }
-        ensures value { result ≡ reserved_in account self.now.sessions.items }
-        ensures most { result ≤ held_by_all self.now.sessions.items }
+        requires { (other : ℕ) → reserved_in other self.now.sessions.items ≤ 2 ^ 124 }
+        ensures { result ≡ reserved_in account self.now.sessions.items }
     {
         let mut reserved = 0;
         for session in &self.sessions {
@@ -99,7 +102,7 @@ impl Lists {
         requires within { ForSome account (λ place. place < length self.old.balances.items) }
         requires least { All (λ balance. negsuc (2 ^ 124) ≤ℤ balance) self.old.balances.items }
         requires most { All (λ balance. balance ≤ℤ pos (2 ^ 124)) self.old.balances.items }
-        requires debit_least { negsuc (2 ^ 103) ≤ℤ debit }
+        requires debit_least { negsuc (2 ^ 103 - 1) ≤ℤ debit }
         requires debit_most { debit ≤ℤ pos (2 ^ 103) }
         ensures balances { self.new.balances.items ≡ after_debit self.old.balances.items account debit }
         ensures sessions { self.new.sessions ≡ self.old.sessions }

@@ -92,8 +92,8 @@ answers_back l p {node = node} {relay = relay} {first = first} {message = messag
   where
     site : FrontSite
     site = p.front_site (p.name_of front)
-answers_back l p {first = first} {message = message} avps is_relay from sp d (of_refusal at tells k has e) =
-    of_refusal at (inl is_relay) (l.descends_on first message at.request d k) has (
+answers_back l p {node = node} {relay = relay} {first = first} {message = message} avps is_relay from sp d (of_refusal at tells k has e) =
+    of_refusal at (told_on p at.node relay node is_relay from tells.0, inl is_relay) (l.descends_on first message at.request d k) has (
     ap (under first.header.hop) (e ∙ l.same_refusal (p.name_of at.node) p.realm first message at.refusal avps sp d)
     ∙ under_refusal (p.name_of at.node) p.realm first at.refusal)
 

@@ -24,7 +24,7 @@ use Rattle.farm_law.proofs.Returning.{keep_forgets, keep_returns}
 -- what a node has just refused is a refusal that it tells
 refusal_told : (p : Parties) (book : Ledger) (refused : List Refused) (at : Refused) →
     Answers p book (refused ++ at ∷ []) at.node at.conn at.request (refusal_of (p.name_of at.node) p.realm at.request at.refusal)
-refusal_told p book refused at = of_refusal at (inr (refl, refl, refl)) same (Has-last at refused) refl
+refusal_told p book refused at = of_refusal at (by_itself, inr (refl, refl, refl)) same (Has-last at refused) refl
 
 -- ---- each move
 

@@ -16,9 +16,11 @@ pub data IsToldBy (p : Parties) (author : NodeNo) : NodeNo → Type 0 where
   by_itself : IsToldBy p author author
   by_relay : {node next : NodeNo} → p.is_relay node ≡ true → p.is_linked node next ≡ true → IsToldBy p author next → IsToldBy p author node
 
--- and a refusal of another node, or of another message than that on the connection, only where it is a relay
+-- A refusal too: that of another node only where it is a relay, linked with a node that tells it; and that of another message than the
+-- one on the connection only where it is a relay.
 abbrev pub TellsRefusal : Parties → NodeNo → ConnId → Message → Refused → Type 0
-TellsRefusal p node conn message refused = (p.is_relay node ≡ true) ⊎ ((refused.node ≡ node) × (refused.conn ≡ conn) × (refused.request ≡ message))
+TellsRefusal p node conn message refused =
+    IsToldBy p refused.node node × ((p.is_relay node ≡ true) ⊎ ((refused.node ≡ node) × (refused.conn ≡ conn) × (refused.request ≡ message)))
 
 -- A node tells an answer to a message on a connection: that of a front, with the reply that the book keeps for it, or
 -- the refusal of a node that has refused the message or one that descends from it.

@@ -13,4 +13,5 @@ pub mod RelayRuns
 pub mod Run
 pub mod SetUp
 pub mod SmallSteps
+pub mod SoundSite
 pub mod World

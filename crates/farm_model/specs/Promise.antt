@@ -134,10 +134,11 @@ pub record AnswersRequest (site : Site) (journal : Journal) (conn : ConnId) (ans
   pub by_machine : IsMachineReply journal.book answered.request answered.reply
 
 -- What a node refused for a message on the connection: that message there, or, where a relay is at an end of the
--- connection, one that descends from it, wherever that stood.
+-- connection, one that descends from it. The node is then this relay, or one beyond it, whose answers come to it over links.
 pub data IsRefusedThere (site : Site) (ends : Ends) (conn : ConnId) (message : Message) (node : NodeNo) : ConnId → Message → Type 0 where
   itself : IsEndOf ends conn node → IsRefusedThere site ends conn message node conn message
-  over_relay : (relay : NodeNo) (at : ConnId) (there : Message) → IsEndOf ends conn relay → is_relay site relay ≡ true → Descends message there →
+  over_relay : (relay : NodeNo) (at : ConnId) (there : Message) → IsEndOf ends conn relay → is_relay site relay ≡ true → ComesTo site node relay →
+      Descends message there →
       IsRefusedThere site ends conn message node at there
 
 -- a node's refusal of a request that a client sent on the connection, with a cause that the farm showed at a

@@ -8,6 +8,7 @@ use crate::content::same_request;
 use crate::copy::{RequestCopy, copy_of_reply};
 use crate::entry::Entry;
 use crate::key::kept;
+use crate::lookup::Lookup;
 use crate::plan::{Plan, Taken};
 use crate::terms::code_alone;
 use cc_view::{CcReply, CcRequest, ResultCode};
@@ -16,10 +17,11 @@ use std::alloc::{AllocError, Global};
 
 impl Book {
     ghost use Rattle.cc_book.specs.Planning.{IsGoodFor, IsTaking, PlansWith, after_plan, answer_planned};
-    ghost use Rattle.cc_book.specs.Taking.{answer_of, with_take};
+    ghost use Rattle.cc_book.specs.Taking.{answer_of, answer_within, with_take};
 
     /// What a request does to the book, which it leaves as it is: all that `take` refuses is refused here, and all the
-    /// memory that it wants is wanted here.
+    /// memory that it wants is wanted here. Full where the history is at its limit, or where a balance, or what is
+    /// reserved of an account, could come to 2^124 in size, which no history of 2^20 entries brings about.
     pub fn plan(
         &self,
         alloc: Global,
@@ -27,6 +29,7 @@ impl Book {
         request: &CcRequest,
     ) -> Result<Plan, BookRefusal>
         ensures answer { PlansWith (answer_of self.now request.now) result }
+        ensures within { PlansWith (answer_within self.now request.now) result }
         ensures good { IfOk result (IsGoodFor self.now) }
         ensures after { IfOk result (λ plan. after_plan self.now plan ≡ (if (answer_planned plan).fresh then with_take self.now moment request.now else self.now)) }
     {
@@ -40,9 +43,13 @@ impl Book {
         let Some(place) = free_place(&self.history, self.limit) else {
             return Err(BookRefusal::Full { limit: self.limit });
         };
+        let account = self.terms.charged_account(&self.standing, request);
+        if !self.standing.bears_more(account) {
+            return Err(BookRefusal::Full { limit: self.limit });
+        }
         let outcome = self
             .terms
-            .outcome_of(alloc, &self.standing, moment, request)?;
+            .outcome_of(alloc, &self.standing, account, moment, request)?;
         let reply = copy_of_reply(alloc, &outcome.reply)?;
         let request = RequestCopy::of(alloc, request)?;
         Ok(Plan {

@@ -1,5 +1,5 @@
 -- A step is told as applied exactly where it can apply.
-use Rattle.std.proofs.Common.{◌≡◌, ℕ, ◌≤◌, ◌<◌, Bool, true, false, cond, not, ltb, List, [], ◌∷◌, length, Option, Some, None, inl, inr, refl, sym}
+use Rattle.std.proofs.Common.{◌≡◌, ℕ, ◌≤◌, Bool, true, false, cond, not, ltb, List, [], ◌∷◌, length, Option, Some, None, inl, inr, refl, sym}
 use Rattle.std.proofs.Common.{ap, ◌∙◌, arith}
 use Rattle.std.specs.Prelude.{◌&&◌, ◌||◌, MatchBool, count_by, is_some, option_map, slice_get}
 use Rattle.std.specs.List.{find, list_any}

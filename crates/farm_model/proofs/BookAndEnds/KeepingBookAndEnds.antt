@@ -25,10 +25,10 @@ use Rattle.farm_model.specs.BookAndEnds.{charged_by, book_at, ends_made, next_wa
 use Rattle.farm_model.specs.FarmStep.{FarmStep, Outcome, Flight, flight_at, loss_at, Delivers, after_lost_message, can_connect, with_new_connection}
 use Rattle.farm_model.specs.FarmStep.{next_conn, empty_direction, after_accept, after_opened_on, after_opened, opened_if, after_up, can_cut, after_crash_at}
 use Rattle.farm_model.specs.FarmStep.{after_send, after_send_on, with_pick, after_pick_at, after_refusal_at, with_emit, after_emit_at, with_charge}
-use Rattle.farm_model.specs.FarmStep.{after_charge_at, Cuts, can_restart}
+use Rattle.farm_model.specs.FarmStep.{after_charge_at, can_restart}
 use Rattle.farm_model.specs.Loss.{LossAt, LearnLosses, EndGoes, end_with, CutsBoth, after_end, after_losing_all, after_crash, peers_of, DropAll, all_dropped}
 use Rattle.farm_model.specs.Loss.{drops_too}
-use Rattle.farm_base.specs.CheckedSite.{IsChecked}
+use Rattle.farm_model.specs.SoundSite.{IsSound}
 use Rattle.farm_base.specs.Lists.{replace_first}
 use Rattle.farm_base.specs.Nodes.{is_client, is_node, is_linked}
 use Rattle.farm_model.specs.InFlight.{goes}
@@ -140,7 +140,7 @@ all_drop_same {node} (drops_too {peer = peer} {w = w} {next = mid} {last = last}
     (end_same w mid peer (end_with w.directions peer node) now one) (all_drop_same more)
 
 -- both know it
-both_known : {site : Site} (old : WorldState) → AreApart (sides old.directions) → IsChecked site → (a b : NodeNo) → can_connect site old a b ≡ true →
+both_known : {site : Site} (old : WorldState) → AreApart (sides old.directions) → IsSound site → (a b : NodeNo) → can_connect site old a b ≡ true →
     (first : Direction) → find (is_unheard b a) (with_new_connection old a b).directions ≡ Some first →
     Has (next_way old a b true) (replace_first (is_unheard b a) (record first { known = true }) (with_new_connection old a b).directions)
     × Has (next_way old b a true) (replace_first (is_unheard b a) (record first { known = true }) (with_new_connection old a b).directions)
@@ -264,7 +264,7 @@ module _ (site : Site) (old new : WorldState) (applied : Bool) (losses : List Lo
   )
 
   -- of which the node that opens it learns at once
-  connection_made : AreApart (sides old.directions) → IsChecked site → (a b : NodeNo) → can_connect site old a b ≡ true
+  connection_made : AreApart (sides old.directions) → IsSound site → (a b : NodeNo) → can_connect site old a b ≡ true
       → Outcome (after_up site old a b) applied old new
       → Has (next_way old a b true) new.directions × Has (next_way old b a true) new.directions
   connection_made apart checked a b can out = go (can_connect site old a b) can out
@@ -286,7 +286,7 @@ module _ (site : Site) (old new : WorldState) (applied : Bool) (losses : List Lo
       go true is made = opens (find (is_unheard b a) both.directions) refl made
       go false is made = absurd cc
 
-pub step_keeps_book_and_ends : {site : Site} (t : Transition) → IsChecked site → AreApart (sides t.before.directions) → FarmStep site t.before t.step t.applied
+pub step_keeps_book_and_ends : {site : Site} (t : Transition) → IsSound site → AreApart (sides t.before.directions) → FarmStep site t.before t.step t.applied
     t.losses t.after → KeepsBookAndEnds site t
 step_keeps_book_and_ends {site} t checked apart made =
     let m = step_makes site t.before t.after t.applied t.losses t.step made in

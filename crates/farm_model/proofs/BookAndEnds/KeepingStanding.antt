@@ -1,6 +1,6 @@
 -- What stands after a step stood before it, or is of the connection that the step makes.
 use Rattle.std.proofs.Common.{◌≡◌, ℕ, Bool, true, false, cond, not, List, [], ◌∷◌, Option, Some, None, inl, inr, refl, sym, subst, ap, ◌∙◌, true≢false}
-use Rattle.std.specs.Prelude.{MatchBool, filter, map, ◌&&◌}
+use Rattle.std.specs.Prelude.{MatchBool, filter}
 use Rattle.std.specs.List.{find}
 use Rattle.std.proofs.lemmas.Bool.{and_parts, and_from, not-true}
 use Rattle.dia_base.specs.declared.number.ConnId.{ConnId}
@@ -9,7 +9,7 @@ use Rattle.dia_base.proofs.Finding.{found_passes}
 use Rattle.dia_message.specs.declared.message.Message.{Message}
 use Rattle.farm_law.specs.Lists.{Has}
 use Rattle.farm_base.specs.declared.site.Site.{Site}
-use Rattle.farm_base.specs.CheckedSite.{IsChecked}
+use Rattle.farm_model.specs.SoundSite.{IsSound}
 use Rattle.farm_model.specs.declared.state.Direction.{Direction}
 use Rattle.farm_base.specs.declared.step.Step.{Step}
 use Rattle.farm_base.specs.declared.step.Step.TheVariants.{Up, Accept, Opened, Send, Deliver, Lose, Cut, Drop}
@@ -18,15 +18,15 @@ use Rattle.farm_base.specs.Lists.{replace_first}
 use Rattle.farm_model.specs.Arrival.{after_arrival_at_client, ArrivesAtServer}
 use Rattle.farm_model.specs.BookAndEnds.{next_way, StandsAfter, stood, first_made, second_made, first_accepted, second_accepted}
 use Rattle.farm_model.specs.FarmStep.{FarmStep, Outcome, Flight, flight_at, loss_at, Delivers, after_lost_message, can_connect, with_new_connection}
-use Rattle.farm_model.specs.FarmStep.{next_conn, empty_direction, after_accept, after_opened_on, after_opened}
-use Rattle.farm_model.specs.FarmStep.{opened_if, after_up, can_cut, Cuts, Restarts, after_crash_at}
+use Rattle.farm_model.specs.FarmStep.{next_conn, after_accept, after_opened_on}
+use Rattle.farm_model.specs.FarmStep.{opened_if, after_up, can_cut, Cuts}
 use Rattle.farm_model.specs.FarmStep.{after_send, after_send_on, after_pick_at, after_refusal_at, after_emit_at, after_charge_at, after_sweep_at, can_restart}
 use Rattle.farm_model.specs.InFlight.{goes}
-use Rattle.farm_model.specs.Loss.{LossAt, LearnLosses, EndGoes, Drops, end_with, CutsBoth, after_end}
+use Rattle.farm_model.specs.Loss.{LossAt, LearnLosses, EndGoes, end_with, CutsBoth, after_end}
 use Rattle.farm_model.specs.Loss.{after_losing_all, after_crash, peers_of, DropAll, all_dropped, drops_too}
 use Rattle.farm_base.specs.Nodes.{is_node, is_client, is_linked}
 use Rattle.farm_model.specs.Run.{Transition}
-use Rattle.farm_model.specs.World.{WorldState, is_between, is_heard, is_unheard, is_inward, is_connected, without_end, emptied, conn_known, front_at}
+use Rattle.farm_model.specs.World.{WorldState, is_between, is_heard, is_unheard, is_inward, is_connected, without_end, conn_known, front_at}
 use Rattle.farm_model.proofs.Lists.Among.{Has-map, Has-cons, Has-parts, Has-filter, Contains-has}
 use Rattle.farm_model.proofs.Lists.Finding.{Has-found}
 use Rattle.farm_model.proofs.Lists.Numbering.{node_itself}
@@ -206,7 +206,7 @@ module _ (site : Site) (old new : WorldState) (applied : Bool) (losses : List Lo
       go false can same = quietly (same_state same.1)
 
   -- the one that comes to the node which opens it is known
-  module _ (checked : IsChecked site) (a b : NodeNo) (can : can_connect site old a b ≡ true) (first : Direction)
+  module _ (checked : IsSound site) (a b : NodeNo) (can : can_connect site old a b ≡ true) (first : Direction)
       (found : find (is_unheard b a) (with_new_connection old a b).directions ≡ Some first) where
     abbrev middle : List Direction
     middle = (with_new_connection old a b).directions
@@ -241,7 +241,7 @@ module _ (site : Site) (old new : WorldState) (applied : Bool) (losses : List Lo
       | inr kept ↦ new_stands a b direction kept (λ was. before direction was refl) forth (λ new_one. absurd (none_unknown direction h new_one))
     ]
 
-  up_stands : {B : Type 0} → IsChecked site → (a b : NodeNo) (direction : Direction) → Has direction new.directions →
+  up_stands : {B : Type 0} → IsSound site → (a b : NodeNo) (direction : Direction) → Has direction new.directions →
       Outcome (after_up site old a b) applied old new → (Quiet → B) → (can_connect site old a b ≡ true → direction ≡ next_way old a b true → B) →
       (can_connect site old a b ≡ true → direction ≡ next_way old b a true → B) →
       ((before : Direction) → Has before old.directions → line_of before ≡ line_of direction → B) → B
@@ -257,7 +257,7 @@ module _ (site : Site) (old new : WorldState) (applied : Bool) (losses : List Lo
       go true can made = opens can (find (is_unheard b a) (with_new_connection old a b).directions) refl made
       go false can same = quietly (same_state same.1)
 
-pub step_stands : {site : Site} (t : Transition) → IsChecked site → AreApart (sides t.before.directions) →
+pub step_stands : {site : Site} (t : Transition) → IsSound site → AreApart (sides t.before.directions) →
     FarmStep site t.before t.step t.applied t.losses t.after → (direction : Direction) → Has direction t.after.directions → StandsAfter site t direction
 step_stands {site} t checked apart made direction h = go t.step refl made
   where

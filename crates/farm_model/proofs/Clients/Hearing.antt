@@ -32,7 +32,7 @@ use Rattle.farm_model.specs.declared.state.Direction.{Direction}
 use Rattle.farm_base.specs.declared.step.Step.{Step}
 use Rattle.farm_base.specs.declared.step.Step.TheVariants.{Charge as ChargeStep, Sweep as SweepStep}
 use Rattle.farm_model.specs.Arrival.{AtRelay}
-use Rattle.farm_base.specs.CheckedSite.{IsChecked}
+use Rattle.farm_model.specs.SoundSite.{IsSound}
 use Rattle.farm_model.specs.FarmStep.{Outcome, Flight, after_lost_message, after_up, with_new_connection, can_connect, after_send, after_send_on}
 use Rattle.farm_model.specs.FarmStep.{after_accept, after_opened_on, after_opened, opened_if, can_restart, after_crash_at}
 use Rattle.farm_model.specs.FarmStep.{with_pick, after_pick_at, after_refusal_at, with_emit, after_emit_at, with_charge, after_charge_at}
@@ -152,7 +152,7 @@ all_drop_tell {node = node} (drops_too {peer = peer} {w = w} {next = mid} now la
 
 -- ---- each step
 
-module _ (site : Site) (all : Ends) (steps : List Step) (checked : IsChecked site) (old new : WorldState) (applied : Bool) (wired : IsWired site all old)
+module _ (site : Site) (all : Ends) (steps : List Step) (checked : IsSound site) (old new : WorldState) (applied : Bool) (wired : IsWired site all old)
     (heard : HeardIn site all steps old) where
   same_state : (next : WorldState) → next ≡ old → HeardIn site all steps next
   same_state next e = subst (HeardIn site all steps) (sym e) heard

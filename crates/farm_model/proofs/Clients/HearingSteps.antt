@@ -17,7 +17,7 @@ use Rattle.farm_base.specs.declared.step.Step.{Step}
 use Rattle.farm_base.specs.declared.step.Step.TheVariants.{Up, Accept, Opened, Send, Deliver, Lose, Cut, Drop}
 use Rattle.farm_base.specs.declared.step.Step.TheVariants.{Restart, Crash, Pick, Charge, Refuse, Emit, Sweep}
 use Rattle.farm_model.specs.Arrival.{ArrivesAtServer, after_arrival_at_front}
-use Rattle.farm_base.specs.CheckedSite.{IsChecked}
+use Rattle.farm_model.specs.SoundSite.{IsSound}
 use Rattle.farm_model.specs.FarmStep.{FarmStep, Outcome, Flight, flight_at, Delivers, after_lost_message, after_up, with_new_connection, can_connect}
 use Rattle.farm_model.specs.FarmStep.{after_send, after_send_on, with_pick, after_pick_at, after_refusal_at, with_emit, after_emit_at, with_charge}
 use Rattle.farm_model.specs.FarmStep.{after_charge_at, DropsIt, can_cut, can_restart, after_accept, after_opened_on, after_opened, opened_if, loss_at}
@@ -37,7 +37,7 @@ use Rattle.farm_model.proofs.Wiring.Wired.{IsWired}
 
 -- ---- a message comes
 
-module _ (site : Site) (all : Ends) (steps : List Step) (checked : IsChecked site) where
+module _ (site : Site) (all : Ends) (steps : List Step) (checked : IsSound site) where
   by_front : (w : WorldState) (node : NodeNo) (conn : ConnId) (message : Message) (front : FrontState) (b : Bool) → TellsSame w
       (cond b (after_arrival_at_front w node conn message front) w)
   by_front w node conn message front true = (refl, refl, refl, refl)
@@ -228,7 +228,7 @@ module _ (site : Site) (old new : WorldState) (applied : Bool) where
   lose_ends None out = same_ends old.ends new.ends (ap (λ (w : WorldState). w.ends) out.1)
   lose_ends (Some flight) out = same_ends old.ends new.ends (ap (λ (w : WorldState). w.ends) out.1)
 
-  deliver_ends : (to : NodeNo) (flight : Option Flight) (checked : IsChecked site) → Delivers site old to flight applied new → MoreEnds old.ends new.ends
+  deliver_ends : (to : NodeNo) (flight : Option Flight) (checked : IsSound site) → Delivers site old to flight applied new → MoreEnds old.ends new.ends
   deliver_ends to None checked d = same_ends old.ends new.ends (ap (λ (w : WorldState). w.ends) d.1)
   deliver_ends to (Some flight) checked d = go (is_client site to) d.1
     where
@@ -254,7 +254,7 @@ module _ (site : Site) (old new : WorldState) (applied : Bool) where
   restart_ends node losses true c = same_ends old.ends new.ends (all_drop_tell c.1).3
   restart_ends node losses false c = same_ends old.ends new.ends (ap (λ (w : WorldState). w.ends) c.2)
 
-pub step_ends : (site : Site) (checked : IsChecked site) (old new : WorldState) (step : Step) (applied : Bool) (losses : List LossAt) → FarmStep site old step
+pub step_ends : (site : Site) (checked : IsSound site) (old new : WorldState) (step : Step) (applied : Bool) (losses : List LossAt) → FarmStep site old step
     applied losses new → MoreEnds old.ends new.ends
 step_ends site checked old new (Up a b) applied losses s = up_ends site old new applied a b s.0
 step_ends site checked old new (Accept at from) applied losses s = accept_ends site old new applied at from s.0

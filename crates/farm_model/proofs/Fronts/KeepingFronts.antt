@@ -7,7 +7,6 @@ use Rattle.dia_base.specs.declared.number.ConnId.{ConnId}
 use Rattle.dia_base.specs.declared.number.Moment.{Moment}
 use Rattle.dia_base.specs.declared.number.NodeNo.{NodeNo}
 use Rattle.dia_message.specs.declared.message.Message.{Message}
-use Rattle.dia_message.specs.declared.message.Out.{Out}
 use Rattle.dia_message.specs.Traffic.{Traffic}
 use Rattle.cc_book.specs.Taking.{Ledger}
 use Rattle.front_core.specs.declared.event.FrontEvent.{FrontEvent}
@@ -17,7 +16,7 @@ use Rattle.front_core.specs.FrontStep.{after_pick, after_charge, after_refusal, 
 use Rattle.relay_core.specs.declared.run.RelayEvent.{RelayEvent}
 use Rattle.relay_core.specs.declared.run.RelayEvent.TheVariants.{Received}
 use Rattle.farm_law.specs.Lists.{Has}
-use Rattle.farm_base.specs.CheckedSite.{IsChecked}
+use Rattle.farm_model.specs.SoundSite.{IsSound}
 use Rattle.farm_base.specs.declared.site.Site.{Site}
 use Rattle.farm_model.specs.declared.state.Direction.{Direction}
 use Rattle.farm_base.specs.declared.step.Step.{Step}
@@ -50,7 +49,7 @@ use Rattle.farm_model.proofs.Wiring.OneKind.{server_no_client}
 use Rattle.farm_model.proofs.Relays.RelayTurns.{learned_by, all_untouched, directions_left}
 use Rattle.farm_model.proofs.Relays.RelaysRun.{Leaves, leaves_of, flight_one_out, known_one_out, crash_leaves, comes_up, either_first, opened_event, opened_is}
 use Rattle.farm_model.proofs.Relays.SentBehind.{OneOut, one_out, left_one_out, as_it_was, Untouched, others_traffic}
-use Rattle.farm_model.proofs.Wiring.Sides.{Side, side_of, sides}
+use Rattle.farm_model.proofs.Wiring.Sides.{Side, sides}
 use Rattle.farm_model.proofs.Wiring.Wired.{IsWired}
 
 -- ---- a step
@@ -91,7 +90,7 @@ front_takes site k book Stands = record {
       (map as_front_event (learned_by k (loss ∷ []))) w next (losses_at_front k book learn single);
 }
 
-module _ (site : Site) (ends : Ends) (checked : IsChecked site) (old new : WorldState) (applied : Bool) (losses : List LossAt) (wired : IsWired site ends old)
+module _ (site : Site) (ends : Ends) (checked : IsSound site) (old new : WorldState) (applied : Bool) (losses : List LossAt) (wired : IsWired site ends old)
     (apart : AreApart (sides old.directions)) (k : NodeNo) (front_is : is_front site k ≡ true) where
   abbrev book : Ledger
   book = old.book
@@ -467,7 +466,7 @@ module _ (site : Site) (ends : Ends) (checked : IsChecked site) (old new : World
       (all_untouched k old.directions new.directions (ap (λ (w : WorldState). w.directions) made.0.1)))
 
 -- what is promised of fronts at the step
-pub step_keeps_fronts : {site : Site} {ends : Ends} (t : Transition) → IsChecked site → IsWired site ends t.before
+pub step_keeps_fronts : {site : Site} {ends : Ends} (t : Transition) → IsSound site → IsWired site ends t.before
     → AreApart (sides t.before.directions) → FarmStep site t.before t.step t.applied t.losses t.after → KeepsFronts site t
 step_keeps_fronts {site} {ends} t checked wired apart made node front at =
     let s = front_steps site ends checked t.before t.after t.applied t.losses wired apart node (front_kind (wired_kinds wired) node front at)

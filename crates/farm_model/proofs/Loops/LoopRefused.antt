@@ -27,13 +27,12 @@ use Rattle.farm_model.specs.declared.state.RelayAt.{RelayAt}
 use Rattle.farm_base.specs.declared.step.Step.{Step}
 use Rattle.farm_base.specs.declared.step.Step.TheVariants.{Deliver}
 use Rattle.farm_model.specs.Arrival.{AtRelay, ArrivesAtServer, RelayTurn, after_arrival_at_client, after_relay_turn}
-use Rattle.farm_base.specs.CheckedSite.{IsChecked}
+use Rattle.farm_model.specs.SoundSite.{IsSound}
 use Rattle.farm_model.specs.FarmStep.{flight_at, Flight, Delivers, FarmStep}
 use Rattle.farm_base.specs.Nodes.{is_node, is_relay, means_front, kind_at, is_linked, name_in, name_at}
 use Rattle.farm_model.specs.Promise.{IsNamed}
 use Rattle.farm_model.specs.Run.{Transition}
 use Rattle.farm_model.specs.World.{is_heard, Ends, WorldState, with_message_from, is_front_at, front_at, relay_at}
-use Rattle.farm_model.proofs.Lists.Among.{Has-map}
 use Rattle.farm_model.proofs.Lists.Finding.{find_none}
 use Rattle.farm_model.proofs.Wiring.KnowsPeers.{KnowsPeers}
 use Rattle.farm_model.proofs.Wiring.Linked.{linked_turned}
@@ -42,7 +41,6 @@ use Rattle.farm_model.proofs.Lists.Numbering.{same_node}
 use Rattle.farm_model.proofs.Wiring.OneKind.{relay_no_client, relay_no_front}
 use Rattle.farm_model.proofs.Wiring.RelayPlaces.{relay_there, with_relay_same}
 use Rattle.farm_model.proofs.Wiring.SamePeers.{FlightStands, flight_stands, flight_side}
-use Rattle.farm_model.proofs.Wiring.Sides.{Side, side_of, sides}
 use Rattle.farm_model.proofs.Wiring.Wired.{IsWired, FrontIsWired}
 use Rattle.farm_model.proofs.Wiring.WiredLemmas.{relay_wired}
 
@@ -96,7 +94,7 @@ pub name_is : {site : Site} {node : NodeNo} {name : List ℕ} → IsNamed site n
 name_is named = ap name_in named.at_place ∙ named.called
 
 -- a message of a direction that stands has a sender that the relay knows
-pub sender_known : {site : Site} {ends : Ends} {w : WorldState} {from node : NodeNo} {relay : RelayState} {flight : Flight} → IsChecked site → IsWired site
+pub sender_known : {site : Site} {ends : Ends} {w : WorldState} {from node : NodeNo} {relay : RelayState} {flight : Flight} → IsSound site → IsWired site
     ends w → KnowsPeers site w → FlightStands (is_heard from node) w.directions from node flight → relay_at node w.relays ≡ Some relay
     → (p : LinkedPeer) × (peer_on relay.node flight.conn ≡ Some p)
 sender_known {site} {ends} {w} {from} {node} {relay} {flight} checked wired known stands at =
@@ -117,7 +115,7 @@ AnswersLoop site t = (from node : NodeNo) (place : ℕ) (conn : ConnId) (message
     is_relay site node ≡ true → IsNamed site node name → IsLoop name message.body →
     t.after ≡ record t.before { directions = with_message_from node directions conn (refusal_of name site.realm message (refusal_with LoopDetected)) }
 
-pub loop_refused : {site : Site} {ends : Ends} → LoopsAreRefused → IsChecked site → (t : Transition) → IsWired site ends t.before → KnowsPeers site t.before →
+pub loop_refused : {site : Site} {ends : Ends} → LoopsAreRefused → IsSound site → (t : Transition) → IsWired site ends t.before → KnowsPeers site t.before →
     FarmStep site t.before t.step t.applied t.losses t.after → AnswersLoop site t
 loop_refused {site} {ends} law checked t wired known made from node place conn message directions name step_is flies request relay_is named loop =
     let w = t.before in

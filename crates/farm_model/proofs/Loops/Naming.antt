@@ -8,7 +8,8 @@ use Rattle.dia_avp.specs.AvpList.{HasSpelling}
 use Rattle.relay_routes.specs.Routing.{record_of}
 use Rattle.farm_base.specs.declared.site.Node.{Node}
 use Rattle.farm_base.specs.declared.site.Site.{Site}
-use Rattle.farm_base.specs.CheckedSite.{is_within, is_visible, is_sound_name, IsChecked}
+use Rattle.farm_base.specs.CheckedSite.{is_within, is_visible, is_sound_name}
+use Rattle.farm_model.specs.SoundSite.{IsSound}
 use Rattle.farm_base.specs.Nodes.{name_in, name_at}
 use Rattle.farm_model.proofs.Lists.Among.{Has-get}
 use Rattle.farm_model.proofs.Lists.Finding.{all_has}
@@ -16,7 +17,7 @@ use Rattle.farm_model.proofs.Lists.Finding.{all_has}
 short_spells : (name : List ℕ) → length name ≤ 255 → HasSpelling (record_of name)
 short_spells name short = record { code = lit≤ tt; vendor = lit≤ tt; no_vendor = λ e. refl; long = (omega (arith, short)) }
 
-pub spells : (site : Site) → IsChecked site → (node : NodeNo) → HasSpelling (record_of (name_at site node))
+pub spells : (site : Site) → IsSound site → (node : NodeNo) → HasSpelling (record_of (name_at site node))
 spells site checked node = go (slice_get site.nodes node.0) refl
   where
     go : (found : Option Node) → slice_get site.nodes node.0 ≡ found → HasSpelling (record_of (name_in found))

@@ -27,7 +27,7 @@ use Rattle.farm_base.specs.declared.site.Site.{Site}
 use Rattle.farm_model.specs.declared.state.Direction.{Direction}
 use Rattle.farm_base.specs.declared.step.Step.{Step}
 use Rattle.farm_base.specs.declared.step.Step.TheVariants.{Deliver}
-use Rattle.farm_base.specs.CheckedSite.{IsChecked}
+use Rattle.farm_model.specs.SoundSite.{IsSound}
 use Rattle.farm_model.specs.ComingRound.{DeliversTo, SendsTo, HasGone, sets_out, goes_on, goes_again}
 use Rattle.farm_model.specs.FarmStep.{Flight, FarmStep}
 use Rattle.farm_model.specs.InFlight.{goes, left_by, message_at}
@@ -128,7 +128,7 @@ pub record SendsOn (site : Site) (t : Transition) : Type 0 where
       → SendsTo t by to next → IsSentOn site from request next
   pub to_another : (node : NodeNo) (message : Message) → ¬ SendsTo t node node message
 
-module _ {site : Site} {ends : Ends} (checked : IsChecked site) (t : Transition) (wired : IsWired site ends t.before) (known : KnowsPeers site t.before)
+module _ {site : Site} {ends : Ends} (checked : IsSound site) (t : Transition) (wired : IsWired site ends t.before) (known : KnowsPeers site t.before)
     (apart : AreApart (sides t.before.directions)) (apart_after : AreApart (sides t.after.directions))
     (made : FarmStep site t.before t.step t.applied t.losses t.after) where
   sends_request_on : (from by to : NodeNo) (request next : Message) → DeliversTo t from by request → request.header.request ≡ true → is_relay site by ≡ true
@@ -190,7 +190,7 @@ module _ {site : Site} {ends : Ends} (checked : IsChecked site) (t : Transition)
 
 -- ---- a request that comes round
 
-module _ (site : Site) (checked : IsChecked site) (past : Past) (each : (t : Transition) → Has t past → SendsOn site t) (relay : NodeNo) where
+module _ (site : Site) (checked : IsSound site) (past : Past) (each : (t : Transition) → Has t past → SendsOn site t) (relay : NodeNo) where
   asks : {from to : NodeNo} {message : Message} → HasGone site past relay from to message → message.header.request ≡ true
   asks (sets_out t to request among sends) = sends.flag
   asks (goes_on t from by to request next gone among delivers is sends) = sends.flag

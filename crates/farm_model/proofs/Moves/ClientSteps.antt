@@ -14,7 +14,7 @@ use Rattle.farm_base.specs.declared.site.Site.{Site}
 use Rattle.farm_model.specs.declared.state.Direction.{Direction}
 use Rattle.farm_base.specs.declared.step.Step.TheVariants.{Send, Lose}
 use Rattle.farm_model.specs.Arrival.{after_arrival_at_client}
-use Rattle.farm_base.specs.CheckedSite.{IsChecked}
+use Rattle.farm_model.specs.SoundSite.{IsSound}
 use Rattle.farm_model.specs.FarmStep.{after_send_on, after_send, Flight, loss_at, after_lost_message, Outcome}
 use Rattle.farm_base.specs.Nodes.{is_client, is_linked}
 use Rattle.farm_model.specs.Run.{Transition}
@@ -40,7 +40,7 @@ module _ (site : Site) (made : Ends) (refused : List Refused) (HasReason : Refus
 
   -- ---- send
 
-  send_as : (w : WorldState) (client to : NodeNo) (message : Message) (direction : Direction) → IsChecked site → is_client site client ≡ true → find
+  send_as : (w : WorldState) (client to : NodeNo) (message : Message) (direction : Direction) → IsSound site → is_client site client ≡ true → find
       (is_heard to client) w.directions ≡ Some direction → IsWired site made w → QueuesHoldRequests w.fronts
       → Goes-on w (record w {
         directions = with_message_from client w.directions direction.conn message;
@@ -85,7 +85,7 @@ module _ (site : Site) (made : Ends) (refused : List Refused) (HasReason : Refus
         requests = requests;
       }
 
-  send_in_goes : (w after : WorldState) (client to : NodeNo) (message : Message) (found : Option ConnId) → IsChecked site → is_client site client ≡ true →
+  send_in_goes : (w after : WorldState) (client to : NodeNo) (message : Message) (found : Option ConnId) → IsSound site → is_client site client ≡ true →
       conn_known w.directions client to ≡ found → after_send_on w client message found ≡ Some after
       → IsWired site made w → QueuesHoldRequests w.fronts → Goes-on w after
   send_in_goes w after client to message None checked of_client e is wired requests = absurd cc
@@ -95,14 +95,14 @@ module _ (site : Site) (made : Ends) (refused : List Refused) (HasReason : Refus
       (subst (λ (c : ConnId). Goes-on w (record w { directions = with_message_from client w.directions c message; sent = w.sent ++ (c, message) ∷ [] })) found.2
       (send_as w client to message found.0 checked of_client found.1 wired requests))
 
-  send_if : (w after : WorldState) (client to : NodeNo) (message : Message) (b : Bool) → IsChecked site → is_client site client ≡ b → cond b
+  send_if : (w after : WorldState) (client to : NodeNo) (message : Message) (b : Bool) → IsSound site → is_client site client ≡ b → cond b
       (after_send_on w client message (conn_known w.directions client to)) None ≡ Some after
       → IsWired site made w → QueuesHoldRequests w.fronts → Goes-on w after
   send_if w after client to message true checked e is wired requests = send_in_goes w after client to message (conn_known w.directions client to)
       checked e refl is wired requests
   send_if w after client to message false checked e is wired requests = absurd cc
 
-  pub after_send_goes : (w after : WorldState) (client to : NodeNo) (message : Message) → IsChecked site → after_send site w client to message ≡ Some after →
+  pub after_send_goes : (w after : WorldState) (client to : NodeNo) (message : Message) → IsSound site → after_send site w client to message ≡ Some after →
       IsWired site made w → QueuesHoldRequests w.fronts → Goes-on w after
   after_send_goes w after client to message checked is wired requests = send_if w after client to message (is_client site client) checked refl is wired requests
 
@@ -125,7 +125,7 @@ module _ (site : Site) (made : Ends) (refused : List Refused) (HasReason : Refus
 
   -- ---- a message comes to a client
 
-  pub client_receives : (w : WorldState) (items : List Item) (from to : NodeNo) (conn : ConnId) (message : Message) → IsChecked site → Joins made conn from to
+  pub client_receives : (w : WorldState) (items : List Item) (from to : NodeNo) (conn : ConnId) (message : Message) → IsSound site → Joins made conn from to
       → is_linked site from to ≡ true → is_client site to ≡ true
       → Without (record { conn = conn; from = from; to = to; message = message }) items (items_of made w.directions w.fronts) → IsWired site made w →
       QueuesHoldRequests w.fronts
@@ -145,7 +145,7 @@ module _ (site : Site) (made : Ends) (refused : List Refused) (HasReason : Refus
         requests = requests;
       }
 
-pub send_goes : (site : Site) (made : Ends) (t : Transition) (refused : List Refused) (client to : NodeNo) (message : Message) → IsChecked site → t.step ≡ Send
+pub send_goes : (site : Site) (made : Ends) (t : Transition) (refused : List Refused) (client to : NodeNo) (message : Message) → IsSound site → t.step ≡ Send
     client to message → Outcome (after_send site t.before client to message) t.applied t.before t.after
     → IsWired site made t.before → QueuesHoldRequests t.before.fronts → StepGoes site made t refused
 send_goes site made t refused client to message checked step o wired requests =

@@ -23,7 +23,7 @@ use Rattle.farm_base.specs.declared.site.Site.{Site}
 use Rattle.farm_model.specs.declared.state.Direction.{Direction}
 use Rattle.farm_model.specs.declared.state.FrontAt.{FrontAt}
 use Rattle.farm_model.specs.declared.state.RelayAt.{RelayAt}
-use Rattle.farm_base.specs.CheckedSite.{IsChecked}
+use Rattle.farm_model.specs.SoundSite.{IsSound}
 use Rattle.farm_model.specs.FarmStep.{next_conn, with_connection_of, with_connection_at, after_up_by, with_link_of, with_link_at, empty_direction}
 use Rattle.farm_model.specs.FarmStep.{with_new_connection}
 use Rattle.farm_base.specs.Lists.{replace_first}
@@ -136,7 +136,7 @@ still_ended w a b node conn e =
 
 -- ---- the whole
 
-module _ (site : Site) (all : Ends) (checked : IsChecked site) (w : WorldState) (a b : NodeNo) (wired : IsWired site all w) (linked : is_linked site a b ≡ true)
+module _ (site : Site) (all : Ends) (checked : IsSound site) (w : WorldState) (a b : NodeNo) (wired : IsWired site all w) (linked : is_linked site a b ≡ true)
     (begins : (place : ℕ) (nodes : NodeNo × NodeNo) → slice_get (with_new_connection w a b).ends place ≡ Some nodes → slice_get all place ≡ Some nodes) where
   abbrev conn : ConnId
   conn = next_conn w

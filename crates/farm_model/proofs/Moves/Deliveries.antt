@@ -9,7 +9,7 @@ use Rattle.farm_base.specs.declared.site.Site.{Site}
 use Rattle.farm_base.specs.declared.step.Step.TheVariants.{Deliver}
 use Rattle.farm_model.specs.Arrival.{AtRelay, after_arrival_at_client, ArrivesAtServer, Arrives}
 use Rattle.farm_model.specs.Cause.{at_front}
-use Rattle.farm_base.specs.CheckedSite.{IsChecked}
+use Rattle.farm_model.specs.SoundSite.{IsSound}
 use Rattle.farm_model.specs.FarmStep.{Flight, flight_at, Delivers}
 use Rattle.farm_base.specs.Nodes.{is_client}
 use Rattle.farm_model.specs.Run.{Transition}
@@ -36,7 +36,7 @@ RelayReceives site made t refused from to flight =
     (Received flight.conn flight.message) (relay_at to t.before.relays) t.after
     → Goes site made (Reason t) (farm_before made refused t.before flight) t.after
 
-module _ (site : Site) (made : Ends) (t : Transition) (refused : List Refused) (from to : NodeNo) (place : ℕ) (checked : IsChecked site)
+module _ (site : Site) (made : Ends) (t : Transition) (refused : List Refused) (from to : NodeNo) (place : ℕ) (checked : IsSound site)
     (step : t.step ≡ Deliver from to place) (wired : IsWired site made t.before) (requests : QueuesHoldRequests t.before.fronts) where
   module _ (flight : Flight) (flies : flight_at t.before.directions from to place ≡ Some flight)
       (relay_case : RelayReceives site made t refused from to flight) where

@@ -30,7 +30,7 @@ use Rattle.farm_base.specs.declared.site.Site.{Site}
 use Rattle.farm_model.specs.declared.state.Direction.{Direction}
 use Rattle.farm_model.specs.Arrival.{RelayTurn, after_relay_turn}
 use Rattle.farm_model.specs.Cause.{IsStranded}
-use Rattle.farm_base.specs.CheckedSite.{IsChecked}
+use Rattle.farm_model.specs.SoundSite.{IsSound}
 use Rattle.farm_model.specs.Loss.{Loss}
 use Rattle.farm_model.specs.World.{Ends, WorldState, with_message_from, with_traffic_from, relay_at}
 use Rattle.farm_base.specs.Nodes.{name_at}
@@ -50,7 +50,7 @@ use Rattle.farm_model.proofs.Wiring.Wired.{DirectionIsWired, RelayIsWired, RowIs
 use Rattle.farm_model.proofs.Wiring.WiredLemmas.{relay_wired}
 use Rattle.farm_model.proofs.Wiring.WorldLemmas.{with_traffic_from-more}
 
-module _ (site : Site) (ends : Ends) (Reason : Refused → Type 0) (checked : IsChecked site) (w : WorldState) (wired : IsWired site ends w) (node : NodeNo)
+module _ (site : Site) (ends : Ends) (Reason : Refused → Type 0) (checked : IsSound site) (w : WorldState) (wired : IsWired site ends w) (node : NodeNo)
     (lost : ConnId) (relay : RelayState)
     (stands : relay_at node w.relays ≡ Some relay) (ended : has_ended_in w.ends w.directions node lost ≡ true)
     (single : IsSingle ends w) (causes : (message : Message) (code : ResultCode) → IsStranded relay lost message → next_hop_again (after_end lost relay.node)
@@ -227,7 +227,7 @@ module _ (site : Site) (ends : Ends) (Reason : Refused → Type 0) (checked : Is
   loses_connection refusals last t = of_link refusals (peer_in relay.node.peers.links lost) t.sent t.after t.turn last t.next_is
 
 -- what a relay does when it learns that a connection has ended is moves of the farm, and the farm hangs together as before
-pub relay_loses : (site : Site) (ends : Ends) (Reason : Refused → Type 0) → IsChecked site → (w : WorldState) → IsWired site ends w → (loss : Loss)
+pub relay_loses : (site : Site) (ends : Ends) (Reason : Refused → Type 0) → IsSound site → (w : WorldState) → IsWired site ends w → (loss : Loss)
     (relay : RelayState) → relay_at loss.node w.relays ≡ Some relay
     → has_ended_in w.ends w.directions loss.node loss.conn ≡ true → IsSingle ends w
     → (refusals : List Refused) (last : WorldState) → RelayTurn w loss.node relay

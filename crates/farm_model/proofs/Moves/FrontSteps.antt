@@ -1,6 +1,6 @@
 -- The steps of a front's worker but for a charge: it picks, refuses by order, or emits its answer.
 use Rattle.std.proofs.Common.{◌≡◌, ℕ, true, List, [], ◌∷◌, ◌++◌, map, Option, Some, None, refl, sym, subst, ap}
-use Rattle.std.specs.Prelude.{◌⊎◌, flat_map, slice_get, slice_set}
+use Rattle.std.specs.Prelude.{flat_map, slice_get, slice_set}
 use Rattle.std.proofs.lemmas.Option.{same_Some}
 use Rattle.dia_base.specs.declared.number.ConnId.{ConnId}
 use Rattle.dia_base.specs.declared.number.NodeNo.{NodeNo}

@@ -17,7 +17,7 @@ use Rattle.farm_law.specs.Moves.{done}
 use Rattle.farm_base.specs.declared.site.Site.{Site}
 use Rattle.farm_model.specs.declared.state.Direction.{Direction}
 use Rattle.farm_model.specs.Cause.{HasCause, at_front, at_charge, by_order, at_relay, at_lost_link}
-use Rattle.farm_base.specs.CheckedSite.{IsChecked}
+use Rattle.farm_model.specs.SoundSite.{IsSound}
 use Rattle.farm_model.specs.FarmStep.{Outcome, after_accept, after_opened_on, after_opened, opened_if, after_up, can_connect}
 use Rattle.farm_model.specs.FarmStep.{with_new_connection, next_conn, DropsIt, Cuts, can_restart, after_crash_at}
 use Rattle.farm_model.specs.Loss.{LossAt, LearnLosses, after_end as without_its_end, EndGoes, end_with}
@@ -27,7 +27,7 @@ use Rattle.farm_base.specs.Nodes.{is_node, is_linked}
 use Rattle.farm_model.specs.Run.{Transition}
 use Rattle.farm_model.specs.World.{Ends, WorldState, is_heard, is_unheard, is_connected, knows, front_at}
 use Rattle.farm_model.proofs.Lists.Among.{Contains-has}
-use Rattle.farm_model.proofs.Wiring.Apart.{is_way, AreApart, goes_once}
+use Rattle.farm_model.proofs.Wiring.Apart.{AreApart, goes_once}
 use Rattle.farm_model.proofs.Moves.AsFarm.{parties, farm_of, LeadsTo}
 use Rattle.farm_model.proofs.Moves.Connecting.{accept_wired, accept_moves, accept_leads, opened_wired, opened_moves, opened_leads}
 use Rattle.farm_model.proofs.Lists.Finding.{Has-found, any_found}
@@ -128,7 +128,7 @@ restart_once node directions apart other =
 
 -- ---- the steps
 
-module _ (site : Site) (all : Ends) (checked : IsChecked site) (relay_loses : RelayLoses site all) (moves_keep : MovesKeep site all) (t : Transition)
+module _ (site : Site) (all : Ends) (checked : IsSound site) (relay_loses : RelayLoses site all) (moves_keep : MovesKeep site all) (t : Transition)
     (refused : List Refused) (kept : IsKept (parties site all) (farm_of all refused t.before))
     (wired : IsWired site all t.before) (apart : AreApart (sides t.before.directions)) (requests : QueuesHoldRequests t.before.fronts) where
   idle_shows : t.after ≡ t.before → StepShows site all t refused

@@ -1,6 +1,6 @@
 -- A message that comes to a relay is lost, refused, forwarded or sent back, or nobody waits for it.
-use Rattle.std.proofs.Common.{◌≡◌, ℕ, Bool, true, false, List, [], ◌∷◌, ◌++◌, map, Option, Some, None, inl, refl, sym, subst, ap, ◌∙◌, Err}
-use Rattle.std.specs.Prelude.{◌⊎◌, MatchBool, MatchOption, count_by}
+use Rattle.std.proofs.Common.{◌≡◌, ℕ, Bool, true, false, List, [], ◌∷◌, ◌++◌, map, Option, Some, None, refl, sym, subst, ap, ◌∙◌, Err}
+use Rattle.std.specs.Prelude.{MatchBool, MatchOption, count_by}
 use Rattle.dia_base.specs.declared.number.ConnId.{ConnId}
 use Rattle.dia_base.specs.declared.number.NodeNo.{NodeNo}
 use Rattle.dia_message.specs.declared.message.Message.{Message}
@@ -26,7 +26,7 @@ use Rattle.farm_law.specs.Moves.{Moves, done, next as then_moves, loses, refuses
 use Rattle.farm_law.proofs.Lists.{Has-without, Has-more, all-in}
 use Rattle.farm_base.specs.declared.site.Site.{Site}
 use Rattle.farm_model.specs.Arrival.{RelayTurn, after_relay_turn}
-use Rattle.farm_base.specs.CheckedSite.{IsChecked}
+use Rattle.farm_model.specs.SoundSite.{IsSound}
 use Rattle.farm_base.specs.Nodes.{kind_at, is_client, is_linked, name_at}
 use Rattle.farm_model.specs.World.{Ends, WorldState, with_message_from, with_traffic_from, relay_at}
 use Rattle.farm_model.proofs.Moves.AsFarm.{other_end, parties, items_of, asker_of, pending_of, rows_of, has_ended_in, farm_of, LeadsTo}
@@ -43,7 +43,7 @@ use Rattle.farm_model.proofs.Moves.Turning.{seen, turn_seen, turn_wired}
 use Rattle.farm_model.proofs.Wiring.Wired.{Joins, RelayIsWired, RowIsWired, IsWired}
 use Rattle.farm_model.proofs.Wiring.WiredLemmas.{relay_wired}
 
-module _ (site : Site) (ends : Ends) (Reason : Refused → Type 0) (checked : IsChecked site) (w : WorldState) (wired : IsWired site ends w) (node from : NodeNo)
+module _ (site : Site) (ends : Ends) (Reason : Refused → Type 0) (checked : IsSound site) (w : WorldState) (wired : IsWired site ends w) (node from : NodeNo)
     (conn : ConnId) (message : Message) (relay : RelayState)
     (stands : relay_at node w.relays ≡ Some relay) (joins : Joins ends conn from node) (items : List Item)
     (taken : Without (record { conn = conn; from = from; to = node; message = message }) items (items_of ends w.directions w.fronts))
@@ -220,7 +220,7 @@ module _ (site : Site) (ends : Ends) (Reason : Refused → Type 0) (checked : Is
   receives_message causes last t = of_peer causes (peer_on relay.node conn) refl t.sent t.after t.turn last t.next_is
 
 -- what a relay does with a message is moves of the farm, and the farm hangs together as before
-pub relay_receives : (site : Site) (ends : Ends) (Reason : Refused → Type 0) → IsChecked site → (w : WorldState) → IsWired site ends w → (node from : NodeNo)
+pub relay_receives : (site : Site) (ends : Ends) (Reason : Refused → Type 0) → IsSound site → (w : WorldState) → IsWired site ends w → (node from : NodeNo)
     (conn : ConnId) (message : Message) (relay : RelayState) → relay_at node w.relays ≡ Some relay
     → Joins ends conn from node → (items : List Item) → Without (record { conn = conn; from = from; to = node; message = message }) items
     (items_of ends w.directions w.fronts) → has_ended_in w.ends w.directions node conn ≡ false → is_linked site node from ≡ true

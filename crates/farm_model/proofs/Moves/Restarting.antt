@@ -27,7 +27,7 @@ use Rattle.farm_model.proofs.OwnCauses.Refusing.{at_most_once, as_before}
 use Rattle.farm_model.proofs.Moves.Losing.{RelayLoses, GivesReasons, MovesKeep, Leads, among_peers, all_drop}
 use Rattle.farm_model.proofs.Moves.Moving.{join}
 use Rattle.farm_model.proofs.Lists.Placing.{Left-all, Left-none, Left-parts, Left-filter, parts_left}
-use Rattle.farm_model.proofs.Wiring.Wired.{Joins, FrontIsWired, RelayIsWired, IsWired}
+use Rattle.farm_model.proofs.Wiring.Wired.{FrontIsWired, RelayIsWired, IsWired}
 use Rattle.farm_model.proofs.Wiring.WiredLemmas.{relay_wired, relays_wired, relays_alone, with_front_wired}
 use Rattle.farm_model.proofs.Wiring.WorldLemmas.{the_front, front_stands, relay_stands}
 

@@ -25,7 +25,7 @@ use Rattle.farm_model.specs.World.{Ends, WorldState}
 use Rattle.farm_model.proofs.Lists.Among.{Has-parts}
 use Rattle.farm_model.proofs.Moves.AsFarm.{pending_of, rows_of}
 use Rattle.farm_model.proofs.Lists.Finding.{none_pass}
-use Rattle.farm_model.proofs.Lists.Numbering.{same_node, same_conn}
+use Rattle.farm_model.proofs.Lists.Numbering.{same_conn}
 use Rattle.farm_model.proofs.OwnCauses.Refusing.{HasRefused, count-append}
 
 -- no identifier is in use twice

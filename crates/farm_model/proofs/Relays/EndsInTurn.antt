@@ -1,6 +1,6 @@
 -- Where connections end, one end goes after another, and nodes learn of it: what happens to a node then, event by event.
 -- And what else steps leave where connections come and go.
-use Rattle.std.proofs.Common.{◌≡◌, ◌≤◌, Bool, true, false, cond, not, List, [], ◌∷◌, ◌++◌, map, Option, Some, None, inl, inr, refl, sym, subst, ap}
+use Rattle.std.proofs.Common.{◌≡◌, ◌≤◌, Bool, true, false, cond, not, List, [], ◌∷◌, ◌++◌, Option, Some, None, inl, inr, refl, sym, subst, ap}
 use Rattle.std.proofs.Common.{◌∙◌, append-nil, arith}
 use Rattle.std.specs.Prelude.{◌&&◌, ◌||◌, ◌==◌, filter, count_by, option_map, MatchBool}
 use Rattle.std.specs.List.{find, list_any}

@@ -1,8 +1,8 @@
 -- What happens to a relay at each step of the farm, and that over a run of the farm it does one thing after another and
 -- puts in flight what it sends.
 use Rattle.std.proofs.Common.{◌≡◌, ◌≤◌, ℕ, Bool, true, false, cond, List, [], ◌∷◌, ◌++◌, map, length, not, Option}
-use Rattle.std.proofs.Common.{Some, None, inl, inr, refl, sym, subst, ap, ◌∙◌, append_assoc, append-nil, arith}
-use Rattle.std.specs.Prelude.{MatchBool, IfSome, ◌&&◌, ◌||◌, ◌==◌, count_by, filter}
+use Rattle.std.proofs.Common.{Some, None, refl, sym, subst, ap, ◌∙◌, append_assoc, append-nil, arith}
+use Rattle.std.specs.Prelude.{MatchBool, IfSome, ◌&&◌, ◌||◌, count_by, filter}
 use Rattle.std.specs.List.{find}
 use Rattle.std.proofs.lemmas.Bool.{and_parts, both_ways, or_left, or_parts, not-true, false_from_ne_true}
 use Rattle.std.proofs.lemmas.Grind.{flat_map-append}
@@ -21,7 +21,7 @@ use Rattle.relay_core.specs.Connecting.{new_relay}
 use Rattle.relay_core.specs.RelayRun.{IsRun, not_begun, RelayStep}
 use Rattle.relay_core.specs.RelayState.{RelayState}
 use Rattle.farm_law.specs.Lists.{Has}
-use Rattle.farm_base.specs.CheckedSite.{IsChecked}
+use Rattle.farm_model.specs.SoundSite.{IsSound}
 use Rattle.farm_base.specs.Lists.{replace_first}
 use Rattle.farm_base.specs.declared.site.Site.{Site}
 use Rattle.farm_model.specs.declared.state.Direction.{Direction}
@@ -32,9 +32,8 @@ use Rattle.farm_model.specs.FarmStep.{FarmStep, Outcome, Flight, flight_where, f
 use Rattle.farm_model.specs.FarmStep.{with_link_at, with_new_connection, after_accept, after_opened_on}
 use Rattle.farm_model.specs.FarmStep.{opened_if, after_up, after_send, after_send_on, with_pick}
 use Rattle.farm_model.specs.FarmStep.{after_pick_at, after_refusal_at, with_emit, after_emit_at, with_charge, after_charge_at, can_cut, DropsIt, can_restart}
-use Rattle.farm_model.specs.FarmStep.{after_crash_at}
 use Rattle.farm_model.specs.InFlight.{goes, ends_at, known_after, grows_at, left_by}
-use Rattle.farm_model.specs.Loss.{LossAt, LearnLosses, end_with, after_losing_all, CutsBoth, after_crash, peers_of, DropAll}
+use Rattle.farm_model.specs.Loss.{LossAt, end_with, after_losing_all, CutsBoth, after_crash, peers_of, DropAll}
 use Rattle.farm_base.specs.Nodes.{is_node, is_client, is_front, is_relay, is_linked, kind_at, name_at}
 use Rattle.farm_model.specs.RelayRuns.{event_if, up_events, lost_events, events_at, events_in, last_of, sent_on, PutsInFlight, PutsAllInFlight}
 use Rattle.farm_model.specs.Run.{Past, Transition, relay_site, start}
@@ -43,7 +42,7 @@ use Rattle.farm_model.proofs.Lists.Among.{Has-kept, Contains-has, Has-contained}
 use Rattle.farm_model.proofs.Lists.Replacing.{count_replaced}
 use Rattle.farm_model.proofs.Wiring.Apart.{one_left, none_passes, is_way, AreApart, goes_once, heard_once}
 use Rattle.farm_model.proofs.Relays.EndsInTurn.{Standing, TakesTurns, drop_turns, cut_turns, drop_all_turns, cut_two, unheard_once, opens_next, emptied_leaves}
-use Rattle.farm_model.proofs.Relays.EventsAtEnds.{end_events, drop_events, cut_events, no_cut_events, no_restart_events, restart_events}
+use Rattle.farm_model.proofs.Relays.EventsAtEnds.{drop_events, cut_events, no_cut_events, no_restart_events, restart_events}
 use Rattle.farm_model.proofs.Traffic.FlightLemmas.{directions_after, item_of, flight_leaves, flight_sides, flight_item}
 use Rattle.farm_model.proofs.Traffic.TrafficOfSteps.{Carries, accept_carries, up_carries, opened_carries}
 use Rattle.farm_model.proofs.Wiring.KindsAgree.{KindsAgree, wired_kinds, front_kind}
@@ -55,7 +54,7 @@ use Rattle.farm_model.proofs.Relays.RelayTurns.{Turns, stays, Turns-length, run_
 use Rattle.farm_model.proofs.Relays.RelayTurns.{turned_more, TurnedOn, turned_on, turned_on_more, all_untouched}
 use Rattle.farm_model.proofs.Relays.RelayTurns.{arrival_turns, losses_turn, directions_left, crash_turns, link_turns}
 use Rattle.farm_model.proofs.Relays.SentBehind.{OneOut, one_out, one_out_by_sides, left_one_out, as_it_was, Untouched, others_traffic}
-use Rattle.farm_model.proofs.Wiring.Sides.{Side, side_of, sides}
+use Rattle.farm_model.proofs.Wiring.Sides.{Side, sides}
 use Rattle.farm_model.proofs.Runs.Starting.{relays_fresh}
 use Rattle.farm_model.proofs.Wiring.Wired.{IsWired}
 use Rattle.farm_model.proofs.Wiring.WorldLemmas.{relay_among}
@@ -272,7 +271,7 @@ opened_is site k old apart a b found f = go found f
 
 -- ---- any step
 
-module _ (site : Site) (ends : Ends) (checked : IsChecked site) (old new : WorldState) (applied : Bool) (losses : List LossAt) (wired : IsWired site ends old)
+module _ (site : Site) (ends : Ends) (checked : IsSound site) (old new : WorldState) (applied : Bool) (losses : List LossAt) (wired : IsWired site ends old)
     (apart : AreApart (sides old.directions)) (k : NodeNo) (relay_is : is_relay site k ≡ true) where
   single : OneOut old.directions
   single = one_out site ends old.ends old.directions apart wired.directions
@@ -532,7 +531,7 @@ pub last_of-push : (w : WorldState) (past : Past) (t : Transition) → last_of w
 last_of-push w [] t = refl
 last_of-push w (first ∷ past) t = last_of-push first.after past t
 
-pub relay_runs_on : {site : Site} {ends : Ends} (past : Past) (t : Transition) → IsChecked site → IsWired site ends t.before
+pub relay_runs_on : {site : Site} {ends : Ends} (past : Past) (t : Transition) → IsSound site → IsWired site ends t.before
     → AreApart (sides t.before.directions) → FarmStep site t.before t.step t.applied t.losses t.after
     → (node : NodeNo) → is_relay site node ≡ true → HasRun site node past t.before
     → HasRun site node (past ++ t ∷ []) t.after

@@ -12,7 +12,7 @@ use Rattle.dia_base.proofs.Finding.{found_passes}
 use Rattle.dia_message.specs.declared.message.Message.{Message}
 use Rattle.dia_message.specs.declared.message.Out.{Out}
 use Rattle.dia_message.specs.Traffic.{Traffic}
-use Rattle.farm_law.specs.Lists.{Has, here, there}
+use Rattle.farm_law.specs.Lists.{Has}
 use Rattle.farm_base.specs.declared.site.Site.{Site}
 use Rattle.farm_model.specs.declared.state.Direction.{Direction}
 use Rattle.farm_model.specs.InFlight.{goes}

@@ -39,7 +39,7 @@ use Rattle.farm_base.specs.declared.site.Node.{Node}
 use Rattle.farm_base.specs.declared.site.Site.{Site}
 use Rattle.farm_model.specs.Applying.{AppliesWhereItCan}
 use Rattle.farm_model.specs.BookAndEnds.{KeepsBookAndEnds}
-use Rattle.farm_base.specs.CheckedSite.{IsChecked}
+use Rattle.farm_model.specs.SoundSite.{IsSound}
 use Rattle.farm_model.specs.FrontTurns.{KeepsFronts}
 use Rattle.farm_model.specs.InFlight.{KeepsTraffic}
 use Rattle.farm_base.specs.Nodes.{is_node, is_client, is_front, is_relay, kind_in, means_front, means_relay, name_in, name_at}
@@ -174,9 +174,9 @@ module _ (site : Site) (all : Ends) (past : Past) (w : WorldState) (h : RunHolds
   refused_there : (conn : ConnId) (message : Message) (r : Refused) → HasOneClient site all conn → TellsRefusal (parties site all)
       (server_in site (ends_of all conn)) conn message r → Descends message r.request
       → IsRefusedThere site all conn message r.node r.conn r.request
-  refused_there conn message r client (inl relay) descends = IsRefusedThere.over_relay (server_in site (ends_of all conn)) r.conn r.request (server_end client)
-      relay descends
-  refused_there conn message r client (inr same) descends =
+  refused_there conn message r client (told, inl relay) descends = IsRefusedThere.over_relay (server_in site (ends_of all conn)) r.conn r.request
+      (server_end client) relay (comes_to r.node (server_in site (ends_of all conn)) told) descends
+  refused_there conn message r client (told, inr same) descends =
       subst (λ (m : Message). IsRefusedThere site all conn message r.node r.conn m) (sym same.2)
       (subst (λ (c : ConnId). IsRefusedThere site all conn message r.node c message) (sym same.1)
       (IsRefusedThere.itself (subst (IsEndOf all conn) (sym same.0) (server_end client))))
@@ -266,12 +266,12 @@ module _ (site : Site) (all : Ends) (past : Past) (w : WorldState) (h : RunHolds
 
 -- the promise of a whole run, with what it tells as it goes
 module _ (site : Site) (past : Past) (w : WorldState) (h : RunHolds site w.ends past w) where
-  refuses_round : IsChecked site → (t : Transition) → Has t past → RefusesWhatComesRound site past t
+  refuses_round : IsSound site → (t : Transition) → Has t past → RefusesWhatComesRound site past t
   refuses_round checked t among from node place conn message directions name step flight flag relay named round =
       h.come_back t among from node place conn message directions name step flight flag relay named
       (subst (λ (n : List ℕ). HasComeBack n message) (name_is named) (come_round site checked past h.sends_on node round.0 message round.1))
 
-  pub promise_of : RepliesAreOfEntries → RelaysKeepPromise → IsChecked site → BeginsEmpty past → AnsweredInTime site w.ends [] past → HaveOwnCauses site []
+  pub promise_of : RepliesAreOfEntries → RelaysKeepPromise → IsSound site → BeginsEmpty past → AnsweredInTime site w.ends [] past → HaveOwnCauses site []
       past → KeepsPromise site past (trace_of (skipped_in past) w)
   promise_of of_entries relays_keep checked begins in_time own_causes = record {
     senders = all_of (λ (item : ConnId × Message). HasOneClient site w.ends item.0) w.sent h.heard.senders;

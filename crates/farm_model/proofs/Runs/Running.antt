@@ -22,14 +22,14 @@ use Rattle.farm_model.specs.Arrival.{AtRelay}
 use Rattle.farm_model.specs.Applying.{AppliesWhereItCan}
 use Rattle.farm_model.specs.BookAndEnds.{KeepsBookAndEnds}
 use Rattle.farm_model.specs.Cause.{HasCause, at_relay}
-use Rattle.farm_base.specs.CheckedSite.{IsChecked}
+use Rattle.farm_model.specs.SoundSite.{IsSound}
 use Rattle.farm_model.specs.FarmStep.{FarmStep, Flight, flight_at, can_restart}
 use Rattle.farm_model.specs.FrontTurns.{KeepsFronts}
 use Rattle.farm_model.specs.InFlight.{KeepsTraffic}
 use Rattle.farm_model.specs.OwnCauses.{RefusesEach, HasOneForEach, HaveOwnCauses}
 use Rattle.farm_model.specs.Promise.{IsNamed, IsRightAnswer, RefusesLoop, RefusesWhatComesBack, AppliedOrChangedNothing, journal_then}
 use Rattle.farm_model.specs.Promise.{AnsweredInTime, KeepsPromise}
-use Rattle.farm_model.specs.Run.{Past, Transition, Run, start, empty_book, steps_in, IsTrace, skipped_in}
+use Rattle.farm_model.specs.Run.{Past, Transition, Run, start, empty_book, steps_in, IsTrace}
 use Rattle.farm_base.specs.Nodes.{is_relay}
 use Rattle.farm_model.specs.SetUp.{KeepsSetUp}
 use Rattle.farm_model.specs.SmallSteps.{AppliesInSmallSteps}
@@ -80,7 +80,7 @@ use Rattle.farm_model.proofs.Wiring.Wired.{IsWired}
 
 -- ---- a step
 
-module _ (premises : Premises) (site : Site) (all : Ends) (checked : IsChecked site) where
+module _ (premises : Premises) (site : Site) (all : Ends) (checked : IsSound site) where
   a_relay_loses : RelayLoses site all
   a_relay_loses HasReason refused w loss relay after wired at ended single turn reasons = relay_loses site all HasReason checked w wired loss relay at ended
       single refused after turn reasons
@@ -293,7 +293,7 @@ module _ (premises : Premises) (site : Site) (all : Ends) (checked : IsChecked s
 
 -- ---- the promise
 
-pub promise_kept : Premises → (site : Site) (past : Past) (trace : Trace) → IsChecked site → IsTrace site past trace → KeepsPromise site past trace
+pub promise_kept : Premises → (site : Site) (past : Past) (trace : Trace) → IsSound site → IsTrace site past trace → KeepsPromise site past trace
 promise_kept premises site past trace checked t =
     let w = t.end in
     let h = run_holds premises site w.ends checked [] (start site) past w (start_holds premises site w.ends checked) t.run (λ place nodes e. e) in

@@ -3,13 +3,12 @@ use Rattle.std.proofs.Common.{◌≡◌, ◌≤◌, Bool, true, false, cond, Lis
 use Rattle.std.proofs.Common.{append-nil, true≢false}
 use Rattle.std.specs.Prelude.{◌&&◌, ◌||◌, MatchBool, count_by, filter, flat_map, is_some, slice_get}
 use Rattle.std.specs.List.{find}
-use Rattle.std.proofs.lemmas.Bool.{and_parts, or_cases, both_ways, false_from_ne_true}
+use Rattle.std.proofs.lemmas.Bool.{or_cases}
 use Rattle.std.proofs.lemmas.Grind.{flat_map-append}
 use Rattle.dia_base.proofs.Counting.{one, count-cons}
 use Rattle.dia_base.proofs.Finding.{found_passes}
 use Rattle.dia_base.specs.declared.number.NodeNo.{NodeNo}
 use Rattle.dia_message.specs.declared.message.Message.{Message}
-use Rattle.farm_law.specs.Lists.{Has, here, there}
 use Rattle.farm_base.specs.Lists.{replace_first}
 use Rattle.farm_base.specs.Nodes.{is_node}
 use Rattle.farm_base.specs.declared.site.Site.{Site}
@@ -18,18 +17,14 @@ use Rattle.farm_base.specs.declared.step.Step.TheVariants.{Up, Accept, Opened, S
 use Rattle.farm_base.specs.declared.step.Step.TheVariants.{Restart, Crash, Pick, Charge, Refuse, Emit, Sweep}
 use Rattle.farm_model.specs.declared.state.Direction.{Direction}
 use Rattle.farm_model.specs.FarmStep.{FarmStep, Outcome, Flight, flight_in, flight_of, loss_at, after_lost_message, after_accept}
-use Rattle.farm_model.specs.FarmStep.{after_opened, opened_if, can_cut, Cuts, Restarts, can_restart, after_crash_at}
+use Rattle.farm_model.specs.FarmStep.{after_opened, opened_if, can_cut, can_restart, after_crash_at}
 use Rattle.farm_model.specs.InFlight.{goes}
-use Rattle.farm_model.specs.Loss.{LossAt, Drops, CutsBoth, DropAll, all_dropped, drops_too, after_losing_all, after_crash, end_with, peers_of}
+use Rattle.farm_model.specs.Loss.{LossAt, CutsBoth, DropAll, all_dropped, drops_too, after_losing_all, after_crash, end_with, peers_of}
 use Rattle.farm_model.specs.Run.{Past, Run, Transition, steps_in}
 use Rattle.farm_model.specs.SmallSteps.{loses_all, small_steps, losses_in, GoesInSmallSteps}
 use Rattle.farm_model.specs.World.{Ends, WorldState, is_between, is_heard, emptied, knows}
-use Rattle.farm_model.proofs.Lists.Among.{Has-cons}
-use Rattle.farm_model.proofs.Lists.Finding.{not_found, any_found, Has-found}
-use Rattle.farm_model.proofs.Lists.Numbering.{same_node, is_same_node}
+use Rattle.farm_model.proofs.Lists.Finding.{any_found, Has-found}
 use Rattle.farm_model.proofs.Wiring.Apart.{one_left, none_passes, AreApart, goes_once}
-use Rattle.farm_model.proofs.Wiring.ApartAfterStep.{apart_without}
-use Rattle.farm_model.proofs.Wiring.KnowsAfterStep.{sides_emptied}
 use Rattle.farm_model.proofs.Wiring.Sides.{Side, side_of, sides}
 use Rattle.farm_model.proofs.Wiring.Wired.{IsWired}
 use Rattle.farm_model.proofs.Wiring.WorldLemmas.{direction_nodes, heard_between}

@@ -5,7 +5,7 @@ use Rattle.farm_base.specs.declared.site.Site.{Site}
 use Rattle.farm_base.specs.declared.step.Step.{Step}
 use Rattle.farm_base.specs.declared.step.Step.TheVariants.{Up, Accept, Opened, Send, Deliver, Lose, Cut, Drop}
 use Rattle.farm_base.specs.declared.step.Step.TheVariants.{Restart, Crash, Pick, Charge, Refuse, Emit, Sweep}
-use Rattle.farm_base.specs.CheckedSite.{IsChecked}
+use Rattle.farm_model.specs.SoundSite.{IsSound}
 use Rattle.farm_model.specs.FarmStep.{FarmStep, flight_at, loss_at, after_pick_at, after_charge_at, after_refusal_at, after_emit_at, after_sweep_at}
 use Rattle.farm_model.specs.InFlight.{KeepsTraffic}
 use Rattle.farm_model.specs.Loss.{LossAt}
@@ -22,7 +22,7 @@ use Rattle.farm_model.proofs.Traffic.TrafficOfSteps.{Carries, none_grow, quiet_c
 use Rattle.farm_model.proofs.Traffic.TrafficOfSteps.{charge_goes_on, accept_carries, opened_carries, up_carries, crash_carries}
 use Rattle.farm_model.proofs.Wiring.Wired.{IsWired}
 
-step_carries : {site : Site} {ends : Ends} → IsChecked site → (old new : WorldState) (step : Step) (applied : Bool) (losses : List LossAt) → IsWired site ends
+step_carries : {site : Site} {ends : Ends} → IsSound site → (old new : WorldState) (step : Step) (applied : Bool) (losses : List LossAt) → IsWired site ends
     old → FarmStep site old step applied losses new → AreApart (sides old.directions) → Carries site step old new
 step_carries {site} checked old new (Up a b) applied losses wired made apart = up_carries site checked old new applied apart a b made.0
 step_carries {site} checked old new (Accept at from) applied losses wired made apart = accept_carries site checked old new applied apart from at made.0
@@ -62,7 +62,7 @@ step_carries checked old new (Sweep moment) applied losses wired made apart =
     apart refl (record { directions = swept.directions; sent = swept.sent; received = swept.received })
 
 -- what is promised of the step, and what the next one stands on
-pub step_keeps_traffic : {site : Site} {ends : Ends} → IsChecked site → (t : Transition) → IsWired site ends t.before → FarmStep site t.before t.step t.applied
+pub step_keeps_traffic : {site : Site} {ends : Ends} → IsSound site → (t : Transition) → IsWired site ends t.before → FarmStep site t.before t.step t.applied
     t.losses t.after → AreApart (sides t.before.directions) → KeepsTraffic site t × AreApart (sides t.after.directions)
 step_keeps_traffic {site} {ends} checked t wired made apart =
     let c = step_carries checked t.before t.after t.step t.applied t.losses wired made apart in (

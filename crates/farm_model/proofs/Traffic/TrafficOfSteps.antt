@@ -20,7 +20,7 @@ use Rattle.farm_base.specs.declared.site.Site.{Site}
 use Rattle.farm_model.specs.declared.state.Direction.{Direction}
 use Rattle.farm_base.specs.declared.step.Step.{Step}
 use Rattle.farm_base.specs.declared.step.Step.TheVariants.{Up, Accept, Opened, Crash}
-use Rattle.farm_base.specs.CheckedSite.{IsChecked}
+use Rattle.farm_model.specs.SoundSite.{IsSound}
 use Rattle.farm_model.specs.FarmStep.{Outcome, can_connect, next_conn, with_new_connection, after_accept}
 use Rattle.farm_model.specs.FarmStep.{after_opened_on, opened_if, after_up, empty_direction, with_pick, after_pick_at}
 use Rattle.farm_model.specs.Loss.{after_crash}
@@ -148,7 +148,7 @@ module _ (grows : Side → Bool) (w : WorldState) where
 
 -- ---- a connection comes up
 
-module _ (site : Site) (checked : IsChecked site) (old new : WorldState) (applied : Bool) (apart : AreApart (sides old.directions)) (a b : NodeNo) where
+module _ (site : Site) (checked : IsSound site) (old new : WorldState) (applied : Bool) (apart : AreApart (sides old.directions)) (a b : NodeNo) where
   abbrev both : List Direction
   both = old.directions ++ empty_direction (next_conn old) a b true ∷ empty_direction (next_conn old) b a false ∷ []
 

@@ -18,7 +18,7 @@ use Rattle.farm_model.proofs.Wiring.Joined.{Joins-turned, Joins-other}
 use Rattle.farm_model.proofs.Wiring.KnowsAfterUp.{same_one}
 use Rattle.farm_model.proofs.Wiring.KnowsPeers.{LinkStands, LinkStandsBut, KnowsPeersBut, KnowsPeers}
 use Rattle.farm_model.proofs.Lists.Numbering.{same_conn, same_node, node_itself}
-use Rattle.farm_model.proofs.Wiring.Sides.{Side, side_of, sides, direction_of, side_was, old_side, side_kept}
+use Rattle.farm_model.proofs.Wiring.Sides.{Side, sides, direction_of, side_was, old_side, side_kept}
 use Rattle.farm_model.proofs.Wiring.Wired.{Joins}
 
 module _ {site : Site} {ends : Ends} (w : WorldState) (joined : (d : Direction) → Has d w.directions → Joins ends d.conn d.from d.to)

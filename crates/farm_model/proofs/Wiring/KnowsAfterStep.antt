@@ -19,7 +19,7 @@ use Rattle.farm_base.specs.declared.step.Step.{Step}
 use Rattle.farm_base.specs.declared.step.Step.TheVariants.{Up, Accept, Opened, Send, Deliver, Lose, Cut, Drop}
 use Rattle.farm_base.specs.declared.step.Step.TheVariants.{Restart, Crash, Pick, Charge, Refuse, Emit, Sweep}
 use Rattle.farm_model.specs.Arrival.{AtRelay, after_relay_turn, after_arrival_at_front, after_arrival_at_client, ArrivesAtServer, Arrives}
-use Rattle.farm_base.specs.CheckedSite.{IsChecked}
+use Rattle.farm_model.specs.SoundSite.{IsSound}
 use Rattle.farm_model.specs.FarmStep.{Flight, FarmStep, Outcome, Delivers, DropsIt, can_cut, flight_at, loss_at, after_lost_message, after_send_on, after_send}
 use Rattle.farm_model.specs.FarmStep.{can_connect, with_new_connection, after_accept, after_opened_on, after_opened, opened_if, after_up, with_pick}
 use Rattle.farm_model.specs.FarmStep.{after_pick_at, after_refusal_at, with_emit, after_emit_at, with_charge, after_charge_at, after_sweep_at}
@@ -239,14 +239,14 @@ module _ {site : Site} {ends : Ends} (w : WorldState) (wired : IsWired site ends
   stands_well : StandsWell site ends w
   stands_well = record { joined = λ d h. (wired.directions d h).joins; apart = apart; kinds = wired_kinds wired; known = known }
 
-  accepting_knows : IsChecked site → (at from : NodeNo) → IfSome (after_accept site w at from) (KnowsPeers site)
+  accepting_knows : IsSound site → (at from : NodeNo) → IfSome (after_accept site w at from) (KnowsPeers site)
   accepting_knows checked at from = go (can_connect site w from at) refl
     where
       go : (c : Bool) → can_connect site w from at ≡ c → IfSome (cond c (Some (with_new_connection w from at)) None) (KnowsPeers site)
       go true e = accept_knows checked w wired known from at e
       go false e = tt
 
-  opening_knows : IsChecked site → (a b : NodeNo) → IfSome (after_opened w a b) (KnowsPeers site)
+  opening_knows : IsSound site → (a b : NodeNo) → IfSome (after_opened w a b) (KnowsPeers site)
   opening_knows checked a b = go (find (is_unheard b a) w.directions) refl
     where
       go : (o : Option Direction) → find (is_unheard b a) w.directions ≡ o → IfSome (after_opened_on w a b o) (KnowsPeers site)
@@ -278,7 +278,7 @@ module _ {site : Site} {ends : Ends} (w : WorldState) (wired : IsWired site ends
 
 -- ---- up: accept, and then opened
 
-module _ {site : Site} {ends : Ends} (checked : IsChecked site) (w : WorldState) (wired : IsWired site ends w) (apart : AreApart (sides w.directions))
+module _ {site : Site} {ends : Ends} (checked : IsSound site) (w : WorldState) (wired : IsWired site ends w) (apart : AreApart (sides w.directions))
     (known : KnowsPeers site w) (a b : NodeNo) where
   -- the next one, of which the node that opens it has not learned, is the only one
   pub up_knows : IfSome (after_up site w a b) (KnowsPeers site)
@@ -295,7 +295,7 @@ module _ {site : Site} {ends : Ends} (checked : IsChecked site) (w : WorldState)
 
 -- ---- any step
 
-pub step_knows : {site : Site} {ends : Ends} → IsChecked site → (old new : WorldState) (step : Step) (applied : Bool) (losses : List LossAt) → IsWired site
+pub step_knows : {site : Site} {ends : Ends} → IsSound site → (old new : WorldState) (step : Step) (applied : Bool) (losses : List LossAt) → IsWired site
     ends old → AreApart (sides old.directions) → FarmStep site old step applied losses new → KnowsPeers site old → KnowsPeers site new
 step_knows {site} checked old new (Accept at from) applied losses wired apart made known = outcome_knows old known (after_accept site old at from) applied new
     (accepting_knows old wired apart known checked at from) made.0

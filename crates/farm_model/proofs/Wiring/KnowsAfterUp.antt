@@ -7,15 +7,15 @@ use Rattle.dia_base.specs.declared.number.ConnId.{ConnId}
 use Rattle.dia_base.specs.declared.number.NodeNo.{NodeNo}
 use Rattle.dia_base.proofs.Finding.{found_passes}
 use Rattle.relay_peers.specs.declared.peers.Link.{Link}
-use Rattle.relay_peers.specs.PeerTable.{is_on, peer_in, with_link}
+use Rattle.relay_peers.specs.PeerTable.{is_on, peer_in}
 use Rattle.relay_core.specs.Connecting.{up_fault}
 use Rattle.relay_core.specs.RelayState.{RelayState}
-use Rattle.farm_law.specs.Lists.{Has, here, there}
+use Rattle.farm_law.specs.Lists.{Has, here}
 use Rattle.farm_law.proofs.Lists.{all-end}
 use Rattle.farm_base.specs.declared.site.Site.{Site}
 use Rattle.farm_model.specs.declared.state.Direction.{Direction}
 use Rattle.farm_model.specs.declared.state.RelayAt.{RelayAt}
-use Rattle.farm_base.specs.CheckedSite.{IsChecked}
+use Rattle.farm_model.specs.SoundSite.{IsSound}
 use Rattle.farm_model.specs.FarmStep.{next_conn, with_link_at, empty_direction, with_new_connection, can_connect}
 use Rattle.farm_base.specs.Lists.{replace_first}
 use Rattle.farm_base.specs.Nodes.{is_node, is_linked}
@@ -111,7 +111,7 @@ module _ {site : Site} (w : WorldState) (known : KnowsPeers site w) (me you : No
 
 -- ---- the node that a new connection is opened to
 
-module _ {site : Site} {ends : Ends} (checked : IsChecked site) (w : WorldState) (wired : IsWired site ends w) (known : KnowsPeers site w) (a b : NodeNo) where
+module _ {site : Site} {ends : Ends} (checked : IsSound site) (w : WorldState) (wired : IsWired site ends w) (known : KnowsPeers site w) (a b : NodeNo) where
   abbrev conn : ConnId
   conn = next_conn w
 
@@ -200,7 +200,7 @@ module _ {site : Site} (w : WorldState) (known : KnowsPeers site w) (a b : NodeN
       → (after : WorldState) → after.directions ≡ then → after.relays ≡ with_link_at a b direction.conn w.relays → KnowsPeers site after
   opened_by sound fresh = peer_known w known a b direction.conn then sound fresh ways still comes
 
-module _ {site : Site} {ends : Ends} (checked : IsChecked site) (w : WorldState) (wired : IsWired site ends w) (known : KnowsPeers site w)
+module _ {site : Site} {ends : Ends} (checked : IsSound site) (w : WorldState) (wired : IsWired site ends w) (known : KnowsPeers site w)
     (apart : AreApart (sides w.directions)) (a b : NodeNo) (direction : Direction) (found : find (is_unheard b a) w.directions ≡ Some direction) where
   here_is : Has direction w.directions
   here_is = among w known a b direction found
@@ -250,7 +250,7 @@ module _ {site : Site} {ends : Ends} (checked : IsChecked site) (w : WorldState)
 
 -- ---- one right after the other
 
-module _ {site : Site} {ends : Ends} (checked : IsChecked site) (w : WorldState) (wired : IsWired site ends w) (known : KnowsPeers site w) (a b : NodeNo)
+module _ {site : Site} {ends : Ends} (checked : IsSound site) (w : WorldState) (wired : IsWired site ends w) (known : KnowsPeers site w) (a b : NodeNo)
     (can : can_connect site w a b ≡ true) where
   abbrev v : WorldState
   v = with_new_connection w a b

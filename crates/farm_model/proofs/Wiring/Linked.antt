@@ -7,7 +7,8 @@ use Rattle.dia_base.specs.declared.number.NodeNo.{NodeNo}
 use Rattle.dia_base.proofs.Finding.{found_passes}
 use Rattle.farm_base.specs.declared.site.Link.{Link}
 use Rattle.farm_base.specs.declared.site.Site.{Site}
-use Rattle.farm_base.specs.CheckedSite.{IsChecked, is_known, is_sound_link, joins_two_of}
+use Rattle.farm_base.specs.CheckedSite.{is_known, is_sound_link, joins_two_of}
+use Rattle.farm_model.specs.SoundSite.{IsSound}
 use Rattle.farm_base.specs.Nodes.{is_node, is_client, is_front, joins, is_linked}
 use Rattle.farm_model.proofs.Lists.Finding.{any_found, any_has, all_has, Has-found}
 use Rattle.farm_model.proofs.Lists.Numbering.{same_node, nodes_turned}
@@ -20,7 +21,7 @@ pub record LinkOf (site : Site) (a b : NodeNo) : Type 0 where
   pub sound : is_sound_link site link ≡ true
   pub joined : joins a b link ≡ true
 
-link_of : {site : Site} → IsChecked site → (a b : NodeNo) → is_linked site a b ≡ true → LinkOf site a b
+link_of : {site : Site} → IsSound site → (a b : NodeNo) → is_linked site a b ≡ true → LinkOf site a b
 link_of {site} checked a b e =
     let found = any_found (joins a b) site.links e in
     record {
@@ -81,7 +82,7 @@ joined_are_two site a b link e two =
     let to_is : link.to ≡ b = same_node link.to b parts.1 in
     subst (λ (n : NodeNo). AreTwoNodes site a n) to_is (subst (λ (n : NodeNo). AreTwoNodes site n link.to) from_is two)
 
-pub linked_are_two : {site : Site} → IsChecked site → (a b : NodeNo) → is_linked site a b ≡ true → AreTwoNodes site a b
+pub linked_are_two : {site : Site} → IsSound site → (a b : NodeNo) → is_linked site a b ≡ true → AreTwoNodes site a b
 linked_are_two {site} checked a b e =
     let between = link_of checked a b e in
     let two = ends_are_two site between.link between.sound in
@@ -92,8 +93,8 @@ linked_are_two {site} checked a b e =
 
 -- ---- at most one of them is a client
 
-pub beside_client : (site : Site) → IsChecked site → (a b : NodeNo) → is_linked site a b ≡ true → is_client site a ≡ true → is_client site b ≡ false
+pub beside_client : (site : Site) → IsSound site → (a b : NodeNo) → is_linked site a b ≡ true → is_client site a ≡ true → is_client site b ≡ false
 beside_client site checked a b linked is = ap (λ (c : Bool). c && is_client site b) (sym is) ∙ (linked_are_two checked a b linked).one_client
 
-pub client_beside : (site : Site) → IsChecked site → (a b : NodeNo) → is_linked site a b ≡ true → is_client site b ≡ true → is_client site a ≡ false
+pub client_beside : (site : Site) → IsSound site → (a b : NodeNo) → is_linked site a b ≡ true → is_client site b ≡ true → is_client site a ≡ false
 client_beside site checked a b linked is = beside_client site checked b a (linked_turned site a b linked) is

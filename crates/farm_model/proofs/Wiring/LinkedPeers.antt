@@ -15,7 +15,7 @@ use Rattle.farm_base.specs.declared.site.Node.{Node}
 use Rattle.farm_base.specs.declared.site.Site.{Site}
 use Rattle.farm_base.specs.Nodes.{kind_in, kind_at, is_linked, name_in, name_at}
 use Rattle.farm_model.specs.Run.{peer_if, peers_from}
-use Rattle.farm_base.specs.CheckedSite.{IsChecked}
+use Rattle.farm_model.specs.SoundSite.{IsSound}
 use Rattle.farm_model.specs.World.{Ends}
 use Rattle.farm_model.proofs.Lists.Among.{Has-parts, Has-cons}
 use Rattle.farm_model.proofs.Lists.Finding.{any_found}
@@ -85,7 +85,7 @@ listed_from site at peer linked place (node ∷ nodes) (suc k) within same =
     (listed_from site at peer linked (place + 1) nodes k (omega arith) rest_is)
 
 -- each node that is linked with a relay is a peer of it
-pub peer_is_listed : {site : Site} {ends made : Ends} {node : NodeNo} {relay : RelayState} → IsChecked site → RelayIsWired site ends made node relay →
+pub peer_is_listed : {site : Site} {ends made : Ends} {node : NodeNo} {relay : RelayState} → IsSound site → RelayIsWired site ends made node relay →
     (peer : NodeNo) → is_linked site node peer ≡ true
     → (p : LinkedPeer) × (peer_numbered relay.node.peers.linked peer ≡ Some p)
 peer_is_listed {site} {node} {relay} checked wired peer linked =

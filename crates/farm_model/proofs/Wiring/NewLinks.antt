@@ -16,7 +16,7 @@ use Rattle.relay_core.specs.RelayState.{RelayState}
 use Rattle.farm_law.specs.Lists.{Has}
 use Rattle.farm_base.specs.declared.site.Site.{Site}
 use Rattle.farm_model.specs.declared.state.RelayAt.{RelayAt}
-use Rattle.farm_base.specs.CheckedSite.{IsChecked}
+use Rattle.farm_model.specs.SoundSite.{IsSound}
 use Rattle.farm_model.specs.FarmStep.{next_conn, after_up_by, with_link_of, with_link_at}
 use Rattle.farm_base.specs.Nodes.{is_node, is_linked}
 use Rattle.farm_model.specs.World.{Ends, WorldState, is_relay_at, relay_at}
@@ -50,7 +50,7 @@ no_fault_where peer kind (Some other_kind) None None k u o = refl
 no_fault_where peer kind (Some other_kind) None (Some node) k u o = absurd cc
 no_fault_where peer kind (Some other_kind) (Some conn) other k u o = absurd cc
 
-module _ {site : Site} {ends : Ends} (checked : IsChecked site) (w : WorldState) (wired : IsWired site ends w) where
+module _ {site : Site} {ends : Ends} (checked : IsSound site) (w : WorldState) (wired : IsWired site ends w) where
   -- no link has the number of the next connection
   pub conn_is_new : (node : NodeNo) (relay : RelayState) → relay_at node w.relays ≡ Some relay → find (is_on (next_conn w)) relay.node.peers.links ≡ None
   conn_is_new node relay at = find_none (is_on (next_conn w)) relay.node.peers.links (λ link h.

@@ -22,7 +22,7 @@ use Rattle.relay_core.specs.Verdict.{decision}
 use Rattle.relay_core.proofs.Rules.{forwarded-by}
 use Rattle.farm_law.specs.Lists.{Has}
 use Rattle.farm_base.specs.declared.site.Site.{Site}
-use Rattle.farm_base.specs.CheckedSite.{IsChecked}
+use Rattle.farm_model.specs.SoundSite.{IsSound}
 use Rattle.farm_base.specs.Nodes.{is_client, name_at}
 use Rattle.farm_model.specs.Run.{peers_from, routes_at}
 use Rattle.farm_model.specs.World.{Ends}
@@ -117,7 +117,7 @@ module _ (site : Site) (ends made : Ends) (node : NodeNo) (relay : RelayState) (
           ∙ ap (name_at site) (number ∙ same)
 
   -- a request that goes out by some of the links goes to a node that is no client
-  pub row_sent : (checked : IsChecked site) (out : RelayNode) → out.peers.linked ≡ relay.node.peers.linked → out.routes ≡ relay.node.routes →
+  pub row_sent : (checked : IsSound site) (out : RelayNode) → out.peers.linked ≡ relay.node.peers.linked → out.routes ≡ relay.node.routes →
       ((link : Link) → Has link out.peers.links → Has link relay.node.peers.links)
       → (avps : List RawAvp) (app : ℕ) (to : ConnId) → next_hop out avps app ≡ Ok to → (held : Held) → RowIsWired site ends made node (row_of to held)
   row_sent checked out linked routes among avps app to e held =

@@ -14,7 +14,8 @@ pub held_in-requires : goal.held_in-requires
 held_in-requires c =
     let here = held-at (values c.args.sessions.now) c.loop-place.place c.index-session.result.now c.index-session.ensures in
     let same = ap held_in c.as_slice.ensures in
-    omega (arith, c.requires.held)
+    let few = c.requires.held c.index-session.result.now.account in
+    omega arith
 
 pub index_mut-requires : goal.index_mut-requires
 index_mut-requires c =

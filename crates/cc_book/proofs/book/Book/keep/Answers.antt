@@ -12,7 +12,7 @@ use Rattle.cc_book.specs.Places.{HasPlaces, IsIndexed}
 use Rattle.cc_book.specs.Planning.{IsTaking}
 use Rattle.cc_book.specs.AccountMachine.{posting_of, postings_of}
 use Rattle.cc_book.specs.OpenSessions.{FitsIn, Sessions}
-use Rattle.cc_book.specs.Standing.{after_change, after_debit, held_by_all}
+use Rattle.cc_book.specs.Standing.{after_change, after_debit, reserved_in}
 use Rattle.cc_book.specs.Taking.{Ledger}
 use Rattle.cc_book.proofs.Books.{IsBook-push, account-within, replies-long, same-book, small-book, taking-outcome}
 use Rattle.cc_book.proofs.Fitting.{Fits, change-fits}
@@ -51,7 +51,8 @@ pub debit-requires-clause-most : goal.debit-requires-clause-most
 debit-requires-clause-most c = (small-book c.self.invariant.0).most
 
 pub change-requires-clause-held : goal.change-requires-clause-held
-change-requires-clause-held c = subst (λ (now : Sessions). held_by_all now.items ≤ 2 ^ 110) (sym c.debit.ensures.sessions) (small-book c.self.invariant.0).held
+change-requires-clause-held c = subst (λ (now : Sessions). (account : ℕ) → reserved_in account now.items ≤ 2 ^ 124) (sym c.debit.ensures.sessions)
+    (small-book c.self.invariant.0).held
 
 pub change-requires-clause-fits : goal.change-requires-clause-fits
 change-requires-clause-fits c =
@@ -60,7 +61,7 @@ change-requires-clause-fits c =
     let outcome = c.args.taken.outcome in
     let now = c.self.inside.standing.sessions in
     let book = IsBook-push c.self.inside.terms c.self.inside.limit c.self.inside.history.items c.self.inside.replies.items
-    c.self.inside.standing.balances.items now.items c.args.taken.moment c.args.taken.request outcome c.self.invariant.0 taking.new taking.room does in
+    c.self.inside.standing.balances.items now.items c.args.taken.moment c.args.taken.request outcome c.self.invariant.0 taking.new taking.room taking.borne does in
     let posting = posting_of c.self.inside.terms (postings_of c.self.inside.terms c.self.inside.history.items)
     (Take c.args.taken.moment c.args.taken.request) in
     let fits : Fits now c.args.taken.request c.args.taken.moment posting c.self.invariant.0.stands.own_ids outcome.change =
@@ -83,7 +84,7 @@ invariant_of-self c =
     let fits : SFits w128 outcome.debit = search rules in
     let book = IsBook-push c.self.inside.terms c.self.inside.limit c.self.inside.history.items c.self.inside.replies.items
     c.self.inside.standing.balances.items c.self.inside.standing.sessions.items c.args.taken.moment c.args.taken.request outcome c.self.invariant.0
-    taking.new taking.room does in
+    taking.new taking.room taking.borne does in
     let sessions : c.change.new.self.sessions.items ≡ after_change c.self.inside.standing.sessions.items outcome.change =
     c.change.ensures.sessions ∙ ap (λ (ss : List OpenSession). after_change ss outcome.change) (ap (λ (s : Sessions). s.items) c.debit.ensures.sessions) in
     let balances : c.change.new.self.balances.items ≡ after_debit c.self.inside.standing.balances.items outcome.account outcome.debit =
@@ -114,4 +115,5 @@ invariant_of-self c =
             for_numbered =
                 omega (arith, long, c.self.invariant.4.for_numbered, c.add.ensures.numbered);
           }),
+      c.self.invariant.5,
     )

@@ -1,4 +1,4 @@
-use Rattle.std.proofs.Common.{◌≡◌, ◌<◌, ◌≤◌, List, length, Ok, ap, subst, sym, ◌∙◌, arith}
+use Rattle.std.proofs.Common.{◌<◌, ◌≤◌, List, length, Ok, ap, subst, sym, ◌∙◌, arith}
 use Rattle.cc_book.specs.declared.entry.Entry.{Entry}
 use Rattle.cc_book.specs.Taking.{Ledger, sweep_answer}
 use Rattle.cc_book.proofs.Sweeps.{sweep-full, sweep-none, sweep-some}

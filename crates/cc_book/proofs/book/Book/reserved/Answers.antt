@@ -7,20 +7,17 @@ use Rattle.cc_book.specs.Taking.{Ledger}
 use Rattle.cc_book.proofs.Books.{reserved_of-is, small-book}
 use Rattle.cc_book.proofs.book.Book.reserved.Goals as goal
 
-pub reserved-requires : goal.reserved-requires
-reserved-requires c = (small-book c.self.invariant.0).held
-
 pub overflow_cast-result : goal.overflow_cast-result
 overflow_cast-result c =
-    let most = (small-book c.self.invariant.0).held in
-    let small : c.reserved.result < 2 ^ 127 = omega (arith, c.reserved.ensures.most) in
+    let most = (small-book c.self.invariant.0).held c.args.account in
+    let small : c.reserved.result < 2 ^ 127 = omega (arith, c.reserved.ensures) in
     search rules
 
 pub returns-then-account-len : goal.returns-then-account-len
 returns-then-account-len c =
-    let most = (small-book c.self.invariant.0).held in
-    let small : c.reserved.result < 2 ^ 127 = omega (arith, c.reserved.ensures.most) in
-    let is = c.reserved.ensures.value ∙ sym (reserved_of-is c.self.inside.history.items c.self.invariant.0.stands c.args.account)
+    let most = (small-book c.self.invariant.0).held c.args.account in
+    let small : c.reserved.result < 2 ^ 127 = omega (arith, c.reserved.ensures) in
+    let is = c.reserved.ensures ∙ sym (reserved_of-is c.self.inside.history.items c.self.invariant.0.stands c.args.account)
     ∙ ap (λ (l : Ledger). reserved_of l.terms l.history c.args.account) c.self.view_is in
     let same : length c.args.self.now.terms.accounts ≡ length c.self.inside.terms.accounts =
     sym (ap (λ (l : Ledger). length l.terms.accounts) c.self.view_is) in

@@ -46,4 +46,5 @@ invariant_of-self c =
       subst (λ (es : List Entry). HasPlaces c.self.inside.limit (length es) c.self.inside.places) (sym c.push_reserved.ensures.items)
           (let long = length-append c.self.inside.history.items (Sweep c.args.moment ∷ []) in
           record { for_firsts = omega (arith, c.self.invariant.4.for_firsts); for_numbered = omega (arith, c.self.invariant.4.for_numbered) }),
+      c.self.invariant.5,
     )

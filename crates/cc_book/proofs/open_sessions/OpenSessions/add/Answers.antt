@@ -1,12 +1,11 @@
-use Rattle.std.proofs.Common.{rules, ◌≡◌, ◌+◌, ◌<◌, ◌^◌, ◌++◌, ◌∷◌, [], ℕ, List, length, subst, sym, ap, ◌∙◌, arith, get_or}
+use Rattle.std.proofs.Common.{rules, ◌≡◌, ◌+◌, ◌<◌, ◌≤◌, ◌^◌, ◌++◌, ◌∷◌, [], ℕ, List, length, subst, sym, ap, ◌∙◌, arith, get_or}
 use Rattle.std.specs.Prelude.{OnOk}
 use Rattle.std.proofs.lemmas.List.{get_or_default}
 use Rattle.indexmap.specs.IndexMap.{insert_entry, values}
 use Rattle.cc_book.specs.declared.session.OpenSession.{OpenSession}
 use Rattle.cc_book.specs.Duplicate.{same_session}
 use Rattle.cc_book.specs.OpenSessions.{Sessions}
-use Rattle.cc_book.specs.Standing.{held_by_all, held_in, place_in}
-use Rattle.cc_book.proofs.Amounts.{reserved_in-part}
+use Rattle.cc_book.specs.Standing.{held_in, place_in, reserved_in}
 use Rattle.cc_book.proofs.KeptSessions.{IsKept-add}
 use Rattle.cc_book.proofs.open_sessions.OpenSessions.add.Goals as goal
 
@@ -18,14 +17,14 @@ overflow_add-index_mut c =
     let account = c.args.session.account in
     let same = ap held_in c.as_slice.ensures in
     let items : values c.self.inside.sessions ≡ c.args.self.now.items = ap (λ (s : Sessions). s.items) c.self.view_is in
-    let all : held_by_all (values c.self.inside.sessions) ≡ held_by_all c.args.self.now.items = ap held_by_all items in
-    let part = reserved_in-part account (values c.self.inside.sessions) in
+    let few : reserved_in account (values c.self.inside.sessions) ≤ 2 ^ 124 = subst (λ (ss : List OpenSession). reserved_in account ss ≤ 2 ^ 124) (sym items)
+    (c.requires.held account) in
     let total = c.self.invariant.summed account in
     let lt : account < length c.self.inside.totals.items =
     subst (λ (n : ℕ). account < n) (sym (ap (λ (s : Sessions). s.accounts) c.self.view_is)) c.requires.known in
     let value : c.index_mut.result.now ≡ get_or c.self.inside.totals.items account 0 = c.index_mut.ensures.value
     ∙ get_or_default c.self.inside.totals.items account c.index_mut.result.now 0 lt in
-    let small : c.index_mut.result.now + c.held_in.result < 2 ^ 128 = omega (arith, c.requires.more, c.requires.held, c.held_in.ensures) in
+    let small : c.index_mut.result.now + c.held_in.result < 2 ^ 128 = omega (arith, c.requires.more, c.held_in.ensures) in
     search rules
 
 pub invariant_of-self : goal.invariant_of-self

@@ -1,12 +1,11 @@
-use Rattle.std.proofs.Common.{◌≡◌, ◌-◌, List, length, subst, sym, ap, ◌∙◌, arith, get_or, remove}
+use Rattle.std.proofs.Common.{◌≡◌, ◌-◌, ◌≤◌, ◌^◌, List, length, subst, sym, ap, ◌∙◌, arith, get_or, remove}
 use Rattle.std.specs.Prelude.{slice_set}
 use Rattle.std.proofs.lemmas.List.{get_or_default}
 use Rattle.indexmap.specs.IndexMap.{values}
 use Rattle.std.specs.Map.{values_of}
 use Rattle.cc_book.specs.declared.session.OpenSession.{OpenSession}
 use Rattle.cc_book.specs.OpenSessions.{IsKept, Sessions}
-use Rattle.cc_book.specs.Standing.{held_by_all, held_in}
-use Rattle.cc_book.proofs.Amounts.{reserved_in-part}
+use Rattle.cc_book.specs.Standing.{held_in, reserved_in}
 use Rattle.cc_book.proofs.KeptSessions.{IsKept-end, Rows, held-total, known-at, values-at, values-remove}
 use Rattle.cc_book.proofs.open_sessions.OpenSessions.end.Goals as goal
 
@@ -14,12 +13,12 @@ pub held_in-requires : goal.held_in-requires
 held_in-requires c =
     let account = c.in-Some.ended.account in
     let items : values c.self.inside.sessions ≡ c.args.self.now.items = ap (λ (s : Sessions). s.items) c.self.view_is in
-    let all : held_by_all (values c.self.inside.sessions) ≡ held_by_all c.args.self.now.items = ap held_by_all items in
-    let part = reserved_in-part account (values c.self.inside.sessions) in
+    let few : reserved_in account (values c.self.inside.sessions) ≤ 2 ^ 124 = subst (λ (ss : List OpenSession). reserved_in account ss ≤ 2 ^ 124) (sym items)
+    (c.requires.held account) in
     let there = values-at c.self.inside.sessions.entries c.args.place (c.in-Some.id, c.in-Some.ended) (sym c.in-Some.ensures.entry) in
     let own = held-total (values c.self.inside.sessions) c.args.place c.in-Some.ended there in
     let same = ap held_in c.as_slice.ensures in
-    omega (arith, c.requires.held)
+    omega arith
 
 pub index_mut-requires : goal.index_mut-requires
 index_mut-requires c =

@@ -1,12 +1,12 @@
-use Rattle.std.proofs.Common.{rules, ◌≡◌, ◌+◌, ◌-◌, ◌<◌, ◌^◌, ℕ, List, length, subst, sym, ap, ◌∙◌, arith}
+use Rattle.std.proofs.Common.{rules, ◌≡◌, ◌+◌, ◌-◌, ◌<◌, ◌≤◌, ◌^◌, ℕ, List, length, subst, sym, ap, ◌∙◌, arith}
 use Rattle.std.specs.Prelude.{slice_set}
 use Rattle.std.proofs.lemmas.List.{length-map}
 use Rattle.std.proofs.lemmas.Option.{slice_get_within}
 use Rattle.indexmap.specs.IndexMap.{values}
 use Rattle.cc_book.specs.declared.session.OpenSession.{OpenSession}
 use Rattle.cc_book.specs.OpenSessions.{GoesOnAt, Sessions}
-use Rattle.cc_book.specs.Standing.{held_by_all, held_in, reserved_in}
-use Rattle.cc_book.proofs.Amounts.{held-at, reserved_in-part}
+use Rattle.cc_book.specs.Standing.{held_in, reserved_in}
+use Rattle.cc_book.proofs.Amounts.{held-at}
 use Rattle.cc_book.proofs.KeptSessions.{IsKept-go_on, held-there, known-at, total-there, values-set}
 use Rattle.cc_book.proofs.open_sessions.OpenSessions.go_on.Goals as goal
 
@@ -16,9 +16,10 @@ held_in-before-requires c =
     let at = subst (λ (ss : List OpenSession). GoesOnAt ss c.args.place c.args.session) (sym items) c.requires.there in
     let same = ap held_in c.as_slice.ensures in
     let is = held-there (values c.self.inside.sessions) c.args.place c.index.result.now at.before c.index.ensures at.there in
-    let all : held_by_all (values c.self.inside.sessions) ≡ held_by_all c.args.self.now.items = ap held_by_all items in
+    let few : reserved_in at.before.account (values c.self.inside.sessions) ≤ 2 ^ 124 =
+    subst (λ (ss : List OpenSession). reserved_in at.before.account ss ≤ 2 ^ 124) (sym items) (c.requires.held at.before.account) in
     let here = held-at (values c.self.inside.sessions) c.args.place at.before at.there in
-    omega (arith, c.requires.held)
+    omega arith
 
 pub index-requires-2 : goal.index-requires-2
 index-requires-2 c =
@@ -51,11 +52,11 @@ overflow_add-left c =
     let at = subst (λ (ss : List OpenSession). GoesOnAt ss c.args.place c.args.session) (sym items) c.requires.there in
     let sums = total-there c.self.inside.sessions.entries c.self.inside.totals.items c.args.place c.args.session c.index.result.now c.index-2.result.now
     c.held_in-before.result c.self.invariant at c.index.ensures c.index-2.ensures (c.held_in-before.ensures ∙ ap held_in c.as_slice.ensures) in
-    let all : held_by_all (values c.self.inside.sessions) ≡ held_by_all c.args.self.now.items = ap held_by_all items in
-    let part = reserved_in-part c.args.session.account (values c.self.inside.sessions) in
+    let few : reserved_in c.args.session.account (values c.self.inside.sessions) ≤ 2 ^ 124 =
+    subst (λ (ss : List OpenSession). reserved_in c.args.session.account ss ≤ 2 ^ 124) (sym items) (c.requires.held c.args.session.account) in
     let more = ap held_in c.as_slice-2.ensures in
     let small : (c.index-2.result.now - c.held_in-before.result) + c.held_in.result < 2 ^ 128 =
-    omega (arith, sums.0, sums.1, sums.2, c.requires.more, c.requires.held, c.held_in.ensures) in
+    omega (arith, sums.0, sums.1, sums.2, c.requires.more, c.held_in.ensures) in
     search rules
 
 pub index_mut-requires-2 : goal.index_mut-requires-2

@@ -1,11 +1,14 @@
-use Rattle.std.proofs.Common.{rules, ◌≡◌, ℕ, Bool, List, filter, not, subst, sym, ap, ◌∙◌}
+use Rattle.std.proofs.Common.{rules, ◌≡◌, ◌≤◌, ◌^◌, ℕ, Bool, List, filter, not, subst, sym, ap, ◌∙◌}
 use Rattle.indexmap.proofs.CallerLemmas.{filter-RetainsPairs}
 use Rattle.std.specs.Map.{values_of}
 use Rattle.cc_book.specs.declared.session.OpenSession.{OpenSession}
 use Rattle.cc_book.specs.OpenSessions.{IsKept, Sessions}
-use Rattle.cc_book.specs.Standing.{is_due, without_due}
+use Rattle.cc_book.specs.Standing.{is_due, reserved_in, without_due}
 use Rattle.cc_book.proofs.KeptSessions.{IsKept-sweep, Rows, values-filter}
 use Rattle.cc_book.proofs.open_sessions.OpenSessions.sweep.Goals as goal
+
+pub release-requires-clause-held : goal.release-requires-clause-held
+release-requires-clause-held c = λ account. subst (λ (s : Sessions). reserved_in account s.items ≤ 2 ^ 124) (sym c.self.view_is) (c.requires account)
 
 pub invariant_of-self : goal.invariant_of-self
 invariant_of-self c =

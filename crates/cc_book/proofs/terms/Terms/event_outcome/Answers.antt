@@ -14,7 +14,7 @@ pub returns : goal.returns
 returns g c = λ before moment is stands.
     let terms = c.args.self.now in
     let request = c.args.request.now in
-    let account = c.account_of-account.result in
+    let account = c.args.account in
     let total = c.total_of-total.result in
     let free : ℤ = free_in (g.S.Lookup.balances c.args.standing.now) (g.S.Lookup.sessions c.args.standing.now) account in
     let free_fits : SFits w128 c.free_for-free.result = search rules in
@@ -29,5 +29,5 @@ returns g c = λ before moment is stands.
     let costs = c.total_of-total.ensures.value ∙ ap (λ (ss : List Service). total_of terms.tariffs ss) c.as_slice.ensures.value in
     same-outcome account _ (to_z w128 (of_z w128 c.action_debit.result)) _ c.in_ok-reply.reply Stays Stays
     (sym (to_z-of_z w128 c.action_debit.result fits ∙ value)) (sym reply) refl
-    (event-outcome request moment stands account total is c.account_of-account.ensures.value c.account_of-account.ensures.within costs
+    (event-outcome request moment stands account total is c.requires.account c.requires.within costs
     (omega (arith, ints, c.action_debit.ensures.least, value)) (omega (arith, ints, c.action_debit.ensures.most, value)))

@@ -7,6 +7,9 @@ ok_so : {X E : Type 0} (P Q : X → Type 0) (result : Result X E) → ((x : X) �
 ok_so P Q (Ok x) so ok = so x ok
 ok_so P Q (Err e) so ok = tt
 
+pub returns-in-Initial : goal.returns-in-Initial
+returns-in-Initial g c = ok_so _ _ c.initial_outcome.result (λ outcome is before stands. is before c.in-Initial.is stands) c.initial_outcome.ensures
+
 pub returns-in-Termination : goal.returns-in-Termination
 returns-in-Termination g c = ok_so _ _ c.termination_outcome.result (λ outcome is before stands. is before c.args.moment c.in-Termination.is stands)
     c.termination_outcome.ensures

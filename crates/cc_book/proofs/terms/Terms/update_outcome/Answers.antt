@@ -22,14 +22,16 @@ pub held_in-requires : goal.held_in-requires
 held_in-requires g c =
     let here = held-at (g.S.Lookup.sessions c.args.standing.now) c.in-Some.place c.in-Some.session.now c.in-Some.ensures.there in
     let same = ap held_in c.as_slice.ensures in
-    omega (arith, c.requires.held)
+    let few = c.requires.held c.in-Some.session.now.account in
+    omega arith
 
 pub held_in-requires-2 : goal.held_in-requires-2
 held_in-requires-2 g c =
     let here = held-at (g.S.Lookup.sessions c.args.standing.now) c.in-Some.place c.in-Some.session.now c.in-Some.ensures.there in
     let part = held_in-beside c.as_slice-services.result.now c.in-Some.session.now.holds in
     let left = ap held_in (c.deref.ensures.value ∙ c.in_ok-holds.ensures) in
-    omega (arith, c.requires.held)
+    let few = c.requires.held c.in-Some.session.now.account in
+    omega arith
 
 pub overflow_sub-ended : goal.overflow_sub-ended
 overflow_sub-ended g c =
@@ -47,7 +49,8 @@ pub free_to_grant-free-requires-clause-ended : goal.free_to_grant-free-requires-
 free_to_grant-free-requires-clause-ended g c =
     let here = held-at (g.S.Lookup.sessions c.args.standing.now) c.in-Some.place c.in-Some.session.now c.in-Some.ensures.there in
     let same = ap held_in c.as_slice.ensures in
-    omega (arith, c.requires.held, c.held_in.ensures)
+    let few = c.requires.held c.in-Some.session.now.account in
+    omega (arith, c.held_in.ensures)
 
 pub returns : goal.returns
 returns g c = λ before is stands.

@@ -64,7 +64,7 @@ invariant_of-self c =
     let fits : SFits w128 outcome.debit = search rules in
     let book = IsBook-push c.self.inside.terms c.self.inside.limit c.self.inside.history.items c.self.inside.replies.items
     c.self.inside.standing.balances.items c.self.inside.standing.sessions.items c.args.taken.moment c.args.taken.request outcome c.self.invariant.0
-    taking.new taking.room does in
+    taking.new taking.room taking.borne does in
     let sessions : c.change.new.self.sessions.items ≡ after_change c.self.inside.standing.sessions.items outcome.change =
     c.change.ensures.sessions ∙ ap (λ (ss : List OpenSession). after_change ss outcome.change)
     (ap (λ (v : Vec OpenSession Global). v.items) c.debit.ensures.sessions) in
@@ -83,4 +83,5 @@ invariant_of-self c =
             (let same = ap (λ (v : Vec OpenSession Global). vec_capacity v)
             c.debit.ensures.sessions in omega (arith, c.self.invariant.1.for_sessions, c.change.ensures.room));
       },
+      c.self.invariant.2,
     )

@@ -6,6 +6,7 @@ use Rattle.cc_book.specs.declared.session.OpenSession.{OpenSession}
 use Rattle.cc_book.specs.declared.terms.Terms.{Terms}
 use Rattle.cc_book.specs.Taking.{IsBook}
 use Rattle.cc_book.proofs.Books.{IsBook-empty}
+use Rattle.cc_book.proofs.Bounds.{bounded-empty, opens-small}
 use Rattle.cc_book.proofs.Stands.{empty-stands}
 use Rattle.cc_list.proofs.book.ListBook.new.Goals as goal
 
@@ -14,18 +15,21 @@ invariant_of-result c =
     let terms : Terms = record { accounts = c.from_vec.result; tariffs = c.args.tariffs; validity = c.args.validity; money = c.args.money } in
     let standing = c.in_ok-standing.standing in
     let openings = c.in_ok-standing.ensures.balances ∙ ap (map (λ (a : Account). a.opening)) (c.deref.ensures.value ∙ sym c.from_vec.ensures) in
-    let stands = empty-stands terms standing.balances.items openings c.in_ok-standing.ensures.least c.in_ok-standing.ensures.most in
+    let stands = empty-stands terms standing.balances.items openings in
+    let small = opens-small terms standing.balances.items openings c.in_ok-standing.ensures.least c.in_ok-standing.ensures.most in
+    let bounded = bounded-empty terms standing.balances.items openings c.in_ok-standing.ensures.least c.in_ok-standing.ensures.most in
     let book =
     subst (λ (ss : List OpenSession). IsBook terms c.args.limit c.in_ok-with_capacity.field-0.items c.in_ok-with_capacity-2.field-0.items
     standing.balances.items ss) (sym c.in_ok-standing.ensures.sessions)
     (subst (λ (rs : List (Option CcReply)). IsBook terms c.args.limit c.in_ok-with_capacity.field-0.items rs standing.balances.items [])
     (sym c.in_ok-with_capacity-2.ensures.items)
     (subst (λ (es : List Entry). IsBook terms c.args.limit es [] standing.balances.items []) (sym c.in_ok-with_capacity.ensures.items)
-    (IsBook-empty terms c.args.limit standing.balances.items (omega arith) stands))) in (
+    (IsBook-empty terms c.args.limit standing.balances.items small bounded stands))) in (
       book,
       record {
         for_entries = omega (arith, c.in_ok-with_capacity.ensures.exact);
         for_replies = omega (arith, c.in_ok-with_capacity-2.ensures.exact);
         for_sessions = omega (arith, c.in_ok-standing.ensures.room);
       },
+      omega arith,
     )

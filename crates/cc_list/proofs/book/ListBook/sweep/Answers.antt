@@ -39,6 +39,7 @@ invariant_of-self c =
         for_replies = omega (arith, c.self.invariant.1.for_replies, c.push_reserved-2.ensures.capacity);
         for_sessions = omega (arith, c.self.invariant.1.for_sessions, c.sweep.ensures.room);
       },
+      c.self.invariant.2,
     )
 
 pub returns-clause-answer : goal.returns-clause-answer

@@ -1,6 +1,6 @@
 use Rattle.std.proofs.Common.{ap, sym, ◌∙◌, arith}
-use Rattle.cc_book.specs.Standing.{held_by_all, held_in, reserved_in}
-use Rattle.cc_book.proofs.Amounts.{reserved_in-next, reserved_in-part}
+use Rattle.cc_book.specs.Standing.{held_in, reserved_in}
+use Rattle.cc_book.proofs.Amounts.{reserved_in-next}
 use Rattle.cc_list.proofs.standing.Lists.reserved.Goals as goal
 
 pub held_in-reserved-requires : goal.held_in-reserved-requires
@@ -10,8 +10,9 @@ held_in-reserved-requires c =
     let next = reserved_in-next c.args.account all c.loop-session.session-index c.loop-session.reserved c.session-item.result sum c.loop-session-test.true
     c.session-item.is c.if-session-account.true in
     let same = ap held_in c.as_slice.ensures in
-    let whole = ap held_by_all c.deref-session-items.ensures.value in
-    omega (arith, c.requires)
+    let whole = ap (reserved_in c.args.account) c.deref-session-items.ensures.value in
+    let few = c.requires c.args.account in
+    omega arith
 
 pub overflow_add-reserved : goal.overflow_add-reserved
 overflow_add-reserved c =
@@ -20,8 +21,6 @@ overflow_add-reserved c =
     let next = reserved_in-next c.args.account all c.loop-session.session-index c.loop-session.reserved c.session-item.result sum c.loop-session-test.true
     c.session-item.is c.if-session-account.true in
     let same = ap held_in c.as_slice.ensures in
-    let whole = ap held_by_all c.deref-session-items.ensures.value in
-    omega (arith, c.requires, c.held_in-reserved.ensures)
-
-pub returns-clause-most : goal.returns-clause-most
-returns-clause-most c = let part = reserved_in-part c.args.account c.args.self.now.sessions.items in omega (arith, c.loop-session.invariant)
+    let whole = ap (reserved_in c.args.account) c.deref-session-items.ensures.value in
+    let few = c.requires c.args.account in
+    omega (arith, c.held_in-reserved.ensures)
