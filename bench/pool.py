@@ -18,7 +18,7 @@ from laid import TOP, build, lay
 
 JOBS, RUNS = 20_000, 5
 WORKERS, WINDOWS = (1, 2, 4), (1, 32, 128, 256)
-DEPS = "dia_avp dia_base dia_grammar dia_message cc_view cc_book cc_rating cc_shared farm_clock front_pool anyhow hex"
+DEPS = "book_file dia_avp dia_base dia_grammar dia_message cc_view cc_book cc_rating cc_shared farm_clock front_pool anyhow hex"
 
 
 def run(program, workers, window):

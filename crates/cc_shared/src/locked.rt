@@ -10,6 +10,7 @@ ghost use Rattle.cc_shared.specs.declared.logged.Logged.TheVariants.{Closed};
 ghost use Rattle.book_journal.specs.Kept.{IsKeptBy, IsSettled};
 
 use crate::asking::{Asked, Served};
+use crate::batching::Batching;
 use crate::error::{CloseError, ServeError, ServeRefusal};
 use crate::history::{BlankHistory, ClosedHistory, Length, SeenHistory};
 use crate::kept::KeptBook;
@@ -49,6 +50,7 @@ pub struct LockedBook<L: Sharing, S: RowStore> {
     lock: Mutex<Behind<L, S>>,
     /// 1 once something was not stored, and 0 before.
     failed: AtomicU64,
+    batching: Batching,
 }
 
 /// Refuses these requests, since the book is closed.
@@ -153,6 +155,7 @@ impl<L: Sharing, S: RowStore + Drop> LockedBook<L, S> {
         ensures err { IfErr result (λ returned. returned ≡ book) }
     {
         let (length, seen) = history.named::<L>();
+        let batching = Batching::new(journal.store.is_some());
         let lock = Mutex::new(Behind::Nothing);
         let Ok(mut places) = Vec::with_capacity(alloc, seats as usize) else {
             return Err(book);
@@ -163,6 +166,7 @@ impl<L: Sharing, S: RowStore + Drop> LockedBook<L, S> {
                 length,
                 lock,
                 failed: AtomicU64::new(0),
+                batching,
             },
         ) else {
             return Err(book);
@@ -181,6 +185,11 @@ impl<L: Sharing, S: RowStore + Drop> LockedBook<L, S> {
     /// Whether something that the book has done was not stored. The process is to end then.
     pub fn has_failed(&self) -> bool {
         self.failed.load(Ordering::SeqCst) != 0
+    }
+
+    /// Whether the book is stored, and by whom requests for it are collected.
+    pub fn batching(&self) -> &Batching {
+        &self.batching
     }
 
     /// Stores what an open book has done, in one commit; it stands behind the lock then, and what it has answered is told. None

@@ -91,6 +91,22 @@ impl<L: Sharing, S: RowStore + Drop> SharedBook<L, S> {
         self.locked.has_failed()
     }
 
+    /// Whether the book is stored.
+    pub fn is_stored(&self) -> bool {
+        self.locked.batching().is_stored()
+    }
+
+    /// Waits until no other thread collects requests for a stored book. It does not wait where the book is in memory. What is collected
+    /// from then on, until [`SharedBook::end_batch`], is to be asked in one call.
+    pub fn begin_batch<R: Wait>(&self, rt: &R) {
+        self.locked.batching().begin(rt);
+    }
+
+    /// Lets the next thread collect requests. Each batch that was begun is to be ended once.
+    pub fn end_batch(&self) {
+        self.locked.batching().end();
+    }
+
     /// Serves a request: one take of the book, behind the lock (RFC 8506, section 6). Its receipt stands in the one history, and
     /// is stored where the book is. A request that is not served is handed back: at a history that has reached its limit, without
     /// memory, and once the book is closed. The book is then as it was. Where what the book has done cannot be stored, it does not

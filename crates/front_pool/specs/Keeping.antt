@@ -44,9 +44,9 @@ abbrev pub handed_back : SubmitError → Message
 handed_back (PoolFull request) = request
 handed_back (OutOfMemory request) = request
 
--- As many jobs were put into the queue as it has room for, or each number is given.
+-- As many jobs were put into the queue as it has room for, and as many are unanswered; or each number is given.
 abbrev pub IsFull : PoolState → Type 0
-IsFull pool = (pool.room ≤ length pool.put) ⊎ (pool.last ≡ 2 ^ 64 - 1)
+IsFull pool = ((pool.room ≤ length pool.put) × (pool.room ≤ length pool.unanswered)) ⊎ (pool.last ≡ 2 ^ 64 - 1)
 
 -- why a request is not handed over
 abbrev pub HasCause : SubmitError → PoolState → Type 0

@@ -1,6 +1,6 @@
 //! A pool: the jobs that were handed over, and the threads that work on them.
 
-ghost use Rattle.std.specs.Prelude.{◌≡◌, ◌+◌, ◌≤◌, List, [], ◌∷◌, ◌++◌, length, All, IfNone, IfSome, MatchBool, true, false, vec_len, vec_capacity};
+ghost use Rattle.std.specs.Prelude.{◌≡◌, ◌+◌, ◌≤◌, List, [], ◌∷◌, ◌++◌, length, All, IfErr, IfNone, IfOk, IfSome, MatchBool, true, false, vec_len, vec_capacity};
 ghost use Rattle.std.specs.List.Sorted.{IsPermutation};
 ghost use Rattle.std.specs.Arc.{arc_value};
 ghost use Rattle.crossbeam_queue.specs.Passes.{IsPassOf, ruled_capacity, view};
@@ -8,7 +8,7 @@ ghost use Rattle.front_pool.specs.Answering.{IsAnsweredBy, IsAnsweredByOne};
 ghost use Rattle.front_pool.specs.declared.job.Job.{Job};
 ghost use Rattle.front_pool.specs.Jobs.{job_of, jobs_of};
 ghost use Rattle.front_pool.specs.Keeping.{Balances, Collects, HandsBack, IsAt, IsStranger, IsTakenOff, new_pool};
-ghost use Rattle.front_pool.specs.Moving.{of_pool, with_taken};
+ghost use Rattle.front_pool.specs.Moving.{of_pool, with_put, with_taken};
 
 use crate::control::Control;
 use crate::desk::Desk;
@@ -141,7 +141,8 @@ impl<L: Pooling> Pool<L> {
             conn,
             request,
         };
-        if let Err(job) = self.jobs.push_as::<Puts, R>(rt, &mut self.job_pass, job) {
+        let unanswered = self.unanswered.len();
+        if let Err(job) = put(rt, &self.jobs, &mut self.job_pass, unanswered, job) {
             return Err(SubmitError::PoolFull {
                 request: job.request,
             });
@@ -238,6 +239,36 @@ impl<L: Pooling> Pool<L> {
             unserved,
         }
     }
+}
+
+/// Puts a job into the queue of the workers. It comes back from a full queue. Each job in the queue is unanswered, so a queue that
+/// seems full while fewer jobs are unanswered than it has room for is asked again.
+fn put<R: Wait>(
+    rt: &R,
+    queue: &JobQueue,
+    pass: &mut JobPass,
+    unanswered: usize,
+    job: Job,
+) -> Result<(), Job>
+    requires pass { IsPassOf queue.now pass.old × ((view pass.old).by_pool ≡ true) }
+    ensures pass { IsPassOf queue.now pass.new }
+    ensures put { IfOk result (λ _. view pass.new ≡ with_put (view pass.old) job) }
+    ensures same { IfErr result (λ back. (back ≡ job) × (view pass.new ≡ view pass.old)) }
+    ensures full { IfErr result (λ _. (ruled_capacity queue.now ≤ length (view pass.old).put) × (ruled_capacity queue.now ≤ unanswered)) }
+{
+    let mut job = job;
+    for _ in rt.forever() {
+        match queue.push_as::<Puts, R>(rt, pass, job) {
+            Ok(()) => return Ok(()),
+            Err(back) => {
+                if unanswered >= queue.capacity() {
+                    return Err(back);
+                }
+                job = back;
+            }
+        }
+    }
+    unreachable!()
 }
 
 /// The place of the job that is finished. None where it is not among these.

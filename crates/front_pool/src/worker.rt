@@ -87,17 +87,22 @@ impl<L: Pooling, S: RowStore + Drop, G: Gate + Drop> Worker<L, S, G> {
         self.desk.jobs.pop_as::<Takes, R>(rt, &mut self.job_pass)
     }
 
-    /// How many jobs it takes in hand, with the one that it has: while another worker has none, no other; else its share of those
-    /// that wait.
+    /// How many jobs it takes in hand, with the one that it has: all that wait, where the book is stored. In memory it takes no other
+    /// while another worker has none; else its share of those that wait.
     fn share<R: Wait>(&mut self, rt: &R) -> usize
         ensures { self.new ≡ self.old }
     {
-        if !self.desk.control.are_all_busy() {
+        let is_stored = self.shared.is_stored();
+        if !is_stored && !self.desk.control.are_all_busy() {
             return 1;
         }
         let waiting = self.desk.jobs.len_as::<Takes, R>(rt, &mut self.job_pass);
-        let workers = self.desk.control.workers().max(1);
-        (waiting / workers as usize).saturating_add(1).min(IN_HAND)
+        let among = if is_stored {
+            1
+        } else {
+            self.desk.control.workers().max(1)
+        };
+        (waiting / among as usize).saturating_add(1).min(IN_HAND)
     }
 
     /// Takes jobs that wait behind those that it has in hand, until it has so many, or none waits.
@@ -168,12 +173,15 @@ impl<L: Pooling, S: RowStore + Drop, G: Gate + Drop> Worker<L, S, G> {
         self.desk.gate.answered(rt, number);
     }
 
-    /// Finishes a job.
+    /// Finishes a job. The batch has ended.
     fn serve<W: Wire, R: Wait + Clock>(&mut self, rt: &R, alloc: Global, job: Job)
         ensures { WorksOff L.site L.shared (job ∷ []) self.old self.new }
     {
         match self.read::<W, R>(rt, alloc, job) {
-            Reading::Answered { finished } => self.finish(rt, finished),
+            Reading::Answered { finished } => {
+                self.shared.end_batch();
+                self.finish(rt, finished);
+            }
             Reading::Asks { asked } => {
                 let Asked {
                     job,
@@ -183,6 +191,7 @@ impl<L: Pooling, S: RowStore + Drop, G: Gate + Drop> Worker<L, S, G> {
                 let result = self
                     .shared
                     .serve(rt, alloc, &mut self.seat, moment, request);
+                self.shared.end_batch();
                 let served = Served {
                     job,
                     moment,
@@ -216,7 +225,7 @@ impl<L: Pooling, S: RowStore + Drop, G: Gate + Drop> Worker<L, S, G> {
         asked
     }
 
-    /// Has the book serve these requests, one behind the other. Without memory they are handed back.
+    /// Has the book serve these requests, one behind the other. Without memory they are handed back. The batch has ended.
     fn ask_all<R: Wait>(
         &mut self,
         rt: &R,
@@ -227,7 +236,9 @@ impl<L: Pooling, S: RowStore + Drop, G: Gate + Drop> Worker<L, S, G> {
         ensures ok { IfOk result (λ served. AsksAll (L.site self.old.front) L.shared asked.items served.items self.old self.new) }
         ensures err { IfErr result (λ back. (back ≡ asked) × (self.new ≡ self.old)) }
     {
-        self.shared.serve_all(rt, alloc, &mut self.seat, asked)
+        let served = self.shared.serve_all(rt, alloc, &mut self.seat, asked);
+        self.shared.end_batch();
+        served
     }
 
     /// Finishes these jobs, which the book has served or refused.
@@ -313,7 +324,8 @@ impl<L: Pooling, S: RowStore + Drop, G: Gate + Drop> Worker<L, S, G> {
         self.desk.control.end_turn();
     }
 
-    /// Takes jobs and finishes them, one after the other, until the pool stops. Each take that its seat counts has its receipt
+    /// Takes jobs and finishes them, one after the other, until the pool stops. It collects the jobs of a stored book while no other
+    /// worker does, so that one commit has all that wait. Each take that its seat counts has its receipt
     /// among what it has finished.
     fn work<W: Wire, R: Wait + Clock>(&mut self, rt: &R, alloc: Global)
         requires { self.old ≡ no_turns self.old.front self.old.counted }
@@ -325,9 +337,13 @@ impl<L: Pooling, S: RowStore + Drop, G: Gate + Drop> Worker<L, S, G> {
             if self.desk.control.is_stopping() {
                 break;
             }
+            self.shared.begin_batch(rt);
             match self.take(rt) {
                 Some(job) => self.turn::<W, R>(rt, alloc, job),
-                None => self.desk.control.wait(rt, seen),
+                None => {
+                    self.shared.end_batch();
+                    self.desk.control.wait(rt, seen);
+                }
             }
         }
     }
