@@ -2,3 +2,13 @@ pub mod Prefixes
 pub mod Turns
 pub mod Running
 pub mod Places
+pub mod Pools
+pub mod Booking
+pub mod Having
+pub mod Morning
+pub mod GoingOn
+pub mod Elsewhere
+pub mod AtFronts
+pub mod Waiting
+pub mod Serving
+pub mod Batching

@@ -1,1 +1,5 @@
 pub mod PoolRun
+pub mod ServedFarm
+pub mod AsFarm
+pub mod Batches
+pub mod ServedExample
