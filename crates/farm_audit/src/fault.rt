@@ -1,65 +1,12 @@
-//! Why records are not put in order, or come to something else.
+//! Why the program does not do what it is asked to do.
 
 use farm_command::Status;
-use farm_script::LineFault;
 use farm_site::SiteFault;
-use record_reader::{GroupFault, LinesFault};
+use record_player::PlayFault;
+use record_reader::RecordFault;
 use std::alloc::{AllocError, AllocFailed};
 use thiserror::Error;
 
-/// Where something stands in the records: the place of the record among the words of the command line, and the line, from 1.
-#[derive(Clone, Copy, Debug)]
-pub struct At {
-    pub record: usize,
-    pub line: u64,
-}
-
-/// What is wrong with a line of a record.
-#[derive(Clone, Copy, Debug, Error)]
-pub enum Why {
-    #[error("{0}")]
-    Group(GroupFault),
-    #[error("a process is one relay, one client, or fronts")]
-    Mixed,
-    #[error("the record of another process")]
-    OtherProcess,
-    #[error("another record is of this node too")]
-    TwoRecords,
-    #[error("the fronts begin again, and with them the book: this is another run")]
-    FrontsAgain,
-    #[error("no such connection can be made here")]
-    NoSuchConnection,
-    #[error("unknown connection")]
-    UnknownConnection,
-    #[error("this connection is known already")]
-    KnownAlready,
-    #[error("there is no record of the node at the other end")]
-    NoRecord,
-    #[error("no such request is with a worker")]
-    NoJob,
-    #[error("place {place} of the book is told twice")]
-    PlaceTwice { place: u64 },
-    #[error("place {place} of the book is told by no line")]
-    PlaceMissing { place: u64 },
-    #[error("this is not what was sent next on this connection")]
-    NotNext,
-    #[error("what was sent then is not what a relay or a front sends")]
-    SentOtherwise,
-    #[error("this request is answered otherwise")]
-    AnsweredOtherwise,
-    #[error("this is no new request")]
-    NotNew,
-    #[error("this is a new request")]
-    IsNew,
-    #[error("such a sweep ends other sessions")]
-    SweepsOtherwise,
-    #[error("the book comes to something else")]
-    OtherBook,
-    #[error("this cannot happen")]
-    CannotHappen,
-}
-
-/// Why the program does not do what it is asked to do.
 #[derive(Clone, Copy, Debug, Error)]
 pub enum AuditFault {
     #[error("the site file cannot be read")]
@@ -69,8 +16,8 @@ pub enum AuditFault {
     /// A record, by its place among those of the command line.
     #[error("a record cannot be read")]
     RecordFile { record: usize },
-    #[error("line {}: {why}", at.line)]
-    Found { at: At, why: Why },
+    #[error("{0}")]
+    Play(PlayFault),
     #[error("the output cannot be written")]
     Write,
     #[error("out of memory")]
@@ -85,16 +32,28 @@ impl AuditFault {
                 Status::Failed,
             AuditFault::Site(SiteFault::OutOfMemory) | AuditFault::OutOfMemory =>
                 Status::OutOfMemory,
-            AuditFault::Site(_) | AuditFault::Found { .. } => Status::Refused,
+            AuditFault::Site(_) => Status::Refused,
+            AuditFault::Play(fault) => status_of(fault),
         }
     }
 
     /// The record of which something is told.
     pub fn record(&self) -> Option<usize> {
         match self {
-            AuditFault::RecordFile { record } => Some(*record),
-            AuditFault::Found { at, .. } => Some(at.record),
-            AuditFault::SiteFile
+            AuditFault::RecordFile { record }
+            | AuditFault::Play(PlayFault::Record(RecordFault::Unreadable { record })) => Some(
+                *record,
+            ),
+            AuditFault::Play(
+                PlayFault::Found { position, .. }
+                | PlayFault::Record(RecordFault::Found { position, .. }),
+            ) => Some(position.record),
+            AuditFault::Play(
+                PlayFault::Write
+                | PlayFault::OutOfMemory
+                | PlayFault::Record(RecordFault::OutOfMemory),
+            )
+            | AuditFault::SiteFile
             | AuditFault::Site(_)
             | AuditFault::Write
             | AuditFault::OutOfMemory => None,
@@ -102,26 +61,11 @@ impl AuditFault {
     }
 }
 
-/// Something is wrong there.
-pub fn found<T>(at: At, why: Why) -> Result<T, AuditFault> {
-    Err(AuditFault::Found { at, why })
-}
-
-/// Why a record has no next event, as a fault of it.
-pub fn of_group(fault: GroupFault, at: At) -> AuditFault {
+fn status_of(fault: &PlayFault) -> Status {
     match fault {
-        GroupFault::OutOfMemory
-        | GroupFault::Lines(LinesFault::OutOfMemory)
-        | GroupFault::Words(LineFault::OutOfMemory) => AuditFault::OutOfMemory,
-        GroupFault::Lines(LinesFault::Failed) => AuditFault::RecordFile { record: at.record },
-        GroupFault::Lines(LinesFault::TooLong)
-        | GroupFault::Words(_)
-        | GroupFault::NoBegin
-        | GroupFault::SentForNothing
-        | GroupFault::Lost => AuditFault::Found {
-            at,
-            why: Why::Group(fault),
-        },
+        PlayFault::Write | PlayFault::Record(RecordFault::Unreadable { .. }) => Status::Failed,
+        PlayFault::OutOfMemory | PlayFault::Record(RecordFault::OutOfMemory) => Status::OutOfMemory,
+        PlayFault::Found { .. } | PlayFault::Record(RecordFault::Found { .. }) => Status::Refused,
     }
 }
 
@@ -134,5 +78,11 @@ impl From<AllocError> for AuditFault {
 impl<T: Drop> From<AllocFailed<T>> for AuditFault {
     fn from(_e: AllocFailed<T>) -> AuditFault {
         AuditFault::OutOfMemory
+    }
+}
+
+impl From<PlayFault> for AuditFault {
+    fn from(e: PlayFault) -> AuditFault {
+        AuditFault::Play(e)
     }
 }

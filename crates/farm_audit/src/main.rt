@@ -2,36 +2,21 @@
 //! each client received what the farm gives, that each request was charged as it charges, and what the book comes to. Where
 //! the records contradict one another or the farm, it tells the first place.
 //!
-//! - `source`: a record, event by event. `keeping`, `requests`: what is read is kept until it is played.
-//! - `playing`, `dials`, `fronts`, `book`: whether an event may happen, and then it has. `run`: all of them.
-//! - `audit`, `conns`, `told`: what there is of all that. `steps`: the lines of a schedule.
+//! `record_player` does it; here are the command line, the files and the exit statuses.
 #![tactic(auto)]
 
 ghost use Rattle.farm_base.specs.CheckedSite.{IsChecked};
 
-mod audit;
-mod book;
-mod conns;
-mod dials;
 mod fault;
-mod fronts;
-mod keeping;
-mod playing;
-mod requests;
-mod run;
-mod source;
-mod steps;
-mod told;
 
-use audit::Audit;
 use farm_command::{
     Audit as AuditCommand, AuditAction, CliFault, Command, command_of, end, refuse, words_of,
 };
-use farm_report::report;
 use farm_site::site_of_octets;
 use farm_text::{ReadFault, file_at, write_text};
 use farm_world::Site;
 use fault::AuditFault;
+use record_player::Audit;
 use std::fs::File;
 use std::io;
 use std::io::Write;
@@ -49,16 +34,7 @@ fn site_file(rt: &HostRuntime, path: &str) -> Result<Vec<u8>, AuditFault> {
     }
 }
 
-/// What the audit comes to.
-fn told_of<R: Drop>(rt: &HostRuntime, audit: &Audit<R>) -> Result<String, AuditFault> {
-    let (records, events, steps) = (audit.sources.len(), audit.events, audit.steps);
-    let mut text = format!(in rt.alloc(); "records {records} events {events} steps {steps}\n")?;
-    let report = report(rt.alloc(), audit.world.book())?;
-    text.push_str(report.as_str())?;
-    Ok(text)
-}
-
-/// Puts the records of these files in order and plays them.
+/// Puts the records of these files in order and plays them. Writes what they come to, or the steps where they are asked for.
 fn play_files<W: Write>(
     rt: &HostRuntime,
     site: &Site,
@@ -69,32 +45,31 @@ fn play_files<W: Write>(
     requires { IsChecked site.now }
 {
     let mut audit = Audit::new(rt.alloc(), site, prints)?;
-    play(rt, site, &mut audit, records, writer)
+    add_files(rt, &mut audit, records)?;
+    audit.run(writer)?;
+    if prints {
+        return Ok(());
+    }
+    let text = audit.summary()?;
+    match write_text(writer, text.as_bytes()) {
+        Ok(()) => Ok(()),
+        Err(_) => Err(AuditFault::Write),
+    }
 }
 
-/// Has the records of these files played, and writes what the audit comes to, unless the steps are asked for.
-fn play<W: Write>(
+/// Hands the records of these files to an audit.
+fn add_files(
     rt: &HostRuntime,
-    site: &Site,
-    audit: &mut Audit<File>,
+    audit: &mut Audit<'_, File>,
     records: &[&str],
-    writer: &mut W,
 ) -> Result<(), AuditFault> {
     for (record, path) in records.iter().enumerate() {
         let Ok(file) = File::open(rt, path) else {
             return Err(AuditFault::RecordFile { record });
         };
-        audit.add(site, file)?;
+        audit.add(file)?;
     }
-    audit.run(site, writer)?;
-    if audit.prints {
-        return Ok(());
-    }
-    let text = told_of(rt, audit)?;
-    match write_text(writer, text.as_bytes()) {
-        Ok(()) => Ok(()),
-        Err(_) => Err(AuditFault::Write),
-    }
+    Ok(())
 }
 
 /// Puts the records that a command names in order, over its site.

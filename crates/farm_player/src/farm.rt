@@ -1,0 +1,215 @@
+//! The farm that is played.
+
+ghost use Rattle.std.specs.Prelude.{◌≡◌, ◌%◌, ◌^◌, [], false, length, IfOk, OnOk, OnErr, string_bytes};
+ghost use Rattle.farm_base.specs.CheckedSite.{IsChecked};
+ghost use Rattle.farm_player.specs.Counting.{steps_after, lines_after};
+
+use crate::steps::push_step;
+use cc_book::Book;
+use dia_avp::ViewWire;
+use dia_base::NodeNo;
+use dia_message::Message;
+use farm_report::report;
+use farm_world::{Direction, Site, Step, World};
+use std::alloc::{AllocError, Global};
+use std::marker::Model;
+use std::mem::replace;
+
+/// One more where a step applied. The count stops at its largest number.
+fn steps_after(applied: bool, steps: u64) -> u64
+    ensures { result ≡ steps_after applied steps }
+{
+    if applied {
+        steps.saturating_add(1)
+    } else {
+        steps
+    }
+}
+
+/// Puts the line of a step behind others where lines are asked for and it applied.
+fn push_if(
+    alloc: Global,
+    lines: &mut Vec<u8>,
+    site: &Site,
+    step: &Step,
+    prints: bool,
+    applied: bool,
+) -> Result<(), AllocError>
+    ensures { OnOk result (lines.new.items ≡ lines_after prints applied site.now step.now lines.old.items) }
+{
+    if prints && applied {
+        push_step(alloc, lines, site, step)
+    } else {
+        Ok(())
+    }
+}
+
+/// The farm of a site between two steps, and the lines of the steps so far, where they are asked for.
+#[derive(Drop)]
+pub struct PlayedFarm<'s> {
+    alloc: Global,
+    site: &'s Site,
+    world: World,
+    /// How many steps applied.
+    steps: u64,
+    prints: bool,
+    /// The lines of steps that were not handed out yet.
+    lines: Vec<u8>,
+    /// No memory was missing in the middle of a step. What is known of the farm is known only then.
+    is_whole: bool,
+}
+
+impl<'s> Model for PlayedFarm<'s> {
+    ghost use Rattle.std.specs.Prelude.{◌≡◌, true};
+    ghost use Rattle.farm_player.specs.PlayedRun.{PlayedState, IsPlayed};
+
+    ghost Value = { PlayedState };
+
+    ghost view = { λ f. record {
+      site = f.site.now;
+      world = f.world;
+      steps = f.steps;
+      prints = f.prints;
+      lines = f.lines.items;
+      is_whole = f.is_whole;
+    } };
+
+    ghost invariant = { λ f. f.is_whole ≡ true → IsPlayed f.site.now f.world f.steps f.prints f.lines.items };
+}
+
+impl<'s> PlayedFarm<'s> {
+    ghost use Rattle.farm_player.specs.PlayedRun.{IsPlayed, PlaysStep, beginning, with_start};
+    ghost use Rattle.farm_report.specs.Report.{report_of};
+
+    /// The farm before its first step. `prints`: whether the lines of its steps are asked for.
+    pub fn open(alloc: Global, site: &'s Site, prints: bool) -> Result<Self, AllocError>
+        requires { IsChecked site.now }
+        ensures { IfOk result (λ farm. farm ≡ beginning site.now prints) }
+    {
+        Ok(PlayedFarm {
+            alloc,
+            site,
+            world: World::open(alloc, site)?,
+            steps: 0,
+            prints,
+            lines: Vec::new(alloc),
+            is_whole: true,
+        })
+    }
+
+    pub fn site(&self) -> &'s Site
+        ensures { result.now ≡ self.now.site }
+    {
+        self.site
+    }
+
+    /// Takes a step. The answer is whether it applied; where not, nothing happened. After an error, which is want of memory,
+    /// the farm should not be played any further.
+    pub fn play(&mut self, step: &Step) -> Result<bool, AllocError>
+        ensures ok { IfOk result (λ applied. PlaysStep self.old step.now applied self.new) }
+        ensures err { OnErr result (self.new.is_whole ≡ false) }
+    {
+        let is_whole = replace(&mut self.is_whole, false);
+        let applied = self.world.step::<ViewWire>(self.alloc, self.site, step)?;
+        self.steps = steps_after(applied, self.steps);
+        push_if(
+            self.alloc,
+            &mut self.lines,
+            self.site,
+            step,
+            self.prints,
+            applied,
+        )?;
+        self.is_whole = is_whole;
+        Ok(applied)
+    }
+
+    /// A relay has drawn the start of its identifiers, as one does when its process begins. It is no step.
+    pub fn number_from(&mut self, node: NodeNo, start: u32)
+        ensures { self.new ≡ record self.old { world = with_start node (start % 2 ^ 31) self.old.world } }
+    {
+        self.world.number_from(node, start);
+    }
+
+    /// How many steps applied.
+    pub fn steps(&self) -> u64
+        ensures { result ≡ self.now.steps }
+    {
+        self.steps
+    }
+
+    /// Whether the lines of the steps are asked for.
+    pub fn prints(&self) -> bool
+        ensures { result ≡ self.now.prints }
+    {
+        self.prints
+    }
+
+    /// How many octets the lines have that were not handed out yet.
+    pub fn line_octets(&self) -> usize
+        ensures { result ≡ length self.now.lines }
+    {
+        self.lines.len()
+    }
+
+    /// Hands out the lines of the steps since the last time.
+    pub fn take_lines(&mut self) -> Vec<u8>
+        ensures lines { result.items ≡ self.old.lines }
+        ensures rest { self.new ≡ record self.old { lines = [] } }
+    {
+        replace(&mut self.lines, Vec::new(self.alloc))
+    }
+
+    /// The report of the book that the run has come to.
+    pub fn report(&self) -> Result<String, AllocError>
+        ensures { IfOk result (λ text.
+            IsPlayed self.now.site self.now.world self.now.steps self.now.prints self.now.lines × (string_bytes text ≡ report_of self.now.world.book)) }
+    {
+        if !self.is_whole {
+            return Err(AllocError);
+        }
+        report(self.alloc, self.world.book())
+    }
+
+    pub fn book(&self) -> &Book
+        ensures { result.now ≡ self.now.world.book }
+    {
+        self.world.book()
+    }
+
+    /// The first direction from one node to another.
+    fn direction(&self, from: NodeNo, to: NodeNo) -> Option<&Direction> {
+        self.world
+            .directions()
+            .iter()
+            .find(|direction| direction.from == from && direction.to == to)
+    }
+
+    /// What is in flight from one node to another.
+    pub fn flight(&self, from: NodeNo, to: NodeNo) -> &[Message] {
+        match self.direction(from, to) {
+            Some(direction) => direction.messages.as_slice(),
+            None => &[],
+        }
+    }
+
+    /// Whether a node has an end of a connection with another one, which it has not dropped.
+    pub fn has_end(&self, node: NodeNo, peer: NodeNo) -> bool {
+        self.direction(peer, node).is_some()
+    }
+
+    /// Whether neither of two nodes has an end of a connection with the other.
+    pub fn is_free(&self, a: NodeNo, b: NodeNo) -> bool {
+        !self.has_end(a, b) && !self.has_end(b, a)
+    }
+
+    /// The node at the other end of some connection that this one has not dropped.
+    pub fn some_peer(&self, node: NodeNo) -> Option<NodeNo> {
+        let direction = self
+            .world
+            .directions()
+            .iter()
+            .find(|direction| direction.to == node)?;
+        Some(direction.from)
+    }
+}

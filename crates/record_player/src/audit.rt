@@ -1,0 +1,315 @@
+//! All entries of all records, in an order in which they may happen.
+
+ghost use Rattle.farm_base.specs.CheckedSite.{IsChecked};
+
+use crate::fault::{Difference, PlayFault, found};
+use crate::player::Player;
+use dia_base::NodeNo;
+use farm_text::write_text;
+use farm_world::Site;
+use record_reader::{Entry, NodeEvent, Position, Records};
+use record_state::{NodeEntry, Queues, Reports};
+use std::alloc::{AllocError, Global};
+use std::io::{Read, Write};
+
+/// The lines of steps are written once there are so many octets.
+const WRITTEN: usize = 65_536;
+
+/// The records, what was read of them and is not played, and the farm that plays.
+#[derive(Drop)]
+pub struct Audit<'s, R> {
+    alloc: Global,
+    records: Records<R>,
+    queues: Queues,
+    player: Player<'s>,
+    reports: Reports,
+}
+
+/// An `accept` that is the next entry of a node, and the dial that it may be of where nothing else may happen.
+#[derive(Clone, Copy)]
+struct LateAccept {
+    queue: usize,
+    dial: usize,
+}
+
+impl<'s, R: Read + Drop> Audit<'s, R> {
+    /// The farm of a site before its first event. `prints`: whether the lines of its steps are asked for.
+    pub fn new(alloc: Global, site: &'s Site, prints: bool) -> Result<Self, PlayFault>
+        requires { IsChecked site.now }
+    {
+        Ok(Audit {
+            alloc,
+            records: Records::new(alloc),
+            queues: Queues::new(alloc),
+            player: Player::new(alloc, site, prints)?,
+            reports: Reports::new(alloc),
+        })
+    }
+
+    /// A record more, of which the first entry is read.
+    pub fn add(&mut self, reader: R) -> Result<(), PlayFault> {
+        let record = self.records.len();
+        self.records.add(reader)?;
+        let _begun = self.read(record)?;
+        Ok(())
+    }
+
+    /// Plays all entries, and writes the lines of the steps where they are asked for. What the book does comes last, so that
+    /// a front never has more room than it had.
+    pub fn run<W: Write>(&mut self, writer: &mut W) -> Result<(), PlayFault> {
+        for _ in 0..u64::MAX {
+            let went = self.go_on()?;
+            self.write_lines(writer, WRITTEN)?;
+            if !went {
+                break;
+            }
+        }
+        self.look_at_the_rest()?;
+        self.compare_reports()?;
+        self.write_lines(writer, 1)
+    }
+
+    /// How many records, entries and steps there were, and the report of the book.
+    pub fn summary(&self) -> Result<String, PlayFault> {
+        let (records, events) = (self.records.len(), self.records.entries());
+        let steps = self.player.farm().steps();
+        let mut text = format!(in self.alloc; "records {records} events {events} steps {steps}\n")?;
+        let report = self.player.farm().report()?;
+        text.push_str(report.as_str())?;
+        Ok(text)
+    }
+
+    /// Plays what may happen next. Whether there was something.
+    fn go_on(&mut self) -> Result<bool, PlayFault> {
+        self.player.feed_all();
+        Ok(
+            self.advance_all()?
+                || self.player.charge_next(self.records.are_at_end())?
+                || self.player.charge_repeat()?
+                || self.read_ahead()?
+                || self.settle()?,
+        )
+    }
+
+    /// Writes the lines of steps where they are at least so many octets.
+    fn write_lines<W: Write>(&mut self, writer: &mut W, least: usize) -> Result<(), PlayFault> {
+        if self.player.farm().line_octets() < least {
+            return Ok(());
+        }
+        let lines = self.player.farm_mut().take_lines();
+        match write_text(writer, &lines) {
+            Ok(()) => Ok(()),
+            Err(_) => Err(PlayFault::Write),
+        }
+    }
+
+    // ---- what is read
+
+    /// Reads one more entry of a record. Whether there was one.
+    fn read(&mut self, record: usize) -> Result<bool, PlayFault> {
+        let site = self.player.farm().site();
+        match self.records.next_entry(site, record)? {
+            Some(entry) => {
+                self.keep(entry)?;
+                Ok(true)
+            }
+            None => Ok(false),
+        }
+    }
+
+    /// An entry is kept until it is played.
+    fn keep(&mut self, entry: Entry) -> Result<(), PlayFault> {
+        match entry {
+            Entry::Begin {
+                position,
+                nodes,
+                is_first,
+            } => self.keep_begin(position, &nodes, is_first)?,
+            Entry::Connection { event, label } => {
+                self.player.add_connection(event.end, label)?;
+                self.keep_event(event)?;
+            }
+            Entry::Event(event) => {
+                self.player.add_event(&event)?;
+                self.keep_event(event)?;
+            }
+            Entry::Finished(finished) => self.player.add_finished(finished)?,
+            Entry::Sweep(sweep) => self.player.add_sweep(sweep)?,
+            Entry::Report { position, line } => self.reports.add(position, line)?,
+        }
+        Ok(())
+    }
+
+    /// A process begins: that is the next entry of the first of its nodes.
+    fn keep_begin(
+        &mut self,
+        position: Position,
+        nodes: &[NodeNo],
+        is_first: bool,
+    ) -> Result<(), AllocError> {
+        if is_first {
+            for node in nodes {
+                self.queues.add(position.record, *node)?;
+                self.player.add_node(*node)?;
+            }
+        }
+        match nodes.first() {
+            Some(node) => self.queues.push(
+                *node,
+                NodeEntry::Begin {
+                    position,
+                    node: *node,
+                    is_first,
+                },
+            ),
+            None => Ok(()),
+        }
+    }
+
+    fn keep_event(&mut self, event: NodeEvent) -> Result<(), AllocError> {
+        self.queues.push(event.end.node, NodeEntry::Event(event))
+    }
+
+    /// Reads more of a record of which nothing is left to be played.
+    fn refill(&mut self, record: usize) -> Result<(), PlayFault> {
+        for _ in 0..u64::MAX {
+            if self.queues.has_entries_of(record) || !self.read(record)? {
+                return Ok(());
+            }
+        }
+        Ok(())
+    }
+
+    /// Reads one more entry of the fronts, where one that was not read may have to come before one that was.
+    fn read_ahead(&mut self) -> Result<bool, PlayFault> {
+        match self.records.unread_fronts(self.player.farm().site()) {
+            Some(record) if self.player.may_be_told() => self.read(record),
+            _ => Ok(false),
+        }
+    }
+
+    // ---- what is played
+
+    /// Plays the entries of each node as far as they may happen. Whether there was one.
+    fn advance_all(&mut self) -> Result<bool, PlayFault> {
+        let mut went = false;
+        for queue in 0..self.queues.len() {
+            if self.advance(queue)? {
+                went = true;
+            }
+        }
+        Ok(went)
+    }
+
+    /// Plays the entries of a node as far as they may happen. Whether there was one.
+    fn advance(&mut self, queue: usize) -> Result<bool, PlayFault> {
+        let mut went = false;
+        for _ in 0..u64::MAX {
+            if !self.advance_one(queue)? {
+                return Ok(went);
+            }
+            went = true;
+        }
+        Ok(went)
+    }
+
+    /// Plays the next entry of a node if it may happen. Whether there was one, and it did. More is read where nothing of its
+    /// record is left.
+    fn advance_one(&mut self, queue: usize) -> Result<bool, PlayFault> {
+        if let Some(record) = self.queues.record_of(queue) {
+            self.refill(record)?;
+        }
+        let Some(entry) = self.queues.head(queue) else {
+            return Ok(false);
+        };
+        let happened = self.player.try_entry(entry)?;
+        if happened {
+            self.queues.advance(queue);
+        }
+        Ok(happened)
+    }
+
+    /// Nothing else may happen: an `accept` is of a dial that was given up, or a node learns that its connection is made,
+    /// though a dial before it may be the one that was accepted. Whether there is such an entry.
+    fn settle(&mut self) -> Result<bool, PlayFault> {
+        if let Some(late) = self.last_late_accept() {
+            return self.accept_late(late);
+        }
+        for queue in 0..self.queues.len() {
+            if self.open_late(queue)? {
+                return Ok(true);
+            }
+        }
+        Ok(false)
+    }
+
+    /// Of the `accept`s that come next and are of dials that were given up, the one whose dial was told last: a dial of long
+    /// ago is more often one that was never accepted.
+    fn last_late_accept(&self) -> Option<LateAccept> {
+        let mut last: Option<LateAccept> = None;
+        for queue in 0..self.queues.len() {
+            let Some(dial) = self.late_dial(queue) else {
+                continue;
+            };
+            let is_later = match last {
+                Some(last) => last.dial < dial,
+                None => true,
+            };
+            if is_later {
+                last = Some(LateAccept { queue, dial });
+            }
+        }
+        last
+    }
+
+    fn late_dial(&self, queue: usize) -> Option<usize> {
+        self.player.late_dial(self.queues.head(queue)?)
+    }
+
+    fn accept_late(&mut self, late: LateAccept) -> Result<bool, PlayFault> {
+        let Some(NodeEntry::Event(event)) = self.queues.head(late.queue) else {
+            return Ok(false);
+        };
+        self.player.accept_late(event, late.dial)?;
+        self.queues.advance(late.queue);
+        Ok(true)
+    }
+
+    fn open_late(&mut self, queue: usize) -> Result<bool, PlayFault> {
+        let Some(entry) = self.queues.head(queue) else {
+            return Ok(false);
+        };
+        let happened = self.player.open_late(entry)?;
+        if happened {
+            self.queues.advance(queue);
+        }
+        Ok(happened)
+    }
+
+    // ---- at the end
+
+    /// Nothing is left. Where something is, it is told of an entry that waits for nobody else who waits.
+    fn look_at_the_rest(&self) -> Result<(), PlayFault> {
+        self.player.look_at_places()?;
+        let left = self.queues.first_that_waits().or(self.player.first_left());
+        match left {
+            Some(position) => found(position, Difference::CannotHappen),
+            None => Ok(()),
+        }
+    }
+
+    /// What records tell of the book is what it comes to.
+    fn compare_reports(&self) -> Result<(), PlayFault> {
+        let report = self.player.farm().report()?;
+        let lines: Vec<&[u8]> = report
+            .as_bytes()
+            .split(|octet| *octet == b'\n')
+            .collect(self.alloc)?;
+        for record in 0..self.records.len() {
+            if let Some(position) = self.reports.first_otherwise(record, &lines) {
+                return found(position, Difference::OtherBook);
+            }
+        }
+        Ok(())
+    }
+}

@@ -1,0 +1,68 @@
+//! Why records are not put in order, or come to something else.
+
+use record_reader::{Position, RecordFault};
+use std::alloc::{AllocError, AllocFailed};
+use thiserror::Error;
+
+/// What is wrong with an entry, beside the other records and the farm that plays.
+#[derive(Clone, Copy, Debug, Error)]
+pub enum Difference {
+    #[error("there is no record of the node at the other end")]
+    NoRecord,
+    #[error("place {place} of the book is told twice")]
+    PlaceTwice { place: u64 },
+    #[error("place {place} of the book is told by no line")]
+    PlaceMissing { place: u64 },
+    #[error("this is not what was sent next on this connection")]
+    NotNext,
+    #[error("what was sent then is not what a relay or a front sends")]
+    SentOtherwise,
+    #[error("this request is answered otherwise")]
+    AnsweredOtherwise,
+    #[error("this is no new request")]
+    NotNew,
+    #[error("this is a new request")]
+    IsNew,
+    #[error("such a sweep ends other sessions")]
+    SweepsOtherwise,
+    #[error("the book comes to something else")]
+    OtherBook,
+    #[error("this cannot happen")]
+    CannotHappen,
+}
+
+/// Why records are not played to their ends.
+#[derive(Clone, Copy, Debug, Error)]
+pub enum PlayFault {
+    #[error("{0}")]
+    Record(RecordFault),
+    #[error("line {}: {why}", position.line)]
+    Found { position: Position, why: Difference },
+    #[error("the output cannot be written")]
+    Write,
+    #[error("out of memory")]
+    OutOfMemory,
+}
+
+/// Something is wrong there.
+pub fn found<T>(position: Position, why: Difference) -> Result<T, PlayFault> {
+    Err(PlayFault::Found { position, why })
+}
+
+impl From<AllocError> for PlayFault {
+    fn from(_e: AllocError) -> PlayFault {
+        PlayFault::OutOfMemory
+    }
+}
+
+impl<T: Drop> From<AllocFailed<T>> for PlayFault {
+    fn from(_e: AllocFailed<T>) -> PlayFault {
+        PlayFault::OutOfMemory
+    }
+}
+
+impl From<RecordFault> for PlayFault {
+    fn from(e: RecordFault) -> PlayFault {
+        PlayFault::Record(e)
+    }
+}

@@ -1,0 +1,231 @@
+//! Requests at fronts: they stay in flight until they are charged, unless their connection is to go before.
+
+use crate::fault::{Difference, PlayFault, found};
+use crate::player::Player;
+use dia_base::NodeNo;
+use farm_world::Step;
+use record_reader::{End, NodeEvent, Position};
+use record_state::{Request, RequestState};
+
+/// What stands in the place of a request's number where a front hands one back.
+const HANDED_BACK: u64 = u64::MAX;
+
+impl<'s> Player<'s> {
+    /// A message arrives at a front. A request stays in flight; one that is handed back is answered at once.
+    pub(super) fn arrive_at_front(
+        &mut self,
+        event: &NodeEvent,
+        place: usize,
+        is_request: bool,
+    ) -> Result<bool, PlayFault> {
+        if let Some(number) = event.request {
+            self.fronts.set_state(number, RequestState::Arrived);
+            return Ok(true);
+        }
+        if is_request {
+            return self.hand_back(event);
+        }
+        self.play_arrival(event.position, event.end.peer, event.end.node, place)?;
+        Ok(true)
+    }
+
+    /// A request for which a front had no room: its queue is full then, or a worker refuses it.
+    fn hand_back(&mut self, event: &NodeEvent) -> Result<bool, PlayFault> {
+        let (position, node, peer) = (event.position, event.end.node, event.end.peer);
+        let queued = self.fronts.queued(node);
+        let waiting = self.fronts.arrived_up_to(node, HANDED_BACK);
+        let limit = self.site().queue as usize;
+        let is_full = queued.saturating_add(waiting) >= limit;
+        if !is_full && queued >= self.fronts.idle(node) {
+            self.fronts.starve(node)?;
+            return Ok(false);
+        }
+        if is_full {
+            self.hand_over_some(position, node, limit.saturating_sub(queued))?;
+        }
+        let since = self.farm.flight(node, peer).len();
+        let place = self.fronts.arrived_on(event.end.conn);
+        self.play_arrival(position, peer, node, place)?;
+        if !is_full {
+            self.refuse(position, node)?;
+        }
+        self.compare(event, peer, since)?;
+        self.hand_to_silent(position, node, peer, since)?;
+        Ok(true)
+    }
+
+    /// So many of the requests that have arrived are handed over, in their order.
+    fn hand_over_some(
+        &mut self,
+        position: Position,
+        front: NodeNo,
+        count: usize,
+    ) -> Result<(), PlayFault> {
+        for _ in 0..count {
+            let Some(number) = self.fronts.first_arrived(front) else {
+                return Ok(());
+            };
+            self.hand_over(position, number)?;
+        }
+        Ok(())
+    }
+
+    /// A worker refuses the request that was handed over last.
+    fn refuse(&mut self, position: Position, front: NodeNo) -> Result<(), PlayFault> {
+        self.fronts.push(front, HANDED_BACK)?;
+        let worker = self.picked(position, front, HANDED_BACK)?;
+        let step = Step::Refuse {
+            front,
+            worker: worker as u64,
+        };
+        self.play(position, &step)?;
+        self.emit(position, front, worker)
+    }
+
+    /// A worker sends its answer, and is idle.
+    pub(super) fn emit(
+        &mut self,
+        position: Position,
+        front: NodeNo,
+        worker: usize,
+    ) -> Result<(), PlayFault> {
+        let step = Step::Emit {
+            front,
+            worker: worker as u64,
+        };
+        self.play(position, &step)?;
+        self.fronts.release(front, worker);
+        Ok(())
+    }
+
+    /// Whether a worker has the request, or may have it at once.
+    pub(super) fn has_worker(&mut self, request: &Request) -> Result<bool, PlayFault> {
+        if self.fronts.may_start(request) {
+            return Ok(true);
+        }
+        self.fronts.starve(request.end.node)?;
+        Ok(false)
+    }
+
+    /// An idle worker picks the first request of the queue.
+    fn pick(&mut self, position: Position, front: NodeNo) -> Result<(), PlayFault> {
+        let Some(worker) = self.fronts.pick(front) else {
+            return found(position, Difference::CannotHappen);
+        };
+        let step = Step::Pick {
+            front,
+            worker: worker as u64,
+        };
+        self.play(position, &step)
+    }
+
+    /// The worker that has a request. Where none has it, it is handed over and picked first.
+    pub(super) fn picked(
+        &mut self,
+        position: Position,
+        front: NodeNo,
+        number: u64,
+    ) -> Result<usize, PlayFault> {
+        let has_arrived = match self.fronts.request(number) {
+            Some(request) => request.state == RequestState::Arrived,
+            None => false,
+        };
+        if has_arrived {
+            self.hand_over(position, number)?;
+        }
+        for _ in 0..u64::MAX {
+            match self.fronts.worker_of(front, number) {
+                Some(worker) => return Ok(worker),
+                None => self.pick(position, front)?,
+            }
+        }
+        found(position, Difference::CannotHappen)
+    }
+
+    /// Workers pick while the queue of a front is full and one is idle.
+    fn make_room(&mut self, position: Position, front: NodeNo) -> Result<(), PlayFault> {
+        let limit = self.site().queue as usize;
+        for _ in 0..self.site().workers {
+            if self.fronts.queued(front) < limit || self.fronts.idle(front) == 0 {
+                return Ok(());
+            }
+            self.pick(position, front)?;
+        }
+        Ok(())
+    }
+
+    /// A request that has arrived comes into the queue of its front.
+    fn hand_over(&mut self, position: Position, number: u64) -> Result<(), PlayFault> {
+        let Some(request) = self.fronts.request(number) else {
+            return Ok(());
+        };
+        let End { conn, node, peer } = request.end;
+        self.make_room(position, node)?;
+        let place = self.fronts.arrived_on_before(conn, number);
+        self.play_arrival(position, peer, node, place)?;
+        self.fronts.set_state(number, RequestState::HandedOver);
+        self.fronts.push(node, number)?;
+        Ok(())
+    }
+
+    // ---- a front drops a connection
+
+    /// A front drops a connection that it has lost once all requests are charged that came on it.
+    pub(super) fn drop_if_done(&mut self, position: Position, end: End) -> Result<(), PlayFault> {
+        if self.connections.is_closing(end.conn) && !self.fronts.has_requests_on(end.conn) {
+            self.drop_here(position, end)?;
+        }
+        Ok(())
+    }
+
+    /// A front drops a connection that it has lost.
+    fn drop_here(&mut self, position: Position, end: End) -> Result<(), PlayFault> {
+        self.connections.set_closing(end.conn, false);
+        let step = Step::Drop {
+            a: end.node,
+            b: end.peer,
+        };
+        self.play(position, &step)?;
+        self.drop_silent(position, end.node, end.peer)
+    }
+
+    /// Whether these nodes have no connection any more. A front that has lost one drops it then.
+    pub(super) fn make_free(
+        &mut self,
+        position: Position,
+        a: NodeNo,
+        b: NodeNo,
+    ) -> Result<bool, PlayFault> {
+        self.close(position, a, b)?;
+        self.close(position, b, a)?;
+        Ok(self.farm.is_free(a, b))
+    }
+
+    /// A front that has lost its connection, as the node at the other end has too, drops it, though requests wait that came on
+    /// it, if there is room for them.
+    fn close(&mut self, position: Position, node: NodeNo, peer: NodeNo) -> Result<(), PlayFault> {
+        let Some(conn) = self.connections.end_between(node, peer) else {
+            return Ok(());
+        };
+        if !self.connections.is_closing(conn)
+            || (self.farm.has_end(peer, node) && !self.is_silent(position, peer)?)
+        {
+            return Ok(());
+        }
+        if let Some(last) = self.fronts.last_arrived_on(conn) {
+            let count = self.fronts.arrived_up_to(node, last);
+            if !self.has_room(node, count) {
+                self.fronts.starve(node)?;
+                return Ok(());
+            }
+            self.hand_over_some(position, node, count)?;
+        }
+        self.drop_here(position, End { conn, node, peer })
+    }
+
+    /// Whether so many requests more may wait at a front or be with its workers.
+    fn has_room(&self, front: NodeNo, count: usize) -> bool {
+        let taken = self.fronts.queued(front).saturating_add(count);
+        taken <= (self.site().queue as usize).saturating_add(self.fronts.idle(front))
+    }
+}

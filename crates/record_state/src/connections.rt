@@ -1,0 +1,263 @@
+//! Connections, as records tell of their ends, and as they stand in the farm that plays.
+
+use dia_base::NodeNo;
+use dia_message::Message;
+use record_reader::End;
+use std::alloc::{AllocError, Global};
+use std::collections::VecDeque;
+
+/// An end of a connection, as the record of its node tells of it.
+#[derive(Drop)]
+struct Told {
+    node: NodeNo,
+    peer: NodeNo,
+    /// What both ends call the connection.
+    label: u64,
+    was_dialled: bool,
+    /// Whether an `accept` was played that is of it, or that is of a later one with its label.
+    is_accepted: bool,
+    /// Whether it was lost or given up.
+    is_gone: bool,
+    /// A front has lost it and did not drop it yet, since requests wait that came on it.
+    is_closing: bool,
+    /// The client at the other end, which has no record, has sent what arrives next.
+    was_sent: bool,
+    /// What a front has sent on it and nobody has received.
+    answers: VecDeque<Message>,
+}
+
+impl Told {
+    /// Whether it is a dial of these nodes under this label that an `accept` may be of.
+    fn is_open_dial(&self, opener: NodeNo, acceptor: NodeNo, label: u64) -> bool {
+        self.was_dialled
+            && !self.is_accepted
+            && self.node == opener
+            && self.peer == acceptor
+            && self.label == label
+    }
+}
+
+/// The dials of one node with another under one label that an `accept` may be of.
+#[derive(Clone, Copy)]
+pub struct OpenDials {
+    /// The first one.
+    pub first: usize,
+    /// Whether the last one was not given up.
+    pub is_awaited: bool,
+}
+
+/// A connection that stands in the farm that plays, with its ends by their places among all.
+#[derive(Clone, Copy)]
+pub struct Established {
+    pub opener: NodeNo,
+    pub acceptor: NodeNo,
+    /// The end of the node that has opened it, once that knows it; none of a client without a record.
+    pub opened: Option<usize>,
+    pub accepted: Option<usize>,
+    pub label: u64,
+    /// The dial that was accepted, as far as is known; none of a client without a record.
+    pub dial: Option<usize>,
+}
+
+impl Established {
+    fn joins(&self, a: NodeNo, b: NodeNo) -> bool {
+        self.opener == a && self.acceptor == b || self.opener == b && self.acceptor == a
+    }
+
+    fn end_of(&self, node: NodeNo) -> Option<usize> {
+        if self.opener == node {
+            self.opened
+        } else {
+            self.accepted
+        }
+    }
+}
+
+/// All ends of connections that the records tell of, and the connections that stand.
+#[derive(Drop)]
+pub struct Connections {
+    alloc: Global,
+    told: Vec<Told>,
+    established: Vec<Established>,
+}
+
+impl Connections {
+    pub fn new(alloc: Global) -> Self {
+        Connections {
+            alloc,
+            told: Vec::new(alloc),
+            established: Vec::new(alloc),
+        }
+    }
+
+    /// An end more, which has the next place.
+    pub fn add(&mut self, end: End, label: u64) -> Result<(), AllocError> {
+        self.told.push(Told {
+            node: end.node,
+            peer: end.peer,
+            label,
+            was_dialled: false,
+            is_accepted: false,
+            is_gone: false,
+            is_closing: false,
+            was_sent: false,
+            answers: VecDeque::new(self.alloc),
+        })?;
+        Ok(())
+    }
+
+    pub fn label(&self, conn: usize) -> u64 {
+        self.told.get(conn).map_or(0, |told| told.label)
+    }
+
+    // ---- dials
+
+    pub fn dial(&mut self, conn: usize) {
+        if let Some(told) = self.told.get_mut(conn) {
+            told.was_dialled = true;
+        }
+    }
+
+    /// The dials under a label that an `accept` may be of; none where each was accepted.
+    pub fn open_dials(&self, opener: NodeNo, acceptor: NodeNo, label: u64) -> Option<OpenDials> {
+        let first = self
+            .told
+            .iter()
+            .position(|told| told.is_open_dial(opener, acceptor, label))?;
+        let is_awaited = self.told.iter().any(|told| told.is_open_dial(opener, acceptor, label)
+            && !told.is_gone);
+        Some(OpenDials { first, is_awaited })
+    }
+
+    pub fn is_accepted(&self, conn: usize) -> bool {
+        self.told.get(conn).map_or(false, |told| told.is_accepted)
+    }
+
+    /// An `accept` was of this dial.
+    pub fn accept(&mut self, conn: usize) {
+        if let Some(told) = self.told.get_mut(conn) {
+            told.is_accepted = true;
+        }
+    }
+
+    /// No dial of these nodes under this label is accepted any more.
+    pub fn accept_all(&mut self, opener: NodeNo, acceptor: NodeNo, label: u64) {
+        for told in self.told.iter_mut() {
+            if told.is_open_dial(opener, acceptor, label) {
+                told.is_accepted = true;
+            }
+        }
+    }
+
+    // ---- ends that are lost
+
+    pub fn is_gone(&self, conn: usize) -> bool {
+        self.told.get(conn).map_or(false, |told| told.is_gone)
+    }
+
+    /// An end was lost or given up.
+    pub fn lose(&mut self, conn: usize) {
+        if let Some(told) = self.told.get_mut(conn) {
+            told.is_gone = true;
+        }
+    }
+
+    /// All that a node has dialled is lost.
+    pub fn lose_dials_of(&mut self, node: NodeNo) {
+        for told in self.told.iter_mut() {
+            if told.node == node && told.was_dialled {
+                told.is_gone = true;
+            }
+        }
+    }
+
+    /// Whether a front has lost it and did not drop it yet.
+    pub fn is_closing(&self, conn: usize) -> bool {
+        self.told.get(conn).map_or(false, |told| told.is_closing)
+    }
+
+    pub fn set_closing(&mut self, conn: usize, is_closing: bool) {
+        if let Some(told) = self.told.get_mut(conn) {
+            told.is_closing = is_closing;
+        }
+    }
+
+    // ---- messages
+
+    /// Whether the client at the other end, which has no record, has sent what arrives next.
+    pub fn was_sent(&self, conn: usize) -> bool {
+        self.told.get(conn).map_or(false, |told| told.was_sent)
+    }
+
+    pub fn set_sent(&mut self, conn: usize, was_sent: bool) {
+        if let Some(told) = self.told.get_mut(conn) {
+            told.was_sent = was_sent;
+        }
+    }
+
+    /// A front has sent an answer.
+    pub fn add_answer(&mut self, conn: usize, answer: Message) -> Result<(), AllocError> {
+        if let Some(told) = self.told.get_mut(conn) {
+            told.answers.push_back(answer)?;
+        }
+        Ok(())
+    }
+
+    /// What a front has sent next on it.
+    pub fn next_answer(&self, conn: usize) -> Option<&Message> {
+        self.told.get(conn)?.answers.front()
+    }
+
+    /// What a front has sent next on it was received.
+    pub fn take_answer(&mut self, conn: usize) {
+        if let Some(told) = self.told.get_mut(conn) {
+            let _received = told.answers.pop_front();
+        }
+    }
+
+    // ---- connections that stand
+
+    /// The connection that stands between these nodes.
+    pub fn between(&self, a: NodeNo, b: NodeNo) -> Option<&Established> {
+        self.established
+            .iter()
+            .find(|established| established.joins(a, b))
+    }
+
+    /// The end of a node of its connection with another one that stands.
+    pub fn end_between(&self, node: NodeNo, peer: NodeNo) -> Option<usize> {
+        self.between(node, peer)?.end_of(node)
+    }
+
+    /// A connection stands from now on, in place of the one before.
+    pub fn establish(&mut self, established: Established) -> Result<(), AllocError> {
+        let (opener, acceptor) = (established.opener, established.acceptor);
+        self.established.retain(|old| !old.joins(opener, acceptor));
+        self.established.push(established)?;
+        Ok(())
+    }
+
+    /// Whether a connection of these nodes stands under this label which the node that opens it does not know.
+    pub fn is_awaited(&self, opener: NodeNo, acceptor: NodeNo, label: u64) -> bool {
+        self.awaited(opener, acceptor, label).is_some()
+    }
+
+    fn awaited(&self, opener: NodeNo, acceptor: NodeNo, label: u64) -> Option<usize> {
+        self.established.iter().position(|established| {
+            established.opener == opener
+                && established.acceptor == acceptor
+                && established.opened.is_none()
+                && established.label == label
+        })
+    }
+
+    /// The node that opens a connection knows it from now on, by this end.
+    pub fn open(&mut self, end: End, label: u64) {
+        let Some(place) = self.awaited(end.node, end.peer, label) else {
+            return;
+        };
+        if let Some(established) = self.established.get_mut(place) {
+            established.opened = Some(end.conn);
+        }
+    }
+}

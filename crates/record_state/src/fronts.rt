@@ -1,0 +1,302 @@
+//! What fronts hold in the farm that plays: their queues, their workers, and the requests that have arrived.
+
+use dia_base::{NodeKind, NodeNo};
+use farm_base::Site;
+use record_reader::End;
+use std::alloc::{AllocError, Global};
+use std::collections::VecDeque;
+
+/// Where a request of a front is.
+#[derive(Clone, Copy, PartialEq, Eq)]
+pub enum RequestState {
+    /// It was not sent yet.
+    NotSent,
+    /// It has arrived, and is in flight yet.
+    Arrived,
+    /// In the queue, or with a worker.
+    HandedOver,
+}
+
+/// A request that a front hands to its workers.
+#[derive(Clone, Copy)]
+pub struct Request {
+    pub number: u64,
+    /// The end of the connection that it came on, at the front.
+    pub end: End,
+    /// Whether a line was read that tells what became of it.
+    pub is_finished: bool,
+    pub state: RequestState,
+}
+
+/// The requests of a front that were handed over, by their numbers.
+#[derive(Drop)]
+struct FrontWork {
+    node: NodeNo,
+    queue: VecDeque<u64>,
+    workers: Vec<Option<u64>>,
+}
+
+impl FrontWork {
+    /// A front with so many workers, which has nothing in hand.
+    fn new(alloc: Global, node: NodeNo, count: usize) -> Result<Self, AllocError> {
+        let mut workers = Vec::new(alloc);
+        workers.resize(count, None::<u64>)?;
+        Ok(FrontWork {
+            node,
+            queue: VecDeque::new(alloc),
+            workers,
+        })
+    }
+
+    fn idle(&self) -> usize {
+        self.workers
+            .iter()
+            .filter(|worker| worker.is_none())
+            .count()
+    }
+
+    fn worker_of(&self, number: u64) -> Option<usize> {
+        self.workers.iter().position(|held| *held == Some(number))
+    }
+
+    fn first_idle(&self) -> Option<usize> {
+        self.workers.iter().position(|worker| worker.is_none())
+    }
+
+    /// How many requests stand before this one in the queue: all, where it is not there.
+    fn ahead_of(&self, number: u64) -> usize {
+        self.queue
+            .iter()
+            .position(|waiting| *waiting == number)
+            .unwrap_or(self.queue.len())
+    }
+
+    /// The first idle worker takes the first request out of the queue.
+    fn pick(&mut self) -> Option<usize> {
+        let worker = self.first_idle()?;
+        let first = self.queue.pop_front()?;
+        if let Some(held) = self.workers.get_mut(worker) {
+            *held = Some(first);
+        }
+        Some(worker)
+    }
+
+    fn release(&mut self, worker: usize) {
+        if let Some(held) = self.workers.get_mut(worker) {
+            *held = None;
+        }
+    }
+}
+
+/// All fronts, and the requests of them that are not charged.
+#[derive(Drop)]
+pub struct Fronts {
+    fronts: Vec<FrontWork>,
+    requests: Vec<Request>,
+    /// The fronts of which a worker is wanted, and none is idle.
+    starved: Vec<NodeNo>,
+}
+
+impl Fronts {
+    /// The fronts of the site, with nothing in hand.
+    pub fn new(alloc: Global, site: &Site) -> Result<Self, AllocError> {
+        let mut fronts = Vec::new(alloc);
+        for (place, node) in site.nodes.as_slice().iter().enumerate() {
+            if node.kind != NodeKind::Front {
+                continue;
+            }
+            let Ok(number) = u32::try_from(place) else {
+                continue;
+            };
+            fronts.push(FrontWork::new(alloc, NodeNo(number), site.workers as usize)?)?;
+        }
+        Ok(Fronts {
+            fronts,
+            requests: Vec::new(alloc),
+            starved: Vec::new(alloc),
+        })
+    }
+
+    fn front(&self, node: NodeNo) -> Option<&FrontWork> {
+        self.fronts.iter().find(|front| front.node == node)
+    }
+
+    fn front_mut(&mut self, node: NodeNo) -> Option<&mut FrontWork> {
+        self.fronts.iter_mut().find(|front| front.node == node)
+    }
+
+    // ---- requests
+
+    /// A request was told that this front hands to its workers.
+    pub fn add(&mut self, number: u64, end: End) -> Result<(), AllocError> {
+        self.requests.push(Request {
+            number,
+            end,
+            is_finished: false,
+            state: RequestState::NotSent,
+        })?;
+        Ok(())
+    }
+
+    pub fn request(&self, number: u64) -> Option<Request> {
+        self.requests
+            .iter()
+            .find(|request| request.number == number)
+            .copied()
+    }
+
+    fn request_mut(&mut self, number: u64) -> Option<&mut Request> {
+        self.requests
+            .iter_mut()
+            .find(|request| request.number == number)
+    }
+
+    /// A line was read that tells what became of a request.
+    pub fn finish(&mut self, number: u64) {
+        if let Some(request) = self.request_mut(number) {
+            request.is_finished = true;
+        }
+    }
+
+    pub fn set_state(&mut self, number: u64, state: RequestState) {
+        if let Some(request) = self.request_mut(number) {
+            request.state = state;
+        }
+    }
+
+    /// A request was answered.
+    pub fn remove(&mut self, number: u64) {
+        self.requests.retain(|request| request.number != number);
+    }
+
+    /// Whether requests that came on a connection are told and not answered.
+    pub fn has_requests_on(&self, conn: usize) -> bool {
+        self.requests.iter().any(|request| request.end.conn == conn)
+    }
+
+    /// Whether a request of which no line tells yet what became of it was told before this one.
+    pub fn has_unfinished_before(&self, number: u64) -> bool {
+        self.requests
+            .iter()
+            .any(|request| !request.is_finished && request.number < number)
+    }
+
+    /// How many requests have arrived on a connection and are in flight yet.
+    pub fn arrived_on(&self, conn: usize) -> usize {
+        self.arrived_on_before(conn, u64::MAX)
+    }
+
+    /// How many of those were told before this one.
+    pub fn arrived_on_before(&self, conn: usize, number: u64) -> usize {
+        self.requests
+            .iter()
+            .filter(|request| {
+                request.end.conn == conn
+                    && request.state == RequestState::Arrived
+                    && request.number < number
+            })
+            .count()
+    }
+
+    /// The last one of those.
+    pub fn last_arrived_on(&self, conn: usize) -> Option<u64> {
+        self.requests
+            .iter()
+            .filter(|request| request.end.conn == conn && request.state == RequestState::Arrived)
+            .map(|request| request.number)
+            .max()
+    }
+
+    /// The first request, in the order in which they were told, that has arrived at a front and is in flight yet.
+    pub fn first_arrived(&self, front: NodeNo) -> Option<u64> {
+        let first = self.requests.iter().find(|request| {
+            request.end.node == front && request.state == RequestState::Arrived
+        })?;
+        Some(first.number)
+    }
+
+    /// How many requests have arrived at a front and are in flight yet, up to this one.
+    pub fn arrived_up_to(&self, front: NodeNo, last: u64) -> usize {
+        self.requests
+            .iter()
+            .filter(|request| {
+                request.end.node == front
+                    && request.state == RequestState::Arrived
+                    && request.number <= last
+            })
+            .count()
+    }
+
+    // ---- queues and workers
+
+    /// How many requests are in the queue of a front.
+    pub fn queued(&self, front: NodeNo) -> usize {
+        self.front(front).map_or(0, |front| front.queue.len())
+    }
+
+    /// How many workers of a front are idle.
+    pub fn idle(&self, front: NodeNo) -> usize {
+        self.front(front).map_or(0, |front| front.idle())
+    }
+
+    /// The worker of a front that has this request.
+    pub fn worker_of(&self, front: NodeNo, number: u64) -> Option<usize> {
+        self.front(front)?.worker_of(number)
+    }
+
+    /// Whether a worker has the request, or may have it at once: those before it in the queue need one too.
+    pub fn may_start(&self, request: &Request) -> bool {
+        match self.front(request.end.node) {
+            Some(front) => {
+                front.worker_of(request.number).is_some()
+                    || front.ahead_of(request.number) < front.idle()
+            }
+            None => false,
+        }
+    }
+
+    /// A request comes into the queue of a front.
+    pub fn push(&mut self, front: NodeNo, number: u64) -> Result<(), AllocError> {
+        if let Some(front) = self.front_mut(front) {
+            front.queue.push_back(number)?;
+        }
+        Ok(())
+    }
+
+    /// An idle worker takes the first request of the queue of a front: which one. None where the queue is empty or no worker is
+    /// idle.
+    pub fn pick(&mut self, front: NodeNo) -> Option<usize> {
+        self.front_mut(front)?.pick()
+    }
+
+    /// A worker of a front is idle again.
+    pub fn release(&mut self, front: NodeNo, worker: usize) {
+        if let Some(front) = self.front_mut(front) {
+            front.release(worker);
+        }
+    }
+
+    // ---- fronts that want a worker
+
+    /// A worker is wanted at this front, and none is idle.
+    pub fn starve(&mut self, front: NodeNo) -> Result<(), AllocError> {
+        if !self.starved.contains(&front) {
+            self.starved.push(front)?;
+        }
+        Ok(())
+    }
+
+    /// Nobody has wanted a worker yet.
+    pub fn feed_all(&mut self) {
+        self.starved.clear();
+    }
+
+    /// Whether a request of which no line tells yet what became of it keeps a worker busy that is wanted.
+    pub fn is_held_up(&self) -> bool {
+        self.requests.iter().any(|request| {
+            !request.is_finished
+                && request.state != RequestState::NotSent
+                && self.starved.contains(&request.end.node)
+        })
+    }
+}

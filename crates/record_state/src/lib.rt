@@ -1,0 +1,22 @@
+//! What was read of records and is not played yet. Each part has one owner, and none knows the farm that plays:
+//!
+//! - [`Queues`]: the entries of nodes, each node's in the order of its record.
+//! - [`Connections`]: the ends of connections that were told, and the connections that stand.
+//! - [`Fronts`]: the requests that fronts hold, in their queues and with their workers.
+//! - [`is_as_told`]: whether what was sent is what a record tells.
+//! - [`BookOrder`]: what was told of the book, by its places. [`Reports`]: what it has come to at the ends of processes.
+#![tactic(auto)]
+
+mod book_order;
+mod comparing;
+mod connections;
+mod fronts;
+mod queues;
+mod reports;
+
+pub use book_order::BookOrder;
+pub use comparing::is_as_told;
+pub use connections::{Connections, Established, OpenDials};
+pub use fronts::{Fronts, Request, RequestState};
+pub use queues::{NodeEntry, Queues};
+pub use reports::Reports;

@@ -1,0 +1,134 @@
+//! The entries that were read and are not played yet, of each node in the order of its record.
+
+use dia_base::NodeNo;
+use record_reader::{NodeEvent, Position};
+use std::alloc::{AllocError, Global};
+use std::collections::VecDeque;
+
+/// An entry of a node.
+#[derive(Drop)]
+pub enum NodeEntry {
+    /// Its process begins, for the first time or again.
+    Begin {
+        position: Position,
+        node: NodeNo,
+        is_first: bool,
+    },
+    Event(NodeEvent),
+}
+
+impl NodeEntry {
+    pub fn position(&self) -> Position {
+        match self {
+            NodeEntry::Begin { position, .. } => *position,
+            NodeEntry::Event(event) => event.position,
+        }
+    }
+
+    /// The node at the other end of its connection.
+    fn peer(&self) -> Option<NodeNo> {
+        match self {
+            NodeEntry::Begin { .. } => None,
+            NodeEntry::Event(event) => Some(event.end.peer),
+        }
+    }
+}
+
+/// The entries of a node.
+#[derive(Drop)]
+struct Queue {
+    record: usize,
+    node: NodeNo,
+    entries: VecDeque<NodeEntry>,
+}
+
+/// The entries of all nodes. What the nodes of one process do is in no order of its own, so each node has a queue.
+#[derive(Drop)]
+pub struct Queues {
+    alloc: Global,
+    queues: Vec<Queue>,
+}
+
+impl Queues {
+    pub fn new(alloc: Global) -> Self {
+        Queues {
+            alloc,
+            queues: Vec::new(alloc),
+        }
+    }
+
+    /// How many nodes have a queue.
+    pub fn len(&self) -> usize {
+        self.queues.len()
+    }
+
+    /// A node more, which this record is of.
+    pub fn add(&mut self, record: usize, node: NodeNo) -> Result<(), AllocError> {
+        let entries = VecDeque::new(self.alloc);
+        self.queues.push(Queue {
+            record,
+            node,
+            entries,
+        })?;
+        Ok(())
+    }
+
+    /// Puts an entry behind the others of a node.
+    pub fn push(&mut self, node: NodeNo, entry: NodeEntry) -> Result<(), AllocError> {
+        let queue = self.queues.iter_mut().find(|queue| queue.node == node);
+        if let Some(queue) = queue {
+            queue.entries.push_back(entry)?;
+        }
+        Ok(())
+    }
+
+    /// The record that a queue is read from.
+    pub fn record_of(&self, place: usize) -> Option<usize> {
+        Some(self.queues.get(place)?.record)
+    }
+
+    /// Whether entries of a record are left.
+    pub fn has_entries_of(&self, record: usize) -> bool {
+        self.queues.iter().any(|queue| queue.record == record && !queue.entries.is_empty())
+    }
+
+    /// The next entry of a queue.
+    pub fn head(&self, place: usize) -> Option<&NodeEntry> {
+        self.queues.get(place)?.entries.front()
+    }
+
+    /// The next entry of a queue was played.
+    pub fn advance(&mut self, place: usize) {
+        if let Some(queue) = self.queues.get_mut(place) {
+            let _played = queue.entries.pop_front();
+        }
+    }
+
+    /// The next entry of the node that the node of this one may wait for.
+    fn waited_for(&self, entry: &NodeEntry) -> Option<&NodeEntry> {
+        let peer = entry.peer()?;
+        self.queues
+            .iter()
+            .find(|queue| queue.node == peer)?
+            .entries
+            .front()
+    }
+
+    /// From the first node that waits to the one that it waits for, and so on: where the entry stands that the last one waits to
+    /// play.
+    pub fn first_that_waits(&self) -> Option<Position> {
+        let waiting = self
+            .queues
+            .iter()
+            .filter(|queue| !queue.entries.is_empty())
+            .count();
+        let mut head = self.queues.iter().find_map(|queue| queue.entries.front())?;
+        for _ in 0..waiting {
+            match self.waited_for(head) {
+                Some(next) => head = next,
+                None => return Some(head.position()),
+            }
+        }
+        Some(head.position())
+    }
+}
