@@ -1,8 +1,8 @@
 """A farm as it runs live, chosen at random: processes, connections as TCP has them, and the records that they write.
 
 A relay and a client are a process each, and all fronts together are one, with a book and with workers who pick, charge and
-finish by themselves; the process collects what they have finished later. What a process sends waits until it has written
-its record. A connection loses what is behind some message, never one before another; each of its ends notices by itself
+finish by themselves, and a sweeper; the process collects what they have done later. What a process sends waits until it has
+written its record. A connection loses what is behind some message, never one before another; each of its ends notices by itself
 that it has gone. A process that is killed leaves a record that may end in the middle of a line, and is started again.
 """
 from collections import deque
@@ -80,7 +80,7 @@ class Process:
             self.relay = RisingRelay(self.names[0], self.farm.site)
             self.relay.number_from(crc32(f"{self.names[0]} {self.starts}".encode()))
         if self.kind == FRONT:
-            self.pools = {name: Pool(name, self.farm.site) for name in self.names}
+            self.pools, self.swept = {name: Pool(name, self.farm.site) for name in self.names}, None
 
     def tell(self, *words):
         self.lines.append(spelled(*words))
@@ -209,7 +209,7 @@ class LiveFarm:
             case "finish":
                 return [(pool, at) for pool in self.pools() for at, job in enumerate(pool.workers) if job and job.answer]
             case "collect":
-                return [pool for pool in self.pools() if pool.finished]
+                return [pool for pool in self.pools() if pool.finished] + [it for it in self.processes if it.kind == FRONT and it.swept]
             case "cut":
                 return [end for end in ends if end.other and not end.other.is_gone]
             case "close":
@@ -217,7 +217,7 @@ class LiveFarm:
             case "kill":
                 return [it for it in self.processes if it.kind != FRONT]
             case "sweep":
-                return [it for it in self.processes if it.kind == FRONT]
+                return [it for it in self.processes if it.kind == FRONT and not it.swept]
 
     def may_dial(self, a, b):
         one, other = self.process_of(a), self.process_of(b)
@@ -333,8 +333,13 @@ class LiveFarm:
         pool.finished.append(pool.workers[worker])
         pool.workers[worker] = None
 
-    def collect(self, pool):
-        self.process_of(pool.name).collect(pool)
+    def collect(self, done):
+        """The jobs that the workers of a front have finished, or a sweep that has ended sessions."""
+        if isinstance(done, Process):
+            done.tell("sweep", *done.swept)
+            done.swept = None
+        else:
+            self.process_of(done.name).collect(done)
 
     def sweep(self, process):
         deadlines = [it.deadline for it in self.book.sessions.values()]
@@ -342,7 +347,7 @@ class LiveFarm:
         entries, sessions = self.book.entries, len(self.book.sessions)
         self.book.sweep(moment)
         if self.book.entries > entries:
-            process.tell("sweep", moment, sessions - len(self.book.sessions))
+            process.swept = (moment, sessions - len(self.book.sessions))
 
     # ---- A whole run
 

@@ -646,10 +646,14 @@ class Audit:
     # ---- Where nothing may happen
 
     def may_be_told(self):
-        """Whether what stands next in the book, or keeps a worker busy, is a job whose line was not read yet."""
+        """Whether what stands next in the book is a job or a sweep whose line was not read yet, or a job keeps a worker busy."""
         if any(job.order in self.open for name in self.short for job in self.jobs_at(name)):
             return True
-        return self.place not in self.charges and self.waits_for_a_job()
+        return self.place not in self.charges and (self.waits_for_a_job() or self.waits_for_a_sweep())
+
+    def waits_for_a_sweep(self):
+        """Whether a sweep has the next place whose line was not read yet: a line tells of a later place."""
+        return not self.sweeps and any((it.place or 0) > self.place for it in [*self.charges.values(), *self.kept])
 
     def waits_for_a_job(self):
         """Whether a job may have the next place: it was told before each line that tells of a later place."""

@@ -1,9 +1,13 @@
 #!/usr/bin/env python3
 """A book on disk over the row site, worked out from the rules alone (docs/BOOK.md, docs/DEFINITIONS.md).
 
-    stored_book.py fill FILE            writes entries of each kind into a book without one, which `farm book create` made
-    stored_book.py check|report|export FILE
+    stored_book.py fill FILE [MORE [LATER]]
+                                        writes entries of each kind into a book without one, which `farm book create` made, and
+                                        so many debits behind them, all so many milliseconds later
+    stored_book.py check|report|export FILE [MORE]
                                         prints what `farm book` must print of it
+    stored_book.py near FILE [MORE]     prints what `check` must print where the book can have as many entries as it has
+    stored_book.py rows FILE            prints what stands in the file, a line for each row of both tables
     stored_book.py identity FILE        prints which book it is
     stored_book.py harm FILE PLACE      changes the moment of the row at a place
     stored_book.py cut FILE             takes the last row away
@@ -68,10 +72,11 @@ class Entry:
         self.debit = before - sum(book.balances.values())
 
 
-def history():
-    """The entries of the story, and the book behind them."""
-    book = Book(ROW_SITE)
-    return [Entry(book, place, *step) for place, step in enumerate(STORY)], book
+def history(more=0, later=0):
+    """The entries of the story and of so many debits behind it, at later moments, and the book behind them."""
+    book, last = Book(ROW_SITE), STORY[-1][0]
+    debits = [(last + number, event(1000 + number, DIRECT_DEBITING, FIRST, 1)) for number in range(more)]
+    return [Entry(book, place, later + moment, request) for place, (moment, request) in enumerate(STORY + debits)], book
 
 
 # ---- as rows
@@ -140,8 +145,8 @@ def opened(path):
     return file
 
 
-def fill(path):
-    made = stored(history()[0])
+def fill(path, more=0, later=0):
+    made = stored(history(more, later)[0])
     standing = rows.number(len(made), 8) + made[-1][8:16] + made[-1][-16:]
     with opened(path) as file:
         file.executemany("INSERT INTO entry (rowid, octets) VALUES (?, ?)", enumerate(made))
@@ -169,12 +174,20 @@ def identity_of(path):
     return about[4:20].hex()
 
 
+def rows_in(path):
+    with sqlite3.connect(f"file:{path}?mode=ro&immutable=1", uri=True) as file:
+        for table in ("book", "entry"):
+            for place, octets in file.execute(f"SELECT rowid, octets FROM {table} ORDER BY rowid"):
+                yield f"{table} {place} {octets.hex()}"
+    file.close()
+
+
 def identity(path):
     yield identity_of(path)
 
 
-def check(path):
-    entries, _ = history()
+def check(path, more=0):
+    entries, _ = history(more)
     charges = sum(entry.request is not None for entry in entries)
     yield f"book {identity_of(path)}"
     yield f"entries {len(entries)} charges {charges} sweeps {len(entries) - charges}"
@@ -182,12 +195,18 @@ def check(path):
     yield f"sum {stored(entries)[-1][-16:].hex()}"
 
 
-def report(_):
-    return "".join(history()[1].report()).splitlines()
+def near(path, more=0):
+    yield from check(path, more)
+    entries = len(STORY) + more
+    yield f"look: the book is nearly full: {entries} of {entries} entries"
 
 
-def export(_):
-    return map(line_of, history()[0])
+def report(_, more=0):
+    return "".join(history(more)[1].report()).splitlines()
+
+
+def export(_, more=0):
+    return map(line_of, history(more)[0])
 
 
 def main():
@@ -195,7 +214,8 @@ def main():
     if task in ("fill", "harm", "cut"):
         {"fill": fill, "harm": harm, "cut": cut}[task](path, *map(int, more))
     else:
-        print(*{"identity": identity, "check": check, "report": report, "export": export}[task](path), sep="\n")
+        tasks = {"identity": identity, "check": check, "near": near, "report": report, "export": export, "rows": rows_in}
+        print(*tasks[task](path, *map(int, more)), sep="\n")
 
 
 if __name__ == "__main__":

@@ -1,7 +1,7 @@
 //! Who may come up: the keys `from` of the nodes of a site file, and `strict` of the file.
 //!
 //! ```text
-//! strict = ["names", "end-to-end"] # absent: []
+//! strict = ["names", "end-to-end", "goodbyes", "origin-state"] # absent: []
 //!
 //! [[node]]
 //! name = "c1.example"
@@ -12,7 +12,7 @@
 //! A name that a peer gives itself proves nothing. Where a node has the key `from`, only a peer at one of these addresses
 //! may give itself the name. With the word `names` in `strict`, a node comes up by connecting only where the site has it as
 //! the side that connects, or it has the key `from`; and a node that was connected to, only where its answer names it. The
-//! word `end-to-end` is of no account here: who serves asks for it ([`Access::strictness`]). All other keys of the file are
+//! other words are of no account here: who serves asks for them ([`Access::strictness`]). All other keys of the file are
 //! `farm_site`'s.
 //!
 //! - [`Prefix`]: the addresses that begin with the same bits.

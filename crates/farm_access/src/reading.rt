@@ -99,6 +99,8 @@ fn word_of(value: &Value) -> Result<Strict, AccessFault>
     match value.as_str() {
         Some("names") => Ok(Strict::Names),
         Some("end-to-end") => Ok(Strict::EndToEnd),
+        Some("goodbyes") => Ok(Strict::Goodbyes),
+        Some("origin-state") => Ok(Strict::OriginState),
         Some(_) => Err(AccessFault::UnknownWord),
         None => Err(AccessFault::NoWords),
     }

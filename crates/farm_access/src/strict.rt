@@ -10,6 +10,11 @@ pub enum Strict {
     Names,
     /// `end-to-end`: a relay drops an answer that has another End-to-End Identifier than its request (RFC 6733, section 3).
     EndToEnd,
+    /// `goodbyes`: who is told goodbye by a peer leaves closing to it, and sends it no request more (RFC 6733, section 5.4).
+    Goodbyes,
+    /// `origin-state`: fronts tell their peers an Origin-State-Id, which another one follows where sessions were lost (RFC 6733, section
+    /// 8.16).
+    OriginState,
 }
 
 /// Which of these rules a site asks for.
@@ -17,6 +22,8 @@ pub enum Strict {
 pub struct Strictness {
     pub names: bool,
     pub end_to_end: bool,
+    pub goodbyes: bool,
+    pub origin_state: bool,
 }
 
 impl Strictness {
@@ -27,6 +34,8 @@ impl Strictness {
         Strictness {
             names: false,
             end_to_end: false,
+            goodbyes: false,
+            origin_state: false,
         }
     }
 
@@ -37,6 +46,8 @@ impl Strictness {
         match word {
             Strict::Names => self.names,
             Strict::EndToEnd => self.end_to_end,
+            Strict::Goodbyes => self.goodbyes,
+            Strict::OriginState => self.origin_state,
         }
     }
 
@@ -49,16 +60,13 @@ impl Strictness {
         if self.is_on(word) {
             return None;
         }
-        let Strictness { names, end_to_end } = self;
+        let mut more = self;
         match word {
-            Strict::Names => Some(Strictness {
-                names: true,
-                end_to_end,
-            }),
-            Strict::EndToEnd => Some(Strictness {
-                names,
-                end_to_end: true,
-            }),
+            Strict::Names => more.names = true,
+            Strict::EndToEnd => more.end_to_end = true,
+            Strict::Goodbyes => more.goodbyes = true,
+            Strict::OriginState => more.origin_state = true,
         }
+        Some(more)
     }
 }

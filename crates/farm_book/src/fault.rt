@@ -1,14 +1,15 @@
 //! Why a task is not done.
 
 ghost use Rattle.std.specs.Prelude.{◌≡◌};
-ghost use Rattle.farm_book.specs.Ending.{status_of, status_of_book, status_of_file, status_of_journal, status_of_store};
+ghost use Rattle.farm_book.specs.Ending.{status_of, status_of_book, status_of_copy, status_of_file, status_of_journal, status_of_rows, status_of_store};
 
+use book_copy::{CopyError, CopyFault};
 use book_entries::RowRefusal;
 use book_file::FileError;
 use book_journal::JournalError;
 use book_lines::LinesFault;
 use book_opening::BookFault;
-use book_store::RowError;
+use book_store::{AppendError, CheckError, RowError};
 use farm_command::Status;
 use farm_site::SiteFault;
 use sqlite_trees::error::StoreError;
@@ -26,6 +27,12 @@ pub enum TaskFault {
     NotMade(BookFault),
     #[error("the book is not read: {0}")]
     NotRead(BookFault),
+    #[error("the book is not backed up: {0}")]
+    NotCopied(CopyFault),
+    #[error("the backup is not read: {0}")]
+    CopyNotRead(BookFault),
+    #[error("the backup is another book than the one that was copied")]
+    OtherCopy,
     /// Its entries are not told.
     #[error("{0}")]
     Lines(LinesFault),
@@ -42,7 +49,10 @@ impl TaskFault {
     {
         match self {
             TaskFault::SiteFile | TaskFault::Write => Status::Failed,
-            TaskFault::NotMade(fault) | TaskFault::NotRead(fault) => book_status(*fault),
+            TaskFault::NotMade(fault) | TaskFault::NotRead(fault) | TaskFault::CopyNotRead(fault) =>
+                book_status(*fault),
+            TaskFault::NotCopied(fault) => copy_status(*fault),
+            TaskFault::OtherCopy => Status::Refused,
             TaskFault::Site(SiteFault::OutOfMemory)
             | TaskFault::Lines(LinesFault::OutOfMemory)
             | TaskFault::OutOfMemory => Status::OutOfMemory,
@@ -60,6 +70,32 @@ fn book_status(fault: BookFault) -> Status
         BookFault::Row(error) => journal_status(error),
         BookFault::OtherTerms(_) | BookFault::DamagedTerms => Status::Refused,
         BookFault::OutOfMemory => Status::OutOfMemory,
+    }
+}
+
+/// How the program ends by a fault of a copy.
+fn copy_status(fault: CopyFault) -> Status
+    ensures { result ≡ status_of_copy fault }
+{
+    match fault {
+        CopyFault::Stands => Status::Refused,
+        CopyFault::Book(error) | CopyFault::Copy(error) => file_status(error),
+        CopyFault::Rows(error) => rows_status(error),
+        CopyFault::Io(_) => Status::Failed,
+        CopyFault::OutOfMemory => Status::OutOfMemory,
+    }
+}
+
+/// How the program ends by rows that are not copied.
+fn rows_status(error: CopyError) -> Status
+    ensures { result ≡ status_of_rows error }
+{
+    match error {
+        CopyError::Check(CheckError::Row(RowError::Store(error)))
+        | CopyError::Read(RowError::Store(error))
+        | CopyError::Append(AppendError::Store(error)) => store_status(error),
+        CopyError::Check(_) | CopyError::Read(_) | CopyError::Append(_) => Status::Refused,
+        CopyError::OutOfMemory => Status::OutOfMemory,
     }
 }
 

@@ -1,4 +1,4 @@
-//! An account book on disk: it is made, checked and printed, under the terms of a site.
+//! An account book on disk: it is made, checked, printed and copied, under the terms of a site.
 #![tactic(auto)]
 
 mod fault;
@@ -9,7 +9,8 @@ use std::process::ExitCode;
 use tasks::carry_out_task;
 
 /// What is told where the words are others.
-const USAGE: &str = "usage: book create|check|report|export FILE --site FILE";
+const USAGE: &str =
+    "usage: book create|check|report|export FILE --site FILE, or book backup FILE FILE --site FILE";
 
 /// Does what the words behind the program's name ask for.
 fn carry_out(rt: &HostRuntime, words: &[String]) -> ExitCode {

@@ -1,10 +1,11 @@
 //! What is done with a book.
 
-ghost use Rattle.std.specs.Prelude.{◌≡◌, IfOk};
+ghost use Rattle.std.specs.Prelude.{◌≡◌, ◌↔◌, IfErr, IfOk, IsTrue};
 ghost use Rattle.farm_base.specs.CheckedSite.{IsChecked};
-ghost use Rattle.farm_book.specs.Told.{IsStoredUnder, IsTold, text_of};
+ghost use Rattle.farm_book.specs.Told.{IsCopyOf, IsStoredUnder, IsTold, text_of};
 
 use crate::fault::TaskFault;
+use book_copy::{Copied, copy_file};
 use book_lines::{entry_lines, made_line, summary};
 use book_opening::{StoredBook, create_book, read_book};
 use book_store::FIRST_SUM;
@@ -60,7 +61,49 @@ fn read(rt: &HostRuntime, path: &str, site: &Site) -> Result<StoredBook, TaskFau
     }
 }
 
-/// Makes or reads the book that a command names.
+/// Reads a copy of a book under the terms of a site.
+fn read_copy(rt: &HostRuntime, path: &str, site: &Site) -> Result<StoredBook, TaskFault>
+    requires { IsChecked site.now }
+    ensures { IfOk result (IsStoredUnder site.now) }
+{
+    let empty = empty_book(rt.alloc(), site)?;
+    match read_book(rt, path, empty) {
+        Ok(read) => Ok(read),
+        Err(fault) => Err(TaskFault::CopyNotRead(fault)),
+    }
+}
+
+/// Whether what was read again is the book that was copied.
+fn is_copy_of(copied: Copied, copy: &StoredBook) -> bool
+    ensures { IsTrue result ↔ IsCopyOf copied copy.now }
+{
+    copy.identity.0 == copied.identity.0 && copy.sum.0 == copied.sum.0
+}
+
+/// Refuses what was read again where it is not the book that was copied.
+fn checked_copy(copied: Copied, copy: StoredBook) -> Result<StoredBook, TaskFault>
+    ensures copy { IfOk result (λ book. book ≡ copy) }
+    ensures same { IfOk result (IsCopyOf copied) }
+    ensures other { IfErr result (λ fault. (fault ≡ TaskFault.OtherCopy) × (IsCopyOf copied copy → ⊥)) }
+{
+    if is_copy_of(copied, &copy) {
+        Ok(copy)
+    } else {
+        Err(TaskFault::OtherCopy)
+    }
+}
+
+/// Copies a book that can be read under the terms of a site to a new file, and reads that.
+fn backed_up(rt: &HostRuntime, path: &str, to: &str, site: &Site) -> Result<StoredBook, TaskFault>
+    requires { IsChecked site.now }
+    ensures { IfOk result (IsStoredUnder site.now) }
+{
+    drop(read(rt, path, site)?);
+    let copied = copy_file(rt, path, to).map_err(TaskFault::NotCopied)?;
+    checked_copy(copied, read_copy(rt, to, site)?)
+}
+
+/// Makes, reads or copies the book that a command names.
 fn stored(rt: &HostRuntime, command: &BookCommand<'_>, site: &Site) -> Result<StoredBook, TaskFault>
     requires { IsChecked site.now }
     ensures { IfOk result (IsStoredUnder site.now) }
@@ -68,7 +111,17 @@ fn stored(rt: &HostRuntime, command: &BookCommand<'_>, site: &Site) -> Result<St
     match command.task {
         BookTask::Create => made(rt, command.file, site),
         BookTask::Check | BookTask::Report | BookTask::Export => read(rt, command.file, site),
+        BookTask::Backup { to } => backed_up(rt, command.file, to, site),
     }
+}
+
+/// What a book comes to.
+fn summary_of(alloc: Global, site: &Site, stored: &StoredBook) -> Result<Vec<u8>, TaskFault>
+    requires { IsStoredUnder site.now stored.now }
+    ensures { IfOk result (λ text. text.items ≡ text_of BookTask.Check stored.now) }
+{
+    let history = stored.book.history();
+    Ok(summary(alloc, stored.identity, history, stored.sum, site.limit)?)
 }
 
 /// The report of the accounts of a book.
@@ -95,17 +148,17 @@ fn entries_of(alloc: Global, site: &Site, stored: &StoredBook) -> Result<Vec<u8>
 /// What a task prints of a book.
 fn text_of(
     alloc: Global,
-    task: BookTask,
+    task: BookTask<'_>,
     site: &Site,
     stored: &StoredBook,
 ) -> Result<Vec<u8>, TaskFault>
     requires checked { IsChecked site.now }
     requires stored { IsStoredUnder site.now stored.now }
-    ensures { IfOk result (λ text. text.items ≡ text_of task stored.now) }
+    ensures { IfOk result (λ text. text.items ≡ text_of task.entry stored.now) }
 {
     match task {
         BookTask::Create => Ok(made_line(alloc, stored.identity)?),
-        BookTask::Check => Ok(summary(alloc, stored.identity, stored.book.history(), stored.sum)?),
+        BookTask::Check | BookTask::Backup { .. } => summary_of(alloc, site, stored),
         BookTask::Report => report_of(alloc, stored),
         BookTask::Export => entries_of(alloc, site, stored),
     }

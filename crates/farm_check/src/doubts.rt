@@ -25,6 +25,7 @@ pub fn push_doubts(
     for (place, node) in site.nodes.as_slice().iter().enumerate() {
         push_node_doubts(alloc, lines, site, place, node)?;
     }
+    push_shared_addresses(alloc, lines, site)?;
     for route in site.routes.as_slice() {
         push_route_doubts(alloc, lines, site, route)?;
     }
@@ -74,6 +75,38 @@ fn push_node_doubts(
                 )?.as_str())?;
             }
         }
+    }
+    Ok(())
+}
+
+/// Whether a node has this address.
+fn is_at(node: &Node, address: &[u8]) -> bool {
+    match &node.address {
+        Some(own) => own.as_slice() == address,
+        None => false,
+    }
+}
+
+/// A line for each node that has the address of a node before it.
+fn push_shared_addresses(alloc: Global, lines: &mut Lines, site: &Site) -> Result<(), AllocError> {
+    let nodes = site.nodes.as_slice();
+    for (place, node) in nodes.iter().enumerate() {
+        let Some(address) = &node.address else {
+            continue;
+        };
+        let Some(other) = nodes
+            .iter()
+            .take(place)
+            .find(|other| is_at(other, address.as_slice()))
+        else {
+            continue;
+        };
+        let (kind, name) = (kind_word(node.kind), identity_text(alloc, &node.name)?);
+        let first = identity_text(alloc, &other.name)?;
+        let address = text_of(alloc, address.as_slice())?;
+        lines.push(format!(in alloc;
+            "look: {kind} {name} has the address of {first}, {address}: only one of them can listen there"
+        )?.as_str())?;
     }
     Ok(())
 }

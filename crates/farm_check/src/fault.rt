@@ -4,6 +4,7 @@ ghost use Rattle.std.specs.Prelude.{◌≡◌};
 ghost use Rattle.farm_check.specs.declared.fault.CheckFault.TheVariants.{OutOfMemory};
 ghost use Rattle.farm_check.specs.Checking.{status_of};
 
+use book_place::BookKeyFault;
 use farm_access::AccessFault;
 use farm_command::Status;
 use farm_site::SiteFault;
@@ -21,6 +22,9 @@ pub enum CheckFault {
     /// What the file says of who may come up is refused; and what is told of it, likewise.
     #[error("{1}")]
     Access(AccessFault, String),
+    /// What the file says of where the book is is refused; and what is told of it, likewise.
+    #[error("{1}")]
+    Book(BookKeyFault, String),
     #[error("the output cannot be written")]
     Write,
     #[error("out of memory")]
@@ -34,7 +38,8 @@ impl CheckFault {
     {
         match self {
             CheckFault::SiteFile | CheckFault::Write => Status::Failed,
-            CheckFault::Site(_, _) | CheckFault::Access(_, _) => Status::Refused,
+            CheckFault::Site(_, _) | CheckFault::Access(_, _) | CheckFault::Book(_, _) =>
+                Status::Refused,
             CheckFault::OutOfMemory => Status::OutOfMemory,
         }
     }

@@ -12,7 +12,7 @@ const LINE_LIMIT: usize = 20;
 const KEY_LIMIT: usize = 64;
 
 /// The keys of the file itself.
-const OWN_KEYS: [&str; 18] = [
+const OWN_KEYS: [&str; 19] = [
     "realm",
     "validity",
     "limit",
@@ -31,6 +31,7 @@ const OWN_KEYS: [&str; 18] = [
     "tolerate",
     "advertise",
     "strict",
+    "book",
 ];
 
 /// The keys of the entries of each table, in the order of [`TABLES`].

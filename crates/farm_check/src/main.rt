@@ -6,6 +6,7 @@ ghost use Rattle.std.specs.Prelude.{◌≢◌, IfErr, IfOk, OnOk};
 ghost use Rattle.std.specs.Io.KnownBytes.{Keeps};
 ghost use Rattle.farm_check.specs.Checking.{IsAccepted, IsEnded, IsRefused, IsWritten};
 
+mod booked;
 mod clients;
 mod doubts;
 mod expected;
@@ -21,13 +22,17 @@ mod places;
 mod summary;
 mod told;
 
+use booked::check_book;
 use farm_command::{Check, CliFault, Command, command_of, end, refuse, words_of};
 use farm_site::{SiteFault, site_document_of_octets};
 use farm_text::{ReadFault, file_at, write_text};
 use fault::CheckFault;
 use keys::push_unknown_keys;
 use lines::Lines;
-use origins::{check_origins, push_ends_off, push_names_off, push_open_nodes};
+use origins::{
+    check_origins, push_ends_off, push_goodbyes_off, push_names_off, push_open_nodes,
+    push_state_off,
+};
 use std::alloc::Global;
 use std::io;
 use std::io::Write;
@@ -47,11 +52,14 @@ fn told_of(alloc: Global, file: &[u8]) -> Result<Lines, CheckFault>
     match site_document_of_octets(alloc, file) {
         Ok(read) => {
             let access = check_origins(alloc, file, &read.document)?;
+            let book = check_book(alloc, file, &read.document)?;
             let mut lines = Lines::new(alloc);
-            push_summary(alloc, &mut lines, &read.site)?;
+            push_summary(alloc, &mut lines, &read.site, book)?;
             push_open_nodes(alloc, &mut lines, &read.site, &read.document)?;
             push_names_off(&mut lines, access.strictness())?;
             push_ends_off(&mut lines, access.strictness())?;
+            push_goodbyes_off(&mut lines, access.strictness())?;
+            push_state_off(&mut lines, access.strictness())?;
             push_unknown_keys(alloc, &mut lines, &read.document)?;
             lines.end()?;
             Ok(lines)

@@ -110,7 +110,7 @@ fn expected_at(fault: AccessFault) -> &'static str {
         AccessFault::TooManyPrefixes => "at most 64 addresses and prefixes",
         AccessFault::TooManyNodes => "at most 64 nodes",
         AccessFault::NoWords | AccessFault::UnknownWord =>
-            "a list of texts, each names or end-to-end",
+            "a list of texts, each names, end-to-end, goodbyes or origin-state",
         AccessFault::WordTwice => "each word once",
         AccessFault::NoTables => "a list of tables, with a header in two brackets for each entry",
         AccessFault::NotToml => "TOML in UTF-8",
@@ -139,6 +139,30 @@ pub fn push_ends_off(lines: &mut Lines, strictness: Strictness) -> Result<(), Al
     }
     lines.push(
         "look: strict: end-to-end is off, so that a relay takes an answer whose End-to-End Identifier its request has not",
+    )
+}
+
+/// A line where a goodbye ends a connection at once.
+pub fn push_goodbyes_off(lines: &mut Lines, strictness: Strictness) -> Result<(), AllocError>
+    ensures { OnOk result (IsToldIf (is_off strictness Strict.Goodbyes) lines.old lines.new) }
+{
+    if strictness.is_on(Strict::Goodbyes) {
+        return Ok(());
+    }
+    lines.push(
+        "look: strict: goodbyes is off, so that a node which says goodbye is left at once, and what it has not answered is sent again",
+    )
+}
+
+/// A line where fronts do not say whether sessions were lost.
+pub fn push_state_off(lines: &mut Lines, strictness: Strictness) -> Result<(), AllocError>
+    ensures { OnOk result (IsToldIf (is_off strictness Strict.OriginState) lines.old lines.new) }
+{
+    if strictness.is_on(Strict::OriginState) {
+        return Ok(());
+    }
+    lines.push(
+        "look: strict: origin-state is off, so that a peer does not learn that a front has lost its sessions",
     )
 }
 

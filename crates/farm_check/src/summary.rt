@@ -4,6 +4,7 @@ ghost use Rattle.std.specs.Prelude.{◌≡◌, IfOk, None};
 ghost use Rattle.cc_rating.specs.Tariffs.{fault_of};
 ghost use Rattle.farm_base.specs.CheckedSite.{IsChecked};
 
+use crate::booked::push_book;
 use crate::clients::push_clients;
 use crate::doubts::push_doubts;
 use crate::lines::{Lines, identity_text};
@@ -13,13 +14,19 @@ use cc_rating::{Tariff, Tariffs};
 use farm_base::Site;
 use std::alloc::{AllocError, Global};
 
-/// The summary of a site: the site, what it takes of clients that deviate, its nodes by kind, links, routes by realm, tariffs with what they cost, accounts, and then
-/// what may look wrong, a line each that begins with `look:`.
-pub fn push_summary(alloc: Global, lines: &mut Lines, site: &Site) -> Result<(), AllocError>
+/// The summary of a site: the site, the file of its book, what it takes of clients that deviate, its nodes by kind, links, routes by
+/// realm, tariffs with what they cost, accounts, and then what may look wrong, a line each that begins with `look:`.
+pub fn push_summary(
+    alloc: Global,
+    lines: &mut Lines,
+    site: &Site,
+    book: Option<&str>,
+) -> Result<(), AllocError>
     requires { IsChecked site.now }
 {
     let tariffs = tariffs_of(alloc, site.tariffs.as_slice())?;
     push_site(alloc, lines, site)?;
+    push_book(alloc, lines, book)?;
     push_clients(alloc, lines, site)?;
     push_nodes(alloc, lines, site)?;
     push_money(alloc, lines, site, &tariffs)?;

@@ -1,5 +1,5 @@
 -- A client that sends requests in their order and keeps what answers them.
-use Rattle.std.specs.Prelude.{◌≡◌, ◌⊎◌, ◌==◌, ◌+◌, ◌-◌, ◌||◌, ◌≤◌, ℕ, Bool, true, false, List, [], ◌∷◌, ◌++◌, Option, Some, None, length, drop, map, min, nat_le, slice_get, if◌then◌else◌, Result, Ok, Err}
+use Rattle.std.specs.Prelude.{◌≡◌, ◌⊎◌, ◌==◌, ◌+◌, ◌-◌, ◌||◌, ◌≤◌, ℕ, Bool, true, false, List, [], ◌∷◌, ◌++◌, Option, Some, None, length, drop, map, min, nat_le, slice_get, if◌then◌else◌, MatchBool, Result, Ok, Err}
 use Rattle.dia_base.specs.declared.number.ConnId.{ConnId}
 use Rattle.dia_message.specs.Traffic.{Traffic}
 use Rattle.dia_message.specs.declared.message.Message.{Message}
@@ -15,6 +15,8 @@ pub record Client : Type 0 where
   -- the octets of those that are unanswered
   pub flight : ℕ
   pub answers : List Message
+  -- the node at the other end has said goodbye
+  pub has_left : Bool
   pub has_ended : Bool
 
 -- the octets of a message, or the greatest number of 64 bits
@@ -69,18 +71,23 @@ pub record GivesUp (old : Client) (traffic : Traffic) (fault : NodeError) (new :
   pub silent : traffic ≡ []
   pub requests : new.requests ≡ old.requests
   pub forward : old.sent ≤ new.sent
+  pub left : new.has_left ≡ old.has_left
   pub ended : new.has_ended ≡ old.has_ended
 
--- it sends the next requests, or gives up
+-- it sends the next requests; none where the node at the other end has said goodbye
+abbrev pub SendsOn : ConnId → Client → Traffic → Client → Type 0
+SendsOn conn old traffic new = MatchBool old.has_left ((new ≡ old) × (traffic ≡ [])) (SendsNext conn old traffic new)
+
+-- it does so, or gives up
 abbrev pub GoesOn : ConnId → Client → Traffic → Result (Unit {0}) NodeError → Client → Type 0
-GoesOn conn old traffic (Ok done) new = SendsNext conn old traffic new
+GoesOn conn old traffic (Ok done) new = SendsOn conn old traffic new
 GoesOn conn old traffic (Err fault) new = GivesUp old traffic fault new × (new.answers ≡ old.answers)
 
 -- a message that is an answer is kept, behind those before; one that is a request changes nothing
 abbrev pub OnMessage : Bool → Message → ConnId → Client → Traffic → Result (Unit {0}) NodeError → Client → Type 0
 OnMessage true message conn old traffic outcome new = (new ≡ old) × (traffic ≡ []) × (outcome ≡ Ok tt)
 OnMessage false message conn old traffic (Ok done) new =
-    SendsNext conn (record old { answers = old.answers ++ message ∷ []; flight = flight_after_answer old }) traffic new
+    SendsOn conn (record old { answers = old.answers ++ message ∷ []; flight = flight_after_answer old }) traffic new
 OnMessage false message conn old traffic (Err fault) new =
     GivesUp old traffic fault new × ((new.answers ≡ old.answers) ⊎ (new.answers ≡ old.answers ++ message ∷ []))
 
@@ -88,6 +95,8 @@ OnMessage false message conn old traffic (Err fault) new =
 abbrev pub OnClientEvent : Client → NodeEvent → Traffic → Result (Unit {0}) NodeError → Client → Type 0
 OnClientEvent old (event.up local peer conn) traffic outcome new = GoesOn conn old traffic outcome new
 OnClientEvent old (event.message conn message) traffic outcome new = OnMessage message.header.request message conn old traffic outcome new
+-- It sends no request from then on, and takes answers as before.
+OnClientEvent old (event.leaving conn) traffic outcome new = (new ≡ record old { has_left = true }) × (traffic ≡ []) × (outcome ≡ Ok tt)
 OnClientEvent old (event.lost conn) traffic outcome new = (new ≡ record old { has_ended = true }) × (traffic ≡ []) × (outcome ≡ Ok tt)
 OnClientEvent old (event.tick moment) traffic outcome new = (new ≡ old) × (traffic ≡ []) × (outcome ≡ Ok tt)
 OnClientEvent old event.wake traffic outcome new = (new ≡ old) × (traffic ≡ []) × (outcome ≡ Ok tt)

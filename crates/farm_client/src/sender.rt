@@ -14,13 +14,14 @@ use std::marker::Model;
 pub const FLIGHT_LIMIT: u64 = 524_288;
 
 /// A client on its one connection: it sends its requests in their order, as many as may be unanswered, and keeps what
-/// answers them.
+/// answers them. It sends none any more once the node at the other end has said goodbye.
 #[derive(Drop)]
 pub struct Sender {
     requests: Vec<Message>,
     sent: usize,
     flight: u64,
     answers: Vec<Message>,
+    has_left: bool,
     has_ended: bool,
 }
 
@@ -35,6 +36,7 @@ impl Model for Sender {
       sent = s.sent;
       flight = s.flight;
       answers = s.answers.items;
+      has_left = s.has_left;
       has_ended = s.has_ended;
     } };
 
@@ -61,13 +63,14 @@ fn copy_of(message: &Message) -> Result<Message, AllocError>
 impl Sender {
     /// It has sent nothing yet.
     pub fn new(alloc: Global, requests: Vec<Message>) -> Self
-        ensures { result ≡ record { requests = requests.items; sent = 0; flight = 0; answers = []; has_ended = false } }
+        ensures { result ≡ record { requests = requests.items; sent = 0; flight = 0; answers = []; has_left = false; has_ended = false } }
     {
         Sender {
             requests,
             sent: 0,
             flight: 0,
             answers: Vec::new(alloc),
+            has_left: false,
             has_ended: false,
         }
     }
@@ -103,7 +106,7 @@ impl Sender {
     /// The requests that may go out now.
     fn next_requests(&mut self, alloc: Global, conn: ConnId) -> Result<Out, AllocError>
         ensures sends { IfOk result (λ out. SendsNext conn self.old out.items self.new) }
-        ensures others { (self.new.requests ≡ self.old.requests) × (self.new.answers ≡ self.old.answers) × (self.new.has_ended ≡ self.old.has_ended) }
+        ensures others { (self.new.requests ≡ self.old.requests) × (self.new.answers ≡ self.old.answers) × (self.new.has_left ≡ self.old.has_left) × (self.new.has_ended ≡ self.old.has_ended) }
         ensures forward { self.old.sent ≤ self.new.sent }
     {
         let mut items = Vec::new(alloc);
@@ -122,10 +125,13 @@ impl Sender {
         })
     }
 
-    /// What it does next.
+    /// What it does next: nothing where the other end has said goodbye.
     fn goes_on(&mut self, alloc: Global, conn: ConnId) -> Reaction
         ensures { GoesOn conn self.old result.out.items result.outcome self.new }
     {
+        if self.has_left {
+            return Reaction::nothing(alloc);
+        }
         match self.next_requests(alloc, conn) {
             Ok(out) => Reaction::sends(out),
             Err(AllocError) => Reaction::refuses(alloc, NodeError::OutOfMemory),
@@ -161,6 +167,11 @@ impl Node for Sender {
             Ok(()) => self.goes_on(alloc, conn),
             Err(AllocError) => Reaction::refuses(alloc, NodeError::OutOfMemory),
         }
+    }
+
+    fn on_leaving(&mut self, alloc: Global, _conn: ConnId) -> Reaction {
+        self.has_left = true;
+        Reaction::nothing(alloc)
     }
 
     fn on_lost<W: Wire>(&mut self, alloc: Global, _conn: ConnId) -> Reaction {

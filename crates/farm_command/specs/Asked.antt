@@ -29,7 +29,7 @@ use Rattle.farm_command.specs.declared.command.Command.{Command}
 use Rattle.farm_command.specs.declared.command.Command.TheVariants as command
 use Rattle.farm_command.specs.declared.fault.CliFault.{CliFault}
 use Rattle.farm_command.specs.declared.fault.CliFault.TheVariants as fault
-use Rattle.farm_command.specs.CommandLine.{id_of, name_of, task_word}
+use Rattle.farm_command.specs.CommandLine.{id_of, name_of, operands_of}
 
 -- ---- the subcommand of a command
 
@@ -66,9 +66,9 @@ abbrev pub is_true : Option Text → Bool
 is_true None = false
 is_true (Some text) = bytes_eq text (codes "true")
 
--- whether `--skipped` is among what was found for a subcommand
-abbrev pub skipped_in : List Row → Bool
-skipped_in rows = is_true (first_of (codes "skipped") rows)
+-- whether a flag is among what was found for a subcommand
+abbrev pub flag_in : Text → List Row → Bool
+flag_in name rows = is_true (first_of name rows)
 
 -- `--answers N`: a decimal number below 2^64, with or without a plus; 0 where it is not there
 abbrev pub IsCount : Option Text → ℕ → Type 0
@@ -93,15 +93,16 @@ HasTask rows (task.Fronts answers) = IsCount (value_in word.Answers rows) answer
 HasTask rows (task.Send client peer) = (value_in word.Client rows ≡ Some client.now) × (value_in word.Peer rows ≡ Some peer.now)
 
 abbrev pub HasRun : List Row → Run → Type 0
-HasRun rows run = (value_in word.Site rows ≡ option_map (λ s. s.now) run.site) × (run.skipped ≡ skipped_in rows)
+HasRun rows run = (value_in word.Site rows ≡ option_map (λ s. s.now) run.site) × (run.skipped ≡ flag_in (codes "skipped") rows)
 
--- what it writes down and says of itself
+-- what it writes down and says of itself, its book, and whether a clock behind it is no matter
 abbrev pub HasReports : List Row → Process → Type 0
 HasReports rows process =
     (value_in word.Status rows ≡ option_map (λ s. s.now) process.status)
     × (value_in word.Token rows ≡ option_map (λ s. s.now) process.token)
     × (value_in word.Record rows ≡ option_map (λ s. s.now) process.record_path)
     × (value_in word.Book rows ≡ option_map (λ s. s.now) process.book)
+    × (process.clock_behind ≡ flag_in (codes "clock-behind") rows)
 
 abbrev pub HasProcess : List Row → Process → Type 0
 HasProcess rows process =
@@ -112,11 +113,11 @@ abbrev pub HasAudit : List Row → Audit → Type 0
 HasAudit rows records =
     (value_in word.Site rows ≡ Some records.site.now) × (all_of (id_of word.Records) rows ≡ Some (map (λ s. s.now) records.records.items))
 
--- two operands: what is done, and the file
+-- the operands of what is done
 abbrev pub HasBook : List Row → BookCommand → Type 0
 HasBook rows book =
     (value_in word.Site rows ≡ Some book.site.now)
-    × (all_of (id_of word.TaskAndFile) rows ≡ Some (task_word book.task ∷ book.file.now ∷ []))
+    × (all_of (id_of word.TaskAndFile) rows ≡ Some (operands_of book.task book.file.now))
 
 abbrev pub HasPicture : List Row → Picture → Type 0
 HasPicture rows picture =
@@ -184,15 +185,18 @@ reads sub.Picture word.To = true
 reads sub.Book word.TaskAndFile = true
 reads s w = false
 
--- two operands of which the first is no task, or more than two
+-- operands that no task has
+abbrev pub AreOfNoTask : List Text → Type 0
+AreOfNoTask operands = (task : BookTask) (file : Text) → operands ≢ operands_of task file
+
+-- two operands or more, which no task has
 abbrev pub AreWrong : Option (List Text) → Type 0
 AreWrong None = ⊥
 AreWrong (Some []) = ⊥
 AreWrong (Some (word ∷ [])) = ⊥
-AreWrong (Some (word ∷ file ∷ [])) = (task : BookTask) → word ≢ task_word task
-AreWrong (Some (word ∷ file ∷ third ∷ more)) = Unit {0}
+AreWrong (Some (word ∷ file ∷ more)) = AreOfNoTask (word ∷ file ∷ more)
 
--- a value that is no number, or too large, or no step; or no level; or operands that are no task and a file
+-- a value that is no number, or too large, or no step; or no level; or operands that no task has
 abbrev pub IsMalformed : Word → List Row → Type 0
 IsMalformed word.Answers rows = (count : ℕ) → ¬ IsCount (value_in word.Answers rows) count
 IsMalformed word.Log rows = (level : LevelFilter) → ¬ IsLevel (value_in word.Log rows) level

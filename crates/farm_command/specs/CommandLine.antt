@@ -41,12 +41,13 @@ name_of sub.Book = codes "book"
 name_of sub.Picture = codes "picture"
 name_of sub.Words = codes "words"
 
--- the word for what is done with a book on disk
-abbrev pub task_word : BookTask → Text
-task_word task.Create = codes "create"
-task_word task.Check = codes "check"
-task_word task.Report = codes "report"
-task_word task.Export = codes "export"
+-- the operands of `book`: what is done, the file with the book, and the file that it is copied to
+abbrev pub operands_of : BookTask → Text → List Text
+operands_of task.Create file = codes "create" ∷ file ∷ []
+operands_of task.Check file = codes "check" ∷ file ∷ []
+operands_of task.Report file = codes "report" ∷ file ∷ []
+operands_of task.Export file = codes "export" ∷ file ∷ []
+operands_of (task.Backup to) file = codes "backup" ∷ file ∷ to.now ∷ []
 
 -- `--NAME VALUE`
 abbrev pub option_named : Text → Rule
@@ -55,9 +56,17 @@ option_named id = record (new_rule id) { long = Some id; value_names = 1 }
 abbrev pub option : Word → Rule
 option w = option_named (id_of w)
 
+-- `--NAME`
+abbrev pub flag_named : Text → Rule
+flag_named id = record (new_rule id) { long = Some id; action = Some SetTrue }
+
 -- `--skipped`
 abbrev pub skipped_option : Rule
-skipped_option = record (new_rule (codes "skipped")) { long = Some (codes "skipped"); action = Some SetTrue }
+skipped_option = flag_named (codes "skipped")
+
+-- `--clock-behind`
+abbrev pub clock_option : Rule
+clock_option = flag_named (codes "clock-behind")
 
 -- operands, as many as there are
 abbrev pub operands_named : Text → Rule
@@ -67,7 +76,7 @@ operands_named id = record (new_rule id) { action = Some Append; value_names = 1
 abbrev pub records_rule : Rule
 records_rule = operands_named (id_of word.Records)
 
--- `TASK FILE`
+-- `TASK FILE` and `backup FILE FILE`
 abbrev pub task_and_file_rule : Rule
 task_and_file_rule = operands_named (id_of word.TaskAndFile)
 
@@ -85,7 +94,8 @@ line_of sub.Replay = with_rule (with_options (codes "replay") (word.Site ∷ [])
 line_of sub.Report = with_rule (with_options (codes "report") (word.Site ∷ [])) skipped_option
 line_of sub.Relay =
     with_options (codes "relay") (word.Site ∷ word.Name ∷ word.Answers ∷ word.Status ∷ word.Token ∷ word.Record ∷ word.Log ∷ [])
-line_of sub.Front = with_options (codes "front") (word.Site ∷ word.Book ∷ word.Answers ∷ word.Status ∷ word.Token ∷ word.Record ∷ word.Log ∷ [])
+line_of sub.Front =
+    with_rule (with_options (codes "front") (word.Site ∷ word.Book ∷ word.Answers ∷ word.Status ∷ word.Token ∷ word.Record ∷ word.Log ∷ [])) clock_option
 line_of sub.Send = with_options (codes "send") (word.Site ∷ word.Client ∷ word.Peer ∷ word.Record ∷ word.Log ∷ [])
 line_of sub.Check = with_options (codes "check") (word.Site ∷ [])
 line_of sub.Audit = with_rule (with_options (codes "audit") (word.Site ∷ [])) records_rule

@@ -1,12 +1,12 @@
 //! What is done with an account book on disk.
 
-ghost use Rattle.std.specs.Prelude.{◌≡◌, ◌≢◌, IfNone, IfSome};
-ghost use Rattle.farm_command.specs.CommandLine.{task_word};
+ghost use Rattle.std.specs.Prelude.{◌≡◌, ◌≢◌, ◌∷◌, [], ℕ, List, IfNone, IfSome};
+ghost use Rattle.farm_command.specs.CommandLine.{operands_of};
 ghost use Rattle.farm_command.specs.declared.book_task.BookTask.{BookTask as BookTaskValue};
 
 /// What is done with an account book on disk.
 #[derive(Clone, Copy)]
-pub enum BookTask {
+pub enum BookTask<'a> {
     /// It is made, with no entry.
     Create,
     /// It is opened, and what it comes to is printed.
@@ -15,12 +15,14 @@ pub enum BookTask {
     Report,
     /// Its entries are printed, one on a line.
     Export,
+    /// It is copied to a new file at this path.
+    Backup { to: &'a str },
 }
 
-/// The task of this word, if there is one.
-pub fn task_named(word: &str) -> Option<BookTask>
-    ensures some { IfSome result (λ task. word.now ≡ task_word task) }
-    ensures none { IfNone result ((task : BookTaskValue) → word.now ≢ task_word task) }
+/// The task of this word that has one file, if there is one.
+pub fn task_named<'a>(word: &str) -> Option<BookTask<'a>>
+    ensures some { IfSome result (λ task. (file : List ℕ) → word.now ∷ file ∷ [] ≡ operands_of task file) }
+    ensures none { IfNone result ((task : BookTaskValue) (file other : List ℕ) → word.now ∷ file ∷ [] ≢ operands_of task other) }
 {
     match word {
         "create" => Some(BookTask::Create),

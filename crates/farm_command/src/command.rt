@@ -47,6 +47,8 @@ pub struct Process<'a> {
     pub record_path: Option<&'a str>,
     /// The path of the file with the book of the fronts, if it is not kept in memory alone.
     pub book: Option<&'a str>,
+    /// Whether it serves although the system's clock stands far behind the book.
+    pub clock_behind: bool,
     /// What it logs on standard error.
     pub level: LevelFilter,
 }
@@ -80,7 +82,7 @@ pub struct Audit<'a> {
 /// An account book on disk.
 #[derive(Drop)]
 pub struct BookCommand<'a> {
-    pub task: BookTask,
+    pub task: BookTask<'a>,
     /// The path of the site file.
     pub site: &'a str,
     /// The path of the file with the book.

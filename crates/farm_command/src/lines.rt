@@ -4,7 +4,7 @@ ghost use Rattle.std.specs.Prelude.{◌≡◌, ◌∷◌, [], codes, false, IfOk
 ghost use Rattle.clap.specs.declared.builder.command.Command.TheViews.{out-Command as fields_of};
 ghost use Rattle.clap.specs.Simple.{with_rule, with_subcommand};
 ghost use Rattle.clap.specs.Words.{app_of};
-ghost use Rattle.farm_command.specs.CommandLine.{command_line, line_of, operands_named, option_named, program, records_rule, skipped_option, with_lines, with_options};
+ghost use Rattle.farm_command.specs.CommandLine.{command_line, line_of, flag_named, operands_named, option_named, program, records_rule, skipped_option, with_lines, with_options};
 ghost use Rattle.farm_command.specs.declared.word.Word.TheVariants as word;
 ghost use Rattle.farm_command.specs.declared.subcommand.Subcommand.TheVariants as sub;
 
@@ -33,18 +33,23 @@ fn with_option<'a>(
     line.arg(option)
 }
 
-/// The line with `--skipped`.
-fn with_skipped<'a>(line: Line<'a>, alloc: Global) -> Result<Line<'a>, AllocError>
+/// The line with one more flag.
+fn with_flag<'a>(
+    line: Line<'a>,
+    alloc: Global,
+    name: &'a str,
+    help: &'a str,
+) -> Result<Line<'a>, AllocError>
     ensures shape { (fields_of line.entry).has_globals ≡ false →
-        IfOk result (λ made. app_of made ≡ with_rule (app_of line.entry) skipped_option) }
+        IfOk result (λ made. app_of made ≡ with_rule (app_of line.entry) (flag_named name.entry.now)) }
     ensures local { (fields_of line.entry).has_globals ≡ false →
         IfOk result (λ made. (fields_of made).has_globals ≡ false) }
 {
-    let skipped = Arg::new(alloc, "skipped")
-        .long("skipped")
+    let flag = Arg::new(alloc, name)
+        .long(name)
         .action(ArgAction::SetTrue)
-        .help("Names the steps that were skipped, on standard error");
-    line.arg(skipped)
+        .help(help);
+    line.arg(flag)
 }
 
 /// The line with operands.
@@ -77,7 +82,8 @@ fn run_line<'a>(alloc: Global, name: &'a str, about: &'a str) -> Result<Line<'a>
     let bare = Line::new(alloc, name).about(about);
     let help = "The site file; without it the run is over the row site";
     let sited = with_option(bare, alloc, "site", "FILE", help)?;
-    with_skipped(sited, alloc)
+    let help = "Names the steps that were skipped, on standard error";
+    with_flag(sited, alloc, "skipped", help)
 }
 
 /// The line with `--answers`, `--status` and `--token`, by which a serving node ends.
@@ -143,7 +149,9 @@ fn front_line<'a>(alloc: Global) -> Result<Line<'a>, AllocError>
     let help = "The file with the account book; without it the book is lost with the process";
     let booked = with_option(sited, alloc, "book", "FILE", help)?;
     let ending = with_ends(booked, alloc)?;
-    with_log(ending, alloc)
+    let logged = with_log(ending, alloc)?;
+    let help = "Serves although the system's clock stands more than a day behind the book";
+    with_flag(logged, alloc, "clock-behind", help)
 }
 
 /// `send`.
@@ -185,9 +193,10 @@ fn book_line<'a>(alloc: Global) -> Result<Line<'a>, AllocError>
     ensures shape { IfOk result (λ line. app_of line ≡ line_of sub.Book) }
     ensures local { IfOk result (λ line. (fields_of line).has_globals ≡ false) }
 {
-    let about = "Makes, checks and prints an account book on disk";
+    let about = "Makes, checks, prints and copies an account book on disk";
     let sited = with_site(Line::new(alloc, "book").about(about), alloc)?;
-    let help = "create, check, report or export, and the file with the book";
+    let help =
+        "create, check, report or export, and the file with the book; or backup, it, and a new file";
     with_operands(sited, alloc, "task-and-file", "TASK FILE", help)
 }
 

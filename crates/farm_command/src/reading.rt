@@ -5,8 +5,8 @@ ghost use Rattle.clap.specs.Kinds.{HasKind, Kinds};
 ghost use Rattle.clap.specs.Walk.{all_of};
 ghost use Rattle.clap.specs.Words.{fault_of, found_of, kind_of, rows_of, subcommand_of, subcommand_rows_of, takes};
 ghost use Rattle.farm_command.specs.declared.subcommand.Subcommand.TheVariants as sub;
-ghost use Rattle.farm_command.specs.CommandLine.{command_line, id_of, task_word};
-ghost use Rattle.farm_command.specs.Asked.{AreFew, AreWrong, HasAudit, HasBook, HasProcess, HasOptions, HasPicture, HasReports, HasRun, IsCount, IsFaultBy, IsFaultIn, IsFaultOf, IsLevel, IsMalformed, IsOfKinds, IsPlain, IsReadFrom, IsStep, IsUnknown, of_audit, of_task, skipped_in, subcommand_for, value_in};
+ghost use Rattle.farm_command.specs.CommandLine.{command_line, id_of, operands_of};
+ghost use Rattle.farm_command.specs.Asked.{AreFew, AreWrong, HasAudit, HasBook, HasProcess, HasOptions, HasPicture, HasReports, HasRun, IsCount, IsFaultBy, IsFaultIn, IsFaultOf, IsLevel, IsMalformed, IsOfKinds, IsPlain, IsReadFrom, IsStep, IsUnknown, of_audit, of_task, flag_in, subcommand_for, value_in};
 
 use crate::book_task::{BookTask, task_named};
 use crate::command::{
@@ -38,11 +38,11 @@ fn text_in<'a>(found: &ArgMatches<'a>, word: Word) -> Result<&'a str, CliFault>
     value_of(found, word).ok_or(CliFault::Missing(word))
 }
 
-/// Whether `--skipped` is there.
-fn skipped_in(found: &ArgMatches<'_>) -> bool
-    ensures { result ≡ skipped_in (rows_of (found_of found.now)) }
+/// Whether a flag is there.
+fn flag_in(found: &ArgMatches<'_>, name: &str) -> bool
+    ensures { result ≡ flag_in name.now (rows_of (found_of found.now)) }
 {
-    match found.get_str("skipped") {
+    match found.get_str(name) {
         Some(text) => text == "true",
         None => false,
     }
@@ -110,10 +110,10 @@ fn records_in<'a>(alloc: Global, found: &ArgMatches<'a>) -> Result<Vec<&'a str>,
     }
 }
 
-/// What two operands ask for: what is done, and the file.
-fn task_and_file<'a>(operands: &[&'a str]) -> Result<(BookTask, &'a str), CliFault>
+/// What operands ask for: what is done, and the file.
+fn task_and_file<'a>(operands: &[&'a str]) -> Result<(BookTask<'a>, &'a str), CliFault>
     ensures value { IfOk result (λ read. map (λ s. s.now) operands.now
-        ≡ task_word read.0 ∷ read.1.now ∷ []) }
+        ≡ operands_of read.0 read.1.now) }
     ensures fault { IfErr result (λ fault.
         ((fault ≡ CliFault.Missing Word.TaskAndFile) × AreFew (Some (map (λ s. s.now) operands.now)))
         ⊎ ((fault ≡ CliFault.Malformed Word.TaskAndFile) × AreWrong (Some (map (λ s. s.now) operands.now)))) }
@@ -124,14 +124,15 @@ fn task_and_file<'a>(operands: &[&'a str]) -> Result<(BookTask, &'a str), CliFau
             Some(task) => Ok((task, *file)),
             None => Err(CliFault::Malformed(Word::TaskAndFile)),
         },
+        [word, file, to] if *word == "backup" => Ok((BookTask::Backup { to: *to }, *file)),
         [_, _, _, ..] => Err(CliFault::Malformed(Word::TaskAndFile)),
     }
 }
 
 /// The operands of `book`.
-fn operands_in<'a>(found: &ArgMatches<'a>) -> Result<(BookTask, &'a str), CliFault>
+fn operands_in<'a>(found: &ArgMatches<'a>) -> Result<(BookTask<'a>, &'a str), CliFault>
     ensures value { IfOk result (λ read. all_of (id_of Word.TaskAndFile) (rows_of (found_of found.now))
-        ≡ Some (task_word read.0 ∷ read.1.now ∷ [])) }
+        ≡ Some (operands_of read.0 read.1.now)) }
     ensures fault { IfErr result (IsFaultOf sub.Book (rows_of (found_of found.now))) }
 {
     let Some(operands) = found.get_strs("task-and-file") else {
@@ -147,7 +148,7 @@ fn run_in<'a>(action: Action, found: &ArgMatches<'a>) -> Run<'a>
     Run {
         action,
         site: value_of(found, Word::Site),
-        skipped: skipped_in(found),
+        skipped: flag_in(found, "skipped"),
     }
 }
 
@@ -168,6 +169,7 @@ fn process_of<'a>(
         token: value_of(found, Word::Token),
         record_path: value_of(found, Word::Record),
         book: value_of(found, Word::Book),
+        clock_behind: flag_in(found, "clock-behind"),
         level,
     }
 }

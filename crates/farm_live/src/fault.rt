@@ -1,7 +1,9 @@
 //! Why the program does not do what it is asked to do.
 
+use book_clock::ClockBehind;
 use book_file::FileError;
 use book_opening::BookFault;
+use book_place::BookKeyFault;
 use farm_access::AccessFault;
 use farm_client::LinesFault;
 use farm_command::{CliFault, Status};
@@ -27,6 +29,9 @@ pub enum Fault {
     /// What it says of who may connect from where is refused, or memory ran out.
     #[error("{0}")]
     Access(AccessFault),
+    /// What it says of where the book is is refused, or memory ran out.
+    #[error("{0}")]
+    BookKey(BookKeyFault),
     /// The site has no such node, or one without an address.
     #[error("{0}")]
     Place(PlaceFault),
@@ -57,6 +62,9 @@ pub enum Fault {
     /// The book in the file is not opened. The file is as it was.
     #[error("the book cannot be opened: {0}")]
     Book(BookFault),
+    /// The system's clock stands far behind the book. The book is as it was.
+    #[error("the book is not served on: {0}")]
+    Clock(ClockBehind),
     /// The disk of the book has failed, or has no room: whether what was charged last stands is not known.
     #[error("the book cannot be stored: whether what was charged last stands is not known")]
     BookNotStored,
@@ -105,6 +113,7 @@ impl Fault {
             Fault::StatusAddress => Status::Misused,
             Fault::Site(SiteFault::OutOfMemory)
             | Fault::Access(AccessFault::OutOfMemory)
+            | Fault::BookKey(BookKeyFault::OutOfMemory)
             | Fault::Place(PlaceFault::OutOfMemory)
             | Fault::Lines(LinesFault::OutOfMemory)
             | Fault::Loop(LoopFault::OutOfMemory)
@@ -113,6 +122,8 @@ impl Fault {
             | Fault::OutOfMemory => Status::OutOfMemory,
             Fault::Site(_)
             | Fault::Access(_)
+            | Fault::BookKey(_)
+            | Fault::Clock(_)
             | Fault::Place(PlaceFault::NoAddress | PlaceFault::UnknownName { .. })
             | Fault::Lines(LinesFault::NoMessage { .. })
             | Fault::Book(BookFault::OtherTerms(_) | BookFault::DamagedTerms | BookFault::Row(_))

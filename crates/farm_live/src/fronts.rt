@@ -1,18 +1,21 @@
 //! A process that serves as all fronts of the site.
 
-ghost use Rattle.std.specs.Prelude.{◌≡◌, ◌<◌, ◌≤◌, ◌*◌, length};
+ghost use Rattle.std.specs.Prelude.{◌≡◌, ◌<◌, ◌≤◌, ◌*◌, is_some, length};
 ghost use Rattle.dia_base.specs.declared.number.NodeNo.{NodeNo};
 ghost use Rattle.farm_base.specs.CheckedSite.{IsChecked};
-ghost use Rattle.book_journal.specs.Kept.{IsKeptBy, IsSettled};
+ghost use Rattle.book_journal.specs.Kept.{IsKeptBy, IsSettled, IsUnder};
+ghost use Rattle.farm_model.specs.Run.{empty_book};
+ghost use Rattle.farm_place.specs.Places.{fronts_from};
 ghost use Rattle.pool_node.specs.Fronts.{site_of};
 
 use crate::fault::Fault;
 use crate::serving::serve_over;
 use crate::setting::Setting;
 use crate::waker::LoopWaker;
+use book_clock::check_clock;
 use book_file::FileBook;
 use book_journal::Journal;
-use book_opening::serving_book;
+use book_opening::{identity_at, serving_book, state_id_of, where_allowed};
 use book_store::RowStore;
 use cc_book::Book;
 use cc_shared::{BlankHistory, SharedBook};
@@ -49,38 +52,69 @@ where
 {
     let (alloc, site) = (setting.rt.alloc(), setting.site);
     let nodes = fronts_of(alloc, site)?;
-    let listening = sockets_of(setting, &nodes)?;
     let timer = Timer::start(setting.os)?;
+    let state = state_of(setting, timer)?;
+    let listening = sockets_of(setting, &nodes, state)?;
     let Some(workers) = seats_for(nodes.len(), site.workers) else {
         return Err(Fault::OutOfMemory);
     };
     let workers = workers.max(1);
     let empty = empty_book(alloc, site)?;
-    match serving_book(setting.rt, setting.command.book, empty) {
-        Ok((journal, book)) => {
-            let timing = Timing::on(timer, &book);
-            serve_on::<Brand, O>(
-                setting,
-                nodes,
-                listening,
-                Blank::new(workers),
-                BlankHistory::new(),
-                book,
-                journal,
-                timing,
-                workers,
-                answers,
-            )
+    match serving_book(setting.rt, setting.book, empty) {
+        Ok(served) => {
+            let timing = Timing::on(timer, &served.1);
+            let allowed = check_timing(timer, timing, setting.command.clock_behind);
+            match where_allowed(served, allowed) {
+                Ok((journal, book)) => serve_on::<Brand, O>(
+                    setting,
+                    nodes,
+                    listening,
+                    Blank::new(workers),
+                    BlankHistory::new(),
+                    book,
+                    journal,
+                    timing,
+                    workers,
+                    answers,
+                ),
+                Err(fault) => Err(fault),
+            }
         }
         Err(fault) => Err(Fault::Book(fault)),
     }
 }
 
-/// The sockets of these fronts.
-fn sockets_of<O: Net>(setting: &Setting<'_, O>, nodes: &[NodeNo]) -> Result<FrontSockets, Fault>
+/// Refuses a system's clock, by which a timer was started, that stands far behind the book that moments go on behind, unless the
+/// operator gives leave.
+fn check_timing(timer: Timer, timing: Timing, has_leave: bool) -> Result<(), Fault> {
+    let (shown, begun) = (timer.first(), timing.timer.first());
+    check_clock(begun, shown, has_leave).map_err(Fault::Clock)
+}
+
+/// The Origin-State-Id of the fronts of a process that begins then, if its site asks for one: that of the book in a file, and else the
+/// second, since 1970 (RFC 6733, section 8.16).
+fn state_of<O>(setting: &Setting<'_, O>, timer: Timer) -> Result<Option<u32>, Fault> {
+    if !setting.access.strictness().origin_state {
+        return Ok(None);
+    }
+    match setting.book {
+        Some(path) => match identity_at(setting.rt, path) {
+            Ok(identity) => Ok(Some(state_id_of(identity))),
+            Err(fault) => Err(Fault::Book(fault)),
+        },
+        None => Ok(Some((timer.first().0 / 1_000 % 4_294_967_296) as u32)),
+    }
+}
+
+/// The sockets of these fronts, which tell this Origin-State-Id, if one.
+fn sockets_of<O: Net>(
+    setting: &Setting<'_, O>,
+    nodes: &[NodeNo],
+    state: Option<u32>,
+) -> Result<FrontSockets, Fault>
     requires { IsChecked setting.now.site.now }
 {
-    let places = places_of(setting, nodes)?;
+    let places = places_of(setting, nodes, state)?;
     let sockets = Sockets::new(setting.os, setting.rt.alloc())?;
     let waker = LoopWaker(sockets.waker()?);
     Ok(FrontSockets {
@@ -91,12 +125,16 @@ fn sockets_of<O: Net>(setting: &Setting<'_, O>, nodes: &[NodeNo]) -> Result<Fron
 }
 
 /// The places of these fronts.
-fn places_of<O>(setting: &Setting<'_, O>, nodes: &[NodeNo]) -> Result<Vec<Place>, Fault>
+fn places_of<O>(
+    setting: &Setting<'_, O>,
+    nodes: &[NodeNo],
+    state: Option<u32>,
+) -> Result<Vec<Place>, Fault>
     requires { IsChecked setting.now.site.now }
 {
     let mut places = Vec::with_capacity(setting.rt.alloc(), nodes.len())?;
     for node in nodes {
-        places.push(place_at(setting, *node)?)?;
+        places.push(place_at(setting, *node)?.of_state(state))?;
     }
     Ok(places)
 }
@@ -125,6 +163,9 @@ where
     L: Pooling + Send + Sync + 'static,
     O: Threads + Wait + Net + Clock + RandomSource + Copy + Send + 'static,
     requires checked { IsChecked setting.now.site.now }
+    requires nodes { nodes.items ≡ fronts_from 0 setting.now.site.now.nodes }
+    requires under { IsUnder (empty_book setting.now.site.now) book }
+    requires stored { is_some journal.store ≡ is_some setting.now.book }
     requires name { blank.name ≡ L.name }
     requires parts { (blank.parts ≡ L.parts) × (blank.parts ≡ workers) }
     requires book { book ≡ L.shared.opened }
@@ -170,6 +211,9 @@ where
     L: Pooling + Send + Sync + 'static,
     O: Threads + Wait + Clock + Copy + Send + 'static,
     requires checked { IsChecked setting.now.site.now }
+    requires nodes { nodes.now ≡ fronts_from 0 setting.now.site.now.nodes }
+    requires under { IsUnder (empty_book setting.now.site.now) book }
+    requires stored { is_some journal.store ≡ is_some setting.now.book }
     requires name { blank.name ≡ L.name }
     requires parts { (blank.parts ≡ L.parts) × (blank.parts ≡ workers) }
     requires book { book ≡ L.shared.opened }

@@ -1,17 +1,23 @@
 //! What the program does, from the words of its command line on.
 
-ghost use Rattle.std.specs.Prelude.{IfOk};
+ghost use Rattle.std.specs.Prelude.{◌≡◌, IfOk, Some};
+ghost use Rattle.farm_access.specs.Spelling.{Spells};
 ghost use Rattle.farm_base.specs.CheckedSite.{IsChecked};
+ghost use Rattle.farm_live.specs.Serving.{IsSpelled};
+ghost use Rattle.farm_site.specs.Spelling.{IsSiteFile};
+ghost use Rattle.toml.specs.Parse.{parse_document};
+ghost use Rattle.toml.specs.View.{table_view};
 
 use crate::fault::Fault;
 use crate::fronts::serve_fronts;
 use crate::relay::serve_relay;
 use crate::sending::send;
 use crate::setting::Setting;
+use book_place::book_path;
 use farm_access::Access;
 use farm_base::Site;
 use farm_command::{CliFault, Command, Process, Task, command_of, words_of};
-use farm_site::site_document_of_octets;
+use farm_site::{SiteDocument, site_document_of_octets};
 use farm_text::{ReadFault, file_at};
 use log::Logged;
 use log::sink::Console;
@@ -21,6 +27,7 @@ use std::random::RandomSource;
 use std::rt::Clock;
 use std::sync::Wait;
 use std::thread::Threads;
+use toml::Table;
 
 /// The octets of the site file.
 fn site_file(rt: &HostRuntime, path: &str) -> Result<Vec<u8>, Fault> {
@@ -31,31 +38,73 @@ fn site_file(rt: &HostRuntime, path: &str) -> Result<Vec<u8>, Fault> {
     }
 }
 
-/// What a site file spells: the site, and who may connect to its nodes from where.
+/// What a site file spells: the site, and who may connect to its nodes from where; and the file of the book that is served on.
 #[derive(Drop)]
 struct Spelled {
     site: Site,
     access: Access,
+    book: Option<String>,
 }
 
-/// What the octets of a site file spell.
-fn spelled_in(rt: &HostRuntime, file: &[u8]) -> Result<Spelled, Fault>
-    ensures { IfOk result (λ spelled. IsChecked spelled.site) }
+/// The site that the octets of a file spell, with their document.
+fn read_in(alloc: Global, file: &[u8]) -> Result<SiteDocument, Fault>
+    ensures checked { IfOk result (λ read. IsChecked read.site) }
+    ensures site { IfOk result (λ read. IsSiteFile file.now read.site) }
+    ensures document { IfOk result (λ read. parse_document file.now ≡ Some (table_view read.document)) }
 {
-    let read = site_document_of_octets(rt.alloc(), file).map_err(Fault::Site)?;
-    let access = Access::of_document(rt.alloc(), &read.document).map_err(Fault::Access)?;
+    match site_document_of_octets(alloc, file) {
+        Ok(read) => Ok(read),
+        Err(fault) => Err(Fault::Site(fault)),
+    }
+}
+
+/// Who may come up, by the document of a file.
+fn access_in(alloc: Global, file: &[u8], document: &Table) -> Result<Access, Fault>
+    requires { parse_document file.now ≡ Some (table_view document.now) }
+    ensures { IfOk result (λ access. Spells file.now access) }
+{
+    match Access::of_document(alloc, document) {
+        Ok(access) => Ok(access),
+        Err(fault) => Err(Fault::Access(fault)),
+    }
+}
+
+/// The path of the book that is served on, if there is one, by the command and the document of its site file.
+fn book_in(
+    alloc: Global,
+    command: &Process<'_>,
+    document: &Table,
+) -> Result<Option<String>, Fault> {
+    match book_path(alloc, command.book, command.site, document) {
+        Ok(path) => Ok(path),
+        Err(fault) => Err(Fault::BookKey(fault)),
+    }
+}
+
+/// What the octets of the site file of a command spell.
+fn spelled_in(rt: &HostRuntime, command: &Process<'_>, file: &[u8]) -> Result<Spelled, Fault>
+    ensures checked { IfOk result (λ spelled. IsChecked spelled.site) }
+    ensures site { IfOk result (λ spelled. IsSiteFile file.now spelled.site) }
+    ensures access { IfOk result (λ spelled. Spells file.now spelled.access) }
+{
+    let read = read_in(rt.alloc(), file)?;
+    let access = access_in(rt.alloc(), file, &read.document)?;
+    let book = book_in(rt.alloc(), command, &read.document)?;
     Ok(Spelled {
         site: read.site,
         access,
+        book,
     })
 }
 
-/// What the site file at this path spells.
-fn spelled_at(rt: &HostRuntime, path: &str) -> Result<Spelled, Fault>
-    ensures { IfOk result (λ spelled. IsChecked spelled.site) }
+/// What the site file of a command spells.
+#[tactic(auto, using(crate::proofs::SiteFile::one_file_spells))]
+fn spelled_at(rt: &HostRuntime, command: &Process<'_>) -> Result<Spelled, Fault>
+    ensures checked { IfOk result (λ spelled. IsChecked spelled.site) }
+    ensures spelled { IfOk result (λ spelled. IsSpelled spelled.site spelled.access) }
 {
-    let file = site_file(rt, path)?;
-    spelled_in(rt, &file)
+    let file = site_file(rt, command.site)?;
+    spelled_in(rt, command, &file)
 }
 
 /// Carries out a command.
@@ -63,7 +112,7 @@ fn carry_out<O>(os: &O, rt: &HostRuntime, command: &Process<'_>) -> Result<(), F
 where
     O: Threads + Wait + Net + Clock + RandomSource + Copy + Send + 'static,
 {
-    let spelled = spelled_at(rt, command.site)?;
+    let spelled = spelled_at(rt, command)?;
     let log = Logged::new(*rt, command.level, Console(*rt));
     let setting = Setting {
         os,
@@ -72,6 +121,7 @@ where
         command,
         site: &spelled.site,
         access: &spelled.access,
+        book: spelled.book.as_deref(),
     };
     run_task(&setting)
 }
@@ -80,7 +130,8 @@ where
 fn run_task<O>(setting: &Setting<'_, O>) -> Result<(), Fault>
 where
     O: Threads + Wait + Net + Clock + RandomSource + Copy + Send + 'static,
-    requires { IsChecked setting.now.site.now }
+    requires checked { IsChecked setting.now.site.now }
+    requires spelled { IsSpelled setting.now.site.now setting.now.access.now }
 {
     match &setting.command.task {
         Task::Relay { name, answers } => serve_relay(setting, name, *answers),

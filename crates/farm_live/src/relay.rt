@@ -2,17 +2,19 @@
 
 ghost use Rattle.std.specs.Prelude.{◌≡◌, IfOk};
 ghost use Rattle.farm_base.specs.CheckedSite.{IsChecked};
+ghost use Rattle.farm_live.specs.Serving.{IsRelayOf};
+ghost use Rattle.farm_place.specs.Places.{Serves};
 ghost use Rattle.relay_core.specs.AnswerMatching.{compares_end};
 
 use crate::fault::Fault;
-use crate::serving::{alone, serve_alone};
+use crate::serving::{alone, serve_alone, start_by_chance};
 use crate::setting::Setting;
 use dia_base::{NodeKind, NodeNo};
 use farm_access::Strictness;
 use farm_base::Site;
 use farm_place::{Place, PlaceFault, place_of_relay};
 use farm_world::relay_starting_at;
-use relay_core::{Matching, MatchingRelay, Relay};
+use relay_core::{Matching, MatchingRelay, PartingRelay, Relay};
 use std::net::Net;
 use std::random::RandomSource;
 use std::rt::Clock;
@@ -23,6 +25,7 @@ use std::thread::Threads;
 /// that is started again are others.
 fn relay_at(rt: &HostRuntime, site: &Site, node: NodeNo) -> Result<Relay, Fault>
     requires { IsChecked site.now }
+    ensures { IfOk result (λ relay. IsRelayOf site.now node relay) }
 {
     match site.nodes.as_slice().get(node.0 as usize) {
         Some(found) if found.kind == NodeKind::Relay => {
@@ -44,27 +47,20 @@ fn matching_for(strictness: Strictness) -> Matching
     }
 }
 
-/// The same relay, as its site asks for.
-fn matching_relay_at(
+/// The same relay, as its site asks for. Its peers leave only where the site asks for goodbyes: else none of its connections tells.
+fn parting_relay_at(
     rt: &HostRuntime,
     site: &Site,
     strictness: Strictness,
     node: NodeNo,
-) -> Result<MatchingRelay, Fault>
+) -> Result<PartingRelay, Fault>
     requires { IsChecked site.now }
-    ensures { IfOk result (λ relay. compares_end relay.matching ≡ strictness.end_to_end) }
+    ensures relay { IfOk result (λ made. IsRelayOf site.now node made.matched.relay) }
+    ensures matching { IfOk result (λ made. compares_end made.matched.matching ≡ strictness.end_to_end) }
 {
     let relay = relay_at(rt, site, node)?;
-    Ok(MatchingRelay::new(relay, matching_for(strictness)))
-}
-
-/// Any number, from the system's source of random octets; 0 where it gives none.
-fn start_by_chance(rt: &impl RandomSource) -> u32 {
-    let mut octets = [0u8; 4];
-    if rt.fill_bytes(&mut octets).is_err() {
-        return 0;
-    }
-    u32::from_le_bytes(octets)
+    let matched = MatchingRelay::new(relay, matching_for(strictness));
+    Ok(PartingRelay::new(rt.alloc(), matched))
 }
 
 /// Serves as the relay of this name until so many answers were sent, 0 for ever, or until it is asked to end.
@@ -76,8 +72,10 @@ pub fn serve_relay<O: Threads + Wait + Net + Clock + RandomSource>(
     requires { IsChecked setting.now.site.now }
 {
     let (alloc, site) = (setting.rt.alloc(), setting.site);
-    let place = place_of_relay(alloc, site, name.as_bytes()).map_err(Fault::Place)?;
-    serve_at(setting, place, answers)
+    match place_of_relay(alloc, site, name.as_bytes()) {
+        Ok(place) => serve_at(setting, place, answers),
+        Err(fault) => Err(Fault::Place(fault)),
+    }
 }
 
 /// Serves as the relay at this place.
@@ -86,11 +84,26 @@ fn serve_at<O: Threads + Wait + Net + Clock + RandomSource>(
     place: Place,
     answers: u64,
 ) -> Result<(), Fault>
-    requires { IsChecked setting.now.site.now }
+    requires checked { IsChecked setting.now.site.now }
+    requires place { Serves setting.now.site.now place }
+{
+    let strictness = setting.access.strictness();
+    let relay = parting_relay_at(setting.rt, setting.site, strictness, place.node)?;
+    serve_as(setting, relay, place, answers)
+}
+
+/// Serves as this relay, at its place.
+fn serve_as<O: Threads + Wait + Net + Clock + RandomSource>(
+    setting: &Setting<'_, O>,
+    relay: PartingRelay,
+    place: Place,
+    answers: u64,
+) -> Result<(), Fault>
+    requires place { Serves setting.now.site.now place }
+    requires relay { IsRelayOf setting.now.site.now place.node relay.matched.relay }
+    requires matching { compares_end relay.matched.matching ≡ setting.now.access.now.strict.end_to_end }
 {
     let node = place.node;
-    let strictness = setting.access.strictness();
-    let relay = matching_relay_at(setting.rt, setting.site, strictness, node)?;
     let places = alone(setting.rt.alloc(), place)?;
     serve_alone(setting, node, relay, places, answers)
 }

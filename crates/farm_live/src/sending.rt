@@ -4,7 +4,7 @@ ghost use Rattle.farm_base.specs.CheckedSite.{IsChecked};
 
 use crate::fault::Fault;
 use crate::recording::Record;
-use crate::serving::{alone, end};
+use crate::serving::{alone, end, numbering_of, parting_places};
 use crate::setting::Setting;
 use crate::turns::{close, turn};
 use dia_base::NodeNo;
@@ -61,9 +61,10 @@ fn send_from<O: Threads + Wait + Net + Clock>(
 ) -> Result<(), Fault> {
     let (number, alloc) = (place.node, setting.rt.alloc());
     let messages = read_messages(setting.rt)?;
-    let places = alone(alloc, place)?;
+    let places = parting_places(setting, alone(alloc, place)?)?;
     let sender = Sender::new(alloc, messages);
-    let live = Live::new(setting.os, alloc, setting.site, sender, places)?;
+    let mut live = Live::new(setting.os, alloc, setting.site, sender, places)?;
+    live.serving.number(numbering_of(setting));
     send_recorded(setting, number, live)
 }
 

@@ -1,5 +1,7 @@
 //! A process from its first turn to its end, whatever its nodes are.
 
+ghost use Rattle.std.specs.Prelude.{◌≡◌, true, false};
+
 use crate::fault::Fault;
 use crate::recording::Record;
 use crate::setting::Setting;
@@ -7,9 +9,11 @@ use crate::turns::serve;
 use crate::view::Booked;
 use crate::watching::Watching;
 use dia_base::NodeNo;
+use farm_access::Strictness;
 use farm_clock::Timer;
 use farm_loop::{Live, Sockets};
 use farm_place::Place;
+use farm_watch::{Goodbyes, Numbering};
 use std::alloc::Global;
 use std::net::Net;
 use std::random::RandomSource;
@@ -22,6 +26,58 @@ pub fn alone<T: Drop>(alloc: Global, item: T) -> Result<Vec<T>, Fault> {
     let mut items = Vec::with_capacity(alloc, 1)?;
     items.push(item)?;
     Ok(items)
+}
+
+/// How a process numbers its own requests from end to end, by what its site asks for. A count begins here.
+fn numbering_for(strictness: Strictness, start: u32) -> Numbering
+    ensures clock { strictness.end_to_end ≡ true → result ≡ Numbering.ByClock start }
+    ensures hops { strictness.end_to_end ≡ false → result ≡ Numbering.HopByHop }
+{
+    if strictness.end_to_end {
+        Numbering::ByClock { count: start }
+    } else {
+        Numbering::HopByHop
+    }
+}
+
+/// How this process does. Its count begins by chance, so that one that is started again in the same second has another one
+/// (RFC 6733, section 3).
+pub fn numbering_of<O>(setting: &Setting<'_, O>) -> Numbering {
+    numbering_for(setting.access.strictness(), start_by_chance(setting.rt))
+}
+
+/// Any number, from the system's source of random octets; 0 where it gives none.
+pub fn start_by_chance(rt: &impl RandomSource) -> u32 {
+    let mut octets = [0u8; 4];
+    if rt.fill_bytes(&mut octets).is_err() {
+        return 0;
+    }
+    u32::from_le_bytes(octets)
+}
+
+/// What the nodes of a process do with goodbyes, by what its site asks for.
+fn goodbyes_for(strictness: Strictness) -> Goodbyes
+    ensures leaves { strictness.goodbyes ≡ true → result ≡ Goodbyes.LeaveClosing }
+    ensures ends { strictness.goodbyes ≡ false → result ≡ Goodbyes.EndAtOnce }
+{
+    if strictness.goodbyes {
+        Goodbyes::LeaveClosing
+    } else {
+        Goodbyes::EndAtOnce
+    }
+}
+
+/// The same places, where the nodes do with goodbyes what the site asks for.
+pub fn parting_places<O>(
+    setting: &Setting<'_, O>,
+    places: Vec<Place>,
+) -> Result<Vec<Place>, Fault> {
+    let goodbyes = goodbyes_for(setting.access.strictness());
+    let mut parting = Vec::with_capacity(setting.rt.alloc(), places.len())?;
+    for place in places {
+        parting.push(place.parting(goodbyes))?;
+    }
+    Ok(parting)
 }
 
 /// Serves as one node, which stands at this place, over sockets of its own.
@@ -48,7 +104,9 @@ pub fn serve_over<N: Booked, O: Threads + Wait + Net + Clock + RandomSource>(
     answers: u64,
 ) -> Result<(), Fault> {
     let (alloc, site) = (setting.rt.alloc(), setting.site);
-    let live = Live::over(setting.os, alloc, site, sockets, node, places, timer)?;
+    let places = parting_places(setting, places)?;
+    let mut live = Live::over(setting.os, alloc, site, sockets, node, places, timer)?;
+    live.serving.number(numbering_of(setting));
     serve_recorded(setting, numbers, live, answers)
 }
 

@@ -17,4 +17,6 @@ pub struct Setting<'a, O> {
     pub site: &'a Site,
     /// Who may connect from where.
     pub access: &'a Access,
+    /// The path of the file with the book of the fronts, if it is not kept in memory alone.
+    pub book: Option<&'a str>,
 }

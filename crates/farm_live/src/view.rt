@@ -13,7 +13,7 @@ use farm_status::{BookStatus, Connections, FrontStatus, Peer, PeerState, Source,
 use farm_text::read_text;
 use front_pool::Pooling;
 use pool_node::{BookFigures, PoolFronts};
-use relay_core::MatchingRelay;
+use relay_core::PartingRelay;
 use std::alloc::{AllocError, Global};
 use std::fs::File;
 use std::rt::Clock;
@@ -47,13 +47,13 @@ pub trait Booked: Node + Drop {
     ) -> Option<Book>;
 }
 
-impl Booked for MatchingRelay {
+impl Booked for PartingRelay {
     fn book(&self) -> Option<BookFigures> {
         None
     }
 
     fn pending(&self) -> u64 {
-        self.relay.pending() as u64
+        self.matched.relay.pending() as u64
     }
 
     fn strangers(&self) -> u64 {
@@ -65,10 +65,10 @@ impl Booked for MatchingRelay {
     }
 
     fn mismatched(&self) -> u64 {
-        self.mismatched
+        self.matched.mismatched
     }
 
-    fn tell(_live: &mut Live<MatchingRelay>) {}
+    fn tell(_live: &mut Live<PartingRelay>) {}
 
     fn end<O: Threads + Wait + Clock>(
         self,
@@ -255,6 +255,12 @@ fn conn_of<N: Node>(serving: &Served<N>, local: NodeNo, peer: NodeNo) -> Option<
     None
 }
 
+/// Whether a route of a node names a neighbour.
+fn sends_to(site: &Site, local: NodeNo, peer: NodeNo) -> bool {
+    site.routes.as_slice().iter().any(|route| route.at.0 == local.0
+        && route.peers.as_slice().contains(&peer))
+}
+
 impl<N: Node + Drop + Booked> View<'_, N> {
     /// A neighbour, and where the connection with it stands.
     fn peer(&self, local: NodeNo, peer: NodeNo) -> Result<Peer, AllocError> {
@@ -271,6 +277,7 @@ impl<N: Node + Drop + Booked> View<'_, N> {
             local: name_of(alloc, self.site, local)?,
             name: name_of(alloc, self.site, peer)?,
             state,
+            takes_requests: sends_to(self.site, local, peer),
             conn,
         })
     }

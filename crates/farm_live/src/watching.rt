@@ -30,7 +30,7 @@ pub struct Watching {
 }
 
 /// The hundredths of the book at which its filling is told.
-const FILLINGS: [u64; 2] = [80, 95];
+const FILLINGS: [u64; 3] = [80, 90, 95];
 
 /// How long requests that are under way may keep a process from its end, in milliseconds. Those that are not answered then
 /// are sent again by whoever has sent them.
@@ -53,6 +53,17 @@ fn filling(entries: u64, limit: u64) -> u64 {
         Some(filling) => filling,
         None => 0,
     }
+}
+
+/// The greatest of the fillings that are told which a book has reached, 0 where it has reached none.
+fn reached_by(filling: u64) -> u64 {
+    let mut reached = 0;
+    for at in FILLINGS {
+        if filling >= at {
+            reached = at;
+        }
+    }
+    reached
 }
 
 /// The token by which whoever may end the process is known, if the command names its file.
@@ -125,18 +136,17 @@ impl Watching {
         }
     }
 
-    /// Tells that the book gets full, once at each filling.
+    /// Tells that the book gets full, once at each filling, and once where it has reached several when the process starts.
     fn tell_filling<N: Node + Drop + Booked>(&mut self, log: &Logger, site: &Site, live: &Live<N>) {
         let Some(figures) = live.serving.node().book() else {
             return;
         };
         let (entries, limit) = (figures.entries, site.limit);
         let now = filling(entries, limit);
-        for at in FILLINGS {
-            if now >= at && self.told < at {
-                self.told = at;
-                warn!(log; target: "farm", "the book is {now} hundredths full: {entries} of {limit} entries. Once it is full, no request is charged");
-            }
+        let reached = reached_by(now);
+        if reached > self.told {
+            self.told = reached;
+            warn!(log; target: "farm", "the book is {now} hundredths full: {entries} of {limit} entries. Once it is full, no request is charged");
         }
     }
 

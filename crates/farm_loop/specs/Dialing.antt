@@ -1,11 +1,13 @@
 -- When a connection is made that a process makes itself, and whether it was tried.
-use Rattle.std.specs.Prelude.{◌≡◌, ◌≤◌, ◌+◌, ◌==◌, ◌&&◌, ◌||◌, ℕ, Bool, true, false, List, min}
+use Rattle.std.specs.Prelude.{◌≡◌, ◌≤◌, ◌+◌, ◌*◌, ◌==◌, ◌&&◌, ◌||◌, ℕ, Bool, true, false, List, Option, Some, None, min}
 use Rattle.std.specs.List.{list_any}
 use Rattle.dia_base.specs.declared.number.ConnId.{ConnId}
 use Rattle.dia_base.specs.declared.number.Moment.{Moment}
 use Rattle.farm_serve.specs.declared.link.Link.{Link}
 use Rattle.farm_serve.specs.declared.link.Standing.{Standing}
 use Rattle.farm_serve.specs.declared.link.Standing.TheVariants.{Waiting, Up, Over}
+use Rattle.farm_watch.specs.declared.cause.DisconnectCause.{DisconnectCause}
+use Rattle.farm_watch.specs.declared.cause.DisconnectCause.TheVariants.{Rebooting, Busy, Unwanted}
 use Rattle.farm_loop.specs.declared.dial.Dial.{Dial}
 use Rattle.farm_loop.specs.declared.dial.DialState.{DialState}
 use Rattle.farm_loop.specs.declared.dial.DialState.TheVariants.{Due, Made, Nowhere}
@@ -19,6 +21,14 @@ IsDue Nowhere moment = ⊥
 -- so many milliseconds later; the last moment that there is, where that is behind it
 abbrev pub IsLater : Moment → ℕ → Moment → Type 0
 IsLater moment interval later = later.0 ≡ min (moment.0 + interval) 18446744073709551615
+
+-- How many milliseconds pass before a connection is made again, by why the node at its other end has said goodbye, if it has: one that
+-- is busy, or wants no messages, is left alone for ten intervals of the watchdog.
+abbrev pub wait_after : Option DisconnectCause → ℕ → ℕ
+wait_after None interval = interval
+wait_after (Some Rebooting) interval = interval
+wait_after (Some Busy) interval = min (interval * 10) 4294967295
+wait_after (Some Unwanted) interval = min (interval * 10) 4294967295
 
 -- ---- what a node waits for before it listens
 

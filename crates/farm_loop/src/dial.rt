@@ -2,10 +2,11 @@
 
 ghost use Rattle.std.specs.Prelude.{◌≡◌, ◌↔◌, IsTrue, true, false};
 ghost use Rattle.std.specs.List.{list_all, list_any};
-ghost use Rattle.farm_loop.specs.Dialing.{IsDue, IsLater, has_come_up, is_tried, is_up_on};
+ghost use Rattle.farm_loop.specs.Dialing.{IsDue, IsLater, has_come_up, is_tried, is_up_on, wait_after};
 
 use dia_base::{ConnId, Moment, NodeNo};
 use farm_serve::{Link, Standing};
+use farm_watch::DisconnectCause;
 
 /// Where a connection that is to be made stands.
 #[derive(Clone, Copy, Debug, PartialEq, Eq)]
@@ -26,6 +27,23 @@ pub struct Dial {
     pub state: DialState,
     /// Whether it has failed or ended once.
     pub has_ended: bool,
+}
+
+/// How many intervals of the watchdog pass before a node is connected to again that has said goodbye since it is busy, or
+/// wants no messages.
+pub const PATIENT_INTERVALS: u32 = 10;
+
+/// How many milliseconds pass before a connection is made again that has failed or ended, by why the node at its other end has
+/// said goodbye, if it has: an interval of the watchdog, or [`PATIENT_INTERVALS`] of them (RFC 6733, sections 5.4 and 5.4.3).
+pub fn wait_after(farewell: Option<DisconnectCause>, interval: u32) -> u32
+    ensures { result ≡ wait_after farewell interval }
+{
+    match farewell {
+        Some(DisconnectCause::Busy | DisconnectCause::Unwanted) => {
+            interval.saturating_mul(PATIENT_INTERVALS)
+        }
+        Some(DisconnectCause::Rebooting) | None => interval,
+    }
 }
 
 impl Dial {

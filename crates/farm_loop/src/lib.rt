@@ -6,7 +6,7 @@
 //!   calls them says when to end, by [`Live::close`].
 //! - [`Sockets`]: its sockets. [`Sockets::waker`] ends a wait from another thread, and the node is woken then.
 //! - [`Outgoing`]: which connections are read while others are behind with what is to be written, by [`Pause`].
-//! - [`Dial`]: a connection that it makes itself, again and again.
+//! - [`Dial`]: a connection that it makes itself, again and again; [`wait_after`]: how long it waits before that.
 //! - [`StatusPort`]: where it says what it does, over HTTP. Who shows its token may ask for its end there.
 //! - [`LoopFault`]: why it cannot go on.
 //!
@@ -26,7 +26,7 @@ mod port;
 mod sockets;
 mod tell;
 
-pub use dial::{Dial, DialState, are_tried};
+pub use dial::{Dial, DialState, PATIENT_INTERVALS, are_tried, wait_after};
 use farm_net::Counted;
 use farm_serve::Serving;
 pub use fault::LoopFault;

@@ -5,7 +5,7 @@ ghost use Rattle.std.specs.List.{list_all};
 ghost use Rattle.farm_loop.specs.Dialing.{is_tried};
 
 use crate::coming::{barred_on, names_for};
-use crate::dial::{Dial, DialState, are_tried};
+use crate::dial::{Dial, DialState, are_tried, wait_after};
 use crate::fault::LoopFault;
 use crate::half::{Half, halves};
 use crate::outgoing::Outgoing;
@@ -255,7 +255,7 @@ impl<N: Node + Drop> Live<N> {
         moment: Moment,
     ) -> Result<(), LoopFault> {
         self.serving.write_all::<ViewWire>(moment);
-        self.let_go(moment);
+        self.let_go(log, site, moment);
         self.tell_notes(log, site);
         self.listen_where_due(os, log, site)?;
         if self.serving.has_failed() {
@@ -568,7 +568,7 @@ impl<N: Node + Drop> Live<N> {
         let (reader, writer, port) = match begin(os, self.alloc, address) {
             Ok(begun) => begun,
             Err(error) => {
-                tell::failed(log, "a connection cannot be made", &error);
+                tell::not_made(log, site, dial.local, dial.peer, &error);
                 return None;
             }
         };
@@ -593,15 +593,20 @@ impl<N: Node + Drop> Live<N> {
         }
     }
 
-    /// Lets the connections go that have ended: those that this process has made are made again later.
-    fn let_go(&mut self, moment: Moment) {
+    /// Lets the connections go that have ended: those that this process has made are made again later, by why their other end
+    /// has said goodbye, if it has.
+    fn let_go<L: Log>(&mut self, log: &L, site: &Site, moment: Moment) {
         for _ in 0..self.serving.count() {
             let Some(ended) = self.serving.take_ended(moment) else {
                 return;
             };
+            let wait = wait_after(ended.farewell, self.interval);
             for dial in self.dials.iter_mut() {
                 if dial.is_made(ended.conn) {
-                    dial.fail(moment, self.interval);
+                    if ended.peer.is_none() {
+                        tell::not_up(log, site, dial.local, dial.peer, ended.why);
+                    }
+                    dial.fail(moment, wait);
                 }
             }
         }

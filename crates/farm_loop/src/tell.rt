@@ -3,6 +3,7 @@
 use dia_base::{ConnId, Identity, NodeNo};
 use farm_base::Site;
 use farm_serve::{End, Note, Refusal};
+use farm_watch::DisconnectCause;
 use log::{Log, info, warn};
 use std::net::{IpAddr, SocketAddr};
 use std::{fmt, io};
@@ -20,6 +21,25 @@ impl fmt::Display for Named<'_> {
             Some(node) => write_name(f, &node.name),
             None => write!(f, "node {}", self.node.0),
         }
+    }
+}
+
+/// The address of a node of a site, which others connect to.
+#[derive(Clone, Copy)]
+struct AddressOf<'a>(Named<'a>);
+
+impl fmt::Display for AddressOf<'_> {
+    fn fmt<W: fmt::Write>(&self, f: &mut fmt::Formatter<W>) -> fmt::Result {
+        let Some(node) = self.0.site.nodes.as_slice().get(self.0.node.0 as usize) else {
+            return f.write_str("no address");
+        };
+        let Some(address) = &node.address else {
+            return f.write_str("no address");
+        };
+        for octet in address.as_slice() {
+            f.write_char(char::from(*octet))?;
+        }
+        Ok(())
     }
 }
 
@@ -70,16 +90,57 @@ pub fn failed<L: Log>(log: &L, what: &str, error: &io::Error) {
     warn!(log; target: "farm", "{what}: {error}");
 }
 
+/// A connection with a node was not made.
+pub fn not_made<L: Log>(log: &L, site: &Site, local: NodeNo, peer: NodeNo, error: &io::Error) {
+    let (local, peer) = (Named { site, node: local }, Named { site, node: peer });
+    let address = AddressOf(peer);
+    warn!(log; target: "farm", "{local} cannot connect to {peer} at {address}: {error}");
+}
+
+/// A connection with a node has ended before that node was up.
+pub fn not_up<L: Log>(log: &L, site: &Site, local: NodeNo, peer: NodeNo, why: End) {
+    let (local, peer) = (Named { site, node: local }, Named { site, node: peer });
+    let address = AddressOf(peer);
+    warn!(log; target: "farm", "{local} cannot connect to {peer} at {address}: {why}");
+}
+
 /// The node at the other end of a connection is up.
 fn up<L: Log>(log: &L, site: &Site, conn: ConnId, local: NodeNo, peer: NodeNo) {
     let (local, peer) = (Named { site, node: local }, Named { site, node: peer });
     info!(log; target: "farm", "connection {}: {local} and {peer} are up", conn.0);
 }
 
+/// Why a node says goodbye, as the standard calls it.
+fn cause_word(cause: DisconnectCause) -> &'static str {
+    match cause {
+        DisconnectCause::Rebooting => "REBOOTING",
+        DisconnectCause::Busy => "BUSY",
+        DisconnectCause::Unwanted => "DO_NOT_WANT_TO_TALK_TO_YOU",
+    }
+}
+
+/// The node at the other end of a connection has said goodbye, and gets no new request.
+fn leaves<L: Log>(log: &L, site: &Site, conn: ConnId, peer: NodeNo, cause: DisconnectCause) {
+    let (peer, word) = (Named { site, node: peer }, cause_word(cause));
+    info!(log; target: "farm", "connection {}: {peer} says goodbye: {word}", conn.0);
+}
+
+/// Whether a connection has ended as one of its ends wished, and not by a fault.
+fn is_wished(why: End) -> bool {
+    match why {
+        End::Disconnected | End::Closed => true,
+        End::Loss(_) | End::Unwelcome | End::Silent | End::Refused(_) | End::OutOfMemory => false,
+    }
+}
+
 /// A connection has ended on which a node was up.
 fn lost<L: Log>(log: &L, site: &Site, conn: ConnId, peer: NodeNo, why: End) {
     let peer = Named { site, node: peer };
-    info!(log; target: "farm", "connection {}: {peer} is lost: {why}", conn.0);
+    if is_wished(why) {
+        info!(log; target: "farm", "connection {}: {peer} is lost: {why}", conn.0);
+    } else {
+        warn!(log; target: "farm", "connection {}: {peer} is lost: {why}", conn.0);
+    }
 }
 
 /// A node that was connected to does not come up, since its answer says this name, or none.
@@ -125,6 +186,7 @@ pub fn dropped<L: Log>(log: &L, count: u64) {
 pub fn note<L: Log>(log: &L, site: &Site, note: Note) {
     match note {
         Note::Up { conn, local, peer } => up(log, site, conn, local, peer),
+        Note::Leaves { conn, peer, cause } => leaves(log, site, conn, peer, cause),
         Note::Lost { conn, peer, why } => lost(log, site, conn, peer, why),
         Note::Misnamed { conn, peer, name } => misnamed(log, site, conn, peer, name.as_ref()),
         Note::Refused { conn, why } => refused(log, conn, why),

@@ -9,6 +9,8 @@ pub data NodeEvent : Type 0 where
   up : NodeNo → NodeNo → ConnId → NodeEvent
   -- a message came on a connection
   message : ConnId → Message → NodeEvent
+  -- the node at the other end of a connection has said goodbye, and leaves
+  leaving : ConnId → NodeEvent
   -- a connection has ended
   lost : ConnId → NodeEvent
   -- it is this moment

@@ -29,6 +29,10 @@ impl Node for Front {
         }
     }
 
+    fn on_leaving(&mut self, alloc: Global, _conn: ConnId) -> Reaction {
+        Reaction::nothing(alloc)
+    }
+
     fn on_lost<W: Wire>(&mut self, alloc: Global, conn: ConnId) -> Reaction {
         self.conn_lost(conn);
         Reaction::nothing(alloc)

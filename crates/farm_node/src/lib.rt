@@ -5,7 +5,7 @@
 //! - [`Reaction`]: what a node sends at an event, and whether it did what it was told.
 //! - [`NodeError`]: why not. It is small and takes no memory, so that it can be counted and logged.
 //!
-//! A relay ([`relay_core::Relay`], and [`relay_core::MatchingRelay`] around one) and a front ([`front_core::Front`]) are
+//! A relay ([`relay_core::Relay`], [`relay_core::MatchingRelay`] around one and [`relay_core::PartingRelay`] around that) and a front ([`front_core::Front`]) are
 //! nodes. `specs/Events` says what may happen to
 //! a node, and `specs/Nodes` what each of them does then: it is the step of the crate that the node is of, and nothing
 //! besides.

@@ -56,8 +56,8 @@ impl Reaction {
 /// A node of a farm, by what happens to it (RFC 6733, sections 2.8 and 5.5.4).
 ///
 /// Those who keep its connections give each a number that no other connection has or had, and tell it of each: once
-/// that it is up, before anything else, then the messages that come on it, and once, last, that it has ended. Nothing
-/// here waits, and what is sent comes out.
+/// that it is up, before anything else, then the messages that come on it and that the other end leaves, and once, last, that it
+/// has ended. Nothing here waits, and what is sent comes out.
 pub trait Node {
     /// What it was, what happened, what it has sent and whether it did what it was told, and what it is now.
     ghost on_event: { Self → NodeEvent → Traffic → Result (Unit {0}) NodeError → Self → Type 0 };
@@ -70,6 +70,11 @@ pub trait Node {
     /// A message came on a connection that is up. What answers it may go out now, at a tick, or when it is woken.
     fn on_message<W: Wire>(&mut self, alloc: Global, conn: ConnId, message: Message) -> Reaction
         ensures { on_event self.old (event.message conn message) result.out.items result.outcome self.new };
+
+    /// The node at the other end of a connection that is up has said goodbye: it gets no new request from now on, and what it sends
+    /// is taken as before. The connection ends later.
+    fn on_leaving(&mut self, alloc: Global, conn: ConnId) -> Reaction
+        ensures { on_event self.old (event.leaving conn) result.out.items result.outcome self.new };
 
     /// A connection that was up has ended.
     fn on_lost<W: Wire>(&mut self, alloc: Global, conn: ConnId) -> Reaction

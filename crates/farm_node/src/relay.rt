@@ -1,14 +1,14 @@
 //! A relay as a node.
 
 ghost use Rattle.std.specs.Prelude.{◌≡◌, [], Ok, Err, IfOk, IfErr};
-ghost use Rattle.farm_node.specs.Nodes.{OnMatchingEvent, OnRelayEvent, error_of_relay};
+ghost use Rattle.farm_node.specs.Nodes.{OnMatchingEvent, OnPartingEvent, OnRelayEvent, error_of_relay};
 
 use crate::error::NodeError;
 use crate::node::{Node, Reaction};
 use dia_avp::Wire;
 use dia_base::{ConnId, Moment, NodeNo};
 use dia_message::{Message, Out};
-use relay_core::{MatchingRelay, Relay, RelayError};
+use relay_core::{MatchingRelay, PartingRelay, Relay, RelayError};
 use std::alloc::Global;
 
 /// What a relay sends, or why it does nothing.
@@ -22,7 +22,8 @@ fn reaction(alloc: Global, answer: Result<Out, RelayError>) -> Reaction
     }
 }
 
-/// Which of the nodes that are served here it is, is of no account: it is served alone.
+/// Which of the nodes that are served here it is, is of no account: it is served alone. It does not tell who leaves from who
+/// stays: [`PartingRelay`] does.
 impl Node for Relay {
     ghost on_event = { OnRelayEvent };
 
@@ -35,6 +36,10 @@ impl Node for Relay {
 
     fn on_message<W: Wire>(&mut self, alloc: Global, conn: ConnId, message: Message) -> Reaction {
         reaction(alloc, Relay::on_message::<W>(self, alloc, conn, message))
+    }
+
+    fn on_leaving(&mut self, alloc: Global, _conn: ConnId) -> Reaction {
+        Reaction::nothing(alloc)
     }
 
     fn on_lost<W: Wire>(&mut self, alloc: Global, conn: ConnId) -> Reaction {
@@ -65,6 +70,10 @@ impl Node for MatchingRelay {
         )
     }
 
+    fn on_leaving(&mut self, alloc: Global, conn: ConnId) -> Reaction {
+        self.relay.on_leaving(alloc, conn)
+    }
+
     fn on_lost<W: Wire>(&mut self, alloc: Global, conn: ConnId) -> Reaction {
         self.relay.on_lost::<W>(alloc, conn)
     }
@@ -75,5 +84,43 @@ impl Node for MatchingRelay {
 
     fn on_wake<W: Wire>(&mut self, alloc: Global) -> Reaction {
         self.relay.on_wake::<W>(alloc)
+    }
+}
+
+/// The same, with those of its peers that stay.
+impl Node for PartingRelay {
+    ghost on_event = { OnPartingEvent };
+
+    fn on_up(&mut self, alloc: Global, _local: NodeNo, peer: NodeNo, conn: ConnId) -> Reaction {
+        match self.conn_up(alloc, peer, conn) {
+            Ok(()) => Reaction::nothing(alloc),
+            Err(error) => Reaction::refuses(alloc, NodeError::of_relay(error)),
+        }
+    }
+
+    fn on_message<W: Wire>(&mut self, alloc: Global, conn: ConnId, message: Message) -> Reaction {
+        reaction(
+            alloc,
+            PartingRelay::on_message::<W>(self, alloc, conn, message),
+        )
+    }
+
+    fn on_leaving(&mut self, alloc: Global, conn: ConnId) -> Reaction {
+        match self.leaves(conn) {
+            Ok(()) => Reaction::nothing(alloc),
+            Err(error) => Reaction::refuses(alloc, NodeError::of_relay(error)),
+        }
+    }
+
+    fn on_lost<W: Wire>(&mut self, alloc: Global, conn: ConnId) -> Reaction {
+        reaction(alloc, self.conn_lost::<W>(alloc, conn))
+    }
+
+    fn on_tick<W: Wire>(&mut self, alloc: Global, _moment: Moment) -> Reaction {
+        Reaction::nothing(alloc)
+    }
+
+    fn on_wake<W: Wire>(&mut self, alloc: Global) -> Reaction {
+        Reaction::nothing(alloc)
     }
 }

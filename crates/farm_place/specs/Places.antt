@@ -16,6 +16,7 @@ use Rattle.farm_base.specs.declared.site.Site.{Site}
 use Rattle.farm_base.specs.Nodes.{is_linked, is_node}
 use Rattle.farm_watch.specs.declared.site.Application.{Application}
 use Rattle.farm_watch.specs.declared.site.Application.TheVariants as application
+use Rattle.farm_watch.specs.declared.site.Goodbyes.TheVariants.{EndAtOnce}
 use Rattle.farm_watch.specs.declared.site.HostAddress.{HostAddress}
 use Rattle.farm_watch.specs.declared.site.HostAddress.TheVariants as host
 use Rattle.farm_watch.specs.declared.site.Neighbour.{Neighbour}
@@ -104,6 +105,8 @@ watch_site site at node address = record {
   advertised = site.advertise;
   neighbours = neighbours_from site at 0 site.nodes;
   interval = site.watchdog;
+  goodbyes = EndAtOnce;
+  state = None;
 }
 
 -- ---- the place of a node

@@ -13,7 +13,7 @@ use crate::names::{
 use crate::socket::socket_of;
 use dia_base::{Identity, IdentityFault, NodeKind, NodeNo};
 use farm_base::{Node, Site};
-use farm_watch::{HostAddress, WatchSite};
+use farm_watch::{Goodbyes, HostAddress, WatchSite};
 use std::alloc::{AllocError, Global};
 use std::net::SocketAddr;
 
@@ -27,6 +27,26 @@ pub struct Place {
     pub calls: Vec<NodeNo>,
     /// What its connections know of it and its neighbours.
     pub watch: WatchSite,
+}
+
+impl Place {
+    /// The same place, where the node does this with goodbyes. At first it ends each connection at once.
+    pub fn parting(self, goodbyes: Goodbyes) -> Place
+        ensures { result ≡ record self { watch = record self.watch { goodbyes = goodbyes } } }
+    {
+        let mut place = self;
+        place.watch.goodbyes = goodbyes;
+        place
+    }
+
+    /// The same place, where the node tells this Origin-State-Id, if one. At first it tells none.
+    pub fn of_state(self, state: Option<u32>) -> Place
+        ensures { result ≡ record self { watch = record self.watch { state = state } } }
+    {
+        let mut place = self;
+        place.watch.state = state;
+        place
+    }
 }
 
 /// The address that a node tells its neighbours.
@@ -59,6 +79,8 @@ fn watch_site(
         advertised: site.advertise.clone()?,
         neighbours: neighbours_of(alloc, site, at)?,
         interval: site.watchdog,
+        goodbyes: Goodbyes::EndAtOnce,
+        state: None,
     })
 }
 

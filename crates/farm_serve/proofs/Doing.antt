@@ -8,9 +8,11 @@ use Rattle.dia_message.specs.declared.message.Message.{Message}
 use Rattle.dia_message.specs.Traffic.{Traffic}
 use Rattle.farm_node.specs.Events.{NodeEvent}
 use Rattle.farm_node.specs.declared.error.NodeError.{NodeError}
+use Rattle.farm_watch.specs.Numbering.{numbered, numbered_effect}
 use Rattle.farm_watch.specs.Table.{Connection, Effect, after_message}
 use Rattle.farm_watch.specs.declared.site.WatchSite.{WatchSite}
 use Rattle.farm_watch.specs.declared.acts.Act.{Act}
+use Rattle.farm_watch.specs.declared.numbering.Numbering.{Numbering}
 use Rattle.farm_serve.specs.declared.desk.Desk.{Desk}
 use Rattle.farm_serve.specs.declared.end.End.{End}
 use Rattle.farm_serve.specs.declared.link.Link.{Link}
@@ -93,6 +95,15 @@ lived {N} {R} {W} (Err e) effect here next place old new read is on still node l
   node_is = node;
   links_are = links ∙ ap (λ (l : Link R W). slice_set old.links.items place l) (still ∙ read) ∙ set-get_or old.links.items place here;
 }
+
+-- where its requests are numbered
+pub numbered_said : {E : Type 0} (said result : Result (List Act) E) (numbering : Numbering) (moment : Moment) (effect : Effect) (IsNext IsSame : Type 0)
+    → MatchResult said (λ acts. result ≡ Ok (numbered numbering moment acts)) (λ error. result ≡ Err error) → IfOk said (λ acts. acts ≡ effect.acts)
+    → OnOk said IsNext → OnErr said IsSame
+    → IfOk result (λ acts. acts ≡ (numbered_effect numbering moment effect).acts) × (OnOk result IsNext × OnErr result IsSame)
+numbered_said (Ok acts) result numbering moment effect IsNext IsSame gives is next same =
+    rw gives (ap (λ (all : List Act). numbered numbering moment all) is, (next, tt))
+numbered_said (Err error) result numbering moment effect IsNext IsSame gives is next same = rw gives (tt, (tt, same))
 
 -- what the life of the connection at a place says
 pub lived_at : {N R W E : Type 0} (result : Result (List Act) E) (effect_of : Connection → Effect) (here link next : Link R W) (place : ℕ) (old new : Desk N R W)

@@ -13,7 +13,7 @@ use Rattle.farm_watch.specs.declared.kind.MessageKind.{MessageKind}
 use Rattle.farm_watch.specs.declared.kind.MessageKind.TheVariants.{Cer, Cea, Dwr, Dwa, Dpr, Dpa, Other}
 use Rattle.farm_watch.specs.declared.site.WatchSite.{WatchSite}
 use Rattle.farm_watch.specs.declared.watch.Waits.{Waits}
-use Rattle.farm_watch.specs.declared.watch.Waits.TheVariants.{ForCer, ForCea, ForMessage, ForDwa, ForDpa, ForNothing}
+use Rattle.farm_watch.specs.declared.watch.Waits.TheVariants.{ForCer, ForCea, ForMessage, ForDwa, ForDpa, ForClose, ForNothing}
 use Rattle.farm_serve.specs.declared.link.Link.{Link}
 use Rattle.farm_serve.specs.Naming.{IsKeptOut, awaited, is_cea, misnamed, misnamed_by}
 
@@ -43,6 +43,7 @@ misnamed_drops site nodes conn moment m own (ForCer since) kind node is out = ab
 misnamed_drops site nodes conn moment m own (ForMessage since) kind node is out = absurd (nobody (own && is_cea kind) site m node is)
 misnamed_drops site nodes conn moment m own (ForDwa since) kind node is out = absurd (nobody (own && is_cea kind) site m node is)
 misnamed_drops site nodes conn moment m own (ForDpa since) kind node is out = absurd (nobody (own && is_cea kind) site m node is)
+misnamed_drops site nodes conn moment m own (ForClose since) kind node is out = absurd (nobody (own && is_cea kind) site m node is)
 misnamed_drops site nodes conn moment m own ForNothing kind node is out = absurd (nobody (own && is_cea kind) site m node is)
 misnamed_drops site nodes conn moment m false (ForCea n since) kind node is out = absurd cc
 misnamed_drops site nodes conn moment m true (ForCea n since) Cea node is out =

@@ -6,13 +6,13 @@ use Rattle.std.proofs.lemmas.List.{map-append}
 use Rattle.dia_message.specs.declared.message.Message.{Message}
 use Rattle.dia_base.specs.declared.number.NodeNo.{NodeNo}
 use Rattle.dia_message.specs.Traffic.{Traffic}
-use Rattle.farm_node.specs.Events.{NodeEvent, up, message, lost}
+use Rattle.farm_node.specs.Events.{NodeEvent, up, message, leaving, lost}
 use Rattle.farm_node.specs.declared.error.NodeError.{NodeError}
 use Rattle.farm_serve.specs.declared.link.Link.{Link}
 use Rattle.farm_serve.specs.declared.link.Standing.{Standing}
 use Rattle.farm_serve.specs.declared.link.Standing.TheVariants.{Waiting, Up, Over}
 use Rattle.farm_serve.specs.Turns.{Goes, IsDown, IsOfNone, Kept, Mark, Told, may_come_up, standing_as, told_of}
-use Rattle.farm_serve.specs.Turns.{rests, comes_up, is_refused, hears, ends, wakes, makes, lets_go}
+use Rattle.farm_serve.specs.Turns.{rests, comes_up, is_refused, hears, leaves, ends, wakes, makes, lets_go}
 use Rattle.farm_serve.specs.Desks.{mark_of, marks_of, standing_after}
 use Rattle.farm_serve.proofs.Placing.{keeping, marks_split, marks_left}
 use Rattle.farm_serve.proofs.Turning.{goes_then}
@@ -73,6 +73,20 @@ message_way {N} {R} {W} {On} node next links place link other made peer m sent o
       subst (λ (marks : List Mark). Goes On (keeping node (marks_of links) made) (told_of (message link.id m) outcome) (keeping next marks made))
           (sym (s.set other ∙ ap (λ (mark : Mark). s.front ++ mark ∷ s.back) is))
           (hears [] node next s.front s.back made (mark_of link) peer m sent outcome begun is_up does),
+    )
+
+-- that the other end leaves
+pub leaving_way : {N R W : Type 0} {On : N → NodeEvent → Traffic → Result (Unit {0}) NodeError → N → Type 0} (node next : N) (links : List (Link R W))
+    (place : ℕ) (link other : Link R W) (made : ℕ) (peer : NodeNo) (sent : Traffic)
+    (outcome : Result (Unit {0}) NodeError) → place < length links → link ≡ get_or links place link → link.standing ≡ Up peer → mark_of other ≡ mark_of link
+    → On node (leaving link.id) sent outcome next → Way On (keeping node (marks_of links) made) (keeping next (marks_of (slice_set links place other)) made)
+leaving_way {N} {R} {W} {On} node next links place link other made peer sent outcome within read is_up is does =
+    let s = marks_split links place link within read in
+    let begun = subst (λ (marks : List Mark). Goes On (keeping node (marks_of links) made) [] (keeping node marks made)) s.is rests in (
+      told_of (leaving link.id) outcome,
+      subst (λ (marks : List Mark). Goes On (keeping node (marks_of links) made) (told_of (leaving link.id) outcome) (keeping next marks made))
+          (sym (s.set other ∙ ap (λ (mark : Mark). s.front ++ mark ∷ s.back) is))
+          (leaves [] node next s.front s.back made (mark_of link) peer sent outcome begun is_up does),
     )
 
 -- an end

@@ -4,12 +4,12 @@ use Rattle.std.specs.List.{fold}
 use Rattle.std.proofs.lemmas.Bool.{eq-eqb, eqb-false, eqb-true, ne_eqb}
 use Rattle.std.proofs.lemmas.List.{append_assoc, append-nil}
 use Rattle.dia_message.specs.Traffic.{Traffic}
-use Rattle.farm_node.specs.Events.{NodeEvent, up, message, lost, tick, wake}
+use Rattle.farm_node.specs.Events.{NodeEvent, up, message, leaving, lost, tick, wake}
 use Rattle.farm_node.specs.declared.error.NodeError.{NodeError}
 use Rattle.farm_serve.specs.declared.link.Standing.{Standing}
 use Rattle.farm_serve.specs.declared.link.Standing.TheVariants.{Waiting, Up, Over}
-use Rattle.farm_serve.specs.Turns.{Mark, Kept, Told, Goes, AreRising, Turn, before, during, after, broken, beginning, told_of, standing_as, IsOfNone, IsInTurn, turn_of, after_told, after_event, after_up, after_message, after_lost}
-use Rattle.farm_serve.specs.Turns.{rests, comes_up, is_refused, hears, ends, wakes, makes, lets_go}
+use Rattle.farm_serve.specs.Turns.{Mark, Kept, Told, Goes, AreRising, Turn, before, during, after, broken, beginning, told_of, standing_as, IsOfNone, IsInTurn, turn_of, after_told, after_event, after_up, after_message, after_leaving, after_lost}
+use Rattle.farm_serve.specs.Turns.{rests, comes_up, is_refused, hears, leaves, ends, wakes, makes, lets_go}
 
 -- ---- one more thing is told
 
@@ -127,6 +127,7 @@ one_step node next told then front back made mark standing f moves goes s =
 of_none : (event : NodeEvent) (outcome : Result (Unit {0}) NodeError) (conn : ℕ) (turn : Turn) → IsOfNone event → after_event conn turn event outcome ≡ turn
 of_none (up local peer id) outcome conn turn h = absurd h
 of_none (message id m) outcome conn turn h = absurd h
+of_none (leaving id) outcome conn turn h = absurd h
 of_none (lost id) outcome conn turn h = absurd h
 of_none (tick moment) outcome conn turn h = refl
 of_none wake outcome conn turn h = refl
@@ -153,6 +154,9 @@ stands node _ _ (is_refused told now next front back made mark peer sent error g
 stands node _ _ (hears told now next front back made mark peer m sent outcome goes is_up does) =
     one_step now next told _ front back made mark mark.standing after_message (λ conn. turn_more conn told _ _)
     (ap (λ (s : Standing). after_message (turn_for s)) is_up ∙ ap turn_for (sym is_up)) (stands node told _ goes)
+stands node _ _ (leaves told now next front back made mark peer sent outcome goes is_up does) =
+    one_step now next told _ front back made mark mark.standing after_leaving (λ conn. turn_more conn told _ _)
+    (ap (λ (s : Standing). after_leaving (turn_for s)) is_up ∙ ap turn_for (sym is_up)) (stands node told _ goes)
 stands node _ _ (ends told now next front back made mark peer sent outcome goes is_up does) =
     one_step now next told _ front back made mark (Over peer) after_lost (λ conn. turn_more conn told _ _)
     (ap (λ (s : Standing). after_lost (turn_for s)) is_up) (stands node told _ goes)
@@ -197,6 +201,8 @@ goes_then {N} {On} {first} {mid} {told} _ _ way (is_refused more node next front
     retell (append_assoc told more _) (is_refused _ node next front back made mark peer sent error (goes_then more _ way goes) waits may does)
 goes_then {N} {On} {first} {mid} {told} _ _ way (hears more node next front back made mark peer m sent outcome goes is_up does) =
     retell (append_assoc told more _) (hears _ node next front back made mark peer m sent outcome (goes_then more _ way goes) is_up does)
+goes_then {N} {On} {first} {mid} {told} _ _ way (leaves more node next front back made mark peer sent outcome goes is_up does) =
+    retell (append_assoc told more _) (leaves _ node next front back made mark peer sent outcome (goes_then more _ way goes) is_up does)
 goes_then {N} {On} {first} {mid} {told} _ _ way (ends more node next front back made mark peer sent outcome goes is_up does) =
     retell (append_assoc told more _) (ends _ node next front back made mark peer sent outcome (goes_then more _ way goes) is_up does)
 goes_then {N} {On} {first} {mid} {told} _ _ way (wakes more node next marks made event sent outcome goes none does) =

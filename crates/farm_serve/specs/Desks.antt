@@ -1,5 +1,5 @@
 -- A node with its connections as turns see it.
-use Rattle.std.specs.Prelude.{◌≡◌, ◌<◌, ℕ, ◌&&◌, Bool, true, false, is_some, length, position, ◌+◌, [], ◌∷◌, ◌++◌, if◌then◌else◌, get_or, List, map, None}
+use Rattle.std.specs.Prelude.{◌≡◌, ◌<◌, ℕ, ◌&&◌, Bool, true, false, is_some, length, position, ◌+◌, [], ◌∷◌, ◌++◌, if◌then◌else◌, get_or, slice_index_or, List, map, Option, None, Some}
 use Rattle.dia_base.specs.declared.number.ConnId.{ConnId}
 use Rattle.dia_base.specs.declared.number.NodeNo.{NodeNo}
 use Rattle.dia_base.specs.declared.number.Moment.{Moment}
@@ -12,6 +12,7 @@ use Rattle.farm_watch.specs.Table.{after_message}
 use Rattle.farm_watch.specs.declared.site.WatchSite.{WatchSite}
 use Rattle.farm_watch.specs.declared.watch.Waits.{Waits}
 use Rattle.farm_serve.specs.declared.desk.Desk.{Desk}
+use Rattle.farm_serve.specs.declared.end.Ended.{Ended}
 use Rattle.farm_serve.specs.declared.link.Link.{Link}
 use Rattle.farm_serve.specs.declared.link.Standing.{Standing}
 use Rattle.farm_serve.specs.declared.link.Standing.TheVariants.{Waiting, Up, Over}
@@ -39,6 +40,23 @@ Tells On old new = (told : List Told) × Goes On (kept_by old) told (kept_by new
 -- Something was recorded, and nothing else has happened.
 abbrev pub IsRecordedOnly : {N R W : Type 0} → Desk N R W → Desk N R W → Type 0
 IsRecordedOnly old new = new ≡ record old { recorder = new.recorder }
+
+-- the node at the other end, if the node here was ever told of it
+abbrev pub peer_of : Standing → Option NodeNo
+peer_of Waiting = None
+peer_of (Up peer) = Some peer
+peer_of (Over peer) = Some peer
+
+-- It is the end of one of these connections: its number, its node, its peer, why it has ended, why its peer has said goodbye, if it
+-- has, and its streams.
+pub record IsEndOf {R W : Type 0} (links : List (Link R W)) (ended : Ended R W) : Type 0 where
+  pub place : ℕ
+  pub link : Link R W
+  pub there : place < length links
+  pub at : link ≡ slice_index_or links place link
+  pub since : Moment
+  pub has_ended : link.end ≡ Some (ended.why, since)
+  pub is : ended ≡ record { conn = link.id; local = link.local; peer = peer_of link.standing; why = ended.why; farewell = link.farewell; streams = link.conn }
 
 -- ---- ends that the node is still to be told of
 

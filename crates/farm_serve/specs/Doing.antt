@@ -1,16 +1,18 @@
 -- What a process does with what its node says, and with what the life of a connection says.
-use Rattle.std.specs.Prelude.{◌≡◌, ◌<◌, ◌&&◌, ℕ, Bool, true, false, not, is_none, is_some, List, [], ◌∷◌, ◌++◌, get_or, slice_set, length, Option, Some, None, Result, Ok, Err, IsSome, MatchBool, MatchOption, OnErr}
+use Rattle.std.specs.Prelude.{◌≡◌, ◌<◌, ◌&&◌, ℕ, Bool, true, false, not, is_none, is_some, List, [], ◌∷◌, ◌++◌, get_or, slice_set, length, Option, Some, None, Result, Ok, Err, IsSome, MatchBool, MatchOption, OnErr, OnOk}
 use Rattle.dia_base.specs.declared.number.ConnId.{ConnId}
 use Rattle.dia_base.specs.declared.number.Moment.{Moment}
 use Rattle.dia_base.specs.declared.number.NodeNo.{NodeNo}
 use Rattle.dia_message.specs.declared.message.Message.{Message}
 use Rattle.dia_message.specs.Traffic.{Traffic}
-use Rattle.farm_node.specs.Events.{NodeEvent, up, message}
+use Rattle.farm_node.specs.Events.{NodeEvent, up, message, leaving}
 use Rattle.farm_node.specs.declared.error.NodeError.{NodeError}
 use Rattle.farm_node.specs.declared.error.NodeError.TheVariants.{Unanswered}
+use Rattle.farm_watch.specs.Numbering.{numbered_effect}
 use Rattle.farm_watch.specs.Table.{Effect, after_close, after_message, after_tick}
 use Rattle.farm_watch.specs.declared.site.WatchSite.{WatchSite}
 use Rattle.farm_watch.specs.declared.acts.Act.{Act}
+use Rattle.farm_watch.specs.declared.cause.DisconnectCause.{DisconnectCause}
 use Rattle.farm_watch.specs.declared.acts.Act.TheVariants as life
 use Rattle.farm_serve.specs.declared.desk.Desk.{Desk}
 use Rattle.farm_serve.specs.declared.end.End.{End}
@@ -50,6 +52,14 @@ pub record HasEnded {R W : Type 0} (old new : Link R W) : Type 0 where
 -- where the node refuses what it is told of a connection, that ends
 abbrev pub EndsWhereRefused : {N R W : Type 0} → Result (Unit {0}) NodeError → Link R W → Desk N R W → Type 0
 EndsWhereRefused outcome told new = OnErr outcome (IsSome told.end)
+
+-- the same, and else it stands as it did
+abbrev pub StandsUnlessRefused : {N R W : Type 0} → Link R W → Result (Unit {0}) NodeError → Link R W → Desk N R W → Type 0
+StandsUnlessRefused link outcome told new = OnErr outcome (IsSome told.end) × OnOk outcome (told.end ≡ link.end)
+
+-- a connection whose other end leaves, for this cause
+abbrev pub left_for : {R W : Type 0} → DisconnectCause → Link R W → Link R W
+left_for cause link = record link { farewell = Some cause }
 
 -- where the node cannot be told that a connection has ended, the process cannot go on
 abbrev pub FailsWhereRefused : {N R W : Type 0} → Result (Unit {0}) NodeError → Link R W → Desk N R W → Type 0
@@ -124,6 +134,8 @@ Greets On place peer link old new =
 abbrev pub DoesAct : {N R W : Type 0} → (N → NodeEvent → Traffic → Result (Unit {0}) NodeError → N → Type 0) → ℕ → Act → Link R W → Desk N R W → Desk N R W → Type 0
 DoesAct On place (life.Send m) link old new = Becomes (IsSentOn m link) place old new
 DoesAct On place (life.PeerUp peer) link old new = MatchBool (awaits link) (Greets On place peer link old new) (new ≡ old)
+DoesAct On place (life.PeerLeaves cause) link old new =
+    MatchOption (open_peer link) (new ≡ old) (λ peer. Says On (StandsUnlessRefused link) (leaving link.id) place (left_for cause link) old new)
 DoesAct On place (life.Pass m) link old new =
     MatchOption (open_peer link) (new ≡ old) (λ peer. Says On EndsWhereRefused (message link.id m) place link old new)
 DoesAct On place life.Drop link old new = Becomes (HasEnded link) place old new
@@ -156,16 +168,16 @@ pub record Lives {N R W : Type 0} (On : N → NodeEvent → Traffic → Result (
 
 -- ---- what happens to a connection
 
--- Time has passed: what the table says is done. Where memory is missing, nothing.
+-- Time has passed: what the table says is done, its requests numbered as the process numbers them. Where memory is missing, nothing.
 pub data Ticks {N R W : Type 0} (On : N → NodeEvent → Traffic → Result (Unit {0}) NodeError → N → Type 0) (moment : Moment) (place : ℕ) (link : Link R W)
     (old new : Desk N R W) : Type 0 where
-  lives : (site : WatchSite) → Lives On (after_tick site moment link.watch) place link old new → Ticks On moment place link old new
+  lives : (site : WatchSite) → Lives On (numbered_effect old.numbering moment (after_tick site moment link.watch)) place link old new → Ticks On moment place link old new
   rests : IsStill old new → Ticks On moment place link old new
 
--- It is to end: what the table says is done. Where memory is missing, it ends at once.
+-- It is to end: what the table says is done, its requests numbered as the process numbers them. Where memory is missing, it ends at once.
 pub data Closes {N R W : Type 0} (On : N → NodeEvent → Traffic → Result (Unit {0}) NodeError → N → Type 0) (moment : Moment) (place : ℕ) (link : Link R W)
     (old new : Desk N R W) : Type 0 where
-  says : (site : WatchSite) → Lives On (after_close site moment link.watch) place link old new → Closes On moment place link old new
+  says : (site : WatchSite) → Lives On (numbered_effect old.numbering moment (after_close site moment link.watch)) place link old new → Closes On moment place link old new
   is_over : IsStill old new → Closes On moment place link old new
   breaks : (mid : Desk N R W) → IsStill old mid → Becomes (HasEnded link) place mid new → Closes On moment place link old new
 

@@ -8,7 +8,7 @@ use Rattle.farm_watch.specs.declared.kind.MessageKind.{MessageKind}
 use Rattle.farm_watch.specs.declared.kind.MessageKind.TheVariants.{Cer, Cea, Dwr, Dwa, Dpr, Dpa, Other}
 use Rattle.farm_watch.specs.declared.site.WatchSite.{WatchSite}
 use Rattle.farm_watch.specs.declared.watch.Waits.{Waits}
-use Rattle.farm_watch.specs.declared.watch.Waits.TheVariants.{ForCer, ForCea, ForMessage, ForDwa, ForDpa, ForNothing}
+use Rattle.farm_watch.specs.declared.watch.Waits.TheVariants.{ForCer, ForCea, ForMessage, ForDwa, ForDpa, ForClose, ForNothing}
 use Rattle.farm_serve.specs.declared.link.Link.{Link}
 use Rattle.farm_serve.specs.declared.naming.NameRule.{NameRule}
 use Rattle.farm_serve.specs.declared.naming.NameRule.TheVariants.{Any, Own}
@@ -33,6 +33,7 @@ awaited (ForCea node since) = Some node
 awaited (ForMessage since) = None
 awaited (ForDwa since) = None
 awaited (ForDpa since) = None
+awaited (ForClose since) = None
 awaited ForNothing = None
 
 abbrev pub misnamed_by : Bool → WatchSite → Message → Option NodeNo → Option NodeNo

@@ -1,12 +1,12 @@
--- What a process tells its node, and in which order: of each connection once that it is up, then its messages, and
--- once, last, that it has ended (RFC 6733, sections 5.5.4 and 5.6).
+-- What a process tells its node, and in which order: of each connection once that it is up, then its messages and that the other
+-- end leaves, and once, last, that it has ended (RFC 6733, sections 5.5.4 and 5.6).
 use Rattle.std.specs.Prelude.{◌≡◌, ◌≢◌, ℕ, ◌+◌, ◌<◌, ◌==◌, Bool, true, not, List, [], ◌∷◌, ◌++◌, Result, Ok, Err, if◌then◌else◌}
 use Rattle.std.specs.List.{fold, list_any}
 use Rattle.dia_base.specs.declared.number.ConnId.{ConnId}
 use Rattle.dia_base.specs.declared.number.NodeNo.{NodeNo}
 use Rattle.dia_message.specs.declared.message.Message.{Message}
 use Rattle.dia_message.specs.Traffic.{Traffic}
-use Rattle.farm_node.specs.Events.{NodeEvent, up, message, lost, tick, wake}
+use Rattle.farm_node.specs.Events.{NodeEvent, up, message, leaving, lost, tick, wake}
 use Rattle.farm_node.specs.declared.error.NodeError.{NodeError}
 use Rattle.farm_serve.specs.declared.link.Standing.{Standing}
 use Rattle.farm_serve.specs.declared.link.Standing.TheVariants.{Waiting, Up, Over}
@@ -64,6 +64,7 @@ IsDown (Over peer) = Unit {0}
 abbrev pub IsOfNone : NodeEvent → Type 0
 IsOfNone (up local peer conn) = ⊥
 IsOfNone (message conn m) = ⊥
+IsOfNone (leaving conn) = ⊥
 IsOfNone (lost conn) = ⊥
 IsOfNone (tick moment) = Unit {0}
 IsOfNone wake = Unit {0}
@@ -89,6 +90,12 @@ pub data Goes {N : Type 0} (On : N → NodeEvent → Traffic → Result (Unit {0
       Goes On first told (record { node = node; marks = front ++ mark ∷ back; made = made }) → mark.standing ≡ Up peer
       → On node (message mark.id m) sent outcome next →
       Goes On first (told ++ told_of (message mark.id m) outcome) (record { node = next; marks = front ++ mark ∷ back; made = made })
+  -- The node at the other end of one that is up leaves.
+  leaves : (told : List Told) (node next : N) (front back : List Mark) (made : ℕ) (mark : Mark) (peer : NodeNo) (sent : Traffic)
+      (outcome : Result (Unit {0}) NodeError) →
+      Goes On first told (record { node = node; marks = front ++ mark ∷ back; made = made }) → mark.standing ≡ Up peer
+      → On node (leaving mark.id) sent outcome next →
+      Goes On first (told ++ told_of (leaving mark.id) outcome) (record { node = next; marks = front ++ mark ∷ back; made = made })
   -- One that is up ends.
   ends : (told : List Told) (node next : N) (front back : List Mark) (made : ℕ) (mark : Mark) (peer : NodeNo) (sent : Traffic)
       (outcome : Result (Unit {0}) NodeError) →
@@ -137,6 +144,13 @@ after_message during = during
 after_message after = broken
 after_message broken = broken
 
+-- that the other end leaves comes while it is up, and messages come behind that
+abbrev pub after_leaving : Turn → Turn
+after_leaving before = broken
+after_leaving during = during
+after_leaving after = broken
+after_leaving broken = broken
+
 -- that it has ended comes last, where it was up
 abbrev pub after_lost : Turn → Turn
 after_lost before = broken
@@ -147,6 +161,7 @@ after_lost broken = broken
 abbrev pub after_event : ℕ → Turn → NodeEvent → Result (Unit {0}) NodeError → Turn
 after_event conn turn (up local peer id) outcome = if id.0 == conn then after_up turn outcome else turn
 after_event conn turn (message id m) outcome = if id.0 == conn then after_message turn else turn
+after_event conn turn (leaving id) outcome = if id.0 == conn then after_leaving turn else turn
 after_event conn turn (lost id) outcome = if id.0 == conn then after_lost turn else turn
 after_event conn turn (tick moment) outcome = turn
 after_event conn turn wake outcome = turn

@@ -1,10 +1,11 @@
 //! A node with its connections: what it is told, and in which order, and what is sent.
 
-ghost use Rattle.std.specs.Prelude.{◌≡◌, ◌<◌, ◌+◌, ◌∷◌, ◌++◌, [], length, vec_capacity, IfNone, IfOk, IfSome, MatchResult, OnErr, Err, true, false};
+ghost use Rattle.std.specs.Prelude.{◌≡◌, ◌<◌, ◌+◌, ◌∷◌, ◌++◌, [], length, slice_index_or, vec_capacity, IfNone, IfOk, IfSome, MatchResult, OnErr, Err, Ok, true, false};
 ghost use Rattle.farm_node.specs.Events as event;
+ghost use Rattle.farm_watch.specs.Numbering.{numbered, numbered_effect};
 ghost use Rattle.farm_watch.specs.Table.{after_close, after_tick};
 ghost use Rattle.farm_watch.specs.declared.acts.Act.TheVariants as life;
-ghost use Rattle.farm_serve.specs.Doing.{AtPlace, Becomes, Closes, DoesAct, EndsOne, EndsUnanswered, EndsWhereRefused, FailsWhereRefused, GoesAndEnds, Greets, HasEnded, Heard, Hears, IsStill, Lived, Performs, Reacts, Says, Ticks, unanswered_by};
+ghost use Rattle.farm_serve.specs.Doing.{AtPlace, Becomes, Closes, DoesAct, EndsOne, EndsUnanswered, EndsWhereRefused, FailsWhereRefused, GoesAndEnds, Greets, HasEnded, Heard, Hears, IsStill, Lived, Performs, Reacts, Says, StandsUnlessRefused, Ticks, left_for, unanswered_by};
 ghost use Rattle.farm_serve.specs.Desks.{AreSettled, IsDownAt, IsPlaceOf, MayComeUpAt, NeverAsks, StandsAt, Tells, is_to_be_told, kept_by, mark_of, marks_of, ups};
 ghost use Rattle.farm_serve.specs.Naming.{IsKeptOut};
 ghost use Rattle.farm_serve.specs.Sending.{AllGoOut, AreInOrder, GoesOut, HasNone, IsNumberedAt, IsSentOn};
@@ -13,7 +14,8 @@ use crate::counting::{count_failovers, count_passed, count_sent};
 use crate::end::End;
 use crate::link::{
     Link, Standing, be_over, close_at, come_up, end_at, end_unless_told, flush_at, greet_at,
-    hear_at, is_waiting, loss_of, may_come_up, open_peer, post_at, receive_at, send_at, tick_at,
+    hear_at, is_waiting, loss_of, may_come_up, open_peer, part_at, post_at, receive_at, send_at,
+    tick_at,
 };
 use crate::local::{LocalNode, site_of};
 use crate::naming::misnamed;
@@ -26,7 +28,7 @@ use farm_net::{Device, Received};
 use farm_node::{Node, NodeError, Reaction};
 use farm_record::Recorder;
 use farm_tally::Tally;
-use farm_watch::{Act, Acts, Waits, WatchSite};
+use farm_watch::{Act, Acts, DisconnectCause, Numbering, Waits, WatchSite};
 use std::alloc::{AllocError, Global};
 use std::io::{Read, Write};
 
@@ -40,6 +42,8 @@ pub struct Desk<N, R, W> {
     pub tally: Tally,
     /// What is told of all this, where it is recorded.
     pub recorder: Recorder,
+    /// How the requests of the lives of its connections are numbered from end to end.
+    pub numbering: Numbering,
     /// How many answers the node has sent.
     pub answers: u64,
     /// How many connections were made.
@@ -105,6 +109,7 @@ fn asks_who_is_up(waits: Waits) -> bool
         Waits::ForMessage { .. }
         | Waits::ForDwa { .. }
         | Waits::ForDpa { .. }
+        | Waits::ForClose { .. }
         | Waits::ForNothing => false,
     }
 }
@@ -161,7 +166,9 @@ fn peer_here<R, W>(link: &Link<R, W>, local: NodeNo) -> Option<NodeNo> {
 fn why_at_message(waits: Waits) -> End {
     match waits {
         Waits::ForCer { .. } | Waits::ForCea { .. } => End::Unwelcome,
-        Waits::ForMessage { .. } | Waits::ForDwa { .. } => End::Disconnected,
+        Waits::ForMessage { .. } | Waits::ForDwa { .. } | Waits::ForClose { .. } => {
+            End::Disconnected
+        }
         Waits::ForDpa { .. } | Waits::ForNothing => End::Closed,
     }
 }
@@ -170,6 +177,7 @@ fn why_at_message(waits: Waits) -> End {
 fn why_at_tick(waits: Waits) -> End {
     match waits {
         Waits::ForDpa { .. } | Waits::ForNothing => End::Closed,
+        Waits::ForClose { .. } => End::Disconnected,
         Waits::ForCer { .. }
         | Waits::ForCea { .. }
         | Waits::ForMessage { .. }
@@ -269,6 +277,20 @@ pub fn flush_all<R: Read + Device, W: Write + Device>(links: &mut Vec<Link<R, W>
     }
 }
 
+/// What the life of a connection says, as it is done at this moment: its requests have their End-to-End Identifiers.
+fn numbered_said(
+    numbering: &mut Numbering,
+    said: Result<Acts, AllocError>,
+    moment: Moment,
+) -> Result<Acts, AllocError>
+    ensures acts { MatchResult said (λ acts. result ≡ Ok (numbered numbering.old moment acts)) (λ error. result ≡ Err error) }
+{
+    match said {
+        Ok(acts) => Ok(numbering.number(acts, moment)),
+        Err(error) => Err(error),
+    }
+}
+
 /// What a new connection sends first.
 pub fn greet<R: Read + Device, W: Write + Device>(link: &mut Link<R, W>, acts: Acts, moment: Moment)
     ensures mark { mark_of link.new ≡ mark_of link.old }
@@ -297,6 +319,7 @@ impl<N: Node, R: Read + Device, W: Write + Device> Desk<N, R, W> {
     pub fn take_out(&mut self, place: usize) -> Link<R, W>
         requires within { place < length self.old.links.items }
         requires down { IsDownAt self.old.links.items place }
+        ensures out { result ≡ slice_index_or self.old.links.items place result }
         ensures tells { Tells N.on_event self.old self.new }
         ensures settled { AreSettled self.old.links.items → AreSettled self.new.links.items }
     {
@@ -388,6 +411,22 @@ impl<N: Node, R: Read + Device, W: Write + Device> Desk<N, R, W> {
         self.send_all(&reaction.out, moment);
     }
 
+    /// The node is told that its neighbour leaves, for this cause. Where it refuses that, the connection ends.
+    fn tell_leaving(&mut self, place: usize, peer: NodeNo, cause: DisconnectCause, moment: Moment)
+        requires within { place < length self.old.links.items }
+        requires up { StandsAt self.old.links.items place (Standing.Up peer) }
+        ensures tells { Tells N.on_event self.old self.new }
+        ensures says { AtPlace self.old place (λ link. Says N.on_event (StandsUnlessRefused link) (event.leaving link.id) place (left_for cause link) self.old self.new) }
+        ensures places { length self.new.links.items ≡ length self.old.links.items }
+    {
+        let conn = self.links[place].id;
+        let reaction = self.node.on_leaving(self.alloc, conn);
+        part_at(&mut self.links[place], cause, reaction.outcome, moment);
+        self.notes.leaves(conn, peer, cause);
+        record_sent(self.alloc, &mut self.recorder, &reaction.out);
+        self.send_all(&reaction.out, moment);
+    }
+
     /// The node is told of the end of a connection.
     fn tell_lost<P: Wire>(&mut self, place: usize, peer: NodeNo, why: End, moment: Moment)
         requires within { place < length self.old.links.items }
@@ -448,6 +487,18 @@ impl<N: Node, R: Read + Device, W: Write + Device> Desk<N, R, W> {
         }
     }
 
+    /// The node is told that its neighbour leaves, unless the connection has ended or no node is up on it.
+    fn let_leave(&mut self, place: usize, cause: DisconnectCause, moment: Moment)
+        requires { place < length self.old.links.items }
+        ensures tells { Tells N.on_event self.old self.new }
+        ensures places { length self.new.links.items ≡ length self.old.links.items }
+        ensures does { AtPlace self.old place (λ link. DoesAct N.on_event place (life.PeerLeaves cause) link self.old self.new) }
+    {
+        if let Some(peer) = open_peer(&self.links[place]) {
+            self.tell_leaving(place, peer, cause, moment);
+        }
+    }
+
     /// An act of the life of a connection.
     fn act<P: Wire>(&mut self, place: usize, act: Act, why: End, moment: Moment)
         requires { place < length self.old.links.items }
@@ -458,6 +509,7 @@ impl<N: Node, R: Read + Device, W: Write + Device> Desk<N, R, W> {
         match act {
             Act::Send(message) => self.send_here(place, &message, moment),
             Act::PeerUp(peer) => self.greet_peer(place, peer, moment),
+            Act::PeerLeaves(cause) => self.let_leave(place, cause, moment),
             Act::Pass(message) => self.pass::<P>(place, message, moment),
             Act::Drop => self.end_here(place, why, moment),
         }
@@ -641,9 +693,10 @@ impl<N: Node, R: Read + Device, W: Write + Device> Desk<N, R, W> {
         requires { place < length self.old.links.items }
         ensures kept { kept_by self.new ≡ kept_by self.old }
         ensures places { length self.new.links.items ≡ length self.old.links.items }
-        ensures lived { AtPlace self.old place (λ link. MatchResult result (λ acts. Lived (after_tick site.now moment link.watch) acts place link self.old self.new) (λ _. IsStill self.old self.new)) }
+        ensures lived { AtPlace self.old place (λ link. MatchResult result (λ acts. Lived (numbered_effect self.old.numbering moment (after_tick site.now moment link.watch)) acts place link self.old self.new) (λ _. IsStill self.old self.new)) }
     {
-        tick_at(self.alloc, &mut self.links[place], site, moment)
+        let said = tick_at(self.alloc, &mut self.links[place], site, moment);
+        numbered_said(&mut self.numbering, said, moment)
     }
 
     /// What the life of a connection says where it is to end.
@@ -656,9 +709,10 @@ impl<N: Node, R: Read + Device, W: Write + Device> Desk<N, R, W> {
         requires { place < length self.old.links.items }
         ensures kept { kept_by self.new ≡ kept_by self.old }
         ensures places { length self.new.links.items ≡ length self.old.links.items }
-        ensures lived { AtPlace self.old place (λ link. MatchResult result (λ acts. Lived (after_close site.now moment link.watch) acts place link self.old self.new) (λ _. IsStill self.old self.new)) }
+        ensures lived { AtPlace self.old place (λ link. MatchResult result (λ acts. Lived (numbered_effect self.old.numbering moment (after_close site.now moment link.watch)) acts place link self.old self.new) (λ _. IsStill self.old self.new)) }
     {
-        close_at(self.alloc, &mut self.links[place], site, moment)
+        let said = close_at(self.alloc, &mut self.links[place], site, moment);
+        numbered_said(&mut self.numbering, said, moment)
     }
 
     /// Time has passed for a connection.

@@ -3,6 +3,7 @@
 use dia_base::{ConnId, NodeNo};
 use farm_net::{Conn, Loss};
 use farm_node::NodeError;
+use farm_watch::DisconnectCause;
 use thiserror::Error;
 
 /// Why a connection has ended.
@@ -39,6 +40,8 @@ pub struct Ended<R, W> {
     /// The node at the other end, if it was ever up.
     pub peer: Option<NodeNo>,
     pub why: End,
+    /// Why the node at the other end has said goodbye, where the node here was told of that.
+    pub farewell: Option<DisconnectCause>,
     /// Its reader and its writer, of which nothing is read or written any more.
     pub streams: Conn<R, W>,
 }

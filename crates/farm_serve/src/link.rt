@@ -2,8 +2,8 @@
 
 ghost use Rattle.std.specs.Prelude.{◌≡◌, ◌==◌, ◌<◌, IfNone, IfOk, IfSome, IsSome, OnOk, OnErr, length, false};
 ghost use Rattle.std.specs.List.{list_any};
-ghost use Rattle.farm_serve.specs.Desks.{is_to_be_told, mark_of, standing_after};
-ghost use Rattle.farm_serve.specs.Doing.{HasEnded, IsToldOnly, awaits, open_peer};
+ghost use Rattle.farm_serve.specs.Desks.{is_to_be_told, mark_of, peer_of, standing_after};
+ghost use Rattle.farm_serve.specs.Doing.{HasEnded, IsToldOnly, awaits, left_for, open_peer};
 ghost use Rattle.farm_serve.specs.Sending.{IsSentOn};
 ghost use Rattle.farm_serve.specs.Turns.{may_come_up, standing_as};
 ghost use Rattle.farm_watch.specs.Table.{after_close, after_message, after_tick};
@@ -15,7 +15,7 @@ use dia_base::{ConnId, Moment, NodeNo};
 use dia_message::Message;
 use farm_net::{Conn, Device, Received};
 use farm_node::NodeError;
-use farm_watch::{Act, Acts, Watch, WatchSite};
+use farm_watch::{Act, Acts, DisconnectCause, Watch, WatchSite};
 use std::alloc::{AllocError, Global};
 use std::io::{Read, Write};
 
@@ -35,7 +35,9 @@ pub enum Standing {
 
 impl Standing {
     /// The node at the other end, if the node here was ever told of it.
-    pub fn peer(self) -> Option<NodeNo> {
+    pub fn peer(self) -> Option<NodeNo>
+        ensures { result ≡ peer_of self }
+    {
         match self {
             Standing::Waiting => None,
             Standing::Up { peer } | Standing::Over { peer } => Some(peer),
@@ -60,6 +62,8 @@ pub struct Link<R, W> {
     pub standing: Standing,
     /// How many requests that came on it the node has not answered.
     pub open: u64,
+    /// Why the node at its other end leaves, where that has said goodbye and the node here was told.
+    pub farewell: Option<DisconnectCause>,
     /// Why it has ended, and when.
     pub end: Option<(End, Moment)>,
 }
@@ -158,6 +162,25 @@ pub(crate) fn end_unless_told<R: Read + Device, W: Write + Device>(
     }
     if let Err(error) = outcome {
         end_at(link, End::Refused(error), moment);
+    }
+}
+
+/// The node was told that the one at the other end leaves, for this cause. Where it refuses that, the connection ends.
+pub(crate) fn part_at<R: Read + Device, W: Write + Device>(
+    link: &mut Link<R, W>,
+    cause: DisconnectCause,
+    outcome: Result<(), NodeError>,
+    moment: Moment,
+)
+    ensures mark { mark_of link.new ≡ mark_of link.old }
+    ensures only { IsToldOnly (left_for cause link.old) link.new }
+    ensures stands { OnOk outcome (link.new.end ≡ link.old.end) }
+    ensures refused { OnErr outcome (IsSome link.new.end) }
+{
+    link.farewell = Some(cause);
+    match outcome {
+        Ok(()) => {}
+        Err(error) => end_at(link, End::Refused(error), moment),
     }
 }
 

@@ -53,6 +53,7 @@ fn awaited(waits: Waits) -> Option<NodeNo>
         | Waits::ForMessage { .. }
         | Waits::ForDwa { .. }
         | Waits::ForDpa { .. }
+        | Waits::ForClose { .. }
         | Waits::ForNothing => None,
     }
 }

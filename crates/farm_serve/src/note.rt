@@ -7,7 +7,7 @@ use dia_base::codes::RESULT_CODE;
 use dia_base::{ConnId, Identity, NodeNo};
 use dia_message::{Message, Out};
 use farm_node::NodeError;
-use farm_watch::name_in;
+use farm_watch::{DisconnectCause, name_in};
 use std::alloc::Global;
 use std::collections::VecDeque;
 
@@ -22,6 +22,12 @@ pub enum Note {
         conn: ConnId,
         local: NodeNo,
         peer: NodeNo,
+    },
+    /// The node at the other end of a connection has said goodbye.
+    Leaves {
+        conn: ConnId,
+        peer: NodeNo,
+        cause: DisconnectCause,
     },
     /// A connection has ended on which a node was up.
     Lost {
@@ -119,6 +125,10 @@ impl Notes {
             let name = name_in::<P>(alloc, &answer.body);
             self.add(Note::Misnamed { conn, peer, name });
         }
+    }
+
+    pub(crate) fn leaves(&mut self, conn: ConnId, peer: NodeNo, cause: DisconnectCause) {
+        self.add(Note::Leaves { conn, peer, cause });
     }
 
     pub(crate) fn lost(&mut self, conn: ConnId, peer: NodeNo, why: End) {

@@ -1,7 +1,7 @@
 //! A node with its connections, for those who have sockets.
 
 ghost use Rattle.std.specs.Prelude.{◌≡◌, ◌<◌, ◌+◌, [], length, true, IfOk, IfSome, IsNone};
-ghost use Rattle.farm_serve.specs.Desks.{AreSettled, IsDownAt, IsMade, IsRecordedOnly, Tells, kept_by};
+ghost use Rattle.farm_serve.specs.Desks.{AreSettled, IsDownAt, IsEndOf, IsMade, IsRecordedOnly, Tells, kept_by};
 ghost use Rattle.farm_serve.specs.Turns.{IsDown, beginning};
 
 use crate::desk::{Desk, flush_all, greet, place_of};
@@ -16,7 +16,7 @@ use farm_net::{Conn, Device};
 use farm_node::Node;
 use farm_record::{Event, Recorded, Recorder};
 use farm_tally::Tally;
-use farm_watch::{Acts, Side, Watch};
+use farm_watch::{Acts, Numbering, Side, Watch};
 use std::alloc::{AllocError, Global};
 use std::io::{Read, Write};
 
@@ -74,6 +74,7 @@ impl<N: Node, R: Read + Device, W: Write + Device> Serving<N, R, W> {
                 notes: Notes::new(alloc),
                 tally: Tally::nothing(alloc),
                 recorder: Recorder::off(alloc),
+                numbering: Numbering::HopByHop,
                 answers: 0,
                 made: 0,
                 failed: false,
@@ -190,8 +191,10 @@ impl<N: Node, R: Read + Device, W: Write + Device> Serving<N, R, W> {
             conn: Conn::new(self.desk.alloc, reader, writer),
             standing: Standing::Waiting,
             open: 0,
+            farewell: None,
             end: None,
         };
+        let acts = self.desk.numbering.number(acts, moment);
         greet(&mut link, acts, moment);
         self.desk.put(link);
         Ok(id)
@@ -283,6 +286,7 @@ impl<N: Node, R: Read + Device, W: Write + Device> Serving<N, R, W> {
         ensures tells { Tells N.on_event self.old.desk self.new.desk }
         ensures settled { AreSettled self.old.desk.links.items → AreSettled self.new.desk.links.items }
         ensures none { IsNone result → self.new ≡ self.old }
+        ensures of_link { IfSome result (IsEndOf self.old.desk.links.items) }
     {
         let place = place_of_over(&self.desk.links, moment)?;
         let (why, _) = self.desk.links[place].end?;
@@ -294,8 +298,17 @@ impl<N: Node, R: Read + Device, W: Write + Device> Serving<N, R, W> {
             local: link.local,
             peer: link.standing.peer(),
             why,
+            farewell: link.farewell,
             streams: link.conn,
         })
+    }
+
+    /// From now on the requests of the lives of its connections are numbered so from end to end. At first each has its
+    /// Hop-by-Hop Identifier.
+    pub fn number(&mut self, numbering: Numbering)
+        ensures { self.new ≡ record self.old { desk = record self.old.desk { numbering = numbering } } }
+    {
+        self.desk.numbering = numbering;
     }
 
     /// From now on it is recorded what happens.
@@ -418,6 +431,7 @@ impl<N, R: Drop, W: Drop> Serving<N, R, W> {
             notes: _,
             tally: _,
             recorder,
+            numbering: _,
             answers: _,
             made: _,
             failed: _,

@@ -1,4 +1,5 @@
 pub mod Escapes
 pub mod Figures
+pub mod Health
 pub mod Replies
 pub mod Tokens

@@ -7,9 +7,11 @@ use Rattle.http.specs.Request.{head_of}
 use Rattle.http_uri.specs.Uri.{uri_path}
 use Rattle.http_header.specs.HeaderMap.{get}
 use Rattle.http_header.specs.FieldValue.{FieldValue}
+use Rattle.farm_status.specs.declared.health.Health.{Health as HealthState}
 use Rattle.farm_status.specs.declared.token.Token.{Token}
+use Rattle.farm_status.specs.Health.{status_of_health}
 use Rattle.farm_status.specs.declared.reply.Reply.{Reply}
-use Rattle.farm_status.specs.declared.reply.Reply.TheVariants.{Page, Metrics, Stops, Forbidden, NotFound, OnlyRead, OnlyPost}
+use Rattle.farm_status.specs.declared.reply.Reply.TheVariants.{Page, Metrics, Json, Health, Stops, Forbidden, NotFound, OnlyRead, OnlyPost}
 
 -- two texts are the same
 abbrev pub is_text : List ℕ → List ℕ → Bool
@@ -18,17 +20,34 @@ is_text = pointwise nat_eq
 abbrev pub is_read : List ℕ → Bool
 is_read method = is_text method (codes "GET") || is_text method (codes "HEAD")
 
--- The page and the metrics are there to be read; to be stopped the node is posted to, by somebody who shows its token.
-abbrev pub reply_for : List ℕ → List ℕ → Bool → Reply
-reply_for method path shows_token =
-    if is_text path (codes "/") then (if is_read method then Page else OnlyRead)
-    else if is_text path (codes "/metrics") then (if is_read method then Metrics else OnlyRead)
-    else if is_text path (codes "/stop") then (if is_text method (codes "POST") then (if shows_token then Stops else Forbidden) else OnlyPost)
+-- what there is to read at a path
+abbrev pub read_at : List ℕ → Option Reply
+read_at path =
+    if is_text path (codes "/") then Some Page
+    else if is_text path (codes "/metrics") then Some Metrics
+    else if is_text path (codes "/status.json") then Some Json
+    else if is_text path (codes "/health") then Some Health
+    else None
+
+-- To be stopped the node is posted to, by somebody who shows its token.
+abbrev pub reply_with : List ℕ → List ℕ → Bool → Reply
+reply_with method path shows_token =
+    if is_text path (codes "/stop") then (if is_text method (codes "POST") then (if shows_token then Stops else Forbidden) else OnlyPost)
     else NotFound
+
+abbrev pub reply_of_read : Option Reply → List ℕ → List ℕ → Bool → Reply
+reply_of_read (Some reply) method path shows_token = if is_read method then reply else OnlyRead
+reply_of_read None method path shows_token = reply_with method path shows_token
+
+-- what is read at the path, or what is done there
+abbrev pub reply_for : List ℕ → List ℕ → Bool → Reply
+reply_for method path shows_token = reply_of_read (read_at path) method path shows_token
 
 abbrev pub status_for : Reply → ℕ
 status_for Page = 200
 status_for Metrics = 200
+status_for Json = 200
+status_for Health = 200
 status_for Stops = 202
 status_for Forbidden = 403
 status_for NotFound = 404
@@ -39,10 +58,24 @@ abbrev pub is_stop : Reply → Bool
 is_stop Stops = true
 is_stop Page = false
 is_stop Metrics = false
+is_stop Json = false
+is_stop Health = false
 is_stop Forbidden = false
 is_stop NotFound = false
 is_stop OnlyRead = false
 is_stop OnlyPost = false
+
+-- the status of an answer: where it is asked whether the node can do its work, that of how it is
+abbrev pub HasStatus : Reply → ℕ → Type 0
+HasStatus Health status = (health : HealthState) × (status ≡ status_of_health health)
+HasStatus Page status = status ≡ 200
+HasStatus Metrics status = status ≡ 200
+HasStatus Json status = status ≡ 200
+HasStatus Stops status = status ≡ 202
+HasStatus Forbidden status = status ≡ 403
+HasStatus NotFound status = status ≡ 404
+HasStatus OnlyRead status = status ≡ 405
+HasStatus OnlyPost status = status ≡ 405
 
 -- the token that a value of Authorization shows: what stands behind `Bearer `
 abbrev pub token_in : List ℕ → Option (List ℕ)
@@ -70,6 +103,8 @@ reply_by token request = reply_for (head_of request).method (uri_path (head_of r
 abbrev pub type_for : Reply → List ℕ
 type_for Page = codes "text/html; charset=utf-8"
 type_for Metrics = codes "text/plain; version=0.0.4; charset=utf-8"
+type_for Json = codes "application/json"
+type_for Health = codes "text/plain; charset=utf-8"
 type_for Stops = codes "text/plain; charset=utf-8"
 type_for Forbidden = codes "text/plain; charset=utf-8"
 type_for NotFound = codes "text/plain; charset=utf-8"
@@ -80,6 +115,8 @@ type_for OnlyPost = codes "text/plain; charset=utf-8"
 abbrev pub methods_for : Reply → Option (List ℕ)
 methods_for Page = None
 methods_for Metrics = None
+methods_for Json = None
+methods_for Health = None
 methods_for Stops = None
 methods_for Forbidden = None
 methods_for NotFound = None
@@ -97,6 +134,6 @@ lines_for reply =
 
 -- The answer has the status and the lines of its reply, and the node is to end from then on where that reply says so.
 pub record IsAnswered (token : Option Token) (stopped : Bool) (request : Request (List ℕ)) (status : ℕ) (lines : List (List ℕ × List ℕ)) (stops : Bool) : Type 0 where
-  pub status_is : status ≡ status_for (reply_by token request)
+  pub status_is : HasStatus (reply_by token request) status
   pub lines_are : lines ≡ lines_for (reply_by token request)
   pub stops_is : stops ≡ (stopped || is_stop (reply_by token request))

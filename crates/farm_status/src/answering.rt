@@ -1,10 +1,12 @@
 //! What a request over HTTP is answered.
 
-ghost use Rattle.std.specs.Prelude.{◌≡◌, option_copied, option_map};
+ghost use Rattle.std.specs.Prelude.{◌≡◌, IfOk, option_copied, option_map};
 ghost use Rattle.http_header.specs.FieldValue.{plain_value};
 ghost use Rattle.http_server.specs.Response.{fields_of};
-ghost use Rattle.farm_status.specs.Replies.{IsAnswered, is_of, methods_for, reply_by, token_of, type_for};
+ghost use Rattle.farm_status.specs.Replies.{HasStatus, IsAnswered, is_of, methods_for, reply_by, token_of, type_for};
 
+use crate::health::health_of;
+use crate::json::push_json;
 use crate::metrics::push_metrics;
 use crate::page::push_page;
 use crate::reply::{Reply, reply_to};
@@ -12,7 +14,7 @@ use crate::status::Status;
 use crate::token::Token;
 use bytes::Bytes;
 use http::header::{ALLOW, AUTHORIZATION, CACHE_CONTROL, CONNECTION, CONTENT_TYPE};
-use http::{HeaderValue, Request};
+use http::{HeaderValue, Request, StatusCode};
 use http_server::{Response, Service};
 use std::alloc::{AllocError, Global};
 
@@ -68,8 +70,13 @@ fn type_of(reply: Reply) -> HeaderValue
     match reply {
         Reply::Page => HeaderValue::from_static("text/html; charset=utf-8"),
         Reply::Metrics => HeaderValue::from_static("text/plain; version=0.0.4; charset=utf-8"),
-        Reply::Stops | Reply::Forbidden | Reply::NotFound | Reply::OnlyRead | Reply::OnlyPost =>
-            HeaderValue::from_static("text/plain; charset=utf-8"),
+        Reply::Json => HeaderValue::from_static("application/json"),
+        Reply::Health
+        | Reply::Stops
+        | Reply::Forbidden
+        | Reply::NotFound
+        | Reply::OnlyRead
+        | Reply::OnlyPost => HeaderValue::from_static("text/plain; charset=utf-8"),
     }
 }
 
@@ -80,25 +87,49 @@ fn allowed_by(reply: Reply) -> Option<HeaderValue>
     match reply {
         Reply::OnlyRead => Some(HeaderValue::from_static("GET, HEAD")),
         Reply::OnlyPost => Some(HeaderValue::from_static("POST")),
-        Reply::Page | Reply::Metrics | Reply::Stops | Reply::Forbidden | Reply::NotFound => None,
+        Reply::Page
+        | Reply::Metrics
+        | Reply::Json
+        | Reply::Health
+        | Reply::Stops
+        | Reply::Forbidden
+        | Reply::NotFound => None,
     }
 }
 
-/// The text of a reply.
+/// The text of a reply, where it does not say how the node is.
 fn text_of<S: Source>(alloc: Global, source: &S, reply: Reply) -> Result<String, AllocError> {
     let mut text = String::new(alloc);
     match reply {
         Reply::Page => push_page(&mut text, &source.status()?)?,
         Reply::Metrics => push_metrics(&mut text, &source.status()?)?,
+        Reply::Json => push_json(&mut text, &source.status()?)?,
+        Reply::Health => {}
         Reply::Stops => text.push_str("the node ends\n")?,
         Reply::Forbidden => text.push_str("the token of the node is missing\n")?,
         Reply::NotFound => text.push_str(
-            "there is / and /metrics to read, and /stop to post to\n",
+            "there is /, /metrics, /status.json and /health to read, and /stop to post to\n",
         )?,
         Reply::OnlyRead => text.push_str("this is there to be read\n")?,
         Reply::OnlyPost => text.push_str("this is there to be posted to\n")?,
     }
     Ok(text)
+}
+
+/// The status and the text of a reply.
+fn told<S: Source>(
+    alloc: Global,
+    source: &S,
+    reply: Reply,
+) -> Result<(StatusCode, String), AllocError>
+    ensures { IfOk result (λ told. HasStatus reply told.0) }
+{
+    if reply == Reply::Health {
+        let status = source.status()?;
+        let health = health_of(&status.peers, &status.work);
+        return Ok((health.status(), format!(in alloc; "{health}\n")?));
+    }
+    Ok((reply.status(), text_of(alloc, source, reply)?))
 }
 
 impl<S: Source> Service for Answering<'_, S> {
@@ -110,7 +141,7 @@ impl<S: Source> Service for Answering<'_, S> {
         response: &mut Response,
     ) -> Result<(), AllocError> {
         let reply = reply_of(self.token, request);
-        let text = text_of(self.alloc, self.source, reply)?;
+        let (status, text) = told(self.alloc, self.source, reply)?;
         response.add_header(CONTENT_TYPE, type_of(reply))?;
         response.add_header(CACHE_CONTROL, HeaderValue::from_static("no-store"))?;
         response.add_header(CONNECTION, HeaderValue::from_static("close"))?;
@@ -118,7 +149,7 @@ impl<S: Source> Service for Answering<'_, S> {
             response.add_header(ALLOW, methods)?;
         }
         response.body.push(Bytes::from_string(text)?)?;
-        response.status = reply.status();
+        response.status = status;
         self.stops = self.stops || reply.stops();
         Ok(())
     }

@@ -1,7 +1,7 @@
 //! What a request is answered, by its method, its path and the token that it shows.
 
 ghost use Rattle.std.specs.Prelude.{◌≡◌};
-ghost use Rattle.farm_status.specs.Replies.{is_read, is_stop, reply_for, status_for};
+ghost use Rattle.farm_status.specs.Replies.{is_read, is_stop, read_at, reply_for, reply_with, status_for};
 
 use http::StatusCode;
 
@@ -10,6 +10,9 @@ use http::StatusCode;
 pub enum Reply {
     Page,
     Metrics,
+    Json,
+    /// Whether the node can do its work.
+    Health,
     /// The node is to end.
     Stops,
     /// Whoever asked for that has not shown the node's token; or the node has none.
@@ -29,38 +32,61 @@ fn is_read(method: &str) -> bool
     method == "GET" || method == "HEAD"
 }
 
+/// What there is to read at a path.
+fn read_at(path: &str) -> Option<Reply>
+    ensures { result ≡ read_at path.now }
+{
+    if path == "/" {
+        Some(Reply::Page)
+    } else if path == "/metrics" {
+        Some(Reply::Metrics)
+    } else if path == "/status.json" {
+        Some(Reply::Json)
+    } else if path == "/health" {
+        Some(Reply::Health)
+    } else {
+        None
+    }
+}
+
+/// What a request is answered at a path that is not read.
+fn reply_with(method: &str, path: &str, shows_token: bool) -> Reply
+    ensures { result ≡ reply_with method.now path.now shows_token }
+{
+    if path != "/stop" {
+        Reply::NotFound
+    } else if method != "POST" {
+        Reply::OnlyPost
+    } else if shows_token {
+        Reply::Stops
+    } else {
+        Reply::Forbidden
+    }
+}
+
 /// What a request is answered, by its method, its path, and whether it shows the node's token.
 pub fn reply_to(method: &str, path: &str, shows_token: bool) -> Reply
     ensures { result ≡ reply_for method.now path.now shows_token }
 {
-    if path == "/" || path == "/metrics" {
-        if !is_read(method) {
-            Reply::OnlyRead
-        } else if path == "/" {
-            Reply::Page
-        } else {
-            Reply::Metrics
+    match read_at(path) {
+        Some(reply) => {
+            if is_read(method) {
+                reply
+            } else {
+                Reply::OnlyRead
+            }
         }
-    } else if path == "/stop" {
-        if method != "POST" {
-            Reply::OnlyPost
-        } else if shows_token {
-            Reply::Stops
-        } else {
-            Reply::Forbidden
-        }
-    } else {
-        Reply::NotFound
+        None => reply_with(method, path, shows_token),
     }
 }
 
 impl Reply {
-    /// Its status (RFC 9110, section 15).
+    /// Its status (RFC 9110, section 15), where the node can do its work.
     pub fn status(self) -> StatusCode
         ensures { result ≡ status_for self }
     {
         match self {
-            Reply::Page | Reply::Metrics => StatusCode::OK,
+            Reply::Page | Reply::Metrics | Reply::Json | Reply::Health => StatusCode::OK,
             Reply::Stops => StatusCode::ACCEPTED,
             Reply::Forbidden => StatusCode::FORBIDDEN,
             Reply::NotFound => StatusCode::NOT_FOUND,

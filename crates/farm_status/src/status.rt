@@ -20,6 +20,8 @@ pub struct Peer {
     pub local: String,
     pub name: String,
     pub state: PeerState,
+    /// Whether a route of the node names it: requests are sent there.
+    pub takes_requests: bool,
     /// The number of the connection that is up.
     pub conn: Option<u64>,
 }

@@ -163,16 +163,38 @@ impl End {
         Ok(front.turn(rt, &log, &self.site, &self.access)?)
     }
 
-    /// A turn of the relay, whose warnings are printed.
-    fn relay_turn(&self, rt: &HostRuntime, relay: &mut Live<Relay>) -> anyhow::Result<()> {
-        let log = Logged::new(*rt, LevelFilter::Warn, Writer::new(io::writer(rt)));
-        Ok(relay.turn(rt, &log, &self.site, &self.access)?)
+    /// A turn of the relay, whose warnings are printed without the address at which this run listens.
+    fn relay_turn(
+        &self,
+        rt: &HostRuntime,
+        host: &str,
+        relay: &mut Live<Relay>,
+    ) -> anyhow::Result<()> {
+        let warnings = Writer::new(Vec::new(rt.alloc()));
+        relay.turn(
+            rt,
+            &Logged::new(*rt, LevelFilter::Warn, &warnings),
+            &self.site,
+            &self.access,
+        )?;
+        print_without(rt, host, &warnings.into_inner())
     }
+}
+
+/// Prints a text that has an address once at most, with HOST in its place.
+fn print_without(rt: &HostRuntime, host: &str, text: &[u8]) -> anyhow::Result<()> {
+    let text = str::from_utf8(text)?;
+    match text.split_once(host) {
+        Some((before, behind)) => print!(rt; "{before}HOST{behind}")?,
+        None => print!(rt; "{text}")?,
+    }
+    Ok(())
 }
 
 /// The two ends of a meeting.
 #[derive(Clone, Copy)]
 struct Ends<'a> {
+    host: &'a str,
     front: &'a End,
     relay: &'a End,
 }
@@ -203,7 +225,7 @@ fn listen(
 ) -> anyhow::Result<()> {
     match meeting {
         Meeting::Elsewhere => ends.front.front_turn(rt, front),
-        Meeting::Backwards => ends.relay.relay_turn(rt, relay),
+        Meeting::Backwards => ends.relay.relay_turn(rt, ends.host, relay),
     }
 }
 
@@ -216,7 +238,7 @@ fn meet(
 ) -> anyhow::Result<()> {
     for _ in 0..TURNS {
         ends.front.front_turn(rt, front)?;
-        ends.relay.relay_turn(rt, relay)?;
+        ends.relay.relay_turn(rt, ends.host, relay)?;
         if is_up(relay) || relay.has_lost() || front.has_lost() {
             break;
         }
@@ -271,6 +293,7 @@ fn print_case(rt: &HostRuntime, host: &str, case: Case<'_>) -> anyhow::Result<()
     let front = front_end(rt.alloc(), host, case)?;
     let relay = relay_end(rt.alloc(), host, case)?;
     let ends = Ends {
+        host,
         front: &front,
         relay: &relay,
     };

@@ -22,9 +22,9 @@ node = [
 /// A file whose nodes come from one half of a network, or from nowhere.
 const CLOSED: &str = r#"node = [{ from = ["192.0.2.128/25"] }, { from = [] }]"#;
 
-/// A file that holds to names, and compares End-to-End Identifiers, which is of no account here. The site has the first and the third node connect ([`CALLERS`]).
+/// A file that holds to names, and has the other words, which are of no account here. The site has the first and the third node connect ([`CALLERS`]).
 const STRICT: &str = r#"
-strict = ["end-to-end", "names"]
+strict = ["end-to-end", "names", "goodbyes"]
 node = [
   { name = "caller.example" },
   { name = "called.example" },
@@ -69,7 +69,7 @@ const REFUSED: [&str; 22] = [
     "strict = [\"name\"]",
     "strict = [\"Names\"]",
     "strict = [\"end\"]",
-    "strict = [\"names\", \"goodbyes\"]",
+    "strict = [\"names\", \"farewells\"]",
     "strict = [\"names\", \"names\"]",
     "strict = [\"end-to-end\", \"names\", \"end-to-end\"]",
     "node = [7]",

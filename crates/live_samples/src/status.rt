@@ -2,11 +2,13 @@
 //!
 //! - `fronts`: what is known of them.
 //! - `asking`: a request over HTTP, in memory.
+//! - `health`: whether a relay or fronts can do their work.
 
 mod asking;
 mod fronts;
+mod health;
 
-use farm_status::{Status, push_metrics, push_page};
+use farm_status::{Status, push_json, push_metrics, push_page};
 use farm_tally::{Tally, code_of_answer};
 use fronts::{status_of, tally_of};
 use std::alloc::Global;
@@ -48,15 +50,24 @@ fn print_page(rt: &impl Print, alloc: Global, status: &Status<'_>) -> anyhow::Re
     Ok(())
 }
 
-fn print_both(rt: &impl Print, alloc: Global, tally: &Tally) -> anyhow::Result<()> {
+fn print_json(rt: &impl Print, alloc: Global, status: &Status<'_>) -> anyhow::Result<()> {
+    let mut text = String::new(alloc);
+    push_json(&mut text, status)?;
+    print!(rt; "{text}")?;
+    Ok(())
+}
+
+fn print_each(rt: &impl Print, alloc: Global, tally: &Tally) -> anyhow::Result<()> {
     let status = status_of(alloc, tally)?;
     print_metrics(rt, alloc, &status)?;
-    print_page(rt, alloc, &status)
+    print_page(rt, alloc, &status)?;
+    print_json(rt, alloc, &status)
 }
 
 /// Prints what two fronts say of themselves, and what requests over HTTP are answered.
 pub fn print_all(rt: &(impl Print + RandomSource), alloc: Global) -> anyhow::Result<()> {
     print_codes(rt)?;
-    print_both(rt, alloc, &tally_of(alloc))?;
+    print_each(rt, alloc, &tally_of(alloc))?;
+    health::print_all(rt, alloc)?;
     asking::print_all(rt, alloc)
 }

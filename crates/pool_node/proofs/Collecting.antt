@@ -1,36 +1,37 @@
 -- What is collected goes on from what was collected before.
-use Rattle.std.proofs.Common.{◌≡◌, ◌<◌, ℕ, Bool, true, [], ◌++◌, Result, Ok, Err, length, get_or, refl, sym, subst}
-use Rattle.std.specs.Prelude.{slice_set, IfOk, MatchBool, MatchResult}
+use Rattle.std.proofs.Common.{◌≡◌, ◌<◌, ℕ, [], ◌++◌, Result, Ok, Err, length, get_or, refl, sym, subst, ◌∙◌}
+use Rattle.std.specs.Prelude.{slice_set}
 use Rattle.dia_base.specs.declared.number.NodeNo.{NodeNo}
 use Rattle.dia_message.specs.Traffic.{Traffic}
-use Rattle.cc_book.specs.declared.book.BookRefusal.{BookRefusal}
-use Rattle.cc_shared.specs.declared.looks.Swept.{Swept}
 use Rattle.cc_shared.specs.History.{SharedLedger}
-use Rattle.cc_shared.specs.Sharing.{IsSweep}
-use Rattle.dia_base.specs.declared.number.Moment.{Moment}
 use Rattle.farm_node.specs.declared.error.NodeError.{NodeError}
 use Rattle.farm_node.specs.declared.error.NodeError.TheVariants as fault
 use Rattle.front_pool.specs.declared.job.Finished.{Finished}
 use Rattle.front_pool.specs.declared.site.PoolSite.{PoolSite}
 use Rattle.pool_node.specs.declared.figures.BookFigures.{BookFigures}
+use Rattle.pool_node.specs.Booked.{BookState, HasTakenIn}
 use Rattle.pool_node.specs.Figures.{HasCollected}
-use Rattle.pool_node.specs.Fronts.{Collecting, CollectsMore, CollectsOne, FindsNone, FrontState, FrontsState, IsSweptTo, begins, finds_none, goes_on, outcome_for, sent_for, wants_memory}
+use Rattle.pool_node.specs.Fronts.{Collecting, CollectsMore, CollectsOne, FindsNone, FrontState, FrontsState, begins, finds_none, goes_on, outcome_for, sent_for, wants_memory}
+
+-- the fronts with one of them changed, and with this book
+abbrev with_book : FrontsState → ℕ → FrontState → BookState → FrontsState
+with_book old place next book =
+    record { fronts = slice_set old.fronts place next; under_way = old.under_way; next_sweep = book.next_sweep; figures = book.figures }
 
 pub collects_more :
     (sites : NodeNo → PoolSite) (shared : SharedLedger) (old : FrontsState) (place : ℕ) (front next : FrontState) (finished : Finished)
-    (figures : BookFigures) (sent more all : Traffic) (outcome : Result (Unit {0}) NodeError)
+    (before book : BookState) (sent more all : Traffic) (outcome : Result (Unit {0}) NodeError)
     → place < length old.fronts → front ≡ get_or old.fronts place front → CollectsOne sites shared finished front next
-    → HasCollected finished.receipt old.figures figures
+    → old.next_sweep ≡ before.next_sweep → old.figures ≡ before.figures → HasTakenIn finished before book
     → more ≡ sent → all ≡ more ++ sent_for next finished → outcome ≡ outcome_for next finished
-    → CollectsMore sites shared old sent all outcome
-    (record { fronts = slice_set old.fronts place next; next_sweep = old.next_sweep; figures = figures })
-collects_more sites shared old place front next finished figures sent more all outcome below was step counted same is tells before collected =
-    goes_on sent old place finished all outcome
-    (record { fronts = slice_set old.fronts place next; next_sweep = old.next_sweep; figures = figures }) collected
+    → CollectsMore sites shared old sent all outcome (with_book old place next book)
+collects_more sites shared old place front next finished before book sent more all outcome below was step due had taken same is tells earlier collected =
+    goes_on sent old place finished all outcome (with_book old place next book) collected
     (record {
       one = record { below = below; front = front; was = was; next = next; step = step; is = refl };
-      counted = counted;
-      sweep_is = refl;
+      counted = subst (λ (figures : BookFigures). HasCollected finished.receipt figures book.figures) (sym had) taken.counted;
+      under_way_is = refl;
+      sweep_is = taken.sweep_is ∙ sym due;
     })
     (subst (λ (t : Traffic). all ≡ t ++ sent_for next finished) same is) tells
 
@@ -61,13 +62,3 @@ collects sites shared old new none sent all told outcome empty more is same =
     let here : Collecting sites shared old all told new =
     subst (λ (t : Traffic). Collecting sites shared old t told new) (sym is) (more old (begins none old empty refl)) in
     subst (λ (o : Result (Unit {0}) NodeError). Collecting sites shared old all o new) (sym same) here
-
-pub if_due : {A : Type 0} (B : Type 0) (due : Bool) → due ≡ true → A → MatchBool due A B
-if_due {A} B due is a = subst (λ (d : Bool). MatchBool d A B) (sym is) a
-
--- a sweep of the book that was answered is one through the lock
-pub is_swept :
-    (shared : SharedLedger) (moment : Moment) (swept : Result Swept BookRefusal) (result : Result ℕ BookRefusal) → IfOk swept (IsSweep shared moment)
-    → MatchResult swept (λ s. result ≡ Ok s.ended) (λ refusal. result ≡ Err refusal) → IsSweptTo shared moment result
-is_swept shared moment (Ok swept) result is same = subst (IsSweptTo shared moment) (sym same) (swept, is, refl)
-is_swept shared moment (Err refusal) result is same = subst (IsSweptTo shared moment) (sym same) tt

@@ -1,10 +1,12 @@
 -- What a job that is collected adds to what the book has come to.
-use Rattle.std.specs.Prelude.{◌≡◌, ◌==◌, ◌+◌, ℕ, min, max, Bool, true, false, MatchBool, if◌then◌else◌, Option, Some, None, Result, Ok, Err}
+use Rattle.std.specs.Prelude.{◌≡◌, ◌==◌, ◌+◌, ℕ, min, max, length, Bool, true, false, MatchBool, if◌then◌else◌, Option, Some, None, Result, Ok, Err}
 use Rattle.cc_view.specs.declared.code.ResultCode.{ResultCode}
 use Rattle.cc_view.specs.declared.code.ResultCode.TheVariants.{Success, UnknownSessionId}
 use Rattle.cc_view.specs.declared.request.RequestKind.{RequestKind}
 use Rattle.cc_view.specs.declared.request.RequestKind.TheVariants.{Initial, Termination}
 use Rattle.cc_book.specs.declared.book.BookRefusal.{BookRefusal}
+use Rattle.cc_book.specs.Balance.{open_sessions_of}
+use Rattle.cc_book.specs.Taking.{Ledger}
 use Rattle.cc_shared.specs.declared.receipt.Receipt.{Receipt}
 use Rattle.pool_node.specs.declared.figures.BookFigures.{BookFigures}
 
@@ -51,9 +53,9 @@ HasCollected (Some receipt) old new = HasTaken receipt old new
 abbrev pub with_sweep : ℕ → BookFigures → BookFigures
 with_sweep sessions old = record old { entries = next_of old.entries; ended = sum_of old.ended sessions }
 
--- a book without entries
-abbrev pub no_figures : BookFigures
-no_figures = record { entries = 0; charges = 0; opened = 0; ended = 0 }
+-- a book as it is opened, of which no request was served
+abbrev pub figures_of : Ledger → BookFigures
+figures_of book = record { entries = length book.history; charges = 0; opened = open_sessions_of book.terms book.history; ended = 0 }
 
 -- A sweep came to this: one that ends no session is no entry, nor is one that was refused.
 abbrev pub figures_after : Result ℕ BookRefusal → BookFigures → BookFigures

@@ -8,17 +8,17 @@ use Rattle.dia_message.specs.declared.message.Out.{Out}
 use Rattle.dia_message.specs.Traffic.{Traffic}
 use Rattle.cc_book.specs.declared.book.BookRefusal.{BookRefusal}
 use Rattle.cc_book.specs.declared.book.BookRefusal.TheVariants as refused
-use Rattle.cc_shared.specs.declared.looks.Swept.{Swept}
 use Rattle.cc_shared.specs.History.{SharedLedger}
-use Rattle.cc_shared.specs.Sharing.{IsSweep}
+use Rattle.cc_sweeper.specs.declared.errand.SweepDone.{SweepDone}
+use Rattle.cc_sweeper.specs.Sweeps.{IsDoneFor}
 use Rattle.farm_base.specs.declared.site.Node.{Node}
 use Rattle.farm_base.specs.declared.site.Site.{Site}
 use Rattle.front_core.specs.FrontState.{is_among}
 use Rattle.farm_node.specs.Events.{NodeEvent}
-use Rattle.farm_node.specs.Events.{up, message, lost, tick, wake}
+use Rattle.farm_node.specs.Events.{up, message, leaving, lost, tick, wake}
 use Rattle.farm_node.specs.declared.error.NodeError.{NodeError}
 use Rattle.farm_node.specs.declared.error.NodeError.TheVariants as fault
-use Rattle.farm_node.specs.Nodes.{Does, Refuses}
+use Rattle.farm_node.specs.Nodes.{Becomes, Does, Refuses}
 use Rattle.front_pool.specs.declared.job.Finished.{Finished}
 use Rattle.farm_base.specs.FrontProfile.{front_profile}
 use Rattle.front_pool.specs.declared.site.PoolSite.{PoolSite}
@@ -26,10 +26,11 @@ use Rattle.front_pool.specs.Answering.{IsAnsweredBy, too_busy}
 use Rattle.front_pool.specs.Keeping.{Collected, FoundNone, PoolState, new_pool, next_job, with_job}
 use Rattle.pool_node.specs.declared.figures.BookFigures.{BookFigures}
 use Rattle.pool_node.specs.declared.sweeping.NextSweep.{NextSweep}
+use Rattle.pool_node.specs.declared.timing.Timing.{Timing}
 use Rattle.pool_node.specs.declared.sweeping.NextSweep.TheVariants.{From}
-use Rattle.pool_node.specs.Figures.{HasCollected, figures_after, no_figures}
+use Rattle.pool_node.specs.Figures.{HasCollected, figures_after}
 use Rattle.pool_node.specs.Measure.{IsFew}
-use Rattle.pool_node.specs.Sweeping.{is_due, next_sweep}
+use Rattle.pool_node.specs.Sweeping.{asked_at, next_sweep}
 
 abbrev pub name_of : Option Node → List ℕ
 name_of None = []
@@ -48,15 +49,17 @@ pub record FrontState : Type 0 where
 abbrev pub new_front : NodeNo → ℕ → ℕ → FrontState
 new_front node workers room = record { connections = []; pool = new_pool node workers room }
 
--- All fronts of a process, on one book: when it is swept next, and what its figures are as far as answers were collected.
+-- All fronts of a process, on one book: at which moment a sweep is under way, if one is, when the next one is due, and what the book's
+-- figures are as far as answers and sweeps were collected.
 pub record FrontsState : Type 0 where
   pub fronts : List FrontState
+  pub under_way : Option Moment
   pub next_sweep : NextSweep
   pub figures : BookFigures
 
--- fronts of which nothing was collected, on a book that is swept from this moment on
-abbrev pub with_fronts : Moment → List FrontState → FrontsState
-with_fronts first fronts = record { fronts = fronts; next_sweep = From first; figures = no_figures }
+-- fronts of which nothing was collected since the book was opened
+abbrev pub with_fronts : Timing → List FrontState → FrontsState
+with_fronts timing fronts = record { fronts = fronts; under_way = None; next_sweep = From timing.first_sweep; figures = timing.figures }
 
 -- these fronts, each with so many workers, before anything has happened to them
 abbrev pub new_fronts : List NodeNo → ℕ → ℕ → List FrontState
@@ -125,6 +128,7 @@ pub record FindsNone (old new : FrontState) : Type 0 where
 pub record CollectsAt (sites : NodeNo → PoolSite) (shared : SharedLedger) (place : ℕ) (finished : Finished) (old new : FrontsState) : Type 0 where
   pub one : AtOne old.fronts place (CollectsOne sites shared finished) new.fronts
   pub counted : HasCollected finished.receipt old.figures new.figures
+  pub under_way_is : new.under_way ≡ old.under_way
   pub sweep_is : new.next_sweep ≡ old.next_sweep
 
 -- Finished jobs are collected, one after the other, at any of these fronts, and what goes out for each goes behind what went out
@@ -173,39 +177,56 @@ pub record Handles (sites : NodeNo → PoolSite) (conn : ConnId) (m : Message) (
   pub does : OnMessage sites old conn m answer new
   pub tells : IsToldAs answer sent outcome
 
--- How a node tells of what was collected and of a sweep: the first fault, if there is one.
-abbrev pub told_of_tick : Result (Unit {0}) NodeError → Result ℕ BookRefusal → Result (Unit {0}) NodeError
-told_of_tick (Err error) swept = Err error
-told_of_tick (Ok done) (Ok ended) = Ok tt
-told_of_tick (Ok done) (Err (refused.Full limit)) = Err (fault.BookFull limit)
-told_of_tick (Ok done) (Err refused.OutOfMemory) = Err fault.OutOfMemory
+-- how a node tells of a sweep that was collected
+abbrev pub told_of_swept : Result ℕ BookRefusal → Result (Unit {0}) NodeError
+told_of_swept (Ok ended) = Ok tt
+told_of_swept (Err (refused.Full limit)) = Err (fault.BookFull limit)
+told_of_swept (Err refused.OutOfMemory) = Err fault.OutOfMemory
 
--- The book was swept at this moment, and has ended so many sessions, or has refused.
-abbrev pub IsSweptTo : SharedLedger → Moment → Result ℕ BookRefusal → Type 0
-IsSweptTo shared moment (Ok ended) = (swept : Swept) × IsSweep shared moment swept × (ended ≡ swept.ended)
-IsSweptTo shared moment (Err refusal) = Unit {0}
+-- the same, where one was
+abbrev pub told_of_sweep : Option SweepDone → Result (Unit {0}) NodeError
+told_of_sweep None = Ok tt
+told_of_sweep (Some done) = told_of_swept done.swept
 
--- A sweep at this moment came to this: it says when the next one is due. The figures have it.
-pub record HasSwept (moment : Moment) (swept : Result ℕ BookRefusal) (old new : FrontsState) : Type 0 where
+-- How a node tells of the jobs that were collected and of a sweep: the first fault, if there is one.
+abbrev pub told_of_all : Result (Unit {0}) NodeError → Option SweepDone → Result (Unit {0}) NodeError
+told_of_all (Err error) swept = Err error
+told_of_all (Ok collected) swept = told_of_sweep swept
+
+-- A sweep was collected: none is under way any more, and it says when the next one is due. The figures have it.
+pub record HasSwept (done : SweepDone) (old new : FrontsState) : Type 0 where
   pub fronts_are : new.fronts ≡ old.fronts
-  pub next_is : new.next_sweep ≡ next_sweep moment swept
-  pub figures_are : new.figures ≡ figures_after swept old.figures
+  pub under_way_is : new.under_way ≡ None
+  pub next_is : new.next_sweep ≡ next_sweep done.moment done.swept
+  pub figures_are : new.figures ≡ figures_after done.swept old.figures
 
--- The book is swept where that is due, and only there.
-abbrev pub SweepsIfDue : SharedLedger → Moment → FrontsState → Result ℕ BookRefusal → FrontsState → Type 0
-SweepsIfDue shared moment old swept new =
-    MatchBool (is_due old.next_sweep moment) (IsSweptTo shared moment swept × HasSwept moment swept old new) ((swept ≡ Ok 0) × (new ≡ old))
+-- The sweep that is under way is collected, where it is done: what it came to is what the book answered at the moment that was asked
+-- for. Else nothing has changed.
+abbrev pub CollectsSweep : SharedLedger → FrontsState → Option SweepDone → FrontsState → Type 0
+CollectsSweep shared old None new = new ≡ old
+CollectsSweep shared old (Some done) new = IsDoneFor shared old.under_way done × HasSwept done old new
 
--- Time has passed: what is finished is collected, a few octets of each front, and the book swept, whatever came of the collecting.
-pub record Ticks (sites : NodeNo → PoolSite) (shared : SharedLedger) (moment : Moment) (old : FrontsState) (sent : Traffic)
+-- A sweep at this moment is asked for, where one is due and none is under way.
+abbrev pub after_asking : FrontsState → Moment → FrontsState
+after_asking old moment = record old { under_way = asked_at old.next_sweep moment old.under_way }
+
+-- What is finished is collected, a few octets of each front, and the sweep that is done, whatever came of the collecting.
+pub record TakesIn (sites : NodeNo → PoolSite) (shared : SharedLedger) (old : FrontsState) (sent : Traffic)
     (outcome : Result (Unit {0}) NodeError) (new : FrontsState) : Type 0 where
   pub collected : Result (Unit {0}) NodeError
   pub behind : FrontsState
   pub collecting : Collecting sites shared old sent collected behind
-  pub swept : Result ℕ BookRefusal
-  pub sweeps : SweepsIfDue shared moment behind swept new
-  pub told : outcome ≡ told_of_tick collected swept
+  pub done : Option SweepDone
+  pub swept : CollectsSweep shared behind done new
+  pub told : outcome ≡ told_of_all collected done
   pub few : IsFew (length old.fronts) sent
+
+-- Time has passed: what is done is collected, and a sweep is asked for where one is due.
+pub record Ticks (sites : NodeNo → PoolSite) (shared : SharedLedger) (moment : Moment) (old : FrontsState) (sent : Traffic)
+    (outcome : Result (Unit {0}) NodeError) (new : FrontsState) : Type 0 where
+  pub before : FrontsState
+  pub takes : TakesIn sites shared old sent outcome before
+  pub asks : new ≡ after_asking before moment
 
 -- What happens to a node that is these fronts. Each front has its own pool of workers, and all share one book, which went on from
 -- the one that was shared.
@@ -216,9 +237,11 @@ OnFrontsEvent sites shared old (up local peer conn) sent outcome new =
 OnFrontsEvent sites shared old (message conn m) sent outcome new =
     MatchOption (position (is_up conn) old.fronts) (Refuses old (fault.UnknownConn conn) sent outcome new)
     (λ place. AtFront old place (Handles sites conn m sent outcome) new)
+-- They send no request, and answer what came.
+OnFrontsEvent sites shared old (leaving conn) sent outcome new = Becomes old sent outcome new
 -- What came on it stays, and may still be charged.
 OnFrontsEvent sites shared old (lost conn) sent outcome new =
     (sent ≡ []) × (outcome ≡ Ok tt)
     × MatchOption (position (is_up conn) old.fronts) (new ≡ old) (λ place. AtFront old place (λ front after. after ≡ without_connection front conn) new)
 OnFrontsEvent sites shared old (tick moment) sent outcome new = Ticks sites shared moment old sent outcome new
-OnFrontsEvent sites shared old wake sent outcome new = Collecting sites shared old sent outcome new × IsFew (length old.fronts) sent
+OnFrontsEvent sites shared old wake sent outcome new = TakesIn sites shared old sent outcome new

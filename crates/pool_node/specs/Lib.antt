@@ -1,3 +1,4 @@
+pub mod Booked
 pub mod Events
 pub mod Figures
 pub mod Fronts

@@ -1,5 +1,6 @@
--- When the book of a process is swept next: a second after the last time, and never again once it is full.
-use Rattle.std.specs.Prelude.{ℕ, ◌+◌, Bool, false, nat_le, min, Result, Ok, Err}
+-- When the book of a process is swept next, a second after the last time and never again once it is full; and what a node does with
+-- the sweep that is under way.
+use Rattle.std.specs.Prelude.{◌≡◌, ℕ, ◌+◌, ◌&&◌, Bool, false, not, nat_le, min, Option, Some, None, is_some, Result, Ok, Err, if◌then◌else◌}
 use Rattle.dia_base.specs.declared.number.Moment.{Moment}
 use Rattle.cc_book.specs.declared.book.BookRefusal.{BookRefusal}
 use Rattle.cc_book.specs.declared.book.BookRefusal.TheVariants as refused
@@ -18,3 +19,7 @@ abbrev pub next_sweep : Moment → Result ℕ BookRefusal → NextSweep
 next_sweep moment (Ok ended) = From (later moment)
 next_sweep moment (Err (refused.Full limit)) = Never
 next_sweep moment (Err refused.OutOfMemory) = From (later moment)
+
+-- which sweep is under way behind a tick at this moment: one at this moment where one is due and none was, else the one that was
+abbrev pub asked_at : NextSweep → Moment → Option Moment → Option Moment
+asked_at next moment asked = if is_due next moment && not (is_some asked) then Some moment else asked

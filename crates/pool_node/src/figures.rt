@@ -1,9 +1,9 @@
 //! What a book has come to, as far as the answers of its fronts were collected.
 
 ghost use Rattle.std.specs.Prelude.{◌≡◌, ◌-◌};
-ghost use Rattle.pool_node.specs.Figures.{HasCollected, HasTaken, count_if, ends, figures_after, no_figures, opens};
+ghost use Rattle.pool_node.specs.Figures.{HasCollected, HasTaken, count_if, ends, figures_after, figures_of, opens};
 
-use cc_book::BookRefusal;
+use cc_book::{Book, BookRefusal};
 use cc_shared::Receipt;
 use cc_view::{RequestKind, ResultCode};
 use front_pool::Finished;
@@ -13,9 +13,9 @@ use front_pool::Finished;
 pub struct BookFigures {
     /// Entries of the history.
     pub entries: u64,
-    /// Requests that were taken, each once.
+    /// Requests that were taken since the book was opened, each once.
     pub charges: u64,
-    /// Sessions that were opened, and those that have ended.
+    /// Sessions that were open as the book was opened or were opened since, and those of them that have ended.
     pub opened: u64,
     pub ended: u64,
 }
@@ -49,14 +49,14 @@ fn count_if(one: bool, count: u64) -> u64
 }
 
 impl BookFigures {
-    /// Of a book without entries.
-    pub fn nothing() -> Self
-        ensures { result ≡ no_figures }
+    /// Of a book as it is opened.
+    pub fn of(book: &Book) -> Self
+        ensures { result ≡ figures_of book.now }
     {
         BookFigures {
-            entries: 0,
+            entries: book.history().len() as u64,
             charges: 0,
-            opened: 0,
+            opened: book.open_sessions(),
             ended: 0,
         }
     }

@@ -1,19 +1,20 @@
 //! All fronts of a site as one node.
 
-ghost use Rattle.std.specs.Prelude.{◌≡◌, ◌<◌, length, position, IfSome, MatchResult, Ok, Err};
+ghost use Rattle.std.specs.Prelude.{◌≡◌, ◌<◌, length, position, IfSome, None};
 ghost use Rattle.cc_book.specs.History.{IsLegal};
 ghost use Rattle.cc_shared.specs.Closing.{IsWhole};
-ghost use Rattle.pool_node.specs.Fronts.{CollectsMore, HasSwept, OnFrontsEvent, SweepsIfDue, is_node, is_up, told_of_one, told_of_tick, with_fronts};
+ghost use Rattle.pool_node.specs.Fronts.{CollectsMore, CollectsSweep, OnFrontsEvent, TakesIn, after_asking, is_node, is_up, told_of_all, told_of_one, told_of_sweep, with_fronts};
 ghost use Rattle.pool_node.specs.Measure.{AddsFew, AddsOne};
 
+use crate::booked::Booked;
 use crate::ending::stop_all;
-use crate::events::BookEvents;
 use crate::figures::BookFigures;
 use crate::front::PoolFront;
-use crate::sweeping::NextSweep;
+use crate::timing::Timing;
 use book_store::RowStore;
 use cc_book::BookRefusal;
-use cc_shared::{ClosedBook, SharedBook, Swept};
+use cc_shared::{ClosedBook, SharedBook};
+use cc_sweeper::{SweepDone, Sweeper};
 use dia_avp::Wire;
 use dia_base::{ConnId, Listing, Moment, NodeNo};
 use dia_message::{Message, Out};
@@ -33,15 +34,14 @@ pub const COLLECT_LIMIT: u32 = 1_024;
 pub const COLLECT_OCTETS: usize = 262_144;
 
 /// All fronts of a site in one process, on one book, each with workers of its own. `S` is what the book is stored in, `R` what
-/// their threads run on.
+/// their threads run on. It waits neither for the book's lock nor for a disk: workers charge, and a sweeper sweeps.
 #[derive(Drop)]
 pub struct PoolFronts<L: Pooling, S: RowStore, R> {
     rt: R,
     shared: SharedBook<L, S>,
+    sweeper: Sweeper<L>,
     fronts: Vec<PoolFront<L>>,
-    next_sweep: NextSweep,
-    figures: BookFigures,
-    events: BookEvents,
+    book: Booked,
 }
 
 impl<L: Pooling, S: RowStore, R> Model for PoolFronts<L, S, R> {
@@ -49,7 +49,7 @@ impl<L: Pooling, S: RowStore, R> Model for PoolFronts<L, S, R> {
 
     ghost Value = { FrontsState };
 
-    ghost view = { λ p. record { fronts = p.fronts.items; next_sweep = p.next_sweep; figures = p.figures } };
+    ghost view = { λ p. record { fronts = p.fronts.items; under_way = p.sweeper; next_sweep = p.book.next_sweep; figures = p.book.figures } };
 }
 
 /// The place of the front that is this node.
@@ -77,80 +77,79 @@ fn reaction(sent: Vec<(ConnId, Message)>, outcome: Result<(), NodeError>) -> Rea
     Reaction { out, outcome }
 }
 
-/// How a node tells of what it has collected and of a sweep: the first fault, if there is one.
-fn outcome_of_tick(
-    collected: Result<(), NodeError>,
-    swept: Result<u64, BookRefusal>,
-) -> Result<(), NodeError>
-    ensures { result ≡ told_of_tick collected swept }
+/// How a node tells of a sweep that it has collected, where it has.
+fn outcome_of_sweep(done: &Option<SweepDone>) -> Result<(), NodeError>
+    ensures { result ≡ told_of_sweep done.now }
 {
-    match (collected, swept) {
-        (Err(error), _) => Err(error),
-        (Ok(()), Ok(_ended)) => Ok(()),
-        (Ok(()), Err(BookRefusal::Full { limit })) => Err(NodeError::BookFull { limit }),
-        (Ok(()), Err(BookRefusal::OutOfMemory)) => Err(NodeError::OutOfMemory),
+    let Some(done) = done else {
+        return Ok(());
+    };
+    match done.swept {
+        Ok(_ended) => Ok(()),
+        Err(BookRefusal::Full { limit }) => Err(NodeError::BookFull { limit }),
+        Err(BookRefusal::OutOfMemory) => Err(NodeError::OutOfMemory),
     }
 }
 
-/// How many sessions a sweep has ended, or why it was refused.
-fn ended_by(swept: Result<Swept, BookRefusal>) -> Result<u64, BookRefusal>
-    ensures { MatchResult swept (λ swept. result ≡ Ok swept.ended) (λ refusal. result ≡ Err refusal) }
+/// How a node tells of the jobs that it has collected and of a sweep: the first fault, if there is one.
+fn outcome_of_all(
+    collected: Result<(), NodeError>,
+    done: &Option<SweepDone>,
+) -> Result<(), NodeError>
+    ensures { result ≡ told_of_all collected done.now }
 {
-    match swept {
-        Ok(swept) => Ok(swept.ended),
-        Err(refusal) => Err(refusal),
+    match collected {
+        Err(error) => Err(error),
+        Ok(()) => outcome_of_sweep(done),
     }
 }
 
 impl<L: Pooling, S: RowStore + Drop, R: Wait> PoolFronts<L, S, R> {
-    /// These fronts, whose workers serve on this book. It is swept from this moment on.
+    /// These fronts, whose workers serve on this book, and their sweeper.
     pub fn new(
         rt: R,
         alloc: Global,
         shared: SharedBook<L, S>,
+        sweeper: Sweeper<L>,
         fronts: Vec<PoolFront<L>>,
-        first_sweep: Moment,
+        timing: Timing,
     ) -> Self
-        ensures { result ≡ with_fronts first_sweep fronts.items }
+        requires { sweeper ≡ None }
+        ensures { result ≡ with_fronts timing fronts.items }
     {
         PoolFronts {
             rt,
             shared,
+            sweeper,
             fronts,
-            next_sweep: NextSweep::From {
-                moment: first_sweep,
-            },
-            figures: BookFigures::nothing(),
-            events: BookEvents::off(alloc),
+            book: Booked::new(alloc, timing),
         }
     }
 
-    /// A sweep of the book at this moment came to this.
-    fn book_swept(&mut self, moment: Moment, swept: &Result<u64, BookRefusal>)
-        ensures { HasSwept moment swept.now self.old self.new }
+    /// Takes in what the sweep has come to that is under way, if it is done.
+    fn collect_sweep(&mut self) -> Option<SweepDone>
+        ensures { CollectsSweep L.shared self.old result self.new }
     {
-        self.next_sweep = NextSweep::after(moment, swept);
-        self.figures.swept(swept);
-        self.events.swept(moment, swept);
+        let done = self.sweeper.collect(&self.rt)?;
+        self.book.swept(&done);
+        Some(done)
     }
 
-    /// Sweeps the book, where that is due. How many sessions it has ended.
-    fn sweep(&mut self, moment: Moment) -> Result<u64, BookRefusal>
-        ensures { SweepsIfDue L.shared moment self.old result self.new }
+    /// Asks for a sweep at this moment, where one is due and none is under way.
+    #[tactic(auto, using(crate::proofs::Asking::nothing_under_way, crate::proofs::Asking::asks, crate::proofs::Asking::is_early, crate::proofs::Asking::waits_still))]
+    fn ask_if_due(&mut self, moment: Moment)
+        ensures { self.new ≡ after_asking self.old moment }
     {
-        if !self.next_sweep.is_due(moment) {
-            return Ok(0);
+        if self.book.is_due(moment) && !self.sweeper.is_under_way() {
+            self.sweeper.ask(&self.rt, moment);
         }
-        let swept = ended_by(self.shared.sweep(&self.rt, moment));
-        self.book_swept(moment, &swept);
-        swept
     }
 
     /// From now on it keeps what its workers do until it is told ([`Recorded`]).
     pub fn begin_record(&mut self)
         ensures { self.new ≡ self.old }
     {
-        self.events.begin();
+        self.book.begin_record();
     }
 
     /// Whether something that the book has done was not stored. The process is to end then: whether it stands is not known.
@@ -162,7 +161,7 @@ impl<L: Pooling, S: RowStore + Drop, R: Wait> PoolFronts<L, S, R> {
     pub fn figures(&self) -> BookFigures
         ensures { result ≡ self.now.figures }
     {
-        self.figures
+        self.book.figures()
     }
 
     /// How many finished jobs were dropped that no front waited for. There is none as long as workers finish what they take.
@@ -194,8 +193,7 @@ impl<L: Pooling, S: RowStore + Drop, R: Wait> PoolFronts<L, S, R> {
         let Some(finished) = front.collect(&self.rt) else {
             return Ok(None);
         };
-        self.figures.collected(&finished);
-        self.events.collected(&finished);
+        self.book.collected(&finished);
         let octets = front.post(finished, sent)?;
         Ok(Some(octets))
     }
@@ -236,11 +234,21 @@ impl<L: Pooling, S: RowStore + Drop, R: Wait> PoolFronts<L, S, R> {
         }
         Ok(())
     }
+
+    /// Collects what is finished at all fronts, and the sweep that is done.
+    fn take_in(&mut self, alloc: Global) -> Reaction
+        ensures { TakesIn L.site L.shared self.old result.out.items result.outcome self.new }
+    {
+        let mut sent = Vec::new(alloc);
+        let collected = self.collect_all(&mut sent);
+        let done = self.collect_sweep();
+        reaction(sent, outcome_of_all(collected, &done))
+    }
 }
 
 impl<L: Pooling, S: RowStore + Drop, R: Drop> PoolFronts<L, S, R> {
-    /// Ends all workers, and closes the book. What they have finished and nobody has collected is told. The book, with all of its
-    /// history; none where memory was missing.
+    /// Ends all workers and the sweeper, and closes the book. What they have done and nobody has collected is told, the sweep that was
+    /// under way with it. The book, with all of its history; none where memory was missing.
     pub fn end<T: Threads + Wait + Clock>(
         self,
         rt: &T,
@@ -253,13 +261,12 @@ impl<L: Pooling, S: RowStore + Drop, R: Drop> PoolFronts<L, S, R> {
         let PoolFronts {
             rt: _,
             shared,
+            sweeper,
             fronts,
-            next_sweep: _,
-            figures: _,
-            mut events,
+            mut book,
         } = self;
-        let stopped = stop_all(rt, alloc, fronts, &mut events);
-        events.tell(alloc, recorder);
+        let stopped = stop_all(rt, alloc, &shared, fronts, sweeper, &mut book);
+        book.tell(alloc, recorder);
         let Ok(seats) = stopped else {
             return None;
         };
@@ -294,6 +301,10 @@ impl<L: Pooling, S: RowStore + Drop, R: Wait> Node for PoolFronts<L, S, R> {
         }
     }
 
+    fn on_leaving(&mut self, alloc: Global, _conn: ConnId) -> Reaction {
+        Reaction::nothing(alloc)
+    }
+
     fn on_lost<W: Wire>(&mut self, alloc: Global, conn: ConnId) -> Reaction {
         if let Some(place) = place_of_conn(&self.fronts, conn) {
             self.fronts[place].conn_lost(conn);
@@ -302,22 +313,19 @@ impl<L: Pooling, S: RowStore + Drop, R: Wait> Node for PoolFronts<L, S, R> {
     }
 
     fn on_tick<W: Wire>(&mut self, alloc: Global, moment: Moment) -> Reaction {
-        let mut sent = Vec::new(alloc);
-        let collected = self.collect_all(&mut sent);
-        let swept = self.sweep(moment);
-        reaction(sent, outcome_of_tick(collected, swept))
+        let reaction = self.take_in(alloc);
+        self.ask_if_due(moment);
+        reaction
     }
 
     fn on_wake<W: Wire>(&mut self, alloc: Global) -> Reaction {
-        let mut sent = Vec::new(alloc);
-        let collected = self.collect_all(&mut sent);
-        reaction(sent, collected)
+        self.take_in(alloc)
     }
 }
 
 /// Their charges, refusals and sweeps.
 impl<L: Pooling, S: RowStore + Drop, R> Recorded for PoolFronts<L, S, R> {
     fn tell_events(&mut self, alloc: Global, recorder: &mut Recorder) {
-        self.events.tell(alloc, recorder);
+        self.book.tell(alloc, recorder);
     }
 }

@@ -9,12 +9,14 @@
 //! - [`BookFigures`]: what the book has come to, as far as answers were collected. [`PoolFronts::end`] ends all workers and
 //!   gives the book back.
 //! - [`NextSweep`]: when the book is swept next: once a second at most, and never again once it is full. [`Timing`]: when it is
-//!   swept first, and from when on time goes on.
+//!   swept first, and from when on time goes on. A tick asks a [`cc_sweeper::Sweeper`] for a sweep that is due, and what it has come
+//!   to is collected at a later tick or wake: the node takes the book's lock only as it ends.
 //! - [`BookEvents`]: what the fronts have done that nobody else can tell of, for those who record it.
 //!
 //! What the node does at each event stands in `specs/Fronts`, and how many octets go out then in `specs/Measure`.
 #![tactic(auto)]
 
+mod booked;
 mod ending;
 mod events;
 mod figures;

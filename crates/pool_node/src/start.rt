@@ -9,6 +9,7 @@ use crate::fronts::PoolFronts;
 use crate::timing::Timing;
 use book_store::RowStore;
 use cc_shared::{Seat, SharedBook};
+use cc_sweeper::start_sweeper;
 use dia_avp::Wire;
 use dia_base::NodeNo;
 use farm_base::Site;
@@ -25,7 +26,7 @@ use thiserror::Error;
 pub enum StartFault {
     #[error("out of memory")]
     OutOfMemory,
-    /// A worker has no thread, or no memory.
+    /// A worker or the sweeper has no thread, or no memory.
     #[error("a worker cannot be started")]
     NoWorker,
     #[error("node {} is none of the site", node.0)]
@@ -44,7 +45,7 @@ impl<T: Drop> From<AllocFailed<T>> for StartFault {
     }
 }
 
-/// What the workers of several fronts wake, when they have an answer.
+/// What the workers of several fronts and their sweeper wake, when they have an answer.
 #[derive(Drop)]
 pub struct Bell<K> {
     pub waker: Arc<K>,
@@ -193,8 +194,8 @@ where
 }
 
 /// Starts these fronts of a site, on one book, each with as many workers as the site says, for each of which there is a seat
-/// ([`seats_for`]). The workers wake by `waker` when they have an answer. Where that fails, the process has no use for those that
-/// were started.
+/// ([`seats_for`]), and with one thread more that sweeps the book. The workers wake by `waker` when they have an answer, and so does
+/// the sweeper once a sweep is done. Where that fails, the process has no use for those that were started.
 pub fn start_fronts<W, L, S, R, K>(
     rt: R,
     alloc: Global,
@@ -214,7 +215,7 @@ where
     requires site { (front : NodeNo) → L.site front ≡ site_of site.now front }
     requires queue { 0 < site.now.queue }
     requires seats { length nodes.now * site.now.workers ≤ length seats.items }
-    ensures { IfOk result (λ fronts. fronts ≡ with_fronts timing.first_sweep (new_fronts nodes.now site.now.workers site.now.queue)) }
+    ensures { IfOk result (λ fronts. fronts ≡ with_fronts timing (new_fronts nodes.now site.now.workers site.now.queue)) }
 {
     let mut seats = seats;
     let waker = Arc::new(alloc, waker)?;
@@ -228,5 +229,12 @@ where
         timing.timer,
         &waker,
     )?;
-    Ok(PoolFronts::new(rt, alloc, shared, fronts, timing.first_sweep))
+    let handle = shared.another()?;
+    let bell = Bell {
+        waker: Arc::try_clone(&waker)?,
+    };
+    let Ok(sweeper) = start_sweeper(&rt, alloc, handle, bell) else {
+        return Err(StartFault::NoWorker);
+    };
+    Ok(PoolFronts::new(rt, alloc, shared, sweeper, fronts, timing))
 }

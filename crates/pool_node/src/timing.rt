@@ -1,19 +1,23 @@
-//! When the fronts of a process begin.
+//! When the fronts of a process begin, and what their book has come to then.
 
 ghost use Rattle.std.specs.Prelude.{◌≡◌, ◌≤◌, All, min};
 ghost use Rattle.cc_book.specs.Session.{deadline_at, moment_of};
+ghost use Rattle.pool_node.specs.Figures.{figures_of};
 
+use crate::figures::BookFigures;
 use cc_book::{Book, Entry};
 use dia_base::Moment;
 use farm_clock::Timer;
 
-/// When the fronts of a process begin.
+/// When the fronts of a process begin, and what their book has come to then.
 #[derive(Clone, Copy)]
 pub struct Timing {
     /// What their workers read the time from.
     pub timer: Timer,
     /// The book is swept from this moment on.
     pub first_sweep: Moment,
+    /// What the book has come to.
+    pub figures: BookFigures,
 }
 
 /// The moment of an entry, in milliseconds.
@@ -42,6 +46,7 @@ impl Timing {
     /// during which nobody served ends no session (RFC 8506, section 13).
     pub fn on(timer: Timer, book: &Book) -> Timing
         ensures behind { All (λ entry. moment_of entry ≤ result.timer.first) book.now.history }
+        ensures figures { result.figures ≡ figures_of book.now }
         ensures later { min (deadline_at book.now.terms.validity result.timer.first) 18446744073709551615 ≤ result.first_sweep.0 }
     {
         let timer = timer.not_before(Moment(latest(book.history())));
@@ -49,6 +54,7 @@ impl Timing {
         Timing {
             timer,
             first_sweep: Moment(timer.first().0.saturating_add(lasting)),
+            figures: BookFigures::of(book),
         }
     }
 }

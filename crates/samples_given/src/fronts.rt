@@ -126,6 +126,10 @@ impl Node for Fronts {
         reaction(sent, worked.map_err(NodeError::of_front))
     }
 
+    fn on_leaving(&mut self, alloc: Global, _conn: ConnId) -> Reaction {
+        Reaction::nothing(alloc)
+    }
+
     fn on_lost<W: Wire>(&mut self, alloc: Global, conn: ConnId) -> Reaction {
         for at in self.fronts.iter_mut() {
             at.front.conn_lost(conn);

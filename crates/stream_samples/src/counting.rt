@@ -86,6 +86,10 @@ impl Node for Counting {
         }
     }
 
+    fn on_leaving(&mut self, alloc: Global, _conn: ConnId) -> Reaction {
+        Reaction::nothing(alloc)
+    }
+
     fn on_lost<W: Wire>(&mut self, alloc: Global, _conn: ConnId) -> Reaction {
         self.counts.lost = self.counts.lost.saturating_add(1);
         match self.refused {

@@ -217,6 +217,10 @@ impl Node for Farm {
         Reaction { out, outcome }
     }
 
+    fn on_leaving(&mut self, alloc: Global, _conn: ConnId) -> Reaction {
+        Reaction::nothing(alloc)
+    }
+
     fn on_lost<W: Wire>(&mut self, alloc: Global, conn: ConnId) -> Reaction {
         self.lost = self.lost.saturating_add(1);
         self.relay.on_lost::<W>(alloc, conn)

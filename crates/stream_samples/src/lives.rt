@@ -29,6 +29,7 @@ fn print_act(rt: &impl Print, name: &str, act: &Act) -> anyhow::Result<()> {
             println!(rt; "{name} sends {kind} {command}, {octets} octets")?;
         }
         Act::PeerUp(node) => println!(rt; "{name} is up with {}", node.0)?,
+        Act::PeerLeaves(cause) => println!(rt; "{name} is told of a goodbye: {cause:?}")?,
         Act::Pass(_) => println!(rt; "{name} reads")?,
         Act::Drop => println!(rt; "{name} ends")?,
     }
@@ -39,7 +40,7 @@ fn print_act(rt: &impl Print, name: &str, act: &Act) -> anyhow::Result<()> {
 fn sent_by(act: Act) -> Option<Message> {
     match act {
         Act::Send(message) => Some(message),
-        Act::PeerUp(_) | Act::Pass(_) | Act::Drop => None,
+        Act::PeerUp(_) | Act::PeerLeaves(_) | Act::Pass(_) | Act::Drop => None,
     }
 }
 

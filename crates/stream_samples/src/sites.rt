@@ -2,7 +2,7 @@
 
 use dia_base::{Identity, Listing, NodeNo};
 use farm_serve::LocalNode;
-use farm_watch::{Application, HostAddress, Neighbour, WatchSite};
+use farm_watch::{Application, Goodbyes, HostAddress, Neighbour, WatchSite};
 use std::alloc::Global;
 
 /// The relay r1.example.
@@ -35,6 +35,8 @@ pub fn watch_site(
         advertised: Listing::empty(alloc),
         neighbours,
         interval: 30_000,
+        goodbyes: Goodbyes::EndAtOnce,
+        state: None,
     })
 }
 

@@ -49,10 +49,13 @@ fn print<S: Source>(
 }
 
 /// Requests that are answered, and such as are refused.
-const REQUESTS: [&str; 11] = [
+const REQUESTS: [&str; 14] = [
     "GET / HTTP/1.1\r\nHost: localhost\r\n\r\n",
     "HEAD /metrics HTTP/1.1\r\nHost: localhost\r\n\r\n",
     "GET /metrics?a=b HTTP/1.1\r\nHost: localhost\r\n\r\n",
+    "GET /status.json HTTP/1.1\r\nHost: localhost\r\n\r\n",
+    "GET /health HTTP/1.1\r\nHost: localhost\r\n\r\n",
+    "POST /health HTTP/1.1\r\nHost: localhost\r\nContent-Length: 0\r\n\r\n",
     "GET /metrics/ HTTP/1.1\r\nHost: localhost\r\n\r\n",
     "POST / HTTP/1.1\r\nHost: localhost\r\nContent-Length: 0\r\n\r\n",
     "GET /stop HTTP/1.1\r\nHost: localhost\r\nAuthorization: Bearer 0123456789abcdef\r\n\r\n",

@@ -33,6 +33,7 @@ fn peer(
         local: String::from_str(alloc, local)?,
         name: String::from_str(alloc, name)?,
         state,
+        takes_requests: false,
         conn,
     })
 }

@@ -21,12 +21,12 @@ use std::thread;
 use std::thread::Threads;
 use std::time::Duration;
 
-/// How often it is looked whether workers have waked, and how many microseconds after the last time.
+/// How often it is looked whether the node was waked, and how many microseconds after the last time.
 const LOOKS: u32 = 100_000;
 
 const PAUSE: u64 = 100;
 
-/// Counts how often workers wake.
+/// Counts how often workers wake, and their sweeper.
 #[derive(Drop)]
 pub struct Rings(pub Arc<AtomicU64>);
 
@@ -36,7 +36,7 @@ impl Wake for Rings {
     }
 }
 
-/// The fronts, how often their workers have waked, and by what they charge.
+/// The fronts, how often their workers and the sweeper have waked, and by what they charge.
 #[derive(Drop)]
 pub struct Running<'a, L: Pooling, R> {
     pub fronts: PoolFronts<L, Nowhere, R>,
@@ -103,14 +103,14 @@ impl<L: Pooling, R: Threads + Wait + Clock + Print + Copy> Running<'_, L, R> {
         print_reaction(rt, alloc, "tick", &reaction)
     }
 
-    /// The node is woken, once its workers have waked so often.
+    /// The node is woken, once it was waked so often.
     pub fn wake(&mut self, rt: &R, alloc: Global, rings: u64) -> anyhow::Result<()> {
         self.wait(rt, rings)?;
         let reaction = self.fronts.on_wake::<ViewWire>(alloc);
         print_reaction(rt, alloc, "wake", &reaction)
     }
 
-    /// Waits until workers have waked so often, or for ten seconds. Prints where they have not.
+    /// Waits until workers and the sweeper have waked so often, or for ten seconds. Prints where they have not.
     pub fn wait(&self, rt: &R, rings: u64) -> anyhow::Result<()> {
         for _ in 0..LOOKS {
             if self.rings.load(Ordering::SeqCst) >= rings {

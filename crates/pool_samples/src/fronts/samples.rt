@@ -72,7 +72,7 @@ fn many<L: Pooling, R: Threads + Wait + Clock + Print + Copy>(
     running.print_figures(rt)
 }
 
-/// A session stands as long as it is not due, and then ends.
+/// A session stands as long as it is not due, and then ends: a tick asks for the sweep, which wakes the node once it is done.
 fn session<L: Pooling, R: Threads + Wait + Clock + Print + Copy>(
     rt: &R,
     alloc: Global,
@@ -86,6 +86,7 @@ fn session<L: Pooling, R: Threads + Wait + Clock + Print + Copy>(
     running.tick(rt, alloc, before.saturating_add(DUE - 2_000))?;
     running.print_figures(rt)?;
     running.tick(rt, alloc, behind.saturating_add(DUE + 2_000))?;
+    running.wake(rt, alloc, 2)?;
     running.print_figures(rt)
 }
 
@@ -100,6 +101,7 @@ fn full<L: Pooling, R: Threads + Wait + Clock + Print + Copy>(
     running.wake(rt, alloc, 1)?;
     let behind = running.timer.now(rt)?.0;
     running.tick(rt, alloc, behind.saturating_add(DUE + 2_000))?;
+    running.wake(rt, alloc, 2)?;
     running.tick(rt, alloc, behind.saturating_add(DUE + 9_000))
 }
 
@@ -127,9 +129,10 @@ fn record<L: Pooling, R: Threads + Wait + Clock + Print + Copy>(
     running.wake(rt, alloc, 3)?;
     let behind = running.timer.now(rt)?.0;
     running.tick(rt, alloc, behind.saturating_add(DUE + 2_000))?;
+    running.wake(rt, alloc, 4)?;
     running.tell(alloc);
     running.hear(rt, alloc, 1, debit(alloc, 6)?)?;
-    running.wait(rt, 4)
+    running.wait(rt, 5)
 }
 
 /// The fronts of the site, on this book. Their workers wake by this.

@@ -1,0 +1,8 @@
+use Rattle.std.proofs.Common.{rules}
+use Rattle.cc_sweeper.proofs.Agreeing.{sees_as}
+use Rattle.cc_sweeper.proofs.sweeper.Sweeper.stop.Goals as goal
+
+pub load_as-requires : goal.load_as-requires
+load_as-requires g c =
+    let i = c.self.invariant.1 in
+    (search rules, (search rules, (search rules, sees_as g.L.Sharing.shared _ _ _ i.seen i.knows)))

@@ -1,0 +1,178 @@
+//! What a node says of itself, as JSON (RFC 8259).
+
+ghost use Rattle.std.specs.Prelude.{◌≡◌, ◌++◌, ◌∷◌, [], OnOk, string_bytes};
+ghost use Rattle.std.specs.List.{flat_map};
+ghost use Rattle.farm_status.specs.Escapes.{label_of};
+
+use crate::escape::push_label;
+use crate::health::health_of;
+use crate::numbers::Seconds;
+use crate::status::{BookStatus, FrontStatus, Peer, PeerState, Status, Work};
+use farm_tally::{Answers, Tally};
+use std::alloc::AllocError;
+
+/// A name as a text of JSON: no octet of it ends that text.
+fn push_text(out: &mut String, name: &str) -> Result<(), AllocError>
+    ensures { OnOk result (string_bytes out.new ≡ string_bytes out.old ++ (34 ∷ []) ++ flat_map label_of name.now ++ (34 ∷ [])) }
+{
+    out.push_str("\"")?;
+    push_label(out, name)?;
+    out.push_str("\"")
+}
+
+/// What parts one item of a list from the one before.
+fn push_comma(out: &mut String, place: usize) -> Result<(), AllocError> {
+    if place == 0 {
+        return Ok(());
+    }
+    out.push_str(",")
+}
+
+/// A number, or null where there is none.
+fn push_optional(out: &mut String, number: Option<u64>) -> Result<(), AllocError> {
+    match number {
+        Some(number) => write!(out, "{number}"),
+        None => out.push_str("null"),
+    }
+}
+
+fn push_names(out: &mut String, names: &[String]) -> Result<(), AllocError> {
+    out.push_str("\"nodes\":[")?;
+    for (place, name) in names.iter().enumerate() {
+        push_comma(out, place)?;
+        push_text(out, name)?;
+    }
+    out.push_str("]")
+}
+
+fn push_process(out: &mut String, status: &Status<'_>) -> Result<(), AllocError> {
+    let (health, uptime) = (
+        health_of(&status.peers, &status.work),
+        Seconds(status.uptime),
+    );
+    write!(
+        out,
+        ",\"health\":\"{health}\",\"uptime_seconds\":{uptime},\"memory_bytes\":"
+    )?;
+    push_optional(out, status.memory)
+}
+
+fn state_word(state: PeerState) -> &'static str {
+    match state {
+        PeerState::Up => "up",
+        PeerState::Connecting => "connecting",
+        PeerState::Down => "down",
+    }
+}
+
+fn push_peer(out: &mut String, peer: &Peer) -> Result<(), AllocError> {
+    out.push_str("{\"node\":")?;
+    push_text(out, &peer.local)?;
+    out.push_str(",\"peer\":")?;
+    push_text(out, &peer.name)?;
+    let (state, takes) = (state_word(peer.state), peer.takes_requests);
+    write!(
+        out,
+        ",\"state\":\"{state}\",\"takes_requests\":{takes},\"connection\":"
+    )?;
+    push_optional(out, peer.conn)?;
+    out.push_str("}")
+}
+
+fn push_peers(out: &mut String, peers: &[Peer]) -> Result<(), AllocError> {
+    out.push_str(",\"peers\":[")?;
+    for (place, peer) in peers.iter().enumerate() {
+        push_comma(out, place)?;
+        push_peer(out, peer)?;
+    }
+    out.push_str("]")
+}
+
+fn push_connections(out: &mut String, status: &Status<'_>) -> Result<(), AllocError> {
+    let connections = status.connections;
+    let (up, unknown, ending) = (connections.up, connections.unknown, connections.ending);
+    write!(
+        out,
+        ",\"connections\":{{\"up\":{up},\"unknown\":{unknown},\"ending\":{ending}}}"
+    )
+}
+
+/// Answers by their Result-Code.
+fn push_answers(out: &mut String, answers: &Answers) -> Result<(), AllocError> {
+    out.push_str(",\"answers\":{")?;
+    for at in &answers.codes {
+        write!(out, "\"{}\":{},", at.code, at.count)?;
+    }
+    write!(out, "\"others\":{}}}", answers.others)
+}
+
+fn push_traffic(out: &mut String, tally: &Tally) -> Result<(), AllocError> {
+    let (requests, sent) = (tally.requests, tally.sent);
+    write!(out, ",\"requests\":{requests},\"requests_sent\":{sent}")?;
+    let (failovers, given_up) = (tally.failovers, tally.given_up);
+    write!(out, ",\"failovers\":{failovers},\"given_up\":{given_up}")?;
+    push_answers(out, &tally.answers)?;
+    let (count, sum) = (tally.times.count, Seconds(tally.times.sum));
+    write!(
+        out,
+        ",\"request_seconds\":{{\"count\":{count},\"sum\":{sum}}}"
+    )
+}
+
+fn push_front(out: &mut String, front: &FrontStatus) -> Result<(), AllocError> {
+    out.push_str("{\"node\":")?;
+    push_text(out, &front.name)?;
+    let (requests, queue, workers) = (front.waiting, front.queue, front.workers);
+    write!(
+        out,
+        ",\"requests\":{requests},\"queue_limit\":{queue},\"workers\":{workers}}}"
+    )
+}
+
+fn push_fronts(out: &mut String, fronts: &[FrontStatus]) -> Result<(), AllocError> {
+    out.push_str(",\"fronts\":[")?;
+    for (place, front) in fronts.iter().enumerate() {
+        push_comma(out, place)?;
+        push_front(out, front)?;
+    }
+    out.push_str("],\"book\":")
+}
+
+fn push_book(out: &mut String, book: BookStatus) -> Result<(), AllocError> {
+    let (entries, limit) = (book.entries, book.limit);
+    write!(out, "{{\"entries\":{entries},\"limit\":{limit}")?;
+    let (sessions, charges) = (book.sessions, book.charges);
+    write!(out, ",\"open_sessions\":{sessions},\"charges\":{charges}}}")
+}
+
+fn push_work(out: &mut String, work: &Work) -> Result<(), AllocError> {
+    match work {
+        Work::Relay {
+            pending,
+            limit,
+            mismatched,
+        } => {
+            write!(out, ",\"pending\":{pending},\"pending_limit\":{limit}")?;
+            write!(out, ",\"answers_mismatched\":{mismatched}")
+        }
+        Work::Fronts { fronts, book } => {
+            push_fronts(out, fronts)?;
+            match book {
+                Some(book) => push_book(out, *book),
+                None => out.push_str("null"),
+            }
+        }
+    }
+}
+
+/// Puts what a node says of itself behind a text, as one object of JSON on a line.
+pub fn push_json(out: &mut String, status: &Status<'_>) -> Result<(), AllocError> {
+    out.push_str("{")?;
+    push_names(out, &status.names)?;
+    push_process(out, status)?;
+    push_peers(out, &status.peers)?;
+    push_connections(out, status)?;
+    push_traffic(out, status.tally)?;
+    push_work(out, &status.work)?;
+    out.push_str("}\n")
+}
