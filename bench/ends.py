@@ -4,7 +4,7 @@
 It starts a relay of a site of its own, once with strict = ["end-to-end"] and once without it. A server connected with it answers
 one request four times: with another End-to-End Identifier, under another Hop-by-Hop Identifier, with both as they are, and so once
 more. It prints which answers the client gets, and how many the relay has dropped by its status page. Status 1 where that is not
-what docs/SITE.md says ("Which answers a relay takes"). It needs the program (./farm prove relay builds it). Not part of the gate.
+what docs/SERVING.md says ("Which answers a relay takes"). It needs the program (./farm prove relay builds it). Not part of the gate.
 """
 import re
 import socket
@@ -86,17 +86,21 @@ def serve(listener):
     return end
 
 
-def connect():
-    """A client that is up at the relay, which listens once its own connections were made."""
+def dial():
+    """A connection with the relay, which listens once its own connections were made."""
     until = time.monotonic() + PATIENCE
     while True:
         try:
-            end = socket.create_connection(RELAY, PATIENCE)
-            break
+            return socket.create_connection(RELAY, PATIENCE)
         except ConnectionRefusedError:
             if time.monotonic() > until:
                 raise
             time.sleep(0.05)
+
+
+def connect():
+    """A client that is up at the relay."""
+    end = dial()
     end.sendall(capabilities(b"c1.example", 0x80, (1, 1)))
     read(end)
     return end

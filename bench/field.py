@@ -11,7 +11,7 @@ hundredth, and its memory. The relays:
 - copy: hands octets on, and knows nothing of messages: the bound of what can be reached with sockets;
 - frame: finds the messages, swaps the identifiers and appends a Route-Record: the least that a relay does.
 
-Below it stands what ours is of the others. With --write all of it becomes the section on relays of docs/FIELD.md. It needs rustc
+Below it stands what ours is of the others. With --write all of it becomes bench/figures/relays.md. It needs rustc
 for the ends (bench/field/ends.rs). Not part of the gate. What is compared are ratios of one run, on a machine without other work.
 bench/front.py does the same with fronts.
 """
@@ -78,14 +78,20 @@ ConnectPeer = "f1.example" {{ No_TLS; Port = {server}; ConnectTo = "127.0.0.1"; 
 """
 
 
-def freediameter(room, _):
+def find_acl():
+    """Where freeDiameter's list of who may connect is installed, or None."""
     found = glob.glob("/usr/lib/*/freeDiameter/acl_wl.fdx") + glob.glob("/usr/lib/freeDiameter/acl_wl.fdx")
-    if not found or not shutil.which("freeDiameterd"):
+    return found[0] if found else None
+
+
+def freediameter(room, _):
+    acl = find_acl()
+    if not acl or not shutil.which("freeDiameterd"):
         return None
     certificate = ["openssl", "req", "-x509", "-newkey", "rsa:2048", "-nodes", "-days", "2", "-subj", "/CN=r1.example"]
     subprocess.run([*certificate, "-keyout", f"{room}/key.pem", "-out", f"{room}/cert.pem"], check=True, stderr=subprocess.DEVNULL)
     Path(f"{room}/acl.conf").write_text("ALLOW_IPSEC " + " ".join([*CLIENTS, "f1.example"]) + "\n")
-    Path(f"{room}/fd.conf").write_text(FREEDIAMETER.format(room=room, port=PORT, server=SERVER, acl=found[0]))
+    Path(f"{room}/fd.conf").write_text(FREEDIAMETER.format(room=room, port=PORT, server=SERVER, acl=acl))
     return ["freeDiameterd", "-c", f"{room}/fd.conf"]
 
 
@@ -211,17 +217,9 @@ def ratios(figures):
     return "\n".join(lines)
 
 
-def write_section(heading, text):
-    """Puts a section of docs/FIELD.md in place of the one with this heading, or behind the others."""
-    page = HERE.parent / "docs/FIELD.md"
-    head, *sections = page.read_text().split("\n## ")
-    written = f"{heading}\n\n{text.strip()}\n"
-    places = [place for place, section in enumerate(sections) if section.splitlines()[0] == heading]
-    if places:
-        sections[places[0]] = written
-    else:
-        sections.append(written)
-    page.write_text("\n## ".join([head, *sections]))
+def write_page(heading, text):
+    """Writes what was measured, with its heading, as a file of its own."""
+    (HERE / f"figures/{heading.lower()}.md").write_text(f"# {heading}\n\n{text.strip()}\n")
 
 
 def machine(load):
@@ -245,7 +243,7 @@ def busy():
 
 @dataclass
 class Bench:
-    """What is measured, and the section of docs/FIELD.md that it becomes."""
+    """What is measured, and the file of bench/figures/ that it becomes."""
     heading: str
     names: list
     run: Callable
@@ -259,12 +257,12 @@ class Bench:
         return "| " + " | ".join(columns) + " |\n" + "|---" * len(columns) + "|"
 
     def measure(self, doc):
-        """Measures those that the command line names, prints what it finds, and writes the section where that is asked for."""
+        """Measures those that the command line names, prints what it finds, and writes the file where that is asked for."""
         parser = argparse.ArgumentParser(description=doc, formatter_class=argparse.RawDescriptionHelpFormatter)
         parser.add_argument("--seconds", type=float, default=3)
         parser.add_argument("--program", default=str(HERE.parent / "crates/farm_live/out/farm_live"))
         parser.add_argument(f"--{self.heading.lower()}", dest="names", default=",".join(self.names))
-        parser.add_argument("--write", action="store_true", help=f"write the section on {self.heading.lower()} of docs/FIELD.md")
+        parser.add_argument("--write", action="store_true", help=f"write bench/figures/{self.heading.lower()}.md")
         words = parser.parse_args()
         with tempfile.TemporaryDirectory() as room:
             subprocess.run(["rustc", "--edition", "2024", "-O", "-o", f"{room}/ends", str(HERE / "field/ends.rs")], check=True)
@@ -275,7 +273,7 @@ class Bench:
         if words.write:
             rows = [row_of(name, *place, it) for name, of_it in figures.items() for place, it in of_it.items()]
             table = "\n".join([self.head(), *rows])
-            write_section(self.heading, self.section.format(machine=machine(load), table=table, ratios=self.ratios(figures)))
+            write_page(self.heading, self.section.format(machine=machine(load), table=table, ratios=self.ratios(figures)))
         return figures
 
 

@@ -9,13 +9,14 @@ block more, which it is not. Prints a table in Markdown, with the columns of ben
 - farm 1, farm 2, farm 4: this one (./farm prove relay builds it), with so many workers; 2 is what a site has that says nothing;
 - stored 1, stored 2, stored 4: the same, on a book in a file of its own (./farm prove book), on the disk of the system's folder
   for temporary files, or of TMPDIR;
+- slow 1, slow 2, slow 4: the same, where each sync of the disk takes a millisecond more (a small library, LD_PRELOAD; it needs cc);
 - otp: a credit-control server on Erlang/OTP's diameter in the plainest way (bench/field/front.escript; Debian: erlang-diameter).
   Its account is a row of an ets table. It debits EVENTs; it has no sessions, keeps nothing of a request, and so charges one
   that is sent again a second time.
 
 Each row has a front of its own, started for it, whose clients first ask for half a second that does not count: the book of ours keeps
 each request, and takes 1,048,576. So its memory grows by some 760 octets a request, and that of the other does not.
-With --write all of it becomes the section on fronts of docs/FIELD.md. It needs rustc for the ends (bench/field/ends.rs). Not
+With --write all of it becomes bench/figures/fronts.md. It needs rustc for the ends (bench/field/ends.rs). Not
 part of the gate. What is compared are ratios of one run, on a machine without other work.
 """
 import os
@@ -68,11 +69,23 @@ def stored(workers):
     return words
 
 
+def slow(workers):
+    """A farm on such a book, on a disk that takes a millisecond more for each sync."""
+    def words(room, program):
+        served = stored(workers)(room, program)
+        if not served or not shutil.which("cc"):
+            return None
+        library = f"{room}/slow_sync.so"
+        subprocess.run(["cc", "-shared", "-fPIC", "-O2", "-o", library, HERE / "field/slow_sync.c"], check=True)
+        return ["env", f"LD_PRELOAD={library}", *served]
+    return words
+
+
 def otp(_, __):
     return ["escript", str(HERE / "field/front.escript"), str(PORT), str(HERE / "cc.dia"), str(OPENING)] if shutil.which("escript") else None
 
 
-FRONTS = {"farm 1": farm(1), "farm 2": farm(2), "farm 4": farm(4), "stored 1": stored(1), "stored 2": stored(2), "stored 4": stored(4), "otp": otp}
+FRONTS = {f"{name} {n}": of(n) for name, of in (("farm", farm), ("stored", stored), ("slow", slow)) for n in (1, 2, 4)} | {"otp": otp}
 
 
 @contextmanager

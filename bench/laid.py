@@ -3,6 +3,7 @@
 Its files end in .rt.txt and .antt.txt here, since the gate takes a file whose name ends in .rt or .antt for one that a crate
 has forgotten. What was proved in the repository is taken along.
 """
+import os
 import shutil
 import subprocess
 import sys
@@ -22,6 +23,14 @@ def below(lines, names):
     return found
 
 
+def link(file, to):
+    """The file under another name too, or a copy of it on another disk."""
+    try:
+        os.link(file, to)
+    except OSError:
+        shutil.copy2(file, to)
+
+
 def lay(copy, folder, deps, top=TOP):
     """The program of bench/FOLDER in a copy, as a crate of the name FOLDER_bench, with the crates of `top` that it stands on: its place."""
     lines = {}
@@ -34,7 +43,7 @@ def lay(copy, folder, deps, top=TOP):
     (copy / "crates.txt").write_text("\n".join(told + [f"{folder}_bench: {deps}"]) + "\n")
     shutil.copy(TOP / "HANDLES", copy / "HANDLES")
     for name in names:
-        shutil.copytree(top / "crates" / name, copy / "crates" / name, symlinks=True)
+        shutil.copytree(top / "crates" / name, copy / "crates" / name, symlinks=True, copy_function=link)
     bench = copy / "crates" / f"{folder}_bench"
     for file in (TOP / "bench" / folder).rglob("*.txt"):
         to = bench / file.relative_to(TOP / "bench" / folder).with_suffix("")

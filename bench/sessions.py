@@ -32,7 +32,7 @@ account = [{{ type = 0, id = "491700000001", opening = 25 }}]
 """
 INITIAL, UPDATE, EVENT = 1, 2, 4
 SUCCESS, LIMIT_REACHED, UNKNOWN_SESSION = 2001, 4012, 5002
-# Seconds from the request before, the type of a request, its session and number, and its Result-Code: by the rules of docs/SITE.md.
+# Seconds from the request before, the type of a request, its session and number, and its Result-Code: by the rules of docs/SCHEDULES.md.
 REQUESTS = [
     (0.0, INITIAL, b"c1.example;1", 0, SUCCESS, "a session opens, and has all"),
     (0.1, EVENT, b"c1.example;2", 0, LIMIT_REACHED, "nothing is free for a debit"),

@@ -1,13 +1,16 @@
 #!/usr/bin/env escript
-%% A relay of another make: the diameter application of Erlang/OTP, between who connects to it and one server.
+%% A relay of another make: the diameter application of Erlang/OTP, between who connects to it and one server: PORT SERVER [NAME HOST], with
+%% the name of this relay and of the server.
 -module(relay).
 -export([peer_up/3, peer_down/3, pick_peer/4, prepare_request/3, prepare_retransmit/3, handle_answer/4, handle_error/4, handle_request/3]).
 -mode(compile).
 
-main([Port, Server]) ->
+main([Port, Server]) -> main([Port, Server, "r1.example", "f1.example"]);
+main([Port, Server, Name, Host]) ->
+    persistent_term:put(server, Host),
     ok = diameter:start(),
     ok = diameter:start_service(?MODULE, [
-        {'Origin-Host', "r1.example"},
+        {'Origin-Host', Name},
         {'Origin-Realm', "relay.example"},
         {'Host-IP-Address', [{127, 0, 0, 1}]},
         {'Vendor-Id', 0},
@@ -29,9 +32,9 @@ tcp(Kind, Config) ->
 
 peer_up(_, _, State) -> State.
 peer_down(_, _, State) -> State.
-%% the server alone has this realm
 pick_peer(Peers, _, _, _) ->
-    case [Peer || {_, Caps} = Peer <- Peers, {_, "ocs.example"} <- [text(element(3, Caps))]] of
+    Server = persistent_term:get(server),
+    case [Peer || {_, Caps} = Peer <- Peers, {_, Host} <- [text(element(2, Caps))], Host =:= Server] of
         [Peer | _] -> {ok, Peer};
         [] -> false
     end.
