@@ -24,7 +24,7 @@ _farm() {
   esac
   case ${COMP_WORDS[1]} in
     relay) mapfile -t COMPREPLY < <(compgen -W '--site --name --answers --status --token --record --log' -- "$word") ;;
-    front) mapfile -t COMPREPLY < <(compgen -W '--site --book --answers --status --token --record --log' -- "$word") ;;
+    front) mapfile -t COMPREPLY < <(compgen -W '--site --book --clock-behind --answers --status --token --record --log' -- "$word") ;;
     send) mapfile -t COMPREPLY < <(compgen -W '--site --client --peer --record --log' -- "$word") ;;
     stop) mapfile -t COMPREPLY < <(compgen -W '--at --token' -- "$word") ;;
     audit | schedule)
@@ -33,7 +33,7 @@ _farm() {
     picture) mapfile -t COMPREPLY < <(compgen -W '--site --from --to' -- "$word") ;;
     book)
       if [ "$COMP_CWORD" -eq 2 ]; then
-        mapfile -t COMPREPLY < <(compgen -W 'create check report export' -- "$word")
+        mapfile -t COMPREPLY < <(compgen -W 'create check report export backup' -- "$word")
       else
         mapfile -t COMPREPLY < <(compgen -W '--site' -- "$word"; compgen -f -- "$word")
       fi
