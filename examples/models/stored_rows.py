@@ -1,5 +1,5 @@
 #!/usr/bin/env python3
-"""What crates/store_samples/stdout must have: python3 examples/models/stored_rows.py.
+"""What the end of crates/pool_samples/stdout must have, its part `stored`: python3 examples/models/stored_rows.py.
 
 Rows of a stored book as octets, stores of them, crashes and damage, worked out from the rules alone (docs/DEFINITIONS.md,
 book_rows and book_store). It shares nothing with the program.

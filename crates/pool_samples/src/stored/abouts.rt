@@ -1,6 +1,6 @@
 //! What a book is.
 
-use crate::tables;
+use super::tables;
 use book_rows::{ReadError, read_about};
 use book_store::RowStore;
 use std::alloc::Global;

@@ -1,6 +1,6 @@
 //! Rows as octets.
 
-use crate::given::NAMES;
+use super::given::NAMES;
 use book_rows::{ReadError, is_chained, read_row, spell_row};
 use book_store::FIRST_SUM;
 use std::alloc::Global;

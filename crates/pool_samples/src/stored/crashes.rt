@@ -5,8 +5,8 @@ ghost use Rattle.sqlite_trees.specs.View.{IsClean};
 ghost use Rattle.book_store.specs.Damage.{MayReopen};
 ghost use Rattle.book_store.specs.Table.{IsReady};
 
-use crate::appending::{batch, print_store};
-use crate::tables;
+use super::appending::{batch, print_store};
+use super::tables;
 use book_store::{TreeStore, append_all, reopen_tree};
 use sqlite_trees::store::Reopen;
 use sqlite_value::value::ValueRef;

@@ -1,5 +1,5 @@
 //! A book that is stored, without the book: rows as octets, and stores of them over trees in memory, one function for each
-//! subject. It prints what they answer.
+//! subject.
 //!
 //! - `given`: what rows are made of, one request of each kind with its reply and debit, and a sweep.
 //! - `spelling`: the octets of each row, which are read back, and what is wrong with octets that are no row.
@@ -9,8 +9,7 @@
 //! - `damage`: a table that is not one of rows, and rows that are not those that were written.
 //! - `tables`: tables in memory.
 //!
-//! What it must print, `stdout`, is what `examples/models/stored_rows.py` prints, in this order.
-#![tactic(auto)]
+//! What it must print is what `examples/models/stored_rows.py` prints, in this order.
 
 mod abouts;
 mod appending;
@@ -20,12 +19,14 @@ mod given;
 mod spelling;
 mod tables;
 
-fn main(rt: HostRuntime) -> anyhow::Result<()> {
-    let alloc = rt.alloc();
+use std::alloc::Global;
+
+/// Prints what such rows and stores answer.
+pub fn print_all(rt: &impl Print, alloc: Global) -> anyhow::Result<()> {
     let rows = given::rows(alloc)?;
-    spelling::print_all(&rt, alloc, &rows)?;
-    abouts::print_all(&rt, alloc)?;
-    appending::print_all(&rt, alloc, &rows)?;
-    crashes::print_all(&rt, alloc, &rows)?;
-    damage::print_all(&rt, alloc, &rows)
+    spelling::print_all(rt, alloc, &rows)?;
+    abouts::print_all(rt, alloc)?;
+    appending::print_all(rt, alloc, &rows)?;
+    crashes::print_all(rt, alloc, &rows)?;
+    damage::print_all(rt, alloc, &rows)
 }

@@ -3,7 +3,7 @@ use Rattle.sqlite_trees.specs.Memory.{memory_is_unaltered}
 use Rattle.sqlite_trees.specs.Objects.{catalog_tree}
 use Rattle.sqlite_trees.specs.Tree.{Trees}
 use Rattle.sqlite_trees.specs.declared.store.Shape.{Shape}
-use Rattle.store_samples.proofs.tables.empty.Goals as goal
+use Rattle.pool_samples.proofs.stored.tables.empty.Goals as goal
 
 pub returns-clause-tables : goal.returns-clause-tables
 returns-clause-tables c = record { rows = ap (λ (f : ℕ → Shape). f 0) c.in_ok-store.ensures.shape ∙ c.table.ensures; book = ap (λ (f : ℕ → Shape). f 1) c.in_ok-store.ensures.shape ∙ c.table-2.ensures }

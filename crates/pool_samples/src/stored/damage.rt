@@ -5,8 +5,8 @@ ghost use Rattle.sqlite_trees.specs.View.{IsClean};
 ghost use Rattle.book_store.specs.Damage.{IsFresh};
 ghost use Rattle.book_store.specs.Table.{HasTables};
 
-use crate::appending::batch;
-use crate::tables;
+use super::appending::batch;
+use super::tables;
 use book_store::{
     Batch, CreateError, OpenError, RowStore, TreeStore, append_all, check_rows, create_tree,
     open_tree,

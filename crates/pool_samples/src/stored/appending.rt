@@ -2,7 +2,7 @@
 
 ghost use Rattle.std.specs.Prelude.{OnOk};
 
-use crate::tables;
+use super::tables;
 use book_rows::{Standing, Sum};
 use book_store::{AppendError, Batch, RowStore, append_all, check_rows};
 use std::alloc::Global;
