@@ -1,12 +1,12 @@
 -- Identifiers and their places.
-use Rattle.std.proofs.Common.{◌≡◌, ℕ, zero, suc, ◌+◌, ◌-◌, ◌*◌, ◌/◌, ◌%◌, ◌^◌, ◌<◌, ◌≤◌, inl, inr, Bool, true, false, cond, List, [], ◌∷◌, length, get_or, Option, None, is_some, refl, ap, sym, ◌∙◌, arith}
+use Rattle.std.proofs.Common.{◌≡◌, ℕ, zero, suc, ◌+◌, ◌-◌, ◌*◌, ◌/◌, ◌%◌, ◌^◌, ◌<◌, ◌≤◌, inl, inr, Bool, true, false, cond, List, [], ◌∷◌, length, get_or, Option, None, is_some, refl, ap, sym, subst, ◌∙◌, arith}
 use Rattle.std.specs.Prelude.{nat_le}
 use Rattle.std.specs.List.{count_by}
 use Rattle.std.proofs.Math.Nat.{mul-add-mod_self_left, div-add-mod, add-mod_left, mod-eq_of_lt, mul-mod_right, pow-succ', mul_assoc}
-use Rattle.std.proofs.lemmas.Nat.{mod_below}
+use Rattle.std.proofs.lemmas.Nat.{mod_below, and_mask}
 use Rattle.std.proofs.lemmas.Bool.{cases_lt, leb-true}
 use Rattle.dia_base.proofs.Counting.{one, count-cons}
-use Rattle.relay_hops.specs.Identifiers.{identifier_of, place_of, key_in, doubled, places_for}
+use Rattle.relay_hops.specs.Identifiers.{identifier_of, place_of, key_in, doubled, places_for, IsMasked}
 
 -- ---- places of identifiers
 
@@ -86,6 +86,18 @@ doubled-power (suc times) wanted = let power = doubled-power times wanted in ste
         grind_two : (size m : ℕ) → size * (2 * m) ≡ 2 * (size * m)
         grind_two size m = omega arith
     step false size m e = (m, let p = pow-succ' 2 times in let q = mul_assoc 2 size m in omega arith)
+
+-- such a number of places is a power of two
+doubled-is : (times wanted : ℕ) → (k : ℕ) × (doubled times wanted ≡ 2 ^ k)
+doubled-is zero wanted = (0, refl)
+doubled-is (suc times) wanted = step (nat_le wanted (doubled times wanted)) (doubled times wanted) (doubled-is times wanted)
+  where
+    step : (b : Bool) (size : ℕ) → (k : ℕ) × (size ≡ 2 ^ k) → (k : ℕ) × (cond b size (2 * size) ≡ 2 ^ k)
+    step true size power = power
+    step false size power = (suc power.0, let p = pow-succ' 2 power.0 in let q = power.1 in omega arith)
+
+pub doubled-masked : (times wanted : ℕ) → IsMasked (doubled times wanted)
+doubled-masked times wanted = let power = doubled-is times wanted in subst IsMasked (sym power.1) (λ hop. and_mask hop power.0)
 
 not_yet : (times wanted : ℕ) → nat_le wanted (doubled times wanted) ≡ false → doubled times wanted ≡ 2 ^ times
 not_yet zero wanted e = refl

@@ -1,5 +1,5 @@
 -- The identifiers that a relay gives (RFC 6733, section 3): they rise by one from a start, and those whose place a pending request has are passed over.
-use Rattle.std.specs.Prelude.{◌≡◌, ℕ, zero, suc, ◌+◌, ◌*◌, ◌%◌, ◌^◌, ◌<◌, ◌==◌, Bool, true, false, nat_le, List, length, Option, None, slice_index_or, if◌then◌else◌}
+use Rattle.std.specs.Prelude.{◌≡◌, ℕ, zero, suc, ◌+◌, ◌-◌, ◌*◌, ◌%◌, ◌^◌, ◌<◌, ◌==◌, Bool, true, false, nat_le, bit_and, List, length, Option, None, slice_index_or, if◌then◌else◌}
 use Rattle.std.specs.List.{list_any}
 use Rattle.relay_hops.specs.declared.row.Row.{Row}
 use Rattle.relay_hops.specs.PendingTable.{PendingTable, hop_of}
@@ -14,6 +14,10 @@ identifier_of number = 2 ^ 31 + number % 2 ^ 31
 abbrev pub doubled : ℕ → ℕ → ℕ
 doubled zero wanted = 1
 doubled (suc times) wanted = let size = doubled times wanted in if nat_le wanted size then size else 2 * size
+
+-- where there are so many places, a mask leaves the place of each identifier
+abbrev pub IsMasked : ℕ → Type 0
+IsMasked size = (hop : ℕ) → bit_and hop (size - 1) ≡ hop % size
 
 -- how many places a table of this limit has: the least power of two that is twice the limit or more
 unfoldable pub places_for : ℕ → ℕ

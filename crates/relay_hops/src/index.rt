@@ -1,7 +1,7 @@
 //! An index of rows by the low bits of their identifiers.
 
 ghost use Rattle.std.specs.Prelude.{◌≡◌, ◌≤◌, ◌<◌, ◌^◌, length, replicate, slice_set, None, IfOk, vec_len};
-ghost use Rattle.relay_hops.specs.Identifiers.{key_in, place_of, places_for};
+ghost use Rattle.relay_hops.specs.Identifiers.{IsMasked, key_in, place_of, places_for};
 
 use crate::row::Hop;
 use std::alloc::{AllocError, Global};
@@ -11,6 +11,7 @@ use std::alloc::{AllocError, Global};
 #[derive(Debug, Drop)]
 pub(crate) struct Index {
     keys: Vec<Option<usize>>,
+    ghost masked: { IsMasked (vec_len keys) },
     ghost some: { 0 < vec_len keys },
     ghost numbered: { vec_len keys ≤ 2 ^ 31 },
 }
@@ -54,17 +55,19 @@ impl Index {
         self.keys.fill(None);
     }
 
+    /// The place of the identifier, by a mask: a remainder would take a division at each look.
     fn place(&self, hop: Hop) -> usize
         ensures place { result ≡ place_of (length self.now.keys.items) hop }
         ensures within { result < length self.now.keys.items }
     {
-        hop as usize % self.keys.len()
+        hop as usize & (self.keys.len() - 1)
     }
 }
 
 /// The least power of two that is twice the limit or more, and no more than there are identifiers.
 fn places_for(limit: u32) -> usize
     ensures size { result ≡ places_for limit }
+    ensures masked { IsMasked result }
     ensures some { 0 < result }
     ensures numbered { result ≤ 2 ^ 31 }
 {

@@ -1,6 +1,6 @@
 use Rattle.std.proofs.Common.{◌≡◌, ℕ, ◌*◌, ◌<◌, ◌∙◌, ap, sym, subst, arith}
-use Rattle.relay_hops.specs.Identifiers.{doubled, places_for}
-use Rattle.relay_hops.proofs.Numbers.{doubled-le, doubled-some}
+use Rattle.relay_hops.specs.Identifiers.{doubled, places_for, IsMasked}
+use Rattle.relay_hops.proofs.Numbers.{doubled-le, doubled-some, doubled-masked}
 use Rattle.relay_hops.proofs.index.places_for.Goals as goal
 
 pub returns-clause-size : goal.returns-clause-size
@@ -18,3 +18,6 @@ returns-clause-numbered c =
     let le = doubled-le 31 (2 * c.args.limit) in
     let same = c.loop-doublings.invariant ∙ ap (λ (times : ℕ). doubled times (2 * c.args.limit)) all in
     omega (arith, le, same)
+
+pub returns-clause-masked : goal.returns-clause-masked
+returns-clause-masked c = subst IsMasked (sym c.loop-doublings.invariant) (doubled-masked c.loop-doublings._doublings (2 * c.args.limit))
