@@ -106,7 +106,9 @@ class Reader:
 
     def keep(self, event):
         """An event is kept for the node that it is of: what the nodes of one process do is in no order of its own."""
-        event.reader_conns = self.up
+        event.reader_conns = dict(self.up)
+        if any(number not in self.up for number, _ in event.outs):
+            raise event.fault("unknown connection")
         match event.word:
             case "accept" | "dial":
                 number, node, peer, label = event.words
