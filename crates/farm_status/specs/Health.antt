@@ -1,5 +1,5 @@
 -- Whether a node can do its work.
-use Rattle.std.specs.Prelude.{ℕ, List, Bool, Option, Some, None, nat_lt, ◌&&◌, if◌then◌else◌}
+use Rattle.std.specs.Prelude.{ℕ, List, Bool, Option, Some, None, codes, nat_lt, ◌&&◌, if◌then◌else◌}
 use Rattle.std.specs.List.{list_any}
 use Rattle.farm_status.specs.declared.health.Health.{Health}
 use Rattle.farm_status.specs.declared.health.Health.TheVariants.{Well, NoServer, BookClosed, BookFull}
@@ -29,3 +29,8 @@ status_of_health Well = 200
 status_of_health NoServer = 503
 status_of_health BookClosed = 503
 status_of_health BookFull = 503
+
+-- what cannot be done with a request where the node cannot do its work
+abbrev pub what_cannot_be : Work → List ℕ
+what_cannot_be (Relay pending limit mismatched) = codes "forwarded"
+what_cannot_be (Fronts fronts book) = codes "charged"

@@ -13,6 +13,7 @@
 
 mod answering;
 mod escape;
+mod figures;
 mod health;
 mod json;
 mod metrics;
@@ -21,6 +22,7 @@ mod numbers;
 mod page;
 mod reply;
 mod status;
+mod tiles;
 mod token;
 
 pub use answering::{Answering, Source};

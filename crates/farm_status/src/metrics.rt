@@ -4,7 +4,7 @@ ghost use Rattle.std.specs.Prelude.{◌≡◌, ◌++◌, OnOk, string_bytes};
 ghost use Rattle.farm_status.specs.Figures.{sample_text};
 
 use crate::escape::push_label;
-use crate::numbers::Seconds;
+use crate::numbers::{Bound, Seconds};
 use crate::status::{BookStatus, FrontStatus, Peer, PeerState, Status, Work};
 use farm_tally::{Answers, Times};
 use std::alloc::AllocError;
@@ -158,7 +158,7 @@ fn push_times(out: &mut String, times: &Times) -> Result<(), AllocError> {
     let help = "From when a request came until its answer was sent.";
     head(out, name, Kind::Histogram, help)?;
     for row in times.rows {
-        let bound = Seconds(row.bound);
+        let bound = Bound(row.bound);
         write!(out, "{name}_bucket{{le=\"{bound}\"}} {}\n", row.count)?;
     }
     let (count, sum) = (times.count, Seconds(times.sum));

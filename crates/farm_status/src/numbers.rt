@@ -45,6 +45,25 @@ impl fmt::Display for Seconds {
     }
 }
 
+/// Milliseconds as seconds, without zeros at the end: how Prometheus spells a bound.
+#[derive(Clone, Copy)]
+pub struct Bound(pub u64);
+
+impl fmt::Display for Bound {
+    fn fmt<W: fmt::Write>(&self, f: &mut fmt::Formatter<W>) -> fmt::Result {
+        let (whole, rest) = (self.0 / 1_000, self.0 % 1_000);
+        if rest == 0 {
+            write!(f, "{whole}")
+        } else if rest % 100 == 0 {
+            write!(f, "{whole}.{}", rest / 100)
+        } else if rest % 10 == 0 {
+            write!(f, "{whole}.{:02}", rest / 10)
+        } else {
+            write!(f, "{whole}.{rest:03}")
+        }
+    }
+}
+
 /// Milliseconds as a person says them.
 #[derive(Clone, Copy)]
 pub struct Span(pub u64);

@@ -1,12 +1,16 @@
 //! The page for people.
 
 ghost use Rattle.std.specs.Prelude.{◌≡◌, ◌++◌, OnOk, string_bytes};
-ghost use Rattle.farm_status.specs.Figures.{mean, names_text, peers_up, refused, state_word};
+ghost use Rattle.farm_status.specs.Figures.{names_text, state_class, state_word};
+ghost use Rattle.farm_status.specs.Health.{what_cannot_be};
 
 use crate::escape::push_html;
+use crate::figures::{peers_up, within};
+use crate::health::{Health, health_of};
 use crate::names::code_name;
 use crate::numbers::{Grouped, Seconds, Size, Span, percent};
 use crate::status::{BookStatus, FrontStatus, Peer, PeerState, Status, Work};
+use crate::tiles::push_tiles;
 use farm_tally::{Answers, Times};
 use std::alloc::AllocError;
 
@@ -36,6 +40,8 @@ th{color:#57606a;font-weight:600}
 .up{color:#1a7f37}
 .connecting{color:#9a6700}
 .down{color:#cf222e}
+.away{color:#57606a}
+.banner{padding:.6rem 1rem;border:1px solid #cf222e;border-radius:.5rem;background:#ffebe9;color:#82071e;font-weight:600}
 .bar{width:35%}
 .bar i{display:block;height:.8rem;min-width:1px;border-radius:.2rem;background:#0969da}
 .bar i.full{background:#cf222e}
@@ -48,16 +54,6 @@ const FOOT: &str =
 </body>
 </html>
 "#;
-
-/// How many neighbours are up.
-fn peers_up(peers: &[Peer]) -> u64
-    ensures { result ≡ peers_up peers.now }
-{
-    peers
-        .iter()
-        .filter(|peer| peer.state == PeerState::Up)
-        .count() as u64
-}
 
 /// The names of the nodes of the process, one behind the other.
 fn push_names(out: &mut String, names: &[String]) -> Result<(), AllocError>
@@ -99,99 +95,27 @@ fn push_head(out: &mut String, status: &Status<'_>) -> Result<(), AllocError> {
     out.push_str("</p>\n")
 }
 
-/// A number that is seen at once, and what it counts.
-fn tile(out: &mut String, is_bad: bool, number: u64, what: &str) -> Result<(), AllocError> {
-    let class = if is_bad { "tile bad" } else { "tile" };
-    let number = Grouped(number);
-    write!(
-        out,
-        "<div class=\"{class}\"><b>{number}</b><span>{what}</span></div>\n"
-    )
-}
-
-/// A part of a whole that is seen at once.
-fn tile_of(
-    out: &mut String,
-    is_bad: bool,
-    part: u64,
-    whole: u64,
-    what: &str,
-) -> Result<(), AllocError> {
-    let class = if is_bad { "tile bad" } else { "tile" };
-    let (part, whole) = (Grouped(part), Grouped(whole));
-    write!(
-        out,
-        "<div class=\"{class}\"><b>{part} of {whole}</b><span>{what}</span></div>\n"
-    )
-}
-
-/// How many answers were no success: those with a Result-Code of 3000 and above (RFC 6733, section 7.1), and those with none.
-fn refused(answers: &Answers) -> u64
-    ensures { result ≡ refused answers.now }
+/// What cannot be done with a request where a node cannot do its work.
+fn what_cannot_be(work: &Work) -> &'static str
+    ensures { result.now ≡ what_cannot_be work.now }
 {
-    let mut sum: u64 = 0;
-    for at in &answers.codes {
-        if at.code >= 3_000 || at.code == 0 {
-            sum = sum.saturating_add(at.count);
-        }
-    }
-    sum
-}
-
-/// The mean of all times, in milliseconds.
-fn mean(times: &Times) -> u64
-    ensures { result ≡ mean times.now }
-{
-    match times.sum.checked_div(times.count) {
-        Some(mean) => mean,
-        None => 0,
-    }
-}
-
-/// What is to be seen at one look.
-fn push_tiles(out: &mut String, status: &Status<'_>) -> Result<(), AllocError> {
-    let tally = status.tally;
-    let (up, all) = (peers_up(&status.peers), status.peers.len() as u64);
-    out.push_str("<div class=\"tiles\">\n")?;
-    tile_of(out, up < all, up, all, "neighbours up")?;
-    tile(out, false, tally.requests, "requests")?;
-    tile(out, false, tally.answers.total(), "answers")?;
-    tile(out, false, refused(&tally.answers), "of these refusals")?;
-    push_work_tiles(out, &status.work)?;
-    tile(out, false, tally.failovers, "failovers")?;
-    tile(out, false, mean(&tally.times), "ms a request")?;
-    out.push_str("</div>\n")
-}
-
-/// What is under way, and what the book has come to.
-fn push_work_tiles(out: &mut String, work: &Work) -> Result<(), AllocError> {
     match work {
-        Work::Relay {
-            pending,
-            limit,
-            mismatched,
-        } => {
-            tile_of(
-                out,
-                pending >= limit,
-                *pending,
-                *limit,
-                "requests under way",
-            )?;
-            tile(out, *mismatched > 0, *mismatched, "answers mismatched")
-        }
-        Work::Fronts { fronts, book } => {
-            let mut waiting: u64 = 0;
-            for front in fronts {
-                waiting = waiting.saturating_add(front.waiting);
-            }
-            tile(out, false, waiting, "requests under way")?;
-            match book {
-                Some(book) => tile(out, false, book.charges, "charges"),
-                None => Ok(()),
-            }
-        }
+        Work::Relay { .. } => "forwarded",
+        Work::Fronts { .. } => "charged",
     }
+}
+
+/// Where the node cannot do its work, that and why stands above all else.
+fn push_banner(out: &mut String, status: &Status<'_>) -> Result<(), AllocError> {
+    let health = health_of(&status.peers, &status.work);
+    if health == Health::Well {
+        return Ok(());
+    }
+    let what = what_cannot_be(&status.work);
+    write!(
+        out,
+        "<p class=\"banner\">No request can be {what}: {health}.</p>\n"
+    )
 }
 
 /// The neighbours.
@@ -220,15 +144,26 @@ fn state_word(state: PeerState) -> &'static str
     }
 }
 
+/// How the state of a neighbour is shown: one that is down is a fault where requests are sent there, and else it may just not have
+/// come.
+fn state_class(peer: &Peer) -> &'static str
+    ensures { result.now ≡ state_class peer.now }
+{
+    match peer.state {
+        PeerState::Down if !peer.takes_requests => "away",
+        state => state_word(state),
+    }
+}
+
 fn push_peer(out: &mut String, peer: &Peer) -> Result<(), AllocError> {
     out.push_str("<tr><td>")?;
     push_html(out, &peer.local)?;
     out.push_str("</td><td>")?;
     push_html(out, &peer.name)?;
-    let state = state_word(peer.state);
+    let (class, state) = (state_class(peer), state_word(peer.state));
     write!(
         out,
-        "</td><td class=\"s {state}\">{state}</td><td class=\"n\">"
+        "</td><td class=\"s {class}\">{state}</td><td class=\"n\">"
     )?;
     if let Some(conn) = peer.conn {
         write!(out, "{conn}")?;
@@ -263,6 +198,37 @@ fn push_answers(out: &mut String, answers: &Answers) -> Result<(), AllocError> {
     out.push_str("</table>\n")
 }
 
+/// How long so many thousandths of the requests took at most.
+fn push_percentile(
+    out: &mut String,
+    times: &Times,
+    name: &str,
+    thousandths: u64,
+) -> Result<(), AllocError> {
+    match within(times, thousandths) {
+        Some(bound) => {
+            let bound = Grouped(bound);
+            write!(out, "{name}: at most {bound} ms. ")
+        }
+        None => {
+            let greatest = Grouped(times.rows[times.rows.len() - 1].bound);
+            write!(out, "{name}: above {greatest} ms. ")
+        }
+    }
+}
+
+/// The median, and how long the slowest took, if there was a request.
+fn push_percentiles(out: &mut String, times: &Times) -> Result<(), AllocError> {
+    if times.count == 0 {
+        return Ok(());
+    }
+    out.push_str("<p>")?;
+    push_percentile(out, times, "p50", 500)?;
+    push_percentile(out, times, "p99", 990)?;
+    push_percentile(out, times, "p99.9", 999)?;
+    out.push_str("</p>\n")
+}
+
 /// How long requests took, each row without those before it.
 fn push_times(out: &mut String, times: &Times) -> Result<(), AllocError> {
     out.push_str(
@@ -278,7 +244,8 @@ fn push_times(out: &mut String, times: &Times) -> Result<(), AllocError> {
     let from = Seconds(least);
     write!(out, "<tr><td>more than {from}</td>")?;
     push_bar(out, times.count.saturating_sub(before), times.count)?;
-    out.push_str("</table>\n")
+    out.push_str("</table>\n")?;
+    push_percentiles(out, times)
 }
 
 /// What is under way at fronts.
@@ -349,6 +316,7 @@ fn push_losses(out: &mut String, status: &Status<'_>) -> Result<(), AllocError> 
 /// Puts the page behind a text.
 pub fn push_page(out: &mut String, status: &Status<'_>) -> Result<(), AllocError> {
     push_head(out, status)?;
+    push_banner(out, status)?;
     push_tiles(out, status)?;
     push_peers(out, status)?;
     push_work(out, &status.work)?;
