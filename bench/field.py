@@ -1,6 +1,8 @@
 #!/usr/bin/env python3
 """What relays carry, ours beside those of other makes: bench/field.py [--seconds 3] [--program PROGRAM] [--relays NAME,..] [--write]
 
+With --before PROGRAM, another build of ours, both builds alone are measured by turns, --rounds 5 times, and medians are compared.
+
 Each relay in turn stands between one or four clients and a server that answers at once, over TCP on this machine, with 1, 32
 or 256 requests unanswered on each connection. Every answer is checked: Hop-by-Hop and End-to-End Identifier, Session-Id,
 Result-Code. Prints a table in Markdown: requests a second, the relay's processor time for each, the median and the slowest
@@ -22,6 +24,7 @@ import re
 import shutil
 import signal
 import socket
+import statistics
 import subprocess
 import sys
 import tempfile
@@ -256,6 +259,22 @@ class Bench:
                    "Slowest hundredth", "Memory, MB", "Faults"]
         return "| " + " | ".join(columns) + " |\n" + "|---" * len(columns) + "|"
 
+    def by_turns(self, name, room, words):
+        """What this build carries and what the one before does: the median of some runs by turns, by connections and window."""
+        rates = {}
+        for _ in range(words.rounds):
+            for place, program in enumerate((words.program, words.before)):
+                for key, it in self.run(name, room, program, words.seconds).items():
+                    rates.setdefault(key, ([], []))[place].append(it.rate)
+        return {key: [statistics.median(of) for of in both] for key, both in rates.items()}
+
+    def compare(self, room, words):
+        """Prints what each of ours carries as a multiple of what it did before."""
+        print("\nName, connections, window, requests a second now and before, and the multiple:\n")
+        for name in words.names.split(","):
+            for (count, window), (now, before) in self.by_turns(name, room, words).items():
+                print(f"| {name} | {count} | {window} | {now:,.0f} | {before:,.0f} | {now / max(before, 1):.3f} |", flush=True)
+
     def measure(self, doc):
         """Measures those that the command line names, prints what it finds, and writes the file where that is asked for."""
         parser = argparse.ArgumentParser(description=doc, formatter_class=argparse.RawDescriptionHelpFormatter)
@@ -263,10 +282,15 @@ class Bench:
         parser.add_argument("--program", default=str(HERE.parent / "crates/farm_live/out/farm_live"))
         parser.add_argument(f"--{self.heading.lower()}", dest="names", default=",".join(self.names))
         parser.add_argument("--write", action="store_true", help=f"write bench/figures/{self.heading.lower()}.md")
+        parser.add_argument("--before", help="another build of the program, with which this one is compared")
+        parser.add_argument("--rounds", type=int, default=5, help="how often each build is measured, with --before")
         words = parser.parse_args()
         with tempfile.TemporaryDirectory() as room:
             subprocess.run(["rustc", "--edition", "2024", "-O", "-o", f"{room}/ends", str(HERE / "field/ends.rs")], check=True)
             print(self.head())
+            if words.before:
+                self.compare(room, words)
+                return {}
             load = busy()
             figures = {name: self.run(name, room, words.program, words.seconds) for name in words.names.split(",")}
         print("\n" + self.ratios(figures))
