@@ -1,7 +1,7 @@
 #!/usr/bin/env python3
 """How long a relay takes to forward a request and to match its answer, with requests pending: bench/relay.py
 
-It plays schedules through the program (./farm builds it) and takes the best of some runs of each. All have so many
+It plays schedules through the program (./farm prove builds it) and takes the best of some runs of each. All have so many
 requests pending at the relay, which stay on their way to the front. Then a number of debits go to the front and back,
 once over the relay and once over the client's own connection with the front, and the same requests are sent and lost.
 What one debit takes more over the relay is two hops more, the forwarding and the match; what a lost one takes is that
@@ -74,7 +74,7 @@ def microseconds(kind, begun):
 
 def main():
     if not PROGRAM.exists():
-        sys.exit("build the program first: ./farm < /dev/null")
+        sys.exit("build the program first: ./farm prove")
     begun = seconds(opening(PENDING))
     print(f"{PENDING} requests pending, {DEBITS} debits of {len(DEBIT) // 2} octets, the best of {RUNS} runs each")
     for name, kind in ("over a relay", over_relay), ("without a relay", direct), ("sent and lost", lost):
