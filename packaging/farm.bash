@@ -14,6 +14,10 @@ _farm() {
       mapfile -t COMPREPLY < <(compgen -W 'off error warn info debug' -- "$word")
       return
       ;;
+    --log-format)
+      mapfile -t COMPREPLY < <(compgen -W 'text logfmt' -- "$word")
+      return
+      ;;
     --answers | --status | --at) return ;;
     --name | --client | --peer)
       # the names of nodes in the site file that stands in the line
@@ -23,9 +27,9 @@ _farm() {
       ;;
   esac
   case ${COMP_WORDS[1]} in
-    relay) mapfile -t COMPREPLY < <(compgen -W '--site --name --answers --status --token --record --log' -- "$word") ;;
-    front) mapfile -t COMPREPLY < <(compgen -W '--site --book --clock-behind --answers --status --token --record --log' -- "$word") ;;
-    send) mapfile -t COMPREPLY < <(compgen -W '--site --client --peer --record --log' -- "$word") ;;
+    relay) mapfile -t COMPREPLY < <(compgen -W '--site --name --answers --status --token --record --log --log-format' -- "$word") ;;
+    front) mapfile -t COMPREPLY < <(compgen -W '--site --book --clock-behind --change-terms --answers --status --token --record --log --log-format' -- "$word") ;;
+    send) mapfile -t COMPREPLY < <(compgen -W '--site --client --peer --record --log --log-format' -- "$word") ;;
     stop) mapfile -t COMPREPLY < <(compgen -W '--at --token' -- "$word") ;;
     audit | schedule)
       mapfile -t COMPREPLY < <(compgen -W '--site' -- "$word"; compgen -f -- "$word")
@@ -33,12 +37,12 @@ _farm() {
     picture) mapfile -t COMPREPLY < <(compgen -W '--site --from --to' -- "$word") ;;
     book)
       if [ "$COMP_CWORD" -eq 2 ]; then
-        mapfile -t COMPREPLY < <(compgen -W 'create check report export backup' -- "$word")
+        mapfile -t COMPREPLY < <(compgen -W 'create check report export change-terms backup' -- "$word")
       else
         mapfile -t COMPREPLY < <(compgen -W '--site' -- "$word"; compgen -f -- "$word")
       fi
       ;;
-    check) mapfile -t COMPREPLY < <(compgen -W '--site' -- "$word") ;;
+    check) mapfile -t COMPREPLY < <(compgen -W '--site --book' -- "$word") ;;
     replay | report) mapfile -t COMPREPLY < <(compgen -W '--site --skipped' -- "$word") ;;
   esac
 }

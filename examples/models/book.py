@@ -5,7 +5,8 @@ What the RFC leaves open is this farm's choice:
 - A service is named by its Rating-Group and the first of its Service-Identifiers.
 - What an account has free is its balance less what is reserved of it, in all its sessions.
 - A service that is settled loses its reservation and pays what was used in full, below zero too; all services of a
-  request do so before the first is granted anew. A grant reserves what it costs. Where not all can be paid, the blocks
+  request do so before the first is granted anew. What was used costs what it did at the last grant of that service in
+  that session, and else what it costs now. A grant reserves what it costs. Where not all can be paid, the blocks
   that can be paid are granted, and are the last; where that is none, the service is answered 4012.
 - A service of the command itself, without Multiple-Services-Credit-Control, gives the command its result; a session
   opens with 2001 alone.
@@ -14,6 +15,8 @@ What the RFC leaves open is this farm's choice:
 - A session is due twice its validity after the moment of its last entry that is no EVENT, whatever its outcome and
   however moments run. A sweep ends the sessions that are due at its moment, with what they hold. It is an entry where
   it ends one, and does nothing where there is no room for that entry.
+- A change of the terms is an entry: accounts join with their openings, and tariffs hold from then on. It moves no balance
+  and nothing that is held.
 """
 from dataclasses import dataclass
 
@@ -31,24 +34,27 @@ class Full(Exception):
 
 @dataclass
 class Session:
-    """`held` has what is reserved for each name of a service; `deadline` is a moment, in milliseconds."""
+    """`held` has what is reserved for each name of a service, `prices` the tariff of its last grant; `deadline` is a
+    moment, in milliseconds."""
 
     account: tuple
     held: dict
+    prices: dict
     deadline: int = 0
 
 
 class Book:
-    """`kept` has a request and its reply for each Session-Id and CC-Request-Number; these and the sweeps that ended
-    sessions are the entries of the history."""
+    """`kept` has a request and its reply for each Session-Id and CC-Request-Number; these, the sweeps that ended sessions
+    and the changes of the terms are the entries of the history."""
 
     def __init__(self, site):
         self.site, self.balances, self.sessions, self.kept = site, dict(site.accounts), {}, {}
-        self.sweeps = 0
+        self.tariffs = site.group_tariffs, site.ident_tariffs
+        self.sweeps = self.changes = 0
 
     @property
     def entries(self):
-        return len(self.kept) + self.sweeps
+        return len(self.kept) + self.sweeps + self.changes
 
     def reserved(self, account):
         return sum(sum(it.held.values()) for it in self.sessions.values() if it.account == account)
@@ -81,11 +87,19 @@ class Book:
             for name in due:
                 del self.sessions[name]
 
+    def change_terms(self, joining, tariffs):
+        """Accounts join, each with its opening, and these tariffs hold from now on; none where those stay that hold."""
+        self.changes += 1
+        self.balances.update(joining)
+        if tariffs is not None:
+            self.tariffs = tariffs
+
     def account_of(self, request):
         return next((subscriber for subscriber in request.subscribers if subscriber in self.balances), None)
 
     def tariff(self, service):
-        return self.site.tariff(*service.name)
+        by_group, by_ident = self.tariffs
+        return by_ident.get(service.identifier) if service.group is None else by_group.get(service.group)
 
     def initial(self, request):
         if request.session in self.sessions:
@@ -93,7 +107,7 @@ class Book:
         account = self.account_of(request)
         if account is None:
             return Reply(USER_UNKNOWN)
-        self.sessions[request.session] = Session(account, {})
+        self.sessions[request.session] = Session(account, {}, {})
         reply = self.settled(request)
         if reply.code != SUCCESS:
             del self.sessions[request.session]
@@ -110,9 +124,9 @@ class Book:
     def settled(self, request):
         session = self.sessions[request.session]
         for service in request.services:
-            tariff = self.tariff(service)
+            session.held.pop(service.name, None)
+            tariff = session.prices.get(service.name) or self.tariff(service)
             if tariff:
-                session.held.pop(service.name, None)
                 self.balances[session.account] -= tariff.cost(service.used[tariff.unit])
         replies = tuple(self.granted(session, request, service) for service in request.services)
         bare = next((reply for reply in replies if reply.bare), None)
@@ -128,7 +142,7 @@ class Book:
         units, last = tariff.grant(self.free(session.account), asked_units(service, tariff))
         if last and units == 0:
             return ServiceReply(*service.name, service.bare, CREDIT_LIMIT_REACHED)
-        session.held[service.name] = tariff.cost(units)
+        session.held[service.name], session.prices[service.name] = tariff.cost(units), tariff
         return ServiceReply(*service.name, service.bare, SUCCESS, tariff.unit, units, self.site.validity, last)
 
     def event(self, request):

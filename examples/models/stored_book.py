@@ -1,11 +1,15 @@
 #!/usr/bin/env python3
 """A book on disk over the row site, worked out from the rules alone (docs/BOOK.md, docs/DEFINITIONS.md).
 
+    stored_book.py [changed] TASK ..    of a book whose terms change, where the first word says so
     stored_book.py fill FILE [MORE [LATER]]
                                         writes entries of each kind into a book without one, which `farm book create` made, and
                                         so many debits behind them, all so many milliseconds later
-    stored_book.py check|report|export FILE [MORE]
-                                        prints what `farm book` must print of it
+    stored_book.py changed fill-twice FILE
+                                        writes these, and behind them the first change once more
+    stored_book.py check|summary|report|export FILE [MORE]
+                                        prints what `farm book` must print of it, with a line more where the row site has other terms, or
+                                        without it, as behind a backup
     stored_book.py near FILE [MORE]     prints what `check` must print where the book can have as many entries as it has
     stored_book.py rows FILE            prints what stands in the file, a line for each row of both tables
     stored_book.py identity FILE        prints which book it is
@@ -22,14 +26,19 @@ from book import Book
 from credit_control import (CHECK_BALANCE, DIRECT_DEBITING, EVENT, INITIAL, PRICE_ENQUIRY, REFUND_ACCOUNT, TERMINATION,
                             UPDATE, Request, Service)
 from row_site import CC_TOTAL_OCTETS, ROW_SITE
+from site_data import Tariff
 
 # Time, octets, and service-specific units.
 COUNTS = 420, CC_TOTAL_OCTETS, 417
+UNITS = "time", "octets", "units"
 TYPES = {INITIAL: "initial", UPDATE: "update", TERMINATION: "termination", EVENT: "event"}
 ACTIONS = {None: "-", DIRECT_DEBITING: "direct-debiting", REFUND_ACCOUNT: "refund-account", CHECK_BALANCE: "check-balance",
            PRICE_ENQUIRY: "price-enquiry"}
 
 # ---- a history with an entry of each kind
+
+# Whether the terms change in it.
+CHANGED = False
 
 FIRST, SECOND = [(0, "491700000001")], [(0, "491700000002")]
 
@@ -57,42 +66,84 @@ STORY = [
 ]
 
 
+class Change:
+    """A change of the terms: the accounts that join, with their openings, and the tariffs of Rating-Groups, none where those
+    stay that hold."""
+
+    def __init__(self, joining, tariffs=None):
+        self.joining, self.tariffs = joining, tariffs
+
+
+SIXTH = [(0, "491700000006")]
+DEARER = Tariff(CC_TOTAL_OCTETS, block=1000, price=7, quantum=5000, greatest=10_000)
+
+# Two changes behind it: an account is refused, joins, and is charged; a session is granted at 5 a block, pays that when 7 holds, is granted
+# at 7 and pays that.
+CHANGES = [
+    (1_204_000, event(10, DIRECT_DEBITING, SIXTH, 3200)),
+    (1_205_000, Change({SIXTH[0]: 50, (1, 'a "%'): -3})),
+    (1_206_000, event(11, DIRECT_DEBITING, SIXTH, 3200)),
+    (1_207_000, Request("c1;4", 0, INITIAL, None, FIRST, [of(3200)])),
+    (1_208_000, Change({}, {10: DEARER})),
+    (1_209_000, Request("c1;4", 1, UPDATE, None, [], [of(4000, 3200)])),
+    (1_210_000, event(12, DIRECT_DEBITING, SECOND, 1000)),
+    (1_211_000, Request("c1;4", 2, TERMINATION, None, [], [of(None, 2500)])),
+]
+
+
 class Entry:
-    """An entry as the book takes it: the account that it charges, its debit and its reply, none of them at a sweep."""
+    """An entry as the book takes it: the account that it charges, its debit and its reply, none of them at a sweep or a change of
+    the terms."""
 
     def __init__(self, book, place, moment, request):
         self.place, self.moment, self.request = place, moment, request
         if request is None:
             book.sweep(moment)
             return
+        if isinstance(request, Change):
+            book.change_terms(request.joining, request.tariffs and (request.tariffs, {}))
+            return
         opener = book.sessions[request.session].account if request.session in book.sessions else None
         self.account = opener if request.kind in (UPDATE, TERMINATION) else book.account_of(request)
         before = sum(book.balances.values())
         self.reply = book.take(request, moment)
         self.debit = before - sum(book.balances.values())
+        # A row has what each service counts, also where the answer does not show it.
+        rated = [book.tariff(it) for it in self.reply.services]
+        self.units = [tariff.unit if tariff else None for tariff in rated]
 
 
 def history(more=0, later=0):
     """The entries of the story and of so many debits behind it, at later moments, and the book behind them."""
-    book, last = Book(ROW_SITE), STORY[-1][0]
+    story = STORY + (CHANGES if CHANGED else [])
+    book, last = Book(ROW_SITE), story[-1][0]
     debits = [(last + number, event(1000 + number, DIRECT_DEBITING, FIRST, 1)) for number in range(more)]
-    return [Entry(book, place, later + moment, request) for place, (moment, request) in enumerate(STORY + debits)], book
+    return [Entry(book, place, later + moment, request) for place, (moment, request) in enumerate(story + debits)], book
 
 
 # ---- as rows
 
 
+def tariffs_of(change):
+    """Group, ident, the number of what its units are, block, price, quantum and greatest of each tariff."""
+    return [(group, None, COUNTS.index(it.unit), it.block, it.price, it.quantum, it.greatest) for group, it in change.tariffs.items()]
+
+
 def step_of(entry):
     if entry.request is None:
         return b"\0"
+    if isinstance(entry.request, Change):
+        change = entry.request
+        return rows.changed([rows.account(kind, text.encode(), opening) for (kind, text), opening in change.joining.items()],
+                            change.tariffs and [rows.tariff(*words) for words in tariffs_of(change)])
     request, reply = entry.request, entry.reply
     services = [rows.service(*service.name, service.bare,
                              None if service.asked is None else [service.asked.get(code) for code in COUNTS],
                              [service.used[code] for code in COUNTS]) for service in request.services]
     asked = rows.request(request.session.encode(), request.number, request.kind, request.action,
                          [(kind, text.encode()) for kind, text in request.subscribers], services)
-    answered = rows.reply(reply.code, [rows.service_reply(it.group, it.identifier, it.bare, it.code, it.unit, it.granted, it.validity, it.last)
-                                       for it in reply.services],
+    answered = rows.reply(reply.code, [rows.service_reply(it.group, it.identifier, it.bare, it.code, unit, it.granted, it.validity, it.last)
+                                       for it, unit in zip(reply.services, entry.units)],
                           None if reply.cost is None else (reply.cost, ROW_SITE.exponent, ROW_SITE.currency), reply.check)
     return rows.taken(asked, answered, entry.debit)
 
@@ -118,11 +169,22 @@ def quoted(text):
     return '"' + "".join(chr(octet) if 32 < octet < 127 and octet not in b'"%' else f"%{octet:02X}" for octet in octets) + '"'
 
 
+def line_of_change(change):
+    words = [f" accounts {len(change.joining)}"]
+    words += [f"account {kind} {quoted(text)} opening {opening}" for (kind, text), opening in change.joining.items()]
+    words += ["tariffs", "-" if change.tariffs is None else str(len(change.tariffs))]
+    for group, ident, kind, *numbers in tariffs_of(change) if change.tariffs else []:
+        words += ["tariff", optional(group), optional(ident), UNITS[kind], *map(str, numbers)]
+    return " ".join(words)
+
+
 def line_of(entry):
     head = f"entry {entry.place} moment {entry.moment}"
     request = entry.request
     if request is None:
         return f"{head} sweep"
+    if isinstance(request, Change):
+        return f"{head} change{line_of_change(request)}"
     account = f'{entry.account[0]} {quoted(entry.account[1])}' if entry.account else "- -"
     reply = entry.reply
     words = [f"{head} charge session {quoted(request.session)} number {request.number}",
@@ -186,18 +248,33 @@ def identity(path):
     yield identity_of(path)
 
 
-def check(path, more=0):
+def summary(path, more=0):
     entries, _ = history(more)
-    charges = sum(entry.request is not None for entry in entries)
+    charges = sum(isinstance(entry.request, Request) for entry in entries)
+    sweeps = sum(entry.request is None for entry in entries)
+    changes = len(entries) - charges - sweeps
     yield f"book {identity_of(path)}"
-    yield f"entries {len(entries)} charges {charges} sweeps {len(entries) - charges}"
+    yield f"entries {len(entries)} charges {charges} sweeps {sweeps}" + (f" changes {changes}" if changes else "")
     yield f"last {entries[-1].moment}"
     yield f"sum {stored(entries)[-1][-16:].hex()}"
 
 
+def difference():
+    """The line of a site, the row site, whose tariffs do not hold behind the story; its accounts are all there."""
+    groups, idents = history()[1].tariffs
+    if (groups, idents) != (ROW_SITE.group_tariffs, ROW_SITE.ident_tariffs):
+        back = Change({}, ROW_SITE.group_tariffs)
+        yield "look: the site has other terms:" + line_of_change(back)
+
+
+def check(path, more=0):
+    yield from summary(path, more)
+    yield from difference()
+
+
 def near(path, more=0):
-    yield from check(path, more)
-    entries = len(STORY) + more
+    yield from summary(path, more)
+    entries = len(history(more)[0])
     yield f"look: the book is nearly full: {entries} of {entries} entries"
 
 
@@ -210,11 +287,16 @@ def export(_, more=0):
 
 
 def main():
-    task, path, *more = sys.argv[1:]
+    global CHANGED
+    CHANGED = sys.argv[1:2] == ["changed"]
+    task, path, *more = sys.argv[2:] if CHANGED else sys.argv[1:]
+    if task == "fill-twice":
+        CHANGES.append((1_212_000, CHANGES[1][1]))
+        task = "fill"
     if task in ("fill", "harm", "cut"):
         {"fill": fill, "harm": harm, "cut": cut}[task](path, *map(int, more))
     else:
-        tasks = {"identity": identity, "check": check, "near": near, "report": report, "export": export, "rows": rows_in}
+        tasks = {"identity": identity, "check": check, "summary": summary, "near": near, "report": report, "export": export, "rows": rows_in}
         print(*tasks[task](path, *map(int, more)), sep="\n")
 
 

@@ -61,6 +61,19 @@ def taken(asked, answered, debit):
     return b"\1" + asked + answered + signed(debit)
 
 
+def account(kind, owner, opening):
+    return number(kind, 4) + text(owner) + signed(opening)
+
+
+def tariff(group, ident, kind, block, price, quantum, greatest):
+    return (optional(group, 4) + optional(ident, 4) + number(kind, 1)
+            + b"".join(number(it, 8) for it in (block, price, quantum, greatest)))
+
+
+def changed(joining, tariffs):
+    return b"\2" + listed(joining) + (b"\0" if tariffs is None else b"\1" + listed(tariffs))
+
+
 def chained(before, place, moment, step):
     body = number(place, 8) + number(moment, 8) + step
     return body + hashlib.sha256(before + body).digest()[:16]
@@ -154,12 +167,34 @@ class Reader:
         self.optional(self.cost)
         self.optional(lambda: self.number(4))
 
+    def account(self):
+        self.number(4)
+        self.text()
+        if not -2 ** 63 <= self.signed() < 2 ** 63:
+            raise Fault("OutOfRange")
+
+    def tariff(self):
+        name = self.optional(lambda: self.number(4)), self.optional(lambda: self.number(4))
+        kind = self.one_of(1, {0, 1, 2}, "UnknownKind")
+        block, price, *units = (self.number(8) for _ in range(4))
+        most = 2 ** 32 if kind == 0 else 2 ** 63
+        sound = any(it is not None for it in name) and 1 <= block <= 2 ** 32 and price <= 2 ** 20
+        return sound and all(1 <= it < most for it in units)
+
+    def tariffs(self):
+        if not all(self.listed(self.tariff)):
+            raise Fault("BadTariffs")
+
     def row(self):
         place, moment = self.number(8), self.number(8)
-        if self.flag("UnknownKind"):
+        kind = self.one_of(1, {0, 1, 2}, "UnknownKind")
+        if kind == 1:
             self.request()
             self.reply()
             self.signed()
+        if kind == 2:
+            self.listed(self.account)
+            self.optional(self.tariffs)
         total = self.take(16)
         if self.octets:
             raise Fault("LeftOver")
@@ -220,7 +255,10 @@ STEPS = [
     ("PRICE_ENQUIRY", taken(request(b"smsc;1;1", 10, 4, 3, OWNER, [ASKING]), reply(2001, cost=(-2 ** 63, -2, 978)), 0)),
     ("EVENT without an action", taken(request(b"smsc;1;1", 11, 4, None, OWNER, []), reply(5012), -2 ** 127)),
     ("sweep", b"\0"),
+    ("change of terms", changed([account(0, b"491700000001", -2 ** 63)], [tariff(10, None, 1, 1000, 7, 5000, 2 ** 63 - 1)])),
 ]
+# So many of them stand in the stores.
+STORED = 9
 
 
 def rows_of(steps):
@@ -233,7 +271,8 @@ def rows_of(steps):
 
 # ---- what is printed
 
-CHANGES = [(8, 16, 2), (3, 37, 5), (3, 38, 2), (3, 39, 4), (1, 103, 62), (1, 103, 64), (2, 50, 1), (2, 62, 127), (2, 62, 128)]
+CHANGES = [(8, 16, 3), (9, 49, 2), (9, 50, 1), (9, 66, 2), (9, 81, 3), (9, 94, 1), (9, 97, 0),
+           (3, 37, 5), (3, 38, 2), (3, 39, 4), (1, 103, 62), (1, 103, 64), (2, 50, 1), (2, 62, 127), (2, 62, 128)]
 FLIPPED = [(0, 7), (1, 15), (3, 40), (5, 100), (8, 16), (8, 32)]
 
 
@@ -297,6 +336,6 @@ def damage(rows):
 
 if __name__ == "__main__":
     ROWS = rows_of(STEPS)
-    for subject in (spelling, abouts, appending, crashes, damage):
-        for line in subject(ROWS):
+    for subject, rows in ((spelling, ROWS), (abouts, ROWS), (appending, ROWS[:STORED]), (crashes, ROWS[:STORED]), (damage, ROWS[:STORED])):
+        for line in subject(rows):
             print(line)

@@ -7,7 +7,7 @@ use Rattle.book_rows.specs.declared.row.Row.{Row}
 use Rattle.book_rows.specs.Row.{IsRow, spelled}
 use Rattle.book_rows.proofs.RowExact.{spelled_once}
 use Rattle.cc_book.specs.declared.entry.Entry.{Entry}
-use Rattle.cc_book.specs.declared.entry.Entry.TheVariants.{Take, Sweep}
+use Rattle.cc_book.specs.declared.entry.Entry.TheVariants.{Take, Sweep, ChangeTerms}
 use Rattle.cc_book.specs.declared.terms.Terms.{Terms}
 use Rattle.book_entries.specs.Entries.{entry_of, history_of}
 use Rattle.book_entries.specs.Rows.{HasRowAt, IsRowOf, last_sum, moment_of, row_behind, rows_from, rows_of, step_behind, stored_of, sum_of}
@@ -17,6 +17,7 @@ use Rattle.book_entries.specs.Rows.{HasRowAt, IsRowOf, last_sum, moment_of, row_
 entry_again : (terms : Terms) (before : List Entry) (sum : ℕ) (entry : Entry) → entry_of (row_behind terms before sum entry) ≡ entry
 entry_again terms before sum (Take moment request) = refl
 entry_again terms before sum (Sweep moment) = refl
+entry_again terms before sum (ChangeTerms moment change) = refl
 
 history_from : (terms : Terms) (before : List Entry) (sum : ℕ) (after : List Entry) → history_of (rows_from terms before sum after) ≡ after
 history_from terms before sum [] = refl

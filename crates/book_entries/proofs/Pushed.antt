@@ -11,12 +11,14 @@ use Rattle.book_rows.specs.Row.{body, body_of, spelled, sum_after, Chains}
 use Rattle.cc_view.specs.declared.request.CcRequest.{CcRequest}
 use Rattle.cc_view.specs.declared.reply.CcReply.{CcReply}
 use Rattle.cc_book.specs.declared.entry.Entry.{Entry}
-use Rattle.cc_book.specs.declared.entry.Entry.TheVariants.{Take, Sweep}
+use Rattle.cc_book.specs.declared.entry.Entry.TheVariants.{Take, Sweep, ChangeTerms}
 use Rattle.cc_book.specs.declared.terms.Terms.{Terms}
+use Rattle.cc_book.specs.declared.terms_change.TermsChange.{TermsChange}
 use Rattle.cc_book.specs.declared.plan.Plan.{Plan}
 use Rattle.cc_book.specs.declared.plan.Taken.{Taken}
-use Rattle.cc_book.specs.AccountMachine.{debit_after, postings_of, reply_after, reply_to}
+use Rattle.cc_book.specs.AccountMachine.{debit_after, postings_of, reply_after, reply_to, terms_of}
 use Rattle.cc_book.specs.Balance.{debit_of}
+use Rattle.cc_book.specs.Changing.{with_change}
 use Rattle.cc_book.specs.declared.book.Answered.{Answered}
 use Rattle.cc_book.specs.Planning.{IsGoodFor, IsRepeated, IsTakenWith, after_plan, after_taken, answer_planned}
 use Rattle.cc_book.specs.Taking.{Ledger, after_sweep_with, with_take}
@@ -70,11 +72,11 @@ entry_is a b e = cc
 request_is : (m n : Moment) (r q : CcRequest) → Take m r ≡ Take n q → r ≡ q
 request_is m n r q e = cc
 
-reply_is : (terms : Terms) (history : List Entry) (request : CcRequest) → reply_after terms (postings_of terms history) request ≡ reply_to terms history request
+reply_is : (terms : Terms) (history : List Entry) (request : CcRequest) → reply_after (terms_of terms history) (postings_of terms history) request ≡ reply_to terms history request
 unfolding reply_to
 reply_is terms history request = refl
 
-debit_is : (terms : Terms) (history : List Entry) (request : CcRequest) → debit_after terms (postings_of terms history) request ≡ debit_of terms history request
+debit_is : (terms : Terms) (history : List Entry) (request : CcRequest) → debit_after (terms_of terms history) (postings_of terms history) request ≡ debit_of terms history request
 unfolding debit_of
 debit_is terms history request = refl
 
@@ -114,6 +116,9 @@ pub sweep_row : {E : Type 0} (r : Result Row E) (before place : ℕ) (moment : M
     → IfOk r (λ row. (ledger : Ledger) → place ≡ length ledger.history → before ≡ sum_of ledger.terms ledger.history → rows_of ledger.terms (ledger.history ++ Sweep moment ∷ []) ≡ rows_of ledger.terms ledger.history ++ row ∷ [])
 sweep_row (Ok row) before place moment parts chains = λ ledger at e. rows_with ledger.terms ledger.history (Sweep moment) before row e (parts.0 ∙ at) parts.1 parts.2 chains
 sweep_row (Err e) before place moment parts chains = tt
+
+pub change_is : {change c : TermsChange} → c ≡ change → steps.ChangeTerms c ≡ steps.ChangeTerms change
+change_is e = ap (λ (x : TermsChange). steps.ChangeTerms x) e
 
 pub no_row : (ledger : Ledger) (plan : Plan) → plan.taken ≡ None → rows_of ledger.terms (after_plan ledger plan).history ≡ rows_of ledger.terms ledger.history ++ []
 no_row ledger plan is =
@@ -159,4 +164,9 @@ pub swept_again : (old new : Ledger) (moment : Moment) (ended : ℕ) (row : Row)
     → rows_of old.terms (old.history ++ Sweep moment ∷ []) ≡ rows_of old.terms old.history ++ row ∷ [] → spelled row ≡ octets → sum ≡ row.sum.0 → HasTaken old new octets sum
 swept_again old new moment zero row octets sum is some rows same total = absurd (some refl)
 swept_again old new moment (suc more) row octets sum is some rows same total =
+    has_taken old new row octets sum (ap (λ (l : Ledger). l.terms) is) (ap (λ (l : Ledger). l.limit) is) (ap (λ (l : Ledger). rows_of old.terms l.history) is ∙ rows) same total
+
+pub changed_again : (old new : Ledger) (moment : Moment) (change : TermsChange) (row : Row) (octets : List ℕ) (sum : ℕ) → new ≡ with_change old moment change
+    → rows_of old.terms (old.history ++ ChangeTerms moment change ∷ []) ≡ rows_of old.terms old.history ++ row ∷ [] → spelled row ≡ octets → sum ≡ row.sum.0 → HasTaken old new octets sum
+changed_again old new moment change row octets sum is rows same total =
     has_taken old new row octets sum (ap (λ (l : Ledger). l.terms) is) (ap (λ (l : Ledger). l.limit) is) (ap (λ (l : Ledger). rows_of old.terms l.history) is ∙ rows) same total

@@ -5,11 +5,12 @@ use Rattle.book_rows.specs.declared.row.Row.{Row}
 use Rattle.book_rows.specs.declared.row.Step.{Step}
 use Rattle.book_rows.specs.declared.row.Step.TheVariants as steps
 use Rattle.cc_book.specs.declared.entry.Entry.{Entry}
-use Rattle.cc_book.specs.declared.entry.Entry.TheVariants.{Take, Sweep}
+use Rattle.cc_book.specs.declared.entry.Entry.TheVariants.{Take, Sweep, ChangeTerms}
 
 abbrev pub entry_by : Moment → Step → Entry
 entry_by moment (steps.Take taken) = Take moment taken.request
 entry_by moment steps.Sweep = Sweep moment
+entry_by moment (steps.ChangeTerms change) = ChangeTerms moment change
 
 -- the entry that a row tells
 abbrev pub entry_of : Row → Entry

@@ -6,7 +6,7 @@ use Rattle.book_rows.specs.declared.row.Step.{Step}
 use Rattle.book_rows.specs.declared.row.Step.TheVariants as steps
 use Rattle.book_rows.specs.Row.{body, spelled, sum_after, Chains}
 use Rattle.cc_book.specs.declared.entry.Entry.{Entry}
-use Rattle.cc_book.specs.declared.entry.Entry.TheVariants.{Take, Sweep}
+use Rattle.cc_book.specs.declared.entry.Entry.TheVariants.{Take, Sweep, ChangeTerms}
 use Rattle.cc_book.specs.declared.terms.Terms.{Terms}
 use Rattle.cc_book.specs.AccountMachine.{reply_to}
 use Rattle.cc_book.specs.Balance.{debit_of}
@@ -14,13 +14,15 @@ use Rattle.cc_book.specs.Balance.{debit_of}
 abbrev pub moment_of : Entry → Moment
 moment_of (Take moment request) = moment
 moment_of (Sweep moment) = moment
+moment_of (ChangeTerms moment change) = moment
 
 -- What the row of an entry behind others holds: of a request that was taken what was asked, the reply that the account
--- machine gives to it there, and what it debits there.
+-- machine gives to it there, and what it debits there; of a change of the terms what it changes.
 abbrev pub step_behind : Terms → List Entry → Entry → Step
 step_behind terms before (Take moment request) =
     steps.Take (record { request = request; reply = reply_to terms before request; debit = debit_of terms before request })
 step_behind terms before (Sweep moment) = steps.Sweep
+step_behind terms before (ChangeTerms moment change) = steps.ChangeTerms change
 
 -- The row of an entry behind others, whose last row has this sum.
 abbrev pub row_behind : Terms → List Entry → ℕ → Entry → Row

@@ -17,5 +17,6 @@ pub fn entry_of(row: Row) -> Entry
             request: taken.request,
         },
         Step::Sweep => Entry::Sweep { moment },
+        Step::ChangeTerms(change) => Entry::ChangeTerms { moment, change },
     }
 }

@@ -1,7 +1,7 @@
 //! The rows of a book's history, and the history of rows: what is stored of a book is its history, each place once.
 //!
-//! - [`row_of_plan`] makes the row of the request that a plan takes, and [`row_of_sweep`] that of a sweep: with it the rows of
-//!   the book before are those of the book after.
+//! - [`row_of_plan`] makes the row of the request that a plan takes, [`row_of_sweep`] that of a sweep, and [`row_of_change`]
+//!   that of a change of the terms: with it the rows of the book before are those of the book after.
 //! - [`entry_of`] reads a row as an entry again.
 //! - [`take_octets`] takes a stored row into a book again. A row that is not the one that this book gives to its entry is
 //!   refused by name, and the book is as it was: so a book that has taken all stored rows has the history that was stored.
@@ -26,4 +26,4 @@ pub use laws::{
 };
 pub use refusal::RowRefusal;
 pub use replay::take_octets;
-pub use rows::{row_of_plan, row_of_sweep};
+pub use rows::{row_of_change, row_of_plan, row_of_sweep};

@@ -1,7 +1,7 @@
 //! Why a book does not take a stored row.
 
 use book_rows::Fault;
-use cc_book::BookRefusal;
+use cc_book::{BookRefusal, ChangeRefusal};
 use std::alloc::AllocError;
 use thiserror::Error;
 
@@ -19,6 +19,9 @@ pub enum RowRefusal {
     /// The sweep ends no session.
     #[error("its sweep ends no session")]
     EndsNothing,
+    /// The change of the terms says nothing, or an account that joins is there already.
+    #[error("its change of the terms is refused: {0}")]
+    NoChange(ChangeRefusal),
     /// The book gives its entry another row: another place, reply, debit or sum.
     #[error("these terms make another row of its entry")]
     Another,
@@ -38,6 +41,16 @@ impl From<BookRefusal> for RowRefusal {
         match refusal {
             BookRefusal::Full { limit } => RowRefusal::Full(limit),
             BookRefusal::OutOfMemory => RowRefusal::OutOfMemory,
+        }
+    }
+}
+
+impl From<ChangeRefusal> for RowRefusal {
+    fn from(refusal: ChangeRefusal) -> RowRefusal {
+        match refusal {
+            ChangeRefusal::Full { limit } => RowRefusal::Full(limit),
+            ChangeRefusal::OutOfMemory => RowRefusal::OutOfMemory,
+            refusal => RowRefusal::NoChange(refusal),
         }
     }
 }

@@ -5,9 +5,9 @@ ghost use Rattle.book_rows.specs.Row.{spelled};
 ghost use Rattle.book_entries.specs.Replayed.{HasTaken, sum_in};
 
 use crate::refusal::RowRefusal;
-use crate::rows::{row_of_plan, row_of_sweep};
+use crate::rows::{row_of_change, row_of_plan, row_of_sweep};
 use book_rows::{ReadError, Row, Step, Sum, read_row, spell_row};
-use cc_book::Book;
+use cc_book::{Book, TermsChange};
 use cc_view::CcRequest;
 use dia_base::Moment;
 use std::alloc::Global;
@@ -68,6 +68,26 @@ fn take_sweep(
     Ok(sum)
 }
 
+/// Changes the terms at a moment, where the row of the change has these octets.
+fn take_change(
+    alloc: Global,
+    book: &mut Book,
+    before: Sum,
+    moment: Moment,
+    change: TermsChange,
+    octets: &[u8],
+) -> Result<Sum, RowRefusal>
+    requires { before.0 ≡ sum_in book.old }
+    ensures taken { IfOk result (λ sum. HasTaken book.old book.new octets.now sum.0) }
+    ensures unchanged { OnErr result (book.new ≡ book.old) }
+{
+    let place = book.history().len() as u64;
+    let row = row_of_change(alloc, before, place, moment, &change)?;
+    let sum = sum_if_same(alloc, &row, octets)?;
+    book.change_terms(alloc, moment, change)?;
+    Ok(sum)
+}
+
 /// Takes the entry that stored octets tell into a book whose history has this sum, and gives the sum behind it. Each other
 /// row than the one that this book gives to the entry there is refused, and the book is as it was: so what is stored of the
 /// book after it is what was stored before it, and these octets.
@@ -86,8 +106,10 @@ pub fn take_octets(
         Err(ReadError::NoRow(fault)) => return Err(RowRefusal::NoRow(fault)),
         Err(ReadError::OutOfMemory) => return Err(RowRefusal::OutOfMemory),
     };
-    match &row.step {
-        Step::Take(taken) => take_request(alloc, book, before, row.moment, &taken.request, octets),
-        Step::Sweep => take_sweep(alloc, book, before, row.moment, octets),
+    let moment = row.moment;
+    match row.step {
+        Step::Take(taken) => take_request(alloc, book, before, moment, &taken.request, octets),
+        Step::Sweep => take_sweep(alloc, book, before, moment, octets),
+        Step::ChangeTerms(change) => take_change(alloc, book, before, moment, change, octets),
     }
 }

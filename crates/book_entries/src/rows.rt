@@ -1,12 +1,13 @@
 //! The rows of entries that a book takes.
 
 ghost use Rattle.std.specs.Prelude.{◌≡◌, [], ◌∷◌, ◌++◌, IfOk, if◌then◌else◌, length};
+ghost use Rattle.cc_book.specs.Changing.{with_change};
 ghost use Rattle.cc_book.specs.Planning.{IsGoodFor, after_plan, answer_planned};
 ghost use Rattle.cc_book.specs.Taking.{Ledger, with_sweep, with_take};
 ghost use Rattle.book_entries.specs.Rows.{one_or_none, rows_of, sum_of};
 
 use book_rows::{Row, Step, Sum, Taken, chained_row};
-use cc_book::{Plan, copy_of_reply};
+use cc_book::{Plan, TermsChange, copy_of_reply};
 use cc_view::{CcRequest, Services};
 use dia_base::{Listing, Moment};
 use std::alloc::{AllocError, Global};
@@ -61,4 +62,20 @@ pub fn row_of_sweep(
         → rows_of ledger.terms (with_sweep ledger moment).history ≡ rows_of ledger.terms ledger.history ++ row ∷ []) }
 {
     chained_row(alloc, before, place, moment, Step::Sweep)
+}
+
+/// The row of a change of the terms at a moment, behind the sum of a history with so many entries.
+pub fn row_of_change(
+    alloc: Global,
+    before: Sum,
+    place: u64,
+    moment: Moment,
+    change: &TermsChange,
+) -> Result<Row, AllocError>
+    ensures rows { IfOk result (λ row. (ledger : Ledger) → place ≡ length ledger.history → before.0 ≡ sum_of ledger.terms ledger.history
+        → rows_of ledger.terms (with_change ledger moment change.now).history ≡ rows_of ledger.terms ledger.history ++ row ∷ []) }
+{
+    let change = change.copy(alloc)?;
+    let row = chained_row(alloc, before, place, moment, Step::ChangeTerms(change))?;
+    Ok(row)
 }

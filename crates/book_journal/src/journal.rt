@@ -1,6 +1,7 @@
 //! What is stored of a book while it goes on.
 
-ghost use Rattle.std.specs.Prelude.{◌≡◌, ◌+◌, ◌<◌, ◌⊎◌, ◌++◌, ◌∷◌, [], ℕ, List, IfNone, IfOk, IfSome, None, OnOk, OnErr, if◌then◌else◌, length, vec_capacity, vec_len};
+ghost use Rattle.std.specs.Prelude.{◌≡◌, ◌+◌, ◌<◌, ◌⊎◌, ◌++◌, ◌∷◌, [], ℕ, List, IfNone, IfOk, IfSome, None, OnOk, OnErr, if◌then◌else◌, is_some, length, vec_capacity, vec_len};
+ghost use Rattle.cc_book.specs.Changing.{with_change};
 ghost use Rattle.cc_book.specs.Planning.{IsGoodFor, after_plan, answer_planned};
 ghost use Rattle.cc_book.specs.Taking.{Ledger, with_sweep, with_take};
 ghost use Rattle.book_entries.specs.Replayed.{stored_in};
@@ -8,10 +9,10 @@ ghost use Rattle.book_rows.specs.Row.{spelled as octets_of};
 ghost use Rattle.book_store.specs.Table.{Stored, octets_in, stored_with};
 ghost use Rattle.book_journal.specs.Kept.{IsKeptBy, IsNext, IsSettled, IsSoundIn};
 
-use book_entries::{row_of_plan, row_of_sweep};
+use book_entries::{row_of_change, row_of_plan, row_of_sweep};
 use book_rows::{Row, Sum, spell_row};
 use book_store::{AppendError, RowStore};
-use cc_book::Plan;
+use cc_book::{Plan, TermsChange};
 use cc_view::CcRequest;
 use dia_base::Moment;
 use std::alloc::{AllocError, Global};
@@ -137,6 +138,28 @@ impl<S: RowStore> Journal<S> {
         Ok(Some(row))
     }
 
+    /// The row of a change of the terms at a moment, of a book with so many entries, and room for it. None where nothing is
+    /// stored. Without memory the journal is as it was.
+    pub fn row_of_change(
+        &mut self,
+        place: u64,
+        moment: Moment,
+        change: &TermsChange,
+    ) -> Result<Option<NewRow>, AllocError>
+        ensures row { IfOk result (λ row. (ledger : Ledger) → place ≡ length ledger.history → IsKeptBy S.is_clean S.is_ready S.rows self.old ledger → IsNext self.new ledger (with_change ledger moment change.now) row) }
+        ensures kept { (ledger : Ledger) → IsKeptBy S.is_clean S.is_ready S.rows self.old ledger → IsKeptBy S.is_clean S.is_ready S.rows self.new ledger }
+        ensures store { self.new.store ≡ self.old.store }
+        ensures room { IfOk result (λ row. IfSome row (λ _. vec_len self.new.waiting < vec_capacity self.new.waiting)) }
+    {
+        if self.store.is_none() {
+            return Ok(None);
+        }
+        let row = row_of_change(self.alloc, self.sum, place, moment, change)?;
+        let row = spelled(self.alloc, &row)?;
+        self.reserve()?;
+        Ok(Some(row))
+    }
+
     /// Puts the row of the next entry, if it has one, behind those that wait. It takes no memory.
     pub fn add(&mut self, row: Option<NewRow>)
         requires { IfSome row (λ _. vec_len self.old.waiting < vec_capacity self.old.waiting) }
@@ -155,6 +178,7 @@ impl<S: RowStore> Journal<S> {
         requires { IsSoundIn S.is_clean S.is_ready self.old }
         ensures kept { OnOk result ((ledger : Ledger) → IsKeptBy S.is_clean S.is_ready S.rows self.old ledger → IsKeptBy S.is_clean S.is_ready S.rows self.new ledger) }
         ensures settled { OnOk result (IsSettled self.new) }
+        ensures stored { is_some self.new.store ≡ is_some self.old.store }
         ensures crash { IfSome self.new.store (λ now. S.is_clean now → (left : Stored) → S.may_leave now left → IfSome self.old.store (λ was. (ledger : Ledger) → IsKeptBy S.is_clean S.is_ready S.rows self.old ledger
             → (left ≡ stored_with (S.about was) (S.rows was)) ⊎ (left ≡ stored_with (S.about was) (stored_in ledger)))) }
     {

@@ -1,8 +1,8 @@
 //! The journal of a book: what is stored of it while it goes on. Its entries wait to be stored, and are stored together.
 //!
 //! - [`open_journal`] takes what is stored into a book again: the book has the history that is stored, and no other.
-//! - [`Journal::row_of_take`] and [`Journal::row_of_sweep`] make the row of the next entry, and room for it;
-//!   [`Journal::add`] puts it behind those that wait, and takes no memory.
+//! - [`Journal::row_of_take`], [`Journal::row_of_sweep`] and [`Journal::row_of_change`] make the row of the next entry, and
+//!   room for it; [`Journal::add`] puts it behind those that wait, and takes no memory.
 //! - [`Journal::store`] stores all that wait, in one commit. A crash at any moment leaves what was stored before, or that
 //!   with all that waited.
 //! - [`a_crash_leaves_the_history`]: while nothing waits, a crash leaves the whole history of the book, and nothing else.

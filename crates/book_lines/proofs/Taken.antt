@@ -11,7 +11,7 @@ use Rattle.cc_book.specs.declared.entry.Entry.TheVariants.{Take}
 use Rattle.cc_book.specs.declared.plan.Plan.{Plan}
 use Rattle.cc_book.specs.declared.plan.Taken.{Taken}
 use Rattle.cc_book.specs.declared.terms.Terms.{Terms}
-use Rattle.cc_book.specs.AccountMachine.{charged_account, debit_after, postings_of, reply_after, reply_to}
+use Rattle.cc_book.specs.AccountMachine.{charged_account, debit_after, postings_of, reply_after, reply_to, terms_of}
 use Rattle.cc_book.specs.Balance.{debit_of}
 use Rattle.cc_book.specs.Planning.{IsGoodFor, IsRepeated, IsTakenWith, after_plan, after_taken, answer_planned}
 use Rattle.cc_book.specs.Taking.{Ledger, with_take}
@@ -23,11 +23,11 @@ entry_is a b e = cc
 request_is : (m n : Moment) (r q : CcRequest) → Take m r ≡ Take n q → r ≡ q
 request_is m n r q e = cc
 
-reply_is : (terms : Terms) (history : List Entry) (request : CcRequest) → reply_after terms (postings_of terms history) request ≡ reply_to terms history request
+reply_is : (terms : Terms) (history : List Entry) (request : CcRequest) → reply_after (terms_of terms history) (postings_of terms history) request ≡ reply_to terms history request
 unfolding reply_to
 reply_is terms history request = refl
 
-debit_is : (terms : Terms) (history : List Entry) (request : CcRequest) → debit_after terms (postings_of terms history) request ≡ debit_of terms history request
+debit_is : (terms : Terms) (history : List Entry) (request : CcRequest) → debit_after (terms_of terms history) (postings_of terms history) request ≡ debit_of terms history request
 unfolding debit_of
 debit_is terms history request = refl
 
@@ -37,7 +37,7 @@ after_is ledger moment request fresh after e is = is ∙ ap (λ (b : Bool). cond
 -- a plan that takes a request is good for a book: what it does there is what the account machine says
 pub record IsTold (ledger : Ledger) (plan : Plan) (taken : Taken) (moment : Moment) (request : CcRequest) : Type 0 where
   pub after : after_plan ledger plan ≡ with_take ledger moment request
-  pub line : charge_line ledger.terms.accounts plan.answered.place moment request taken.outcome.account taken.outcome.debit taken.outcome.reply
+  pub line : charge_line (terms_of ledger.terms ledger.history).accounts plan.answered.place moment request taken.outcome.account taken.outcome.debit taken.outcome.reply
       ≡ line_behind ledger.terms ledger.history (Take moment request)
 
 pub is_told : (ledger : Ledger) (plan : Plan) (taken : Taken) (moment : Moment) (request : CcRequest) → plan.taken ≡ Some taken → IsGoodFor ledger plan
@@ -51,18 +51,19 @@ is_told ledger plan taken moment request is good after =
     append_cancel_left ledger.history (Take taken.moment taken.request ∷ []) (Take moment request ∷ []) (ap (λ (l : Ledger). l.history) (sym other ∙ longer)) in
     let same : taken.request ≡ request = request_is taken.moment moment taken.request request (entry_is (Take taken.moment taken.request) (Take moment request) entries) in
     let place : plan.answered.place ≡ length ledger.history = ap (λ (a : Answered). a.place) takes.answer in
-    let account : taken.outcome.account ≡ charged_account ledger.terms (postings_of ledger.terms ledger.history) request =
-    takes.taking.outcome.account ∙ ap (charged_account ledger.terms (postings_of ledger.terms ledger.history)) same in
+    let now = terms_of ledger.terms ledger.history in
+    let account : taken.outcome.account ≡ charged_account now (postings_of ledger.terms ledger.history) request =
+    takes.taking.outcome.account ∙ ap (charged_account now (postings_of ledger.terms ledger.history)) same in
     let reply : taken.outcome.reply ≡ reply_to ledger.terms ledger.history request =
     takes.taking.outcome.reply ∙ reply_is ledger.terms ledger.history taken.request ∙ ap (reply_to ledger.terms ledger.history) same in
     let debit : taken.outcome.debit ≡ debit_of ledger.terms ledger.history request =
     takes.taking.outcome.debit ∙ debit_is ledger.terms ledger.history taken.request ∙ ap (debit_of ledger.terms ledger.history) same in
     record {
       after = longer;
-      line = ap (λ (n : ℕ). charge_line ledger.terms.accounts n moment request taken.outcome.account taken.outcome.debit taken.outcome.reply) place
-          ∙ ap (λ (a : Option ℕ). charge_line ledger.terms.accounts (length ledger.history) moment request a taken.outcome.debit taken.outcome.reply) account
-          ∙ ap (λ (d : ℤ). charge_line ledger.terms.accounts (length ledger.history) moment request (charged_account ledger.terms (postings_of ledger.terms ledger.history) request) d taken.outcome.reply) debit
-          ∙ ap (λ (r : CcReply). charge_line ledger.terms.accounts (length ledger.history) moment request (charged_account ledger.terms (postings_of ledger.terms ledger.history) request) (debit_of ledger.terms ledger.history request) r) reply;
+      line = ap (λ (n : ℕ). charge_line now.accounts n moment request taken.outcome.account taken.outcome.debit taken.outcome.reply) place
+          ∙ ap (λ (a : Option ℕ). charge_line now.accounts (length ledger.history) moment request a taken.outcome.debit taken.outcome.reply) account
+          ∙ ap (λ (d : ℤ). charge_line now.accounts (length ledger.history) moment request (charged_account now (postings_of ledger.terms ledger.history) request) d taken.outcome.reply) debit
+          ∙ ap (λ (r : CcReply). charge_line now.accounts (length ledger.history) moment request (charged_account now (postings_of ledger.terms ledger.history) request) (debit_of ledger.terms ledger.history request) r) reply;
     }
 
 -- ---- one line more

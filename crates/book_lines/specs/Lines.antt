@@ -7,14 +7,16 @@ use Rattle.cc_view.specs.declared.reply.CcReply.{CcReply}
 use Rattle.cc_view.specs.declared.reply.Cost.{Cost}
 use Rattle.cc_view.specs.declared.request.CcRequest.{CcRequest}
 use Rattle.cc_view.specs.ResultNumber.{number_of}
+use Rattle.cc_rating.specs.declared.tariff.Tariff.{Tariff}
 use Rattle.cc_book.specs.declared.account.Account.{Account}
 use Rattle.cc_book.specs.declared.entry.Entry.{Entry}
-use Rattle.cc_book.specs.declared.entry.Entry.TheVariants.{Take, Sweep}
+use Rattle.cc_book.specs.declared.entry.Entry.TheVariants.{Take, Sweep, ChangeTerms}
 use Rattle.cc_book.specs.declared.terms.Terms.{Terms}
-use Rattle.cc_book.specs.AccountMachine.{charged_account, postings_of, reply_to}
+use Rattle.cc_book.specs.declared.terms_change.TermsChange.{TermsChange}
+use Rattle.cc_book.specs.AccountMachine.{charged_account, postings_of, reply_to, terms_of}
 use Rattle.cc_book.specs.Balance.{debit_of}
-use Rattle.book_lines.specs.Services.{count_text, granted_text, service_text}
-use Rattle.book_lines.specs.Words.{action_word, kind_word, line_feed, optional_text, quoted}
+use Rattle.book_lines.specs.Services.{count_text, granted_text, name_text, service_text}
+use Rattle.book_lines.specs.Words.{action_word, kind_word, line_feed, optional_text, quoted, unit_word}
 
 -- `entry PLACE moment MOMENT`
 unfoldable pub head : ℕ → Moment → List ℕ
@@ -75,12 +77,47 @@ unfoldable pub charge_line : List Account → ℕ → Moment → CcRequest → O
 charge_line accounts place moment request account debit reply =
     charged_text accounts place moment request account debit ++ answered_text request reply
 
+-- `opening OPENING`, in minor units
+unfoldable pub opening_text : ℤ → List ℕ
+opening_text opening = codes " opening " ++ signed_decimal opening
+
+-- `account TYPE "ID" opening OPENING`: an account that joins
+abbrev pub joining_text : Account → List ℕ
+joining_text account = known_text account ++ opening_text account.opening
+
+-- `tariff GROUP IDENT UNITS BLOCK PRICE QUANTUM GREATEST`
+unfoldable pub tariff_text : Tariff → List ℕ
+tariff_text tariff = concat (
+    codes " tariff" ∷ name_text tariff.group tariff.ident ∷ codes " " ∷ unit_word tariff.kind
+    ∷ flat_map count_text (tariff.block ∷ tariff.price ∷ tariff.quantum ∷ tariff.greatest ∷ []) ∷ [])
+
+-- how many tariffs hold from here on, and each of them; `-` where those stay that held
+abbrev pub tariffs_text : Option (List Tariff) → List ℕ
+tariffs_text None = codes " tariffs -"
+tariffs_text (Some tariffs) = concat (codes " tariffs" ∷ count_text (length tariffs) ∷ flat_map tariff_text tariffs ∷ [])
+
+-- the accounts that join by a change, and how many, and the tariffs
+unfoldable pub change_text : TermsChange → List ℕ
+change_text change = concat (codes " accounts" ∷ count_text (length change.joining) ∷ flat_map joining_text change.joining ∷ tariffs_text change.tariffs ∷ [])
+
+-- a change of the terms
+unfoldable pub change_line : ℕ → Moment → TermsChange → List ℕ
+change_line place moment change = concat (head place moment ∷ codes " change" ∷ change_text change ∷ line_feed ∷ [])
+
+unfoldable pub look_text : List ℕ
+look_text = codes "look: the site has other terms:"
+
+-- `look: the site has other terms: ..`: the change that leads to them
+unfoldable pub difference_line : TermsChange → List ℕ
+difference_line change = concat (look_text ∷ change_text change ∷ line_feed ∷ [])
+
 -- The line of an entry behind others: account, debit and reply are those that the account machine gives to the request there.
 abbrev pub line_behind : Terms → List Entry → Entry → List ℕ
 line_behind terms before (Take moment request) =
-    charge_line terms.accounts (length before) moment request (charged_account terms (postings_of terms before) request)
+    charge_line (terms_of terms before).accounts (length before) moment request (charged_account (terms_of terms before) (postings_of terms before) request)
     (debit_of terms before request) (reply_to terms before request)
 line_behind terms before (Sweep moment) = sweep_line (length before) moment
+line_behind terms before (ChangeTerms moment change) = change_line (length before) moment change
 
 -- the lines of entries behind others
 abbrev pub lines_from : Terms → List Entry → List Entry → List ℕ

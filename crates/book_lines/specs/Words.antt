@@ -2,6 +2,8 @@
 use Rattle.std.specs.Prelude.{ℕ, ◌+◌, ◌/◌, ◌%◌, ◌==◌, ◌&&◌, nat_lt, not, Bool, List, [], ◌∷◌, codes, Option, None, Some, if◌then◌else◌}
 use Rattle.std.specs.List.{concat, flat_map}
 use Rattle.std.specs.Fmt.{decimal}
+use Rattle.cc_rating.specs.declared.tariff.UnitKind.{UnitKind}
+use Rattle.cc_rating.specs.declared.tariff.UnitKind.TheVariants.{Time, Octets, Units}
 use Rattle.cc_view.specs.declared.request.RequestKind.{RequestKind}
 use Rattle.cc_view.specs.declared.request.RequestKind.TheVariants.{Initial, Update, Termination, Event}
 use Rattle.cc_view.specs.declared.request.RequestedAction.{RequestedAction}
@@ -46,3 +48,9 @@ action_word (Some DirectDebiting) = codes "direct-debiting"
 action_word (Some RefundAccount) = codes "refund-account"
 action_word (Some CheckBalance) = codes "check-balance"
 action_word (Some PriceEnquiry) = codes "price-enquiry"
+
+-- what the units of a tariff are, as in a site file
+abbrev pub unit_word : UnitKind → List ℕ
+unit_word Time = codes "time"
+unit_word Octets = codes "octets"
+unit_word Units = codes "units"

@@ -13,7 +13,12 @@ use std::alloc::{AllocError, Global};
 
 /// Adds `entry PLACE moment MOMENT`.
 #[tactic(auto, unfolding(crate::specs::Lines::head))]
-fn push_head(alloc: Global, out: &mut Vec<u8>, place: u64, moment: Moment) -> Result<(), AllocError>
+pub fn push_head(
+    alloc: Global,
+    out: &mut Vec<u8>,
+    place: u64,
+    moment: Moment,
+) -> Result<(), AllocError>
     ensures { OnOk result (out.new.items ≡ out.old.items ++ head place moment) }
 {
     let number = moment.0;
@@ -51,7 +56,7 @@ fn push_request(alloc: Global, out: &mut Vec<u8>, request: &CcRequest) -> Result
 
 /// Adds an account: type and text of its Subscription-Id.
 #[tactic(auto, unfolding(crate::specs::Lines::known_text))]
-fn push_known(alloc: Global, out: &mut Vec<u8>, account: &Account) -> Result<(), AllocError>
+pub fn push_known(alloc: Global, out: &mut Vec<u8>, account: &Account) -> Result<(), AllocError>
     ensures { OnOk result (out.new.items ≡ out.old.items ++ known_text account.now) }
 {
     let kind = account.id_kind;

@@ -1,7 +1,7 @@
 //! What a book comes to.
 
-ghost use Rattle.std.specs.Prelude.{◌≡◌, ◌≤◌, ◌++◌, IfOk, OnOk, count_by, length, string_bytes};
-ghost use Rattle.book_lines.specs.Summary.{counts_text, digits, filling_line, filling_text, is_charge, is_nearly_full, last_moment, made_line, summary_of};
+ghost use Rattle.std.specs.Prelude.{◌≡◌, ◌++◌, IfOk, OnOk, count_by, string_bytes};
+ghost use Rattle.book_lines.specs.Summary.{changes_text, counts_text, digits, ending_text, filling_line, filling_text, heading_text, is_change, is_charge, is_nearly_full, is_sweep, last_moment, made_line, summary_of};
 
 use crate::words::push_optional;
 use book_rows::{Identity, Sum};
@@ -9,19 +9,35 @@ use byteorder::{BigEndian, ByteOrder};
 use cc_book::Entry;
 use std::alloc::{AllocError, Global};
 
-/// How many entries are requests that were taken.
-fn charges_in(history: &[Entry]) -> usize
-    ensures count { result ≡ count_by is_charge history.now }
-    ensures most { result ≤ length history.now }
+/// How many entries of each kind there are.
+#[derive(Clone, Copy)]
+struct Counts {
+    /// Requests that were taken.
+    charges: usize,
+    /// Looks at the clock that ended sessions.
+    sweeps: usize,
+    /// Changes of the terms.
+    changes: usize,
+}
+
+fn counts_in(history: &[Entry]) -> Counts
+    ensures charges { result.charges ≡ count_by is_charge history.now }
+    ensures sweeps { result.sweeps ≡ count_by is_sweep history.now }
+    ensures changes { result.changes ≡ count_by is_change history.now }
 {
-    let mut charges = 0;
+    let mut counts = Counts {
+        charges: 0,
+        sweeps: 0,
+        changes: 0,
+    };
     for entry in history {
         match entry {
-            Entry::Take { .. } => charges += 1,
-            Entry::Sweep { .. } => {}
+            Entry::Take { .. } => counts.charges += 1,
+            Entry::Sweep { .. } => counts.sweeps += 1,
+            Entry::ChangeTerms { .. } => counts.changes += 1,
         }
     }
-    charges
+    counts
 }
 
 /// The moment of the last entry, if there is one.
@@ -32,15 +48,30 @@ fn last_moment(history: &[Entry]) -> Option<u64>
         None => None,
         Some(Entry::Take { moment, .. }) => Some(moment.0),
         Some(Entry::Sweep { moment }) => Some(moment.0),
+        Some(Entry::ChangeTerms { moment, .. }) => Some(moment.0),
     }
 }
 
-fn counts_text(alloc: Global, entries: usize, charges: usize) -> Result<String, AllocError>
-    requires { charges ≤ entries }
-    ensures { IfOk result (λ text. string_bytes text ≡ counts_text entries charges) }
+fn counts_text(
+    alloc: Global,
+    entries: usize,
+    charges: usize,
+    sweeps: usize,
+) -> Result<String, AllocError>
+    ensures { IfOk result (λ text. string_bytes text ≡ counts_text entries charges sweeps) }
 {
-    let sweeps = entries - charges;
-    format!(in alloc; "\nentries {entries} charges {charges} sweeps {sweeps}\nlast")
+    format!(in alloc; "\nentries {entries} charges {charges} sweeps {sweeps}")
+}
+
+/// Adds how many entries change the terms, where some do.
+fn push_changes(alloc: Global, out: &mut Vec<u8>, changes: usize) -> Result<(), AllocError>
+    ensures { OnOk result (out.new.items ≡ out.old.items ++ changes_text changes) }
+{
+    if changes == 0 {
+        return Ok(());
+    }
+    let text = format!(in alloc; " changes {changes}")?;
+    out.extend_from_slice(text.as_bytes())
 }
 
 /// A number of 16 octets as 32 hexadecimal digits.
@@ -93,6 +124,44 @@ fn push_filling(
     Ok(())
 }
 
+/// Adds which book it is, and how many entries it has, of each kind.
+#[tactic(auto, unfolding(crate::specs::Summary::heading_text))]
+fn push_heading(
+    alloc: Global,
+    out: &mut Vec<u8>,
+    identity: Identity,
+    history: &[Entry],
+) -> Result<(), AllocError>
+    ensures { OnOk result (out.new.items ≡ out.old.items ++ heading_text identity history.now) }
+{
+    let counts = counts_in(history);
+    let identity = digits(alloc, identity.0)?;
+    let text = counts_text(alloc, history.len(), counts.charges, counts.sweeps)?;
+    out.extend_from_slice(b"book ")?;
+    out.extend_from_slice(identity.as_bytes())?;
+    out.extend_from_slice(text.as_bytes())?;
+    push_changes(alloc, out, counts.changes)?;
+    out.extend_from_slice(b"\n")
+}
+
+/// Adds the moment and the sum of the last entry.
+#[tactic(auto, unfolding(crate::specs::Summary::ending_text))]
+fn push_ending(
+    alloc: Global,
+    out: &mut Vec<u8>,
+    history: &[Entry],
+    sum: Sum,
+) -> Result<(), AllocError>
+    ensures { OnOk result (out.new.items ≡ out.old.items ++ ending_text history.now sum) }
+{
+    let sum = digits(alloc, sum.0)?;
+    out.extend_from_slice(b"last")?;
+    push_optional(alloc, out, last_moment(history))?;
+    out.extend_from_slice(b"\nsum ")?;
+    out.extend_from_slice(sum.as_bytes())?;
+    out.extend_from_slice(b"\n")
+}
+
 /// Which book it is, how many entries it has, of each kind, and the moment and the sum of the last; and whether it is nearly full, of
 /// so many entries that it can have.
 pub fn summary(
@@ -104,17 +173,9 @@ pub fn summary(
 ) -> Result<Vec<u8>, AllocError>
     ensures { IfOk result (λ text. text.items ≡ summary_of identity history.now sum limit) }
 {
-    let identity = digits(alloc, identity.0)?;
-    let counts = counts_text(alloc, history.len(), charges_in(history))?;
-    let sum = digits(alloc, sum.0)?;
     let mut out = Vec::new(alloc);
-    out.extend_from_slice(b"book ")?;
-    out.extend_from_slice(identity.as_bytes())?;
-    out.extend_from_slice(counts.as_bytes())?;
-    push_optional(alloc, &mut out, last_moment(history))?;
-    out.extend_from_slice(b"\nsum ")?;
-    out.extend_from_slice(sum.as_bytes())?;
-    out.extend_from_slice(b"\n")?;
+    push_heading(alloc, &mut out, identity, history)?;
+    push_ending(alloc, &mut out, history, sum)?;
     push_filling(alloc, &mut out, history.len() as u64, limit)?;
     Ok(out)
 }

@@ -1,13 +1,15 @@
 //! The entries of a history, one on a line.
 
 ghost use Rattle.std.specs.Prelude.{◌≡◌, ◌++◌, ◌∷◌, [], IfOk, OnOk};
-ghost use Rattle.cc_book.specs.declared.entry.Entry.TheVariants.{Take, Sweep};
+ghost use Rattle.cc_book.specs.declared.entry.Entry.TheVariants.{Take, Sweep, ChangeTerms};
+ghost use Rattle.cc_book.specs.Changing.{with_change};
 ghost use Rattle.cc_book.specs.Taking.{Ledger, with_sweep, with_take};
 ghost use Rattle.book_lines.specs.Lines.{line_behind, lines_of};
 
+use crate::change::push_change_line;
 use crate::charge::{push_charge_line, push_sweep_line};
 use crate::fault::LinesFault;
-use cc_book::{Book, Entry};
+use cc_book::{Book, Entry, TermsChange};
 use cc_view::CcRequest;
 use dia_base::Moment;
 use std::alloc::Global;
@@ -60,6 +62,24 @@ fn push_sweep(
     Ok(())
 }
 
+/// A book changes its terms, and the line of that is added.
+fn push_change(
+    alloc: Global,
+    out: &mut Vec<u8>,
+    book: &mut Book,
+    moment: Moment,
+    change: &TermsChange,
+) -> Result<(), LinesFault>
+    ensures changed { OnOk result (book.new ≡ with_change book.old moment change.now) }
+    ensures line { OnOk result (out.new.items ≡ out.old.items ++ line_behind book.old.terms book.old.history (ChangeTerms moment change.now)) }
+{
+    let place = book.history().len() as u64;
+    push_change_line(alloc, out, place, moment, change)?;
+    let change = change.copy(alloc)?;
+    book.change_terms(alloc, moment, change)?;
+    Ok(())
+}
+
 /// A book takes an entry, and its line is added.
 fn push_entry(
     alloc: Global,
@@ -74,6 +94,7 @@ fn push_entry(
     match entry {
         Entry::Take { moment, request } => push_take(alloc, out, book, *moment, request),
         Entry::Sweep { moment } => push_sweep(alloc, out, book, *moment),
+        Entry::ChangeTerms { moment, change } => push_change(alloc, out, book, *moment, change),
     }
 }
 

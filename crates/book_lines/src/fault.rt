@@ -1,6 +1,6 @@
 //! Why the entries of a history are not told.
 
-use cc_book::BookRefusal;
+use cc_book::{BookRefusal, ChangeRefusal};
 use std::alloc::{AllocError, AllocFailed};
 use thiserror::Error;
 
@@ -13,6 +13,9 @@ pub enum LinesFault {
     /// The history has more entries than the book may have.
     #[error("the history has {0} entries, which is its limit")]
     Full(u64),
+    /// The entry changes the terms as no book does there.
+    #[error("a book refuses a change of the terms: {0}")]
+    NoChange(ChangeRefusal),
     #[error("out of memory")]
     OutOfMemory,
 }
@@ -22,6 +25,16 @@ impl From<BookRefusal> for LinesFault {
         match refusal {
             BookRefusal::Full { limit } => LinesFault::Full(limit),
             BookRefusal::OutOfMemory => LinesFault::OutOfMemory,
+        }
+    }
+}
+
+impl From<ChangeRefusal> for LinesFault {
+    fn from(refusal: ChangeRefusal) -> LinesFault {
+        match refusal {
+            ChangeRefusal::Full { limit } => LinesFault::Full(limit),
+            ChangeRefusal::OutOfMemory => LinesFault::OutOfMemory,
+            refusal => LinesFault::NoChange(refusal),
         }
     }
 }

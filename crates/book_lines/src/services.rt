@@ -11,7 +11,7 @@ use cc_view::{ResultCode, Service, ServiceReply};
 use std::alloc::{AllocError, Global};
 
 /// Adds Rating-Group and Service-Identifier.
-fn push_name(
+pub fn push_name(
     alloc: Global,
     out: &mut Vec<u8>,
     group: Option<u32>,
@@ -46,18 +46,19 @@ fn push_asked(
     }
 }
 
-fn push_sum(alloc: Global, out: &mut Vec<u8>, sum: u128) -> Result<(), AllocError>
+/// Adds a number behind a space.
+pub fn push_sum(alloc: Global, out: &mut Vec<u8>, sum: u128) -> Result<(), AllocError>
     ensures { OnOk result (out.new.items ≡ out.old.items ++ count_text sum) }
 {
     let text = format!(in alloc; " {sum}")?;
     out.extend_from_slice(text.as_bytes())
 }
 
-/// Adds the sums of used units: seconds, octets and units.
-fn push_used(alloc: Global, out: &mut Vec<u8>, used: &[u128]) -> Result<(), AllocError>
-    ensures { OnOk result (out.new.items ≡ out.old.items ++ flat_map count_text used.now) }
+/// Adds each of these numbers, behind a space.
+pub fn push_sums(alloc: Global, out: &mut Vec<u8>, sums: &[u128]) -> Result<(), AllocError>
+    ensures { OnOk result (out.new.items ≡ out.old.items ++ flat_map count_text sums.now) }
 {
-    for sum in used {
+    for sum in sums {
         push_sum(alloc, out, *sum)?;
     }
     Ok(())
@@ -70,7 +71,7 @@ fn push_service(alloc: Global, out: &mut Vec<u8>, service: &Service) -> Result<(
     push_name(alloc, out, service.group, service.ident)?;
     push_asked(alloc, out, &service.asked)?;
     out.extend_from_slice(b" used")?;
-    push_used(alloc, out, &service.used)
+    push_sums(alloc, out, &service.used)
 }
 
 /// Adds what each service asks for, and what of it was used.

@@ -2,8 +2,9 @@
 
 ghost use Rattle.std.specs.Prelude.{◌≡◌, ◌<◌, ◌++◌, IsTrue, ◌↔◌, OnOk};
 ghost use Rattle.std.specs.List.{flat_map};
-ghost use Rattle.book_lines.specs.Words.{action_word, digit, is_plain, kind_word, octet_text, optional_text, quoted};
+ghost use Rattle.book_lines.specs.Words.{action_word, digit, is_plain, kind_word, octet_text, optional_text, quoted, unit_word};
 
+use cc_rating::UnitKind;
 use cc_view::{RequestKind, RequestedAction};
 use std::alloc::{AllocError, Global};
 
@@ -102,5 +103,16 @@ pub fn action_word(action: Option<RequestedAction>) -> &'static str
         Some(RequestedAction::RefundAccount) => "refund-account",
         Some(RequestedAction::CheckBalance) => "check-balance",
         Some(RequestedAction::PriceEnquiry) => "price-enquiry",
+    }
+}
+
+/// What the units of a tariff are, as in a site file.
+pub fn unit_word(kind: UnitKind) -> &'static str
+    ensures { result.now ≡ unit_word kind }
+{
+    match kind {
+        UnitKind::Time => "time",
+        UnitKind::Octets => "octets",
+        UnitKind::Units => "units",
     }
 }

@@ -1,1 +1,2 @@
-mod Stored
+pub mod Stored
+pub mod UnderTerms

@@ -1,10 +1,39 @@
--- What a store says of the book that it holds.
-use Rattle.std.specs.Prelude.{◌≡◌, ℕ, List, Ok}
+-- What an opened book is.
+use Rattle.std.specs.Prelude.{◌≡◌, ◌⊎◌, ℕ, Bool, true, List, Option, Some, None, IfSome, Ok}
+use Rattle.dia_base.specs.declared.number.Moment.{Moment}
 use Rattle.cc_book.specs.declared.terms.Terms.{Terms}
+use Rattle.cc_book.specs.declared.terms_change.TermsChange.{TermsChange}
+use Rattle.cc_book.specs.AccountMachine.{terms_of}
+use Rattle.cc_book.specs.Changing.{with_change}
+use Rattle.cc_book.specs.Taking.{Ledger}
+use Rattle.cc_book.specs.TermsChange.{says_nothing}
+use Rattle.book_entries.specs.Replayed.{stored_in}
 use Rattle.book_rows.specs.declared.about.About.{About}
 use Rattle.book_rows.specs.About.{about as about_form, whole}
+use Rattle.book_store.specs.Table.{Stored, stored_with}
+use Rattle.book_terms.specs.Difference.{Hold, IsNeeded}
 use Rattle.book_terms.specs.Terms.{terms as terms_form}
 
 -- the octets say what a book is, which was made under these terms
 abbrev pub IsOfTerms : List ℕ → Terms → Type 0
 IsOfTerms octets terms = (about : About) × (whole about_form octets ≡ Ok about) × (whole terms_form about.terms ≡ Ok terms)
+
+-- the terms that hold in a book
+abbrev pub now_in : Ledger → Terms
+now_in book = terms_of book.terms book.history
+
+-- the terms of a site hold in a book, and it has the site's limit
+pub record Serves (wanted : Ledger) (book : Ledger) : Type 0 where
+  pub terms : Hold (now_in book) wanted.terms
+  pub limit : book.limit ≡ wanted.limit
+
+-- a book with one more entry, at that moment: the change that leads to the terms of a site
+pub record IsChangedTo (wanted : Terms) (moment : Moment) (old new : Ledger) : Type 0 where
+  pub change : TermsChange
+  pub needed : IsNeeded (now_in old) wanted change
+  pub changed : new ≡ with_change old moment change
+
+-- A book that is opened to be served on is the one that is stored; where the terms of the site do not hold in it, it changes them by
+-- one entry, if that is allowed.
+abbrev pub IsRenewed : Terms → Moment → Bool → Ledger → Ledger → Type 0
+IsRenewed wanted moment allowed old new = (new ≡ old) ⊎ ((allowed ≡ true) × IsChangedTo wanted moment old new)

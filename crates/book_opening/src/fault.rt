@@ -1,12 +1,45 @@
 //! Why a book on disk is not made or opened.
 
+ghost use Rattle.std.specs.Prelude.{Some};
+ghost use Rattle.book_opening.specs.Words.{difference_text};
+
 use book_file::FileError;
 use book_journal::JournalError;
 use book_rows::ReadError;
-use book_terms::TermsKey;
+use book_store::AppendError;
+use book_terms::{NeededFault, TermsKey};
+use cc_book::ChangeRefusal;
 use std::alloc::{AllocError, AllocFailed};
-use std::io;
+use std::{fmt, io};
 use thiserror::Error;
+
+/// What a change of the terms of a book would bring, so that those of a site hold.
+#[derive(Clone, Copy, Debug)]
+pub struct TermsDifference {
+    /// How many accounts would join.
+    pub accounts: u64,
+    /// Whether the tariffs would change.
+    pub tariffs: bool,
+}
+
+impl fmt::Display for TermsDifference {
+    ghost output = { λ difference. Some (difference_text difference) };
+
+    fn fmt<W: fmt::Write>(&self, f: &mut fmt::Formatter<W>) -> fmt::Result {
+        let accounts = self.accounts;
+        if self.tariffs {
+            write!(
+                f,
+                "{accounts} accounts would join, and the tariffs would change"
+            )
+        } else {
+            write!(
+                f,
+                "{accounts} accounts would join, and the tariffs would not change"
+            )
+        }
+    }
+}
 
 /// Why a book on disk is not made or opened. What is stored is as it was.
 #[derive(Clone, Copy, Debug, Error)]
@@ -14,9 +47,18 @@ pub enum BookFault {
     /// The file.
     #[error("{0}")]
     File(FileError),
-    /// The book was made under other terms: this key differs first.
+    /// The book has other terms than the site, which no change can make the site's: this key differs first.
     #[error("the book was made under other terms: {0} differs")]
     OtherTerms(TermsKey),
+    /// The terms of the site do not hold in the book, and it is not to change its terms.
+    #[error("the site has other terms than the book: {0}; --change-terms changes them")]
+    TermsDiffer(TermsDifference),
+    /// The book does not change its terms.
+    #[error("its terms are not changed: {0}")]
+    NotChanged(ChangeRefusal),
+    /// The change was not stored: whether it stands is not known.
+    #[error("the change of its terms cannot be stored: {0}")]
+    NotStored(AppendError),
     /// What the book says of its terms is damaged.
     #[error("the terms of the book are damaged")]
     DamagedTerms,
@@ -25,6 +67,30 @@ pub enum BookFault {
     Row(JournalError),
     #[error("out of memory")]
     OutOfMemory,
+}
+
+impl From<NeededFault> for BookFault {
+    fn from(fault: NeededFault) -> BookFault {
+        match fault {
+            NeededFault::Stays(key) => BookFault::OtherTerms(key),
+            NeededFault::OutOfMemory => BookFault::OutOfMemory,
+        }
+    }
+}
+
+impl From<ChangeRefusal> for BookFault {
+    fn from(refusal: ChangeRefusal) -> BookFault {
+        match refusal {
+            ChangeRefusal::OutOfMemory => BookFault::OutOfMemory,
+            refusal => BookFault::NotChanged(refusal),
+        }
+    }
+}
+
+impl From<AppendError> for BookFault {
+    fn from(error: AppendError) -> BookFault {
+        BookFault::NotStored(error)
+    }
 }
 
 impl From<FileError> for BookFault {

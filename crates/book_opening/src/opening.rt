@@ -1,22 +1,25 @@
 //! Making a book on disk, and opening it.
 
-ghost use Rattle.std.specs.Prelude.{◌≡◌, ◌/◌, ◌%◌, ◌^◌, [], Err, IfErr, IfNone, IfOk, IfSome, None, Ok, OnOk, is_some, true};
+ghost use Rattle.std.specs.Prelude.{◌≡◌, ◌≤◌, ◌/◌, ◌%◌, ◌^◌, [], IfNone, IfOk, IfSome, None, Ok, OnOk, is_some, true};
 ghost use Rattle.book_entries.specs.Replayed.{sum_in};
 ghost use Rattle.book_rows.specs.About.{whole};
 ghost use Rattle.book_terms.specs.Terms.{terms as terms_form};
-ghost use Rattle.book_opening.specs.Opened.{IsOfTerms};
-ghost use Rattle.book_journal.specs.Kept.{IsKeptBy, IsSettled, IsUnder};
+ghost use Rattle.book_opening.specs.Opened.{IsOfTerms, now_in};
+ghost use Rattle.book_terms.specs.Difference.{Hold};
+ghost use Rattle.book_journal.specs.Kept.{IsKeptBy, IsSettled};
 
 use crate::fault::BookFault;
+use crate::renewing::renewed;
 use book_file::{FileBook, FileError, about_of, close_file, create_file, open_file};
 use book_journal::{Journal, open_journal};
 use book_rows::{About, Identity, Sum};
 use book_store::RowStore;
-use book_terms::{first_difference, read_terms, spell_terms};
-use cc_book::{Book, Terms};
+use book_terms::{read_terms, spell_terms};
+use cc_book::{Book, Entry, Terms};
 use dia_avp::Octets;
+use dia_base::{HISTORY_LIMIT, Moment};
 use farm_clock::Timer;
-use std::alloc::Global;
+use std::alloc::{AllocError, Global};
 use std::hash::{BuildHasher, RandomState};
 
 /// How many Origin-State-Ids there are.
@@ -41,6 +44,7 @@ pub fn state_id_of(identity: Identity) -> u32
 /// The identity of the book in a store, and the store.
 fn identity_in<S: RowStore + Drop>(alloc: Global, store: S) -> Result<(S, Identity), BookFault>
     requires { S.is_clean store → S.is_ready store }
+    ensures { IfOk result (λ told. S.is_clean told.0 → S.is_ready told.0) }
 {
     let mut store = store;
     let about = about_of(alloc, &mut store)?;
@@ -55,57 +59,71 @@ pub fn identity_at(rt: &HostRuntime, path: &str) -> Result<Identity, BookFault> 
     Ok(identity)
 }
 
-/// Refuses a book that was made under other terms than these.
-fn check_terms(alloc: Global, about: &About, terms: &Terms) -> Result<(), BookFault>
-    ensures { OnOk result (whole terms_form about.now.terms ≡ Ok terms.now) }
+/// A book under these terms, with room for so many entries, and none.
+pub fn empty_under(alloc: Global, terms: Terms, limit: u64) -> Result<Book, AllocError>
+    requires { limit ≤ HISTORY_LIMIT }
+    ensures { IfOk result (λ book. book ≡ record { terms = terms; limit = limit; history = [] }) }
 {
-    let stored = read_terms(alloc, about.terms.as_slice())?;
-    match first_difference(&stored, terms) {
-        None => Ok(()),
-        Some(key) => Err(BookFault::OtherTerms(key)),
-    }
+    let Terms {
+        accounts,
+        tariffs,
+        validity,
+        money,
+    } = terms;
+    Book::new(alloc, accounts.into_vec(), tariffs, validity, money, limit)
 }
 
-/// The book in a store, under the terms of an empty book, where they are its own.
+/// A book with no entry, under the terms that the octets of a book say it was made under.
+fn empty_of(alloc: Global, about: &About, limit: u64) -> Result<Book, BookFault>
+    requires { limit ≤ HISTORY_LIMIT }
+    ensures terms { IfOk result (λ book. whole terms_form about.now.terms ≡ Ok book.terms) }
+    ensures limit { IfOk result (λ book. book.limit ≡ limit) }
+    ensures history { IfOk result (λ book. book.history ≡ []) }
+{
+    let terms = read_terms(alloc, about.terms.as_slice())?;
+    Ok(empty_under(alloc, terms, limit)?)
+}
+
+/// The book in a store, under the terms that it was made under, with room for so many entries.
 #[tactic(auto, using(crate::proofs::Stored::has_store))]
 fn open_in<S: RowStore + Drop>(
     alloc: Global,
     store: S,
-    empty: Book,
+    limit: u64,
 ) -> Result<(Journal<S>, Book), BookFault>
     requires ready { S.is_clean store → S.is_ready store }
-    requires none { empty.history ≡ [] }
+    requires limit { limit ≤ HISTORY_LIMIT }
     ensures kept { IfOk result (λ opened. IsKeptBy S.is_clean S.is_ready S.rows opened.0 opened.1) }
     ensures settled { IfOk result (λ opened. IsSettled opened.0) }
     ensures stored { IfOk result (λ opened. is_some opened.0.store ≡ true) }
-    ensures under { IfOk result (λ opened. IsUnder empty opened.1) }
-    ensures terms { IfOk result (λ opened. IfSome opened.0.store (λ now. S.is_clean now → IsOfTerms (S.about now) empty.terms)) }
+    ensures limit { IfOk result (λ opened. opened.1.limit ≡ limit) }
+    ensures terms { IfOk result (λ opened. IfSome opened.0.store (λ now. S.is_clean now → IsOfTerms (S.about now) opened.1.terms)) }
 {
     let mut store = store;
     let about = about_of(alloc, &mut store)?;
-    check_terms(alloc, &about, empty.terms())?;
+    let empty = empty_of(alloc, &about, limit)?;
     match open_journal(alloc, store, empty) {
         Ok(opened) => Ok(opened),
         Err(error) => Err(error.into()),
     }
 }
 
-/// Opens the book in a file, under the terms and the limit of an empty book. It has all entries that are stored, and its journal keeps
-/// it from then on.
+/// Opens the book in a file, under the terms that it was made under, with room for so many entries. It has all entries that are stored,
+/// and its journal keeps it from then on.
 pub fn open_book(
     rt: &HostRuntime,
     path: &str,
-    empty: Book,
+    limit: u64,
 ) -> Result<(Journal<FileBook>, Book), BookFault>
-    requires { empty.history ≡ [] }
+    requires { limit ≤ HISTORY_LIMIT }
     ensures kept { IfOk result (λ opened. IsKeptBy ⟦<FileBook as RowStore>⟧.is_clean ⟦<FileBook as RowStore>⟧.is_ready ⟦<FileBook as RowStore>⟧.rows opened.0 opened.1) }
     ensures settled { IfOk result (λ opened. IsSettled opened.0) }
     ensures stored { IfOk result (λ opened. is_some opened.0.store ≡ true) }
-    ensures under { IfOk result (λ opened. IsUnder empty opened.1) }
-    ensures terms { IfOk result (λ opened. IfSome opened.0.store (λ now. ⟦<FileBook as RowStore>⟧.is_clean now → IsOfTerms (⟦<FileBook as RowStore>⟧.about now) empty.terms)) }
+    ensures limit { IfOk result (λ opened. opened.1.limit ≡ limit) }
+    ensures terms { IfOk result (λ opened. IfSome opened.0.store (λ now. ⟦<FileBook as RowStore>⟧.is_clean now → IsOfTerms (⟦<FileBook as RowStore>⟧.about now) opened.1.terms)) }
 {
     let file = open_file(rt, path)?;
-    open_in(rt.alloc(), file, empty)
+    open_in(rt.alloc(), file, limit)
 }
 
 /// A book that is kept in memory alone.
@@ -118,37 +136,29 @@ fn in_memory<S: RowStore>(alloc: Global, empty: Book) -> (Journal<S>, Book)
     (Journal::in_memory(alloc), empty)
 }
 
-/// The book that serves: that of the file, opened as [`open_book`] does, or an empty one in memory where no file is named.
+/// The book that serves, before it comes under the terms of the site ([`renew`](crate::renew)): that of the file, opened as [`open_book`]
+/// does, with room for so many entries, or this empty one in memory where no file is named.
 pub fn serving_book(
     rt: &HostRuntime,
     path: Option<&str>,
+    limit: u64,
     empty: Book,
 ) -> Result<(Journal<FileBook>, Book), BookFault>
-    requires { empty.history ≡ [] }
+    requires most { limit ≤ HISTORY_LIMIT }
+    requires limit { empty.limit ≡ limit }
     ensures kept { IfOk result (λ opened. IsKeptBy ⟦<FileBook as RowStore>⟧.is_clean ⟦<FileBook as RowStore>⟧.is_ready ⟦<FileBook as RowStore>⟧.rows opened.0 opened.1) }
     ensures settled { IfOk result (λ opened. IsSettled opened.0) }
-    ensures under { IfOk result (λ opened. IsUnder empty opened.1) }
+    ensures limit { IfOk result (λ opened. opened.1.limit ≡ limit) }
     ensures stored { IfOk result (λ opened. is_some opened.0.store ≡ is_some path.entry) }
-    ensures terms { IfOk result (λ opened. IfSome opened.0.store (λ now. ⟦<FileBook as RowStore>⟧.is_clean now → IsOfTerms (⟦<FileBook as RowStore>⟧.about now) empty.terms)) }
+    ensures terms { IfOk result (λ opened. IfSome opened.0.store (λ now. ⟦<FileBook as RowStore>⟧.is_clean now → IsOfTerms (⟦<FileBook as RowStore>⟧.about now) opened.1.terms)) }
     ensures memory { IfNone path.entry (IfOk result (λ opened. (opened.0.store ≡ None) × (opened.1 ≡ empty))) }
 {
     match path {
-        Some(path) => open_book(rt, path, empty),
+        Some(path) => {
+            drop(empty);
+            open_book(rt, path, limit)
+        }
         None => Ok(in_memory(rt.alloc(), empty)),
-    }
-}
-
-/// A book that was opened, where it may be served on. Where it may not, the file is let go of as it was.
-pub fn where_allowed<S: RowStore + Drop, E>(
-    opened: (Journal<S>, Book),
-    allowed: Result<(), E>,
-) -> Result<(Journal<S>, Book), E>
-    ensures same { IfOk result (λ served. served ≡ opened) }
-    ensures why { IfErr result (λ why. allowed ≡ Err why) }
-{
-    match allowed {
-        Ok(()) => Ok(opened),
-        Err(why) => Err(why),
     }
 }
 
@@ -156,7 +166,7 @@ pub fn where_allowed<S: RowStore + Drop, E>(
 #[derive(Drop)]
 pub struct StoredBook {
     pub identity: Identity,
-    /// It has all entries that are stored.
+    /// It has all entries that are stored, under the terms that it was made under.
     pub book: Book,
     /// The sum of its history, which is that of its last row. It names the whole history.
     pub sum: Sum,
@@ -166,36 +176,106 @@ pub struct StoredBook {
 fn read_in<S: RowStore + Drop>(
     alloc: Global,
     store: S,
-    empty: Book,
+    limit: u64,
 ) -> Result<(Option<S>, StoredBook), BookFault>
     requires ready { S.is_clean store → S.is_ready store }
-    requires none { empty.history ≡ [] }
-    ensures under { IfOk result (λ read. IsUnder empty read.1.book) }
+    requires limit { limit ≤ HISTORY_LIMIT }
+    ensures limit { IfOk result (λ read. read.1.book.limit ≡ limit) }
     ensures sum { IfOk result (λ read. IfSome read.0 (λ _. read.1.sum.0 ≡ sum_in read.1.book)) }
 {
-    let mut store = store;
-    let identity = about_of(alloc, &mut store)?.identity;
-    let (journal, book) = open_in(alloc, store, empty)?;
-    let Journal { store, sum, .. } = journal;
-    Ok((
-        store,
-        StoredBook {
-            identity,
-            book,
-            sum,
-        },
-    ))
+    let (store, identity) = identity_in(alloc, store)?;
+    let opened = open_in(alloc, store, limit)?;
+    Ok(stored_of(identity, opened))
 }
 
-/// Reads the book in a file, under the terms and the limit of an empty book, and lets go of the file. A book that is not opened
-/// is not read.
-pub fn read_book(rt: &HostRuntime, path: &str, empty: Book) -> Result<StoredBook, BookFault>
-    requires { empty.history ≡ [] }
-    ensures under { IfOk result (λ read. IsUnder empty read.book) }
+/// A book that is stored, and what it is stored in.
+fn stored_of<S: RowStore + Drop>(
+    identity: Identity,
+    opened: (Journal<S>, Book),
+) -> (Option<S>, StoredBook)
+    requires { IsKeptBy S.is_clean S.is_ready S.rows opened.0 opened.1 }
+    ensures book { result.1.book ≡ opened.1 }
+    ensures sum { IfSome result.0 (λ _. result.1.sum.0 ≡ sum_in result.1.book) }
+{
+    let (journal, book) = opened;
+    let Journal { store, sum, .. } = journal;
+    let stored = StoredBook {
+        identity,
+        book,
+        sum,
+    };
+    (store, stored)
+}
+
+/// The book in a store, as it is opened and has come under these terms by an entry, where they did not hold in it; and what it is stored
+/// in. The entry is of this moment, or of the latest before it.
+fn change_in<S: RowStore + Drop>(
+    alloc: Global,
+    store: S,
+    limit: u64,
+    wanted: &Terms,
+    now: Moment,
+) -> Result<(Option<S>, StoredBook), BookFault>
+    requires ready { S.is_clean store → S.is_ready store }
+    requires limit { limit ≤ HISTORY_LIMIT }
+    ensures hold { IfOk result (λ read. Hold (now_in read.1.book) wanted.now) }
+    ensures limit { IfOk result (λ read. read.1.book.limit ≡ limit) }
+    ensures sum { IfOk result (λ read. IfSome read.0 (λ _. read.1.sum.0 ≡ sum_in read.1.book)) }
+{
+    let (store, identity) = identity_in(alloc, store)?;
+    let opened = open_in(alloc, store, limit)?;
+    let moment = not_before(opened.1.history(), now);
+    let opened = renewed(alloc, opened, wanted, moment, true)?;
+    Ok(stored_of(identity, opened))
+}
+
+/// This moment, or that of the last entry where it stands behind.
+fn not_before(history: &[Entry], moment: Moment) -> Moment
+    ensures { moment.0 ≤ result.0 }
+{
+    let last = match history.last() {
+        None => 0,
+        Some(
+            Entry::Take { moment, .. }
+            | Entry::Sweep { moment }
+            | Entry::ChangeTerms { moment, .. },
+        ) => moment.0,
+    };
+    Moment(moment.0.max(last))
+}
+
+/// Reads the book in a file, under the terms that it was made under, with room for so many entries, and lets go of the file. A book that
+/// is not opened is not read.
+pub fn read_book(rt: &HostRuntime, path: &str, limit: u64) -> Result<StoredBook, BookFault>
+    requires { limit ≤ HISTORY_LIMIT }
+    ensures limit { IfOk result (λ read. read.book.limit ≡ limit) }
     ensures sum { IfOk result (λ read. read.sum.0 ≡ sum_in read.book) }
 {
     let file = open_file(rt, path)?;
-    let (file, read) = read_in(rt.alloc(), file, empty)?;
+    let (file, read) = read_in(rt.alloc(), file, limit)?;
+    let Some(file) = file else {
+        return Err(BookFault::File(FileError::NoBook));
+    };
+    close_file(file)?;
+    Ok(read)
+}
+
+/// Opens the book in a file, with room for so many entries, brings it under these terms by one entry where they do not hold in it, which
+/// is stored, and lets go of the file. Of a book that is not changed nothing is stored.
+pub fn change_book(
+    rt: &HostRuntime,
+    path: &str,
+    limit: u64,
+    wanted: &Terms,
+) -> Result<StoredBook, BookFault>
+    requires { limit ≤ HISTORY_LIMIT }
+    ensures hold { IfOk result (λ read. Hold (now_in read.book) wanted.now) }
+    ensures limit { IfOk result (λ read. read.book.limit ≡ limit) }
+    ensures sum { IfOk result (λ read. read.sum.0 ≡ sum_in read.book) }
+{
+    let file = open_file(rt, path)?;
+    let now = Timer::start(rt)?.first();
+    let (file, read) = change_in(rt.alloc(), file, limit, wanted, now)?;
     let Some(file) = file else {
         return Err(BookFault::File(FileError::NoBook));
     };

@@ -1,12 +1,14 @@
 pub mod Octets
 pub mod Exact
 pub mod PartsExact
+pub mod TermsPartsExact
 pub mod RowExact
 pub mod Written
 pub mod WithinLimits
 pub mod Repeated
 pub mod RequestWritten
 pub mod ReplyWritten
+pub mod TermsPartsWritten
 pub mod RowWritten
 pub mod AboutExact
 pub mod Endings

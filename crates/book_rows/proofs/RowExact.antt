@@ -1,17 +1,21 @@
 -- The form of a row is exact: rows are read back, and two rows that spell the same are the same.
-use Rattle.std.proofs.Common.{◌≡◌, ℕ, cond, eqb, List, [], ◌++◌, length, Option, Some, None, Result, Ok, Err, refl, sym, ap, subst, ◌∙◌}
+use Rattle.std.proofs.Common.{◌≡◌, ℕ, zero, suc, cond, eqb, List, [], ◌∷◌, ◌++◌, length, Result, Ok, Err, refl, sym, ap, subst, ◌∙◌}
 use Rattle.std.proofs.lemmas.Bool.{eqb-true}
 use Rattle.std.proofs.lemmas.List.{append-nil, nil_from_length}
-use Rattle.book_rows.specs.declared.fault.Fault.TheVariants.{LeftOver, UnknownKind}
+use Rattle.book_rows.specs.declared.fault.Fault.TheVariants.{LeftOver}
 use Rattle.std.specs.Prelude.{IfOk}
 use Rattle.book_rows.specs.declared.fault.ReadError.{ReadError}
 use Rattle.book_rows.specs.declared.row.Row.{Row}
-use Rattle.book_rows.specs.Form.{Gives, both, number, optional}
+use Rattle.book_rows.specs.declared.row.Step.{Step}
+use Rattle.book_rows.specs.declared.row.Step.TheVariants.{Take, Sweep, ChangeTerms}
+use Rattle.book_rows.specs.Form.{Gives, both, number}
 use Rattle.book_rows.specs.Parts.{reply, request, signed}
-use Rattle.book_rows.specs.Row.{body, row, row_by, row_of, row_parts, spelled, IsRow, step, step_by, step_of, step_parts, taken, taken_of, taken_parts}
-use Rattle.book_rows.proofs.Exact.{IsExact, bind_ok, both_exact, checked_exact, number_exact, ok_is, optional_exact, test_ok, total_inverse}
-use Rattle.book_rows.proofs.Octets.{AreOctets}
+use Rattle.book_rows.specs.TermsParts.{change}
+use Rattle.book_rows.specs.Row.{body, row, row_by, row_of, row_parts, spelled, IsRow, step, step_read, taken, taken_of, taken_parts}
+use Rattle.book_rows.proofs.Exact.{IsExact, Takes, bind_ok, both_exact, checked_exact, number_exact, ok_is, test_ok}
+use Rattle.book_rows.proofs.Octets.{AreOctets, AreOctets-rest}
 use Rattle.book_rows.proofs.PartsExact.{reply_exact, request_exact, signed_exact}
+use Rattle.book_rows.proofs.TermsPartsExact.{change_exact}
 
 taken_exact : IsExact taken
 unfolding taken
@@ -20,13 +24,30 @@ taken_exact =
     (both_exact request (both reply signed) request_exact (both_exact reply signed reply_exact signed_exact))
     (λ x t e. ap taken_parts (ok_is (record { request = x.0; reply = x.1.0; debit = x.1.1 }) t e))
 
-step_back : (x : Option _) → step_parts (step_by x) ≡ x
-step_back None = refl
-step_back (Some t) = refl
+step_again : (value : Step) (rest : List ℕ) → step.Fits value → step.read (step.spell value ++ rest) ≡ Ok (value, rest)
+unfolding step
+step_again Sweep rest fits = refl
+step_again (Take t) rest fits = rw (taken_exact.again t rest fits) refl
+step_again (ChangeTerms c) rest fits = rw (change_exact.again c rest fits) refl
+
+step_takes : (octets : List ℕ) (value : Step) (rest : List ℕ) → AreOctets octets → step_read octets ≡ Ok (value, rest) → Takes step octets value rest
+unfolding step
+step_takes [] value rest fits e = absurd cc
+step_takes (zero ∷ octets) value rest fits e =
+    subst (λ (y : Step × List ℕ). Takes step (0 ∷ octets) y.0 y.1) (ok_is (Sweep, octets) (value, rest) e) (record { parts = refl; rest_fits = AreOctets-rest 0 octets fits; fits = tt })
+step_takes (suc zero ∷ octets) value rest fits e =
+    let a = bind_ok (taken.read octets) (λ a. Ok (Take a.0, a.1)) (value, rest) e in
+    let t = taken_exact.takes octets a.0.0 a.0.1 (AreOctets-rest 1 octets fits) a.1 in
+    subst (λ (y : Step × List ℕ). Takes step (1 ∷ octets) y.0 y.1) (ok_is (Take a.0.0, a.0.1) (value, rest) a.2) (record { parts = ap (λ (s : List ℕ). 1 ∷ s) t.parts; rest_fits = t.rest_fits; fits = t.fits })
+step_takes (suc (suc zero) ∷ octets) value rest fits e =
+    let a = bind_ok (change.read octets) (λ a. Ok (ChangeTerms a.0, a.1)) (value, rest) e in
+    let t = change_exact.takes octets a.0.0 a.0.1 (AreOctets-rest 2 octets fits) a.1 in
+    subst (λ (y : Step × List ℕ). Takes step (2 ∷ octets) y.0 y.1) (ok_is (ChangeTerms a.0.0, a.0.1) (value, rest) a.2) (record { parts = ap (λ (s : List ℕ). 2 ∷ s) t.parts; rest_fits = t.rest_fits; fits = t.fits })
+step_takes (suc (suc (suc other)) ∷ octets) value rest fits e = absurd cc
 
 step_exact : IsExact step
 unfolding step
-step_exact = checked_exact (optional UnknownKind taken) step_of step_parts (optional_exact UnknownKind taken taken_exact) (total_inverse step_by step_parts step_back)
+step_exact = record { again = step_again; takes = step_takes }
 
 body_exact : IsExact body
 unfolding body

@@ -1,4 +1,5 @@
 pub mod Form
 pub mod Parts
+pub mod TermsParts
 pub mod Row
 pub mod About

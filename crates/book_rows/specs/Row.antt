@@ -1,17 +1,18 @@
 -- A row of the book: one entry, what was answered and debited for it, and a sum that chains it to all rows before it.
-use Rattle.std.specs.Prelude.{◌≡◌, ℕ, ◌==◌, List, length, ◌++◌, ℤ, Option, Some, None, Result, Ok, Err, if◌then◌else◌}
+use Rattle.std.specs.Prelude.{◌≡◌, ℕ, zero, suc, ◌==◌, List, [], ◌∷◌, length, ◌++◌, ℤ, Result, Ok, Err, if◌then◌else◌}
 use Rattle.byteorder.specs.Endian.{big_bytes, big_number}
 use Rattle.sha2.specs.Sha256.{sha256}
 use Rattle.cc_view.specs.declared.reply.CcReply.{CcReply}
 use Rattle.cc_view.specs.declared.request.CcRequest.{CcRequest}
 use Rattle.book_rows.specs.declared.fault.Fault.{Fault}
-use Rattle.book_rows.specs.declared.fault.Fault.TheVariants.{LeftOver, UnknownKind}
+use Rattle.book_rows.specs.declared.fault.Fault.TheVariants.{LeftOver, Short, UnknownKind}
 use Rattle.book_rows.specs.declared.row.Row.{Row}
 use Rattle.book_rows.specs.declared.row.Step.{Step}
-use Rattle.book_rows.specs.declared.row.Step.TheVariants.{Take, Sweep}
+use Rattle.book_rows.specs.declared.row.Step.TheVariants.{Take, Sweep, ChangeTerms}
 use Rattle.book_rows.specs.declared.row.Taken.{Taken}
-use Rattle.book_rows.specs.Form.{Form, ◌>>=◌, both, checked, number, optional}
+use Rattle.book_rows.specs.Form.{Form, ◌>>=◌, both, checked, number}
 use Rattle.book_rows.specs.Parts.{reply, request, signed}
+use Rattle.book_rows.specs.TermsParts.{change}
 
 abbrev pub taken_of : CcRequest × (CcReply × ℤ) → Result Taken Fault
 taken_of x = Ok (record { request = x.0; reply = x.1.0; debit = x.1.1 })
@@ -22,20 +23,26 @@ taken_parts t = (t.request, (t.reply, t.debit))
 unfoldable pub taken : Form Taken
 taken = checked (both request (both reply signed)) taken_of taken_parts
 
-abbrev pub step_by : Option Taken → Step
-step_by None = Sweep
-step_by (Some taken) = Take taken
+abbrev pub step_spelled : Step → List ℕ
+step_spelled Sweep = 0 ∷ []
+step_spelled (Take t) = 1 ∷ taken.spell t
+step_spelled (ChangeTerms c) = 2 ∷ change.spell c
 
-abbrev pub step_of : Option Taken → Result Step Fault
-step_of x = Ok (step_by x)
+abbrev pub step_read : List ℕ → Result (Step × List ℕ) Fault
+step_read [] = Err Short
+step_read (zero ∷ rest) = Ok (Sweep, rest)
+step_read (suc zero ∷ rest) = taken.read rest >>= λ t. Ok (Take t.0, t.1)
+step_read (suc (suc zero) ∷ rest) = change.read rest >>= λ c. Ok (ChangeTerms c.0, c.1)
+step_read (suc (suc (suc other)) ∷ rest) = Err UnknownKind
 
-abbrev pub step_parts : Step → Option Taken
-step_parts Sweep = None
-step_parts (Take taken) = Some taken
+abbrev pub StepFits : Step → Type 0
+StepFits Sweep = Unit {0}
+StepFits (Take t) = taken.Fits t
+StepFits (ChangeTerms c) = change.Fits c
 
--- An octet says the kind of an entry: 0 a sweep, 1 a request that was taken. No other number is one yet.
+-- An octet says the kind of an entry: 0 a sweep, 1 a request that was taken, 2 a change of the terms. No other number is one yet.
 unfoldable pub step : Form Step
-step = checked (optional UnknownKind taken) step_of step_parts
+step = record { spell = step_spelled; read = step_read; Fits = StepFits }
 
 -- ---- the whole row
 

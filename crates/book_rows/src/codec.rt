@@ -1,13 +1,13 @@
 //! Rows as octets: how they are written, and read again.
 
-ghost use Rattle.std.specs.Prelude.{◌≡◌, ◌↔◌, ◌++◌, IfOk, IsTrue, OnOk};
+ghost use Rattle.std.specs.Prelude.{◌≡◌, ◌↔◌, [], ◌∷◌, ◌++◌, IfOk, IsTrue, OnOk};
 ghost use Rattle.byteorder.specs.Endian.{big_number};
 ghost use Rattle.sha2.specs.Sha256.{sha256};
 ghost use Rattle.book_rows.specs.declared.row.Row.{Row};
-ghost use Rattle.book_rows.specs.declared.fault.Fault.TheVariants.{UnknownKind};
-ghost use Rattle.book_rows.specs.Form.{Adds, Gives, optional};
+ghost use Rattle.book_rows.specs.Form.{Adds, Gives};
 ghost use Rattle.book_rows.specs.Row.{body, body_of, row, row_of, spelled, step, sum_after, taken, Chains, IsRow};
 
+use crate::change::{change_at, push_change};
 use crate::fault::{Fault, ReadError};
 use crate::numbers::{
     push_absent, push_present, push_signed, push_u64, push_u128, signed_at, u64_at, u128_at,
@@ -47,7 +47,7 @@ fn push_taken(out: &mut Vec<u8>, value: &Taken) -> Result<(), AllocError>
 }
 
 /// What an entry is, behind an octet that says its kind.
-#[tactic(auto, unfolding(crate::specs::Row::step, crate::specs::Form::optional))]
+#[tactic(auto, unfolding(crate::specs::Row::step))]
 fn step_at(alloc: Global, octets: &[u8]) -> Result<(Step, &[u8]), ReadError>
     ensures { Gives (λ x. (x.0, x.1.now)) result (step.read octets.now) }
 {
@@ -57,6 +57,10 @@ fn step_at(alloc: Global, octets: &[u8]) -> Result<(Step, &[u8]), ReadError>
         [1, rest @ ..] => {
             let (taken, rest) = taken_at(alloc, rest)?;
             Ok((Step::Take(taken), rest))
+        }
+        [2, rest @ ..] => {
+            let (change, rest) = change_at(alloc, rest)?;
+            Ok((Step::ChangeTerms(change), rest))
         }
         [_, ..] => Err(ReadError::NoRow(Fault::UnknownKind)),
     }
@@ -71,7 +75,19 @@ fn push_step(out: &mut Vec<u8>, value: &Step) -> Result<(), AllocError>
             push_present(out)?;
             push_taken(out, taken)?;
         }
+        Step::ChangeTerms(change) => {
+            push_changing(out)?;
+            push_change(out, change)?;
+        }
     }
+    Ok(())
+}
+
+/// The octet before a change of the terms.
+fn push_changing(out: &mut Vec<u8>) -> Result<(), AllocError>
+    ensures { OnOk result (out.new.items ≡ out.old.items ++ 2 ∷ []) }
+{
+    out.push(2)?;
     Ok(())
 }
 

@@ -1,5 +1,6 @@
 //! A row of the book.
 
+use cc_book::TermsChange;
 use cc_view::{CcReply, CcRequest};
 use dia_base::Moment;
 
@@ -22,6 +23,8 @@ pub enum Step {
     Take(Taken),
     /// A look at the clock that ended sessions (RFC 8506, section 13).
     Sweep,
+    /// A change of the terms, which hold from here on.
+    ChangeTerms(TermsChange),
 }
 
 /// One entry of the book as it is stored.

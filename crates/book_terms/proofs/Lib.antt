@@ -1,3 +1,4 @@
 pub mod Exact
 pub mod Written
-pub mod Compared
+pub mod Leading
+pub mod Looking

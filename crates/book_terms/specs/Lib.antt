@@ -1,3 +1,4 @@
 pub mod Terms
 pub mod Difference
+pub mod Stance
 pub mod Words

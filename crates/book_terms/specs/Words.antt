@@ -8,7 +8,4 @@ abbrev pub words_of : TermsKey → List ℕ
 words_of keys.Currency = codes "currency"
 words_of keys.Exponent = codes "exponent"
 words_of keys.Validity = codes "validity"
-words_of (keys.Tariff place) = codes "tariff " ++ decimal (place + 1)
-words_of keys.Tariffs = codes "the number of tariffs"
-words_of (keys.Account place) = codes "account " ++ decimal (place + 1)
-words_of keys.Accounts = codes "the number of accounts"
+words_of (keys.Opening place) = codes "the opening of account " ++ decimal (place + 1)

@@ -5,10 +5,10 @@ ghost use Rattle.book_rows.specs.About.{whole};
 ghost use Rattle.book_rows.specs.Form.{Adds, Gives};
 ghost use Rattle.book_terms.specs.Terms.{terms as terms_form};
 
-use crate::accounts::{accounts_at, push_accounts};
-use crate::small::{i32_at, push_i32};
-use crate::tariffs::{push_tariffs, tariffs_at};
-use book_rows::{Fault, ReadError, push_u32, u32_at};
+use book_rows::{
+    Fault, ReadError, accounts_at, i32_at, push_accounts, push_i32, push_tariffs, push_u32,
+    tariffs_at, u32_at,
+};
 use cc_book::{Money, Terms};
 use dia_base::Listing;
 use std::alloc::{AllocError, Global};

@@ -1,25 +1,59 @@
-//! Where the terms of two books first differ.
+//! The change that leads from the terms that hold in a book to those of a site.
 
-ghost use Rattle.std.specs.Prelude.{◌≡◌, MatchOption};
+ghost use Rattle.std.specs.Prelude.{◌≡◌, ◌≤◌, ◌⊎◌, ◌++◌, ◌∷◌, [], ℕ, length, Err, IfErr, IfOk, IfSome, MatchOption, OnErr, OnOk, Some, is_some, false, true};
 ghost use Rattle.std.specs.Bool.{Decides};
-ghost use Rattle.book_terms.specs.Difference.{AgreeAsFarAsBothGo, AgreeInNumbers, DifferAt, DifferInAccounts, DifferInNumbers, DifferInTariffs, DiffersIn};
+ghost use Rattle.std.specs.List.{list_any, position};
+ghost use Rattle.cc_book.specs.TermsChange.{same_owner, says_nothing};
+ghost use Rattle.book_terms.specs.declared.differences.NeededFault.TheVariants.{OutOfMemory, Stays};
+ghost use Rattle.book_terms.specs.declared.key.TermsKey.TheVariants as keys;
+ghost use Rattle.book_terms.specs.declared.key.TermsKey.{TermsKey as TermsKeyValue};
+ghost use Rattle.book_terms.specs.Stance.{IsStance};
+ghost use Rattle.book_terms.specs.Difference.{AgreeAsFarAsBothGo, AgreeInNumbers, DifferAt, DifferInNumbers, DiffersIn, IsNeeded, SaysTariffs, has_other_opening, is_known, is_there, joining_of, same_account};
 
 use crate::key::TermsKey;
-use cc_book::{Account, Terms};
-use cc_rating::Tariff;
+use cc_book::{Account, Terms, TermsChange};
+use cc_rating::{Tariff, Tariffs};
+use dia_base::Listing;
+use std::alloc::{AllocError, Global};
 
-/// The first key of a site file in which the terms differ, in the order currency, exponent, validity, tariffs, accounts. None
-/// where they are the same.
-pub fn first_difference(one: &Terms, other: &Terms) -> Option<TermsKey>
-    ensures { MatchOption result (one.now ≡ other.now) (λ key. DiffersIn key one.now other.now) }
+/// Why no change is told that leads from the terms that hold to others.
+#[derive(Clone, Copy, Debug, PartialEq, Eq)]
+pub enum NeededFault {
+    /// No change can bring it: this is the first key that differs.
+    Stays(TermsKey),
+    OutOfMemory,
+}
+
+impl From<AllocError> for NeededFault {
+    ghost from_gives = { λ _ e. e ≡ OutOfMemory };
+
+    fn from(_: AllocError) -> NeededFault {
+        NeededFault::OutOfMemory
+    }
+}
+
+/// The change that leads from the terms that hold to those that are wanted: the accounts that are not there join, and the tariffs hold
+/// where others do. It says nothing where the terms that are wanted hold. The money, the validity, and the opening of an account
+/// that is there stay: the first of these that differs is told, in this order.
+pub fn needed_change(alloc: Global, now: &Terms, wanted: &Terms) -> Result<TermsChange, NeededFault>
+    ensures needed { IfOk result (IsNeeded now.now wanted.now) }
+    ensures stays { IfErr result (λ fault. (fault ≡ OutOfMemory) ⊎ ((key : TermsKeyValue) × (fault ≡ Stays key) × DiffersIn key now.now wanted.now)) }
 {
-    if let Some(key) = difference_in_numbers(one, other) {
-        return Some(key);
+    if let Some(key) = difference_in_numbers(now, wanted) {
+        return Err(NeededFault::Stays(key));
     }
-    if let Some(key) = difference_in_tariffs(one.tariffs.as_slice(), other.tariffs.as_slice()) {
-        return Some(key);
-    }
-    difference_in_accounts(one.accounts.as_slice(), other.accounts.as_slice())
+    let joining = joining_of(alloc, now.accounts.as_slice(), wanted.accounts.as_slice())?;
+    Ok(TermsChange {
+        joining: Listing::from_vec(joining),
+        tariffs: needed_tariffs(alloc, &now.tariffs, &wanted.tariffs)?,
+    })
+}
+
+/// Whether a change says nothing: no account joins, and the tariffs stay.
+pub fn says_nothing(change: &TermsChange) -> bool
+    ensures { result ≡ says_nothing change.now }
+{
+    change.joining.is_empty() && change.tariffs.is_none()
 }
 
 fn difference_in_numbers(one: &Terms, other: &Terms) -> Option<TermsKey>
@@ -36,16 +70,37 @@ fn difference_in_numbers(one: &Terms, other: &Terms) -> Option<TermsKey>
     }
 }
 
-fn difference_in_tariffs(one: &[Tariff], other: &[Tariff]) -> Option<TermsKey>
-    ensures { MatchOption result (one.now ≡ other.now) (λ key. DifferInTariffs key one.now other.now) }
+// ---- tariffs
+
+/// The tariffs that a change says.
+fn needed_tariffs(
+    alloc: Global,
+    now: &Tariffs,
+    wanted: &Tariffs,
+) -> Result<Option<Tariffs>, AllocError>
+    ensures { IfOk result (SaysTariffs now.now wanted.now) }
 {
-    if let Some(place) = first_other_tariff(one, other) {
-        return Some(TermsKey::Tariff { place });
+    if same_tariffs(now.as_slice(), wanted.as_slice()) {
+        return Ok(None);
     }
-    if one.len() != other.len() {
-        return Some(TermsKey::Tariffs);
+    Ok(Some(copy_of_tariffs(alloc, wanted)?))
+}
+
+/// A copy of tariffs, which have no fault as those have none.
+fn copy_of_tariffs(alloc: Global, tariffs: &Tariffs) -> Result<Tariffs, AllocError>
+    ensures { IfOk result (λ copy. copy ≡ tariffs.now) }
+{
+    let copies = tariffs.as_slice().to_vec(alloc)?;
+    match Tariffs::new(alloc, copies) {
+        Ok(tariffs) => Ok(tariffs),
+        Err(_fault) => unreachable!(),
     }
-    None
+}
+
+fn same_tariffs(one: &[Tariff], other: &[Tariff]) -> bool
+    ensures { Decides result (one.now ≡ other.now) }
+{
+    one.len() == other.len() && first_other_tariff(one, other).is_none()
 }
 
 /// The first place where both have a tariff, and not the same one.
@@ -66,32 +121,105 @@ fn same_tariff(one: &Tariff, other: &Tariff) -> bool
     one == other
 }
 
-fn difference_in_accounts(one: &[Account], other: &[Account]) -> Option<TermsKey>
-    ensures { MatchOption result (one.now ≡ other.now) (λ key. DifferInAccounts key one.now other.now) }
-{
-    if let Some(place) = first_other_account(one, other) {
-        return Some(TermsKey::Account { place });
-    }
-    if one.len() != other.len() {
-        return Some(TermsKey::Accounts);
-    }
-    None
+// ---- accounts
+
+/// Where an account stands among those that are there.
+#[derive(Clone, Copy)]
+enum Stance {
+    /// It is there, before this place.
+    There { before: usize },
+    /// Its owner has another opening there.
+    OtherOpening,
+    /// Its owner has no account there.
+    Unknown,
 }
 
-/// The first place where both have an account, and not the same one.
-fn first_other_account(one: &[Account], other: &[Account]) -> Option<u64>
-    ensures { MatchOption result (AgreeAsFarAsBothGo one.now other.now) (λ place. DifferAt place one.now other.now) }
+/// Of the accounts that are wanted, those that join these. The first that is there with another opening is told by its place.
+/// Both lists have the same accounts in the same order for the most part: each account is looked for where the one before it was found.
+fn joining_of(
+    alloc: Global,
+    there: &[Account],
+    wanted: &[Account],
+) -> Result<Vec<Account>, NeededFault>
+    ensures joining { IfOk result (λ joining. joining.items ≡ joining_of there.now wanted.now) }
+    ensures openings { OnOk result (list_any (has_other_opening there.now) wanted.now ≡ false) }
+    ensures stays { IfErr result (λ fault. (fault ≡ OutOfMemory) ⊎ ((place : ℕ) × (fault ≡ Stays (keys.Opening place)) × (position (has_other_opening there.now) wanted.now ≡ Some place))) }
 {
-    for place in 0..one.len().min(other.len()) {
-        if !same_account(&one[place], &other[place]) {
-            return Some(place as u64);
+    let mut joining = Vec::new(alloc);
+    let mut next = 0;
+    for (place, account) in wanted.iter().enumerate() {
+        match stance_of(there, account, next) {
+            Stance::There { before } => next = before,
+            Stance::OtherOpening => {
+                let place = place as u64;
+                return Err(NeededFault::Stays(TermsKey::Opening { place }));
+            }
+            Stance::Unknown => join(&mut joining, account)?,
         }
     }
-    None
+    Ok(joining)
+}
+
+/// Adds a copy of an account.
+fn join(joining: &mut Vec<Account>, account: &Account) -> Result<(), AllocError>
+    ensures { OnOk result (joining.new.items ≡ joining.old.items ++ account.now ∷ []) }
+{
+    joining.push(account.clone()?)?;
+    Ok(())
+}
+
+/// Where an account stands among those that are there, which is looked for from a place on, and then before it.
+fn stance_of(there: &[Account], account: &Account, from: usize) -> Stance
+    requires { from ≤ length there.now }
+    ensures { IsStance there.now account.now result }
+{
+    if let Some(before) = place_behind(there, account, from) {
+        return Stance::There { before };
+    }
+    if is_known(there, account) {
+        Stance::OtherOpening
+    } else {
+        Stance::Unknown
+    }
+}
+
+/// The place behind an account, if it is there.
+fn place_behind(there: &[Account], account: &Account, from: usize) -> Option<usize>
+    requires { from ≤ length there.now }
+    ensures there { is_some result ≡ is_there there.now account.now }
+    ensures within { IfSome result (λ place. place ≤ length there.now) }
+{
+    match place_in(&there[from..], account) {
+        Some(place) => Some(from + place + 1),
+        None => match place_in(&there[..from], account) {
+            Some(place) => Some(place + 1),
+            None => None,
+        },
+    }
+}
+
+/// The place of an account, if it is there.
+fn place_in(there: &[Account], account: &Account) -> Option<usize>
+    ensures { result ≡ position (same_account account.now) there.now }
+{
+    there.iter().position(|other| same_account(account, other))
+}
+
+/// Whether the owner of an account has one there.
+fn is_known(there: &[Account], account: &Account) -> bool
+    ensures { result ≡ is_known there.now account.now }
+{
+    there.iter().any(|other| same_owner(account, other))
 }
 
 fn same_account(one: &Account, other: &Account) -> bool
-    ensures { Decides result (one.now ≡ other.now) }
+    ensures { result ≡ same_account one.now other.now }
 {
-    one.id_kind == other.id_kind && one.id == other.id && one.opening == other.opening
+    same_owner(one, other) && one.opening == other.opening
+}
+
+fn same_owner(one: &Account, other: &Account) -> bool
+    ensures { result ≡ same_owner one.now other.now }
+{
+    one.id_kind == other.id_kind && one.id == other.id
 }

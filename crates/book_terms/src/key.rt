@@ -1,27 +1,21 @@
-//! The keys of a site file that a book's terms come from.
+//! The keys of a site file in which no change can make the terms of a book the site's.
 
 ghost use Rattle.std.specs.Prelude.{Some};
 ghost use Rattle.book_terms.specs.Words.{words_of};
 
 use std::fmt;
 
-/// A key of a site file in which two terms differ. Places count from 0.
+/// A key of a site file in which the terms of a book differ, and stay. Places count from 0.
 #[derive(Clone, Copy, Debug, PartialEq, Eq)]
 pub enum TermsKey {
     Currency,
     Exponent,
     Validity,
-    /// The tariff at this place.
-    Tariff { place: u64 },
-    /// How many tariffs there are; all that both have are the same.
-    Tariffs,
-    /// The account at this place.
-    Account { place: u64 },
-    /// How many accounts there are; all that both have are the same.
-    Accounts,
+    /// The opening of the account at this place of the site: the book has the account with another one.
+    Opening { place: u64 },
 }
 
-/// The key in words of a site file. Tariffs and accounts count from 1, as `farm check` counts entries.
+/// The key in words of a site file. Accounts count from 1, as `farm check` counts entries.
 impl fmt::Display for TermsKey {
     ghost output = { λ key. Some (words_of key) };
 
@@ -30,16 +24,10 @@ impl fmt::Display for TermsKey {
             TermsKey::Currency => write!(f, "currency"),
             TermsKey::Exponent => write!(f, "exponent"),
             TermsKey::Validity => write!(f, "validity"),
-            TermsKey::Tariff { place } => {
+            TermsKey::Opening { place } => {
                 let number = u128::from(place) + 1;
-                write!(f, "tariff {number}")
+                write!(f, "the opening of account {number}")
             }
-            TermsKey::Tariffs => write!(f, "the number of tariffs"),
-            TermsKey::Account { place } => {
-                let number = u128::from(place) + 1;
-                write!(f, "account {number}")
-            }
-            TermsKey::Accounts => write!(f, "the number of accounts"),
         }
     }
 }

@@ -12,10 +12,10 @@ use Rattle.cc_view.specs.declared.request.RequestKind.{RequestKind}
 use Rattle.cc_view.specs.declared.request.RequestKind.TheVariants.{Initial, Update, Termination, Event}
 use Rattle.cc_view.specs.declared.request.ServiceName.{ServiceName}
 use Rattle.cc_book.specs.declared.entry.Entry.{Entry}
-use Rattle.cc_book.specs.declared.entry.Entry.TheVariants.{Take, Sweep}
+use Rattle.cc_book.specs.declared.entry.Entry.TheVariants.{Take, Sweep, ChangeTerms}
 use Rattle.cc_book.specs.declared.session.Hold.{Hold}
 use Rattle.cc_book.specs.declared.terms.Terms.{Terms}
-use Rattle.cc_book.specs.AccountMachine.{account_by, account_of, charged_account, free_to_grant, grants_by, grants_with, holds_from, opener_account, post, posting_of, postings_of, reply_after, settles_after, settles_by}
+use Rattle.cc_book.specs.AccountMachine.{account_by, account_of, charged_account, free_to_grant, grants_by, grants_with, holds_from, opener_account, post, posting_of, postings_of, reply_after, settles_after, settles_by, terms_at, terms_of}
 use Rattle.cc_book.specs.Balance.{balance_of, debit_of, reserved_of}
 use Rattle.cc_book.specs.Duplicate.{same_session}
 use Rattle.cc_book.specs.Posting.{Posting, is_account}
@@ -23,7 +23,7 @@ use Rattle.cc_book.specs.Reservation.{has_name, held_after, is_alive, replaces, 
 use Rattle.cc_book.specs.Session.{Opened, is_initial_kind, is_of, is_open, is_success, left_after, moment_of, next_session, opened_at, opens, session_after, session_by, session_in, session_of}
 use Rattle.cc_book.proofs.Alive.{is_alive-push, is_ending, survives}
 use Rattle.cc_book.proofs.Ending.{AllKeep, Covers, all_keep, closed_stays, covers_all, covers_open, own_session}
-use Rattle.cc_book.proofs.Postings.{balance_of-take, postings_of-push}
+use Rattle.cc_book.proofs.Postings.{balance_of-take, postings_hold, postings_of-push}
 use Rattle.cc_book.proofs.Sessions.{same_session-equal}
 
 -- ---- a session opens where it is closed, and its grants are of its account
@@ -104,6 +104,7 @@ belongs terms before session (Take moment request) = record {
       (closed_by (is_open terms.validity request.session before) (is_some (account_of terms.accounts request.subscriptions))
       (is_success (reply_after terms before request).code) (same_session request.session session) request.kind own)
 belongs terms before session (Sweep moment) = record { closed = λ own. absurd cc; account = λ own. absurd cc }
+belongs terms before session (ChangeTerms moment change) = record { closed = λ own. absurd cc; account = λ own. absurd cc }
 
 -- postings of which each does, from a state of the session on
 unfoldable AllBelong : ℕ → List ℕ → Option Opened → List Posting → Type 0
@@ -118,16 +119,15 @@ belong_push validity session now [] posting all one = (one, tt)
 belong_push validity session now (first ∷ before) posting all one =
     (all.0, belong_push validity session (next_session validity session now first) before posting all.1 one)
 
-belong_fold : (terms : Terms) (session : List ℕ) (before : List Posting) (history : List Entry) → AllBelong terms.validity session None before
-    → AllBelong terms.validity session None (fold (post terms) before history)
-belong_fold terms session before [] all = all
-belong_fold terms session before (entry ∷ history) all =
-    belong_fold terms session (post terms before entry) history
-    (belong_push terms.validity session None before (posting_of terms before entry) all (belongs terms before session entry))
+belong_next : (terms : Terms) (session : List ℕ) (before : List Posting) (entry : Entry) → AllBelong terms.validity session None before
+    → AllBelong terms.validity session None (post terms before entry)
+belong_next terms session before entry all =
+    let now = terms_at terms before in
+    belong_push terms.validity session None before (posting_of now before entry) all (belongs now before session entry)
 
 all_belong : (terms : Terms) (session : List ℕ) (history : List Entry) → AllBelong terms.validity session None (postings_of terms history)
-unfolding postings_of AllBelong
-all_belong terms session history = belong_fold terms session [] history tt
+unfolding AllBelong
+all_belong terms session history = postings_hold (AllBelong terms.validity session None) terms history (belong_next terms session) tt
 
 -- ---- it keeps that account while it lasts
 
@@ -146,6 +146,7 @@ module _ (validity : ℕ) (session : List ℕ) where
     by : (b : Bool) → is_some (cond b None (Some opened)) ≡ true → account_in (cond b None (Some opened)) ≡ opened.account
     by true lasts = absurd cc
     by false lasts = refl
+  account-after opened (ChangeTerms moment change) lasts = refl
 
   account-next : (left now : Option Opened) (posting : Posting) → Covers left now → Belongs validity session now posting
       → is_some (left_after validity session left posting) ≡ true
@@ -268,6 +269,9 @@ module _ (terms : Terms) (before : List Posting) (moment : Moment) (request : Cc
     by (Sweep m) is =
         ap (λ (e : Entry). held_after terms.validity e p.grants (after ++ q ∷ [])) is
         ∙ sym (ap (λ (e : Entry). held_after terms.validity e p.grants after) is)
+    by (ChangeTerms m change) is =
+        ap (λ (e : Entry). held_after terms.validity e p.grants (after ++ q ∷ [])) is
+        ∙ sym (ap (λ (e : Entry). held_after terms.validity e p.grants after) is)
     by (Take m r) is =
         let own : is_of r.session p.entry ≡ true = ap (λ (e : Entry). is_of r.session e) is ∙ own_session r.session in
         elim ((keep r.session).0 own) as (λ _. held_after terms.validity p.entry p.grants (after ++ q ∷ [])
@@ -318,14 +322,14 @@ not_charged account (Some other) differ = by (eqb account other) refl where
   by false is = is
 
 module _ (terms : Terms) (history : List Entry) (moment : Moment) (request : CcRequest) (account : ℕ)
-    (other : charged_account terms (postings_of terms history) request ≢ Some account) where
-  off : is_account account (charged_account terms (postings_of terms history) request) ≡ false
-  off = not_charged account (charged_account terms (postings_of terms history) request) other
+    (other : charged_account (terms_of terms history) (postings_of terms history) request ≢ Some account) where
+  off : is_account account (charged_account (terms_of terms history) (postings_of terms history) request) ≡ false
+  off = not_charged account (charged_account (terms_of terms history) (postings_of terms history) request) other
 
   pub balance-beside : balance_of terms (history ++ Take moment request ∷ []) account ≡ balance_of terms history account
   balance-beside =
       let moved = balance_of-take terms history moment request account in
-      let none : cond (is_account account (charged_account terms (postings_of terms history) request)) (debit_of terms history request) (pos 0) ≡ pos 0 =
+      let none : cond (is_account account (charged_account (terms_of terms history) (postings_of terms history) request)) (debit_of terms history request) (pos 0) ≡ pos 0 =
       ap (λ (b : Bool). cond b (debit_of terms history request) (pos 0)) off in
       omega (arith, ints)
 
@@ -333,7 +337,7 @@ module _ (terms : Terms) (history : List Entry) (moment : Moment) (request : CcR
   unfolding reserved_of
   reserved-beside =
       ap (reserved_by terms.validity account) (postings_of-push terms history (Take moment request))
-      ∙ reserved-same terms (postings_of terms history) moment request account off (λ id. None) (postings_of terms history) (λ id. all_keep terms id history)
+      ∙ reserved-same (terms_of terms history) (postings_of terms history) moment request account off (λ id. None) (postings_of terms history) (λ id. all_keep terms id history)
       (λ id. all_belong terms id history) (λ id. refl)
 
 -- ---- an EVENT holds and ends nothing of any account
@@ -386,4 +390,4 @@ pub reserved-by_event : (terms : Terms) (history : List Entry) (moment : Moment)
 unfolding reserved_of
 reserved-by_event terms history moment request account event =
     ap (reserved_by terms.validity account) (postings_of-push terms history (Take moment request))
-    ∙ event-same terms (postings_of terms history) moment request event account (postings_of terms history)
+    ∙ event-same (terms_of terms history) (postings_of terms history) moment request event account (postings_of terms history)

@@ -8,7 +8,7 @@ use Rattle.cc_view.specs.declared.request.RequestKind.{RequestKind}
 use Rattle.cc_view.specs.declared.request.RequestKind.TheVariants.{Initial, Update, Termination, Event}
 use Rattle.cc_view.specs.declared.request.ServiceName.{ServiceName}
 use Rattle.cc_book.specs.declared.entry.Entry.{Entry}
-use Rattle.cc_book.specs.declared.entry.Entry.TheVariants.{Take, Sweep}
+use Rattle.cc_book.specs.declared.entry.Entry.TheVariants.{Take, Sweep, ChangeTerms}
 use Rattle.cc_book.specs.declared.session.Hold.{Hold}
 use Rattle.cc_book.specs.declared.session.OpenSession.{OpenSession}
 use Rattle.cc_book.specs.Duplicate.{same_session}
@@ -83,6 +83,7 @@ module _ (validity : ℕ) (moment : Moment) (request : CcRequest) (posting : Pos
       ap is_some (fold-append (left_after validity r.session) (Some (opened_at validity None m.0)) after (q ∷ []))
       ∙ left-push r.session (fold (left_after validity r.session) (Some (opened_at validity None m.0)) after)
   outlasts-push (Sweep m) after = refl
+  outlasts-push (ChangeTerms m change) after = refl
 
   alive_by : (a b c d : Bool) → (not (a || b) && (c && d)) ≡ ((not a && c) && (not b && d))
   alive_by true b c d = refl
@@ -97,6 +98,7 @@ module _ (validity : ℕ) (moment : Moment) (request : CcRequest) (posting : Pos
       ∙ ap (λ (b : Bool). not (list_any (replaces r.session name) after || replaces r.session name q) && b) (outlasts-push (Take m r) after)
       ∙ alive_by (list_any (replaces r.session name) after) (replaces r.session name q) (outlasts validity (Take m r) after) (not (ends request r.session))
   is_alive-push (Sweep m) name after = refl
+  is_alive-push (ChangeTerms m change) name after = refl
 
   weight_by : (a b : Bool) (n : ℕ) → cond (a && b) n 0 ≡ cond a (cond b n 0) 0
   weight_by true b n = refl

@@ -11,10 +11,10 @@ use Rattle.cc_view.specs.declared.request.RequestKind.{RequestKind}
 use Rattle.cc_view.specs.declared.request.RequestKind.TheVariants.{Event}
 use Rattle.cc_view.specs.declared.request.ServiceName.{ServiceName}
 use Rattle.cc_book.specs.declared.entry.Entry.{Entry}
-use Rattle.cc_book.specs.declared.entry.Entry.TheVariants.{Take, Sweep}
+use Rattle.cc_book.specs.declared.entry.Entry.TheVariants.{Take, Sweep, ChangeTerms}
 use Rattle.cc_book.specs.declared.session.Hold.{Hold}
 use Rattle.cc_book.specs.declared.terms.Terms.{Terms}
-use Rattle.cc_book.specs.AccountMachine.{account_of, grants_by, posting_of, postings_of, reply_after, settles_after, settles_by}
+use Rattle.cc_book.specs.AccountMachine.{account_of, grants_by, posting_of, postings_of, reply_after, settles_after, settles_by, terms_of}
 use Rattle.cc_book.specs.Duplicate.{same_session}
 use Rattle.cc_book.specs.Posting.{Posting}
 use Rattle.cc_book.specs.Reservation.{held_by, is_alive, names, replaces, same_name}
@@ -66,6 +66,7 @@ module _ (validity : ℕ) (session : List ℕ) (q : Posting) (alone : LeavesAlon
       (ap (λ (b : Bool). not b && is_some (fold (left_after validity session) first (more ++ q ∷ []))) (replaced-same name more)
       ∙ ap (λ (o : Option Opened). not (list_any (replaces session name) more) && is_some o) (lasts-same first more))
   alive-same name (Sweep m) more own = absurd cc
+  alive-same name (ChangeTerms m change) more own = absurd cc
 
   held-same : (name : ServiceName) (postings : List Posting) → held_by validity session name (postings ++ q ∷ []) ≡ held_by validity session name postings
   held-same name [] =
@@ -126,7 +127,7 @@ module _ (terms : Terms) (before : List Posting) (moment : Moment) (request : Cc
 
 module _ (terms : Terms) (history : List Entry) (moment : Moment) (request : CcRequest) (session : List ℕ) where
   abbrev pushed : Posting
-  pushed = posting_of terms (postings_of terms history) (Take moment request)
+  pushed = posting_of (terms_of terms history) (postings_of terms history) (Take moment request)
 
   session-after : LeavesAlone terms.validity session pushed
       → session_of terms.validity session (postings_of terms (history ++ Take moment request ∷ []))
@@ -143,18 +144,18 @@ module _ (terms : Terms) (history : List Entry) (moment : Moment) (request : CcR
 
   pub session-beside : request.session ≢ session → session_of terms.validity session (postings_of terms (history ++ Take moment request ∷ []))
       ≡ session_of terms.validity session (postings_of terms history)
-  session-beside other = session-after (other-alone terms (postings_of terms history) moment request session other)
+  session-beside other = session-after (other-alone (terms_of terms history) (postings_of terms history) moment request session other)
 
   pub session-beside_event : request.kind ≡ Event → session_of terms.validity session (postings_of terms (history ++ Take moment request ∷ []))
       ≡ session_of terms.validity session (postings_of terms history)
-  session-beside_event event = session-after (event-alone terms (postings_of terms history) moment request session event)
+  session-beside_event event = session-after (event-alone (terms_of terms history) (postings_of terms history) moment request session event)
 
   pub held-beside : (name : ServiceName) → request.session ≢ session
       → held_by terms.validity session name (postings_of terms (history ++ Take moment request ∷ []))
       ≡ held_by terms.validity session name (postings_of terms history)
-  held-beside name other = held-after name (other-alone terms (postings_of terms history) moment request session other)
+  held-beside name other = held-after name (other-alone (terms_of terms history) (postings_of terms history) moment request session other)
 
   pub held-beside_event : (name : ServiceName) → request.kind ≡ Event
       → held_by terms.validity session name (postings_of terms (history ++ Take moment request ∷ []))
       ≡ held_by terms.validity session name (postings_of terms history)
-  held-beside_event name event = held-after name (event-alone terms (postings_of terms history) moment request session event)
+  held-beside_event name event = held-after name (event-alone (terms_of terms history) (postings_of terms history) moment request session event)

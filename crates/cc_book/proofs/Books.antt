@@ -19,14 +19,15 @@ use Rattle.cc_book.specs.declared.entry.Entry.{Entry}
 use Rattle.cc_book.specs.declared.entry.Entry.TheVariants.{Take}
 use Rattle.cc_book.specs.declared.session.OpenSession.{OpenSession}
 use Rattle.cc_book.specs.declared.terms.Terms.{Terms}
-use Rattle.cc_book.specs.AccountMachine.{charged_account, post, posting_of, postings_of, repeat_reply, reply_to}
+use Rattle.cc_book.specs.AccountMachine.{charged_account, post, posting_of, postings_of, repeat_reply, reply_to, terms_at, terms_of}
 use Rattle.cc_book.specs.Bounds.{IsBounded, MovesLittle, OpensSmall, bears_in, bears_request}
 use Rattle.cc_book.specs.Duplicate.{Key, key_of}
 use Rattle.cc_book.specs.History.{IsKeptAt, IsNew}
 use Rattle.cc_book.specs.Posting.{Posting}
 use Rattle.cc_book.specs.Balance.{balance_of, open_sessions_of, reserved_of, spent_by}
-use Rattle.cc_book.specs.Standing.{IsOutcome, IsPlacedIn, IsSmall, Stands, after_change, after_debit, change_at, change_of, change_open, is_session, next_sessions, place_in, reserved_in, sessions_after}
+use Rattle.cc_book.specs.Standing.{IsOutcome, IsPlacedIn, IsSmall, Stands, after_change, after_debit, change_at, change_of, change_open, is_session, next_sessions, place_in, reserved_in, sessions_after, opened_session}
 use Rattle.cc_book.specs.Session.{open_count, opens, outlasts}
+use Rattle.cc_book.specs.TermsChange.{terms_with}
 use Rattle.cc_book.proofs.Sums.{all_placed, charged_account-within}
 use Rattle.cc_book.proofs.Stands.{open_count-stands, reserved-stands}
 use Rattle.cc_book.proofs.Bounds.{borne-stands, bounded-push, few-bear, moves-little, small-bounded}
@@ -41,7 +42,7 @@ use Rattle.cc_book.proofs.Sessions.{open_at_place}
 use Rattle.cc_book.proofs.Replies.{answer_of-fresh, answer_of-kept}
 use Rattle.cc_book.proofs.Outcomes.{take-stands}
 use Rattle.cc_book.proofs.Keys.{IsLegal-empty, IsLegal-push}
-use Rattle.cc_book.proofs.Postings.{all_push, postings_of-length, postings_of-push}
+use Rattle.cc_book.proofs.Postings.{all_push, postings_of-length, postings_of-push, terms_of-push}
 
 -- ---- the replies of a history
 
@@ -53,7 +54,7 @@ replies-stay : (terms : Terms) (before : List Posting) (history : List Entry) (p
     → get_or (replies_in (fold (post terms) before history)) place d ≡ get_or (replies_in before) place d
 replies-stay terms before [] place d lt = refl
 replies-stay terms before (entry ∷ history) place d lt =
-    let posting = posting_of terms before entry in
+    let posting = posting_of (terms_at terms before) before entry in
     let long = length-append before (posting ∷ []) in
     let same = length-map before (λ (p : Posting). p.reply) in
     replies-stay terms (post terms before entry) history place d (omega arith)
@@ -62,11 +63,11 @@ replies-stay terms before (entry ∷ history) place d lt =
 
 -- the reply at a place is that of its entry after the entries before it
 replies-at : (terms : Terms) (before after : List Entry) (entry : Entry) (d : Option CcReply)
-    → get_or (replies_in (postings_of terms (before ++ entry ∷ after))) (length before) d ≡ (posting_of terms (postings_of terms before) entry).reply
+    → get_or (replies_in (postings_of terms (before ++ entry ∷ after))) (length before) d ≡ (posting_of (terms_of terms before) (postings_of terms before) entry).reply
 unfolding postings_of
 replies-at terms before after entry d =
     let left = postings_of terms before in
-    let posting = posting_of terms left entry in
+    let posting = posting_of (terms_of terms before) left entry in
     let long = postings_of-length terms before in
     let more = length-append left (posting ∷ []) in
     let same = length-map left (λ (p : Posting). p.reply) in
@@ -132,39 +133,59 @@ IsBook-empty terms limit balances openings bounded stands = record {
   moved = tt;
 }
 
+-- the replies with one more posting
+pub replies-push : (before : List Posting) (next : List Posting) (posting : Posting) (replies : List (Option CcReply)) → next ≡ before ++ posting ∷ []
+    → replies ≡ replies_in before → replies ++ posting.reply ∷ [] ≡ replies_in next
+replies-push before next posting replies is kept =
+    ap (λ (rs : List (Option CcReply)). rs ++ posting.reply ∷ []) kept
+    ∙ sym (ap replies_in is ∙ map-append (λ (p : Posting). p.reply) before (posting ∷ []))
+
+-- what stands under the terms and the postings of one more entry
+pub stands-push : (terms : Terms) (history : List Entry) (entry : Entry) {balances : List ℤ} {sessions : List OpenSession}
+    → Stands (terms_with (terms_of terms history) entry)
+    (postings_of terms history ++ posting_of (terms_of terms history) (postings_of terms history) entry ∷ []) balances sessions
+    → Stands (terms_of terms (history ++ entry ∷ [])) (postings_of terms (history ++ entry ∷ [])) balances sessions
+stands-push terms history entry {balances} {sessions} s =
+    subst (λ (ps : List Posting). Stands (terms_of terms (history ++ entry ∷ [])) ps balances sessions) (sym (postings_of-push terms history entry))
+    (subst (λ (now : Terms). Stands now (post terms (postings_of terms history) entry) balances sessions) (sym (terms_of-push terms history entry)) s)
+
+pub opens-push : (terms : Terms) (history : List Entry) (entry : Entry) → OpensSmall (terms_with (terms_of terms history) entry)
+    → OpensSmall (terms_of terms (history ++ entry ∷ []))
+opens-push terms history entry small = subst (λ (now : Terms). OpensSmall now) (sym (terms_of-push terms history entry)) small
+
 pub IsBook-push : (terms : Terms) (limit : ℕ) (history : List Entry) (replies : List (Option CcReply)) (balances : List ℤ) (sessions : List OpenSession)
     (moment : Moment) (request : CcRequest) (outcome : Outcome)
     → IsBook terms limit history replies balances sessions → IsNew history (key_of request) → length history < limit
-    → IsTrue (bears_request terms (postings_of terms history) request)
-    → IsOutcome terms (postings_of terms history) sessions moment request outcome
+    → IsTrue (bears_request (terms_of terms history) (postings_of terms history) request)
+    → IsOutcome (terms_of terms history) (postings_of terms history) sessions moment request outcome
     → IsBook terms limit (history ++ Take moment request ∷ []) (replies ++ Some outcome.reply ∷ []) (after_debit balances outcome.account outcome.debit)
     (after_change sessions outcome.change)
 IsBook-push terms limit history replies balances sessions moment request outcome book new room borne does =
     let before = postings_of terms history in
+    let now = terms_of terms history in
+    let posting = posting_of now before (Take moment request) in
     let long = length-append history (Take moment request ∷ []) in
     let next = postings_of-push terms history (Take moment request) in
     record {
       legal = IsLegal-push terms history moment request book.legal new;
       within = omega arith;
-      replies_kept = ap (λ (rs : List (Option CcReply)). rs ++ Some outcome.reply ∷ []) book.replies_kept
-          ∙ ap (λ (r : CcReply). replies_in before ++ Some r ∷ []) does.reply
-          ∙ sym (ap replies_in next ∙ map-append (λ (p : Posting). p.reply) before (posting_of terms before (Take moment request) ∷ []));
-      stands = subst (λ (ps : List Posting). Stands terms ps (after_debit balances outcome.account outcome.debit) (after_change sessions outcome.change))
-          (sym next) (take-stands book.stands does);
+      replies_kept = ap (λ (r : CcReply). replies ++ Some r ∷ []) does.reply
+          ∙ replies-push before (postings_of terms (history ++ Take moment request ∷ [])) posting replies next book.replies_kept;
+      stands = stands-push terms history (Take moment request) (take-stands book.stands does);
       sessions_left = ap (after_change sessions) does.change
-          ∙ ap (λ (ss : List OpenSession). after_change ss (change_of ss request moment (posting_of terms before (Take moment request)))) book.sessions_left
-          ∙ sym (ap (sessions_after terms.validity) next ∙ sessions_after-push terms.validity before (posting_of terms before (Take moment request)));
+          ∙ ap (λ (ss : List OpenSession). after_change ss (change_of ss request moment posting)) book.sessions_left
+          ∙ sym (ap (sessions_after terms.validity) next ∙ sessions_after-push terms.validity before posting);
       bounded = bounded-push book.stands moment request outcome does borne book.bounded;
-      openings = book.openings;
+      openings = opens-push terms history (Take moment request) book.openings;
       moved = subst (AllByRecursion MovesLittle) (sym next)
-          (all_push MovesLittle before (posting_of terms before (Take moment request)) book.moved (moves-little terms before sessions moment request outcome does));
+          (all_push MovesLittle before posting book.moved (moves-little now before sessions moment request outcome does));
     }
 
 -- ---- what a book has is what its history has left
 
-module _ {terms : Terms} (history : List Entry) {balances : List ℤ} {sessions : List OpenSession}
-    (s : Stands terms (postings_of terms history) balances sessions) where
-  pub balance_of-is : (account : ℕ) → account < length terms.accounts → slice_index_or balances account (pos 0) ≡ balance_of terms history account
+module _ (terms : Terms) (history : List Entry) {balances : List ℤ} {sessions : List OpenSession}
+    (s : Stands (terms_of terms history) (postings_of terms history) balances sessions) where
+  pub balance_of-is : (account : ℕ) → account < length (terms_of terms history).accounts → slice_index_or balances account (pos 0) ≡ balance_of terms history account
   unfolding balance_of spent_by
   balance_of-is account within = s.balance account within
 
@@ -177,7 +198,7 @@ module _ {terms : Terms} (history : List Entry) {balances : List ℤ} {sessions 
   open_sessions_of-is = open_count-stands s
 
 pub small-book : {terms : Terms} {limit : ℕ} {history : List Entry} {replies : List (Option CcReply)} {balances : List ℤ} {sessions : List OpenSession}
-    → IsBook terms limit history replies balances sessions → IsSmall terms balances sessions
+    → IsBook terms limit history replies balances sessions → IsSmall (terms_of terms history) balances sessions
 small-book book = small-bounded book.stands book.bounded
 
 pub sessions-within : {terms : Terms} {limit : ℕ} {history : List Entry} {replies : List (Option CcReply)} {balances : List ℤ} {sessions : List OpenSession}
@@ -255,76 +276,76 @@ module _ {terms : Terms} {limit : ℕ} {history : List Entry} {replies : List (O
   not-fresh request taken place answered at is = ap (λ (a : Answered). a.fresh) (answered-kept request taken place answered at is)
 
   pub answer-fresh : (moment : Moment) (request : CcRequest) (outcome : Outcome) → IsNew history (key_of request) → length history < limit
-      → IsOutcome terms (postings_of terms history) sessions moment request outcome
+      → IsOutcome (terms_of terms history) (postings_of terms history) sessions moment request outcome
       → answer_of (ledger_of terms limit history) request ≡ Ok (record { reply = outcome.reply; place = length history; fresh = true })
   unfolding reply_to
   answer-fresh moment request outcome new room does =
       answer_of-fresh (ledger_of terms limit history) request (length history) outcome.reply new refl room does.reply
 
   -- whether the account that a request charges bears it is told by what the book has
-  pub borne-book : (request : CcRequest) (account : Option ℕ) → account ≡ charged_account terms (postings_of terms history) request
-      → bears_in balances sessions account ≡ bears_request terms (postings_of terms history) request
+  pub borne-book : (request : CcRequest) (account : Option ℕ) → account ≡ charged_account (terms_of terms history) (postings_of terms history) request
+      → bears_in balances sessions account ≡ bears_request (terms_of terms history) (postings_of terms history) request
   borne-book request account is =
       ap (bears_in balances sessions) is
-      ∙ borne-stands book.stands (charged_account terms (postings_of terms history) request)
-      (charged_account-within terms (postings_of terms history) request (all_placed terms history))
+      ∙ borne-stands book.stands (charged_account (terms_of terms history) (postings_of terms history) request)
+      (charged_account-within (terms_of terms history) (postings_of terms history) request (all_placed terms history))
 
-  pub borne-by : (request : CcRequest) (account : Option ℕ) → account ≡ charged_account terms (postings_of terms history) request
-      → bears_in balances sessions account ≡ true → IsTrue (bears_request terms (postings_of terms history) request)
+  pub borne-by : (request : CcRequest) (account : Option ℕ) → account ≡ charged_account (terms_of terms history) (postings_of terms history) request
+      → bears_in balances sessions account ≡ true → IsTrue (bears_request (terms_of terms history) (postings_of terms history) request)
   borne-by request account is bears = sym (borne-book request account is) ∙ bears
 
   -- that account is one of the book's
-  pub charged-within : (request : CcRequest) (account : Option ℕ) → account ≡ charged_account terms (postings_of terms history) request
+  pub charged-within : (request : CcRequest) (account : Option ℕ) → account ≡ charged_account (terms_of terms history) (postings_of terms history) request
       → (place : ℕ) → account ≡ Some place → place < length balances
   charged-within request account is place some =
-      let known = charged_account-within terms (postings_of terms history) request (all_placed terms history) in
-      let here = subst (λ (a : Option ℕ). MatchOption a (Unit {0}) (λ p. p < length terms.accounts)) (sym is ∙ some) known in
+      let known = charged_account-within (terms_of terms history) (postings_of terms history) request (all_placed terms history) in
+      let here = subst (λ (a : Option ℕ). MatchOption a (Unit {0}) (λ p. p < length (terms_of terms history).accounts)) (sym is ∙ some) known in
       let long = book.stands.accounts in
       omega (arith, here)
 
   -- and where the book is short, it does
-  pub short-bears : (request : CcRequest) → limit ≤ 2 ^ 20 → length history < limit → bears_request terms (postings_of terms history) request ≡ true
+  pub short-bears : (request : CcRequest) → limit ≤ 2 ^ 20 → length history < limit → bears_request (terms_of terms history) (postings_of terms history) request ≡ true
   short-bears request short room =
       let long = postings_of-length terms history in
-      few-bear terms (postings_of terms history) (charged_account terms (postings_of terms history) request) book.openings book.moved (omega arith)
+      few-bear (terms_of terms history) (postings_of terms history) (charged_account (terms_of terms history) (postings_of terms history) request) book.openings book.moved (omega arith)
 
   -- what a plan does, it does to the sessions that the book has
   pub taking-outcome : (taken : Taken) → IsTaking (ledger_of terms limit history) taken
-      → IsOutcome terms (postings_of terms history) sessions taken.moment taken.request taken.outcome
+      → IsOutcome (terms_of terms history) (postings_of terms history) sessions taken.moment taken.request taken.outcome
   taking-outcome taken taking =
-      subst (λ (ss : List OpenSession). IsOutcome terms (postings_of terms history) ss taken.moment taken.request taken.outcome) (sym book.sessions_left)
+      subst (λ (ss : List OpenSession). IsOutcome (terms_of terms history) (postings_of terms history) ss taken.moment taken.request taken.outcome) (sym book.sessions_left)
       taking.outcome
 
   pub planned-outcome : (moment : Moment) (request : CcRequest) (outcome : Outcome)
-      → IsOutcome terms (postings_of terms history) sessions moment request outcome
-      → IsOutcome terms (postings_of terms history) (sessions_after terms.validity (postings_of terms history)) moment request outcome
+      → IsOutcome (terms_of terms history) (postings_of terms history) sessions moment request outcome
+      → IsOutcome (terms_of terms history) (postings_of terms history) (sessions_after terms.validity (postings_of terms history)) moment request outcome
   planned-outcome moment request outcome does =
-      subst (λ (ss : List OpenSession). IsOutcome terms (postings_of terms history) ss moment request outcome) book.sessions_left does
+      subst (λ (ss : List OpenSession). IsOutcome (terms_of terms history) (postings_of terms history) ss moment request outcome) book.sessions_left does
 
   -- the account that is debited is one of the book's, and the session that changes too
   pub account-within : (moment : Moment) (request : CcRequest) (outcome : Outcome)
-      → IsOutcome terms (postings_of terms history) sessions moment request outcome → (place : ℕ) → outcome.account ≡ Some place → place < length balances
+      → IsOutcome (terms_of terms history) (postings_of terms history) sessions moment request outcome → (place : ℕ) → outcome.account ≡ Some place → place < length balances
   account-within moment request outcome does place is =
-      let known = charged_account-within terms (postings_of terms history) request (all_placed terms history) in
-      let here = subst (λ (a : Option ℕ). MatchOption a (Unit {0}) (λ p. p < length terms.accounts)) (sym does.account ∙ is) known in
+      let known = charged_account-within (terms_of terms history) (postings_of terms history) request (all_placed terms history) in
+      let here = subst (λ (a : Option ℕ). MatchOption a (Unit {0}) (λ p. p < length (terms_of terms history).accounts)) (sym does.account ∙ is) known in
       let long = book.stands.accounts in
       omega (arith, here)
 
   pub change-within : (moment : Moment) (request : CcRequest) (outcome : Outcome)
-      → IsOutcome terms (postings_of terms history) sessions moment request outcome → IsPlacedIn outcome.change (length sessions)
+      → IsOutcome (terms_of terms history) (postings_of terms history) sessions moment request outcome → IsPlacedIn outcome.change (length sessions)
   change-within moment request outcome does =
       subst (λ (change : Change). IsPlacedIn change (length sessions)) (sym does.change)
       (by (place_in sessions request.session) (find (is_session request.session) sessions) refl)
     where
       posting : Posting
-      posting = posting_of terms (postings_of terms history) (Take moment request)
+      posting = posting_of (terms_of terms history) (postings_of terms history) (Take moment request)
 
       shut : (b : Bool) (session : OpenSession) → IsPlacedIn (cond b (Opens session) Stays) (length sessions)
       shut true session = tt
       shut false session = tt
 
       open_by : (place : ℕ) (session : OpenSession) (kind : RequestKind) → place < length sessions
-          → IsPlacedIn (change_open request moment posting.grants kind place session) (length sessions)
+          → IsPlacedIn (change_open request moment posting kind place session) (length sessions)
       open_by place session Initial lt = lt
       open_by place session Update lt = lt
       open_by place session Termination lt = lt
@@ -336,8 +357,29 @@ module _ {terms : Terms} {limit : ℕ} {history : List Entry} {replies : List (O
           let at = open_at_place request.session sessions place is in
           open_by place session request.kind (slice_get_within sessions place at.0 at.1)
       by (Some place) None is = shut (opens posting)
-          (record { id = request.session; account = unwrap_or posting.account 0; last = moment; holds = posting.grants })
-      by None found is = shut (opens posting) (record { id = request.session; account = unwrap_or posting.account 0; last = moment; holds = posting.grants })
+          (opened_session request moment posting.tariffs (unwrap_or posting.account 0) posting.grants)
+      by None found is = shut (opens posting) (opened_session request moment posting.tariffs (unwrap_or posting.account 0) posting.grants)
+
+-- ---- under the terms that hold now
+
+module _ {terms : Terms} {limit : ℕ} {history : List Entry} {replies : List (Option CcReply)} {balances : List ℤ} {sessions : List OpenSession}
+    (book : IsBook terms limit history replies balances sessions) (now : Terms) (is : now ≡ terms_of terms history) where
+  pub small-now : IsSmall now balances sessions
+  small-now = subst (λ (t : Terms). IsSmall t balances sessions) (sym is) (small-book book)
+
+  pub charged-now : (request : CcRequest) (result : Option ℕ)
+      → ((before : List Posting) → Stands now before balances sessions → result ≡ charged_account now before request)
+      → result ≡ charged_account (terms_of terms history) (postings_of terms history) request
+  charged-now request result charged =
+      subst (λ (t : Terms). (before : List Posting) → Stands t before balances sessions → result ≡ charged_account t before request) is charged
+      (postings_of terms history) book.stands
+
+  pub outcome-now : (moment : Moment) (request : CcRequest) (outcome : Outcome)
+      → ((before : List Posting) → Stands now before balances sessions → IsOutcome now before sessions moment request outcome)
+      → IsOutcome (terms_of terms history) (postings_of terms history) sessions moment request outcome
+  outcome-now moment request outcome does =
+      subst (λ (t : Terms). (before : List Posting) → Stands t before balances sessions → IsOutcome t before sessions moment request outcome) is does
+      (postings_of terms history) book.stands
 
 -- a book by its parts
 pub same-book : {terms : Terms} {limit : ℕ} (history other_history : List Entry) (replies other_replies : List (Option CcReply))

@@ -17,7 +17,7 @@ use Rattle.cc_book.specs.declared.entry.Entry.TheVariants.{Take}
 use Rattle.cc_book.specs.declared.session.Hold.{Hold}
 use Rattle.cc_book.specs.declared.session.OpenSession.{OpenSession}
 use Rattle.cc_book.specs.declared.terms.Terms.{Terms}
-use Rattle.cc_book.specs.AccountMachine.{charged_account, grants_after, kept_reply, opening_at, post, posting_of, postings_of}
+use Rattle.cc_book.specs.AccountMachine.{charged_account, grants_after, kept_reply, opening_at, posting_of, postings_of, terms_of}
 use Rattle.cc_book.specs.Bounds.{IsBounded, MovesLittle, OpensSmall, account_bears, bears, bears_in, bears_request}
 use Rattle.cc_book.specs.Duplicate.{key_of}
 use Rattle.cc_book.specs.History.{IsKeptAt, IsNew}
@@ -228,9 +228,9 @@ module _ {terms : Terms} {before : List Posting} {balances : List ℤ} {sessions
         let grown = reserved_by-push terms.validity moment request (posting_of terms before (Take moment request)) a before in
         by (is_account a (charged_account terms before request)) refl now was grown where
           by : (b : Bool) → is_account a (charged_account terms before request) ≡ b
-              → reserved_by terms.validity a (post terms before (Take moment request)) ≡ reserved_in a (after_change sessions outcome.change)
+              → reserved_by terms.validity a (before ++ posting_of terms before (Take moment request) ∷ []) ≡ reserved_in a (after_change sessions outcome.change)
               → reserved_by terms.validity a before ≡ reserved_in a sessions
-              → reserved_by terms.validity a (post terms before (Take moment request))
+              → reserved_by terms.validity a (before ++ posting_of terms before (Take moment request) ∷ [])
               ≤ reserved_by terms.validity a before + cond (is_account a (charged_account terms before request)) (held_in (grants_after terms before request)) 0
               → reserved_in a (after_change sessions outcome.change) < 2 ^ 124
           by true is now was grown =
@@ -258,7 +258,7 @@ moves-little terms before sessions moment request outcome d = record {
 
 -- ---- before the first request
 
-opening_at-beyond : (accounts : List Account) (k : ℕ) → length accounts ≤ k → opening_at accounts k ≡ pos 0
+pub opening_at-beyond : (accounts : List Account) (k : ℕ) → length accounts ≤ k → opening_at accounts k ≡ pos 0
 opening_at-beyond [] k le = refl
 opening_at-beyond (a ∷ accounts) zero le = absurd (omega arith)
 opening_at-beyond (a ∷ accounts) (suc k) le = opening_at-beyond accounts k (omega arith)
@@ -307,7 +307,7 @@ neither a b x y e f = ap (λ (c : Bool). cond (c || b) x y) e ∙ ap (λ (c : Bo
 pub within-kept : (ledger : Ledger) (request taken : CcRequest) (place : ℕ) → IsKeptAt ledger.history (key_of request) place taken
     → answer_within ledger request ≡ answer_of ledger request
 within-kept ledger request taken place at =
-    when (is_some (kept_reply ledger.terms ledger.history request)) (bears_request ledger.terms (postings_of ledger.terms ledger.history) request)
+    when (is_some (kept_reply ledger.terms ledger.history request)) (bears_request (terms_of ledger.terms ledger.history) (postings_of ledger.terms ledger.history) request)
     (answer_of ledger request) (Err (Full ledger.limit)) (ap is_some (kept_reply-at ledger.terms ledger.history request place taken at))
 
 -- a book at its limit refuses whatever is new
@@ -317,30 +317,30 @@ within-full ledger request full = either (is_borne ledger request) (answer_of le
 
 -- and a new request that its account does not bear is refused so
 pub within-refused : (ledger : Ledger) (request : CcRequest) → IsNew ledger.history (key_of request)
-    → bears_request ledger.terms (postings_of ledger.terms ledger.history) request ≡ false → answer_within ledger request ≡ Err (Full ledger.limit)
+    → bears_request (terms_of ledger.terms ledger.history) (postings_of ledger.terms ledger.history) request ≡ false → answer_within ledger request ≡ Err (Full ledger.limit)
 within-refused ledger request new unborne =
-    neither (is_some (kept_reply ledger.terms ledger.history request)) (bears_request ledger.terms (postings_of ledger.terms ledger.history) request)
+    neither (is_some (kept_reply ledger.terms ledger.history request)) (bears_request (terms_of ledger.terms ledger.history) (postings_of ledger.terms ledger.history) request)
     (answer_of ledger request) (Err (Full ledger.limit)) (ap is_some (kept_reply-new ledger.terms ledger.history request new)) unborne
 
 -- a request that its account bears is answered as by its count alone
-pub within-borne : (ledger : Ledger) (request : CcRequest) → IsTrue (bears_request ledger.terms (postings_of ledger.terms ledger.history) request)
+pub within-borne : (ledger : Ledger) (request : CcRequest) → IsTrue (bears_request (terms_of ledger.terms ledger.history) (postings_of ledger.terms ledger.history) request)
     → answer_within ledger request ≡ answer_of ledger request
 within-borne ledger request borne =
-    or_when (is_some (kept_reply ledger.terms ledger.history request)) (bears_request ledger.terms (postings_of ledger.terms ledger.history) request)
+    or_when (is_some (kept_reply ledger.terms ledger.history request)) (bears_request (terms_of ledger.terms ledger.history) (postings_of ledger.terms ledger.history) request)
     (answer_of ledger request) (Err (Full ledger.limit)) borne
 
-pub full-at-limit : (ledger : Ledger) (request : CcRequest) → ledger.limit ≤ 2 ^ 20 → OpensSmall ledger.terms
+pub full-at-limit : (ledger : Ledger) (request : CcRequest) → ledger.limit ≤ 2 ^ 20 → OpensSmall (terms_of ledger.terms ledger.history)
     → AllByRecursion MovesLittle (postings_of ledger.terms ledger.history) → answer_within ledger request ≡ answer_of ledger request
 full-at-limit ledger request short small moved = by (kept_reply ledger.terms ledger.history request) refl where
   by : (kept : Option CcReply) → kept_reply ledger.terms ledger.history request ≡ kept → answer_within ledger request ≡ answer_of ledger request
   by (Some reply) e =
-      when (is_some (kept_reply ledger.terms ledger.history request)) (bears_request ledger.terms (postings_of ledger.terms ledger.history) request)
+      when (is_some (kept_reply ledger.terms ledger.history request)) (bears_request (terms_of ledger.terms ledger.history) (postings_of ledger.terms ledger.history) request)
       (answer_of ledger request) (Err (Full ledger.limit)) (ap is_some e)
   by None e = elim (cases_lt (length ledger.history) ledger.limit) as (λ _. answer_within ledger request ≡ answer_of ledger request) [
     | inl room ↦ (
         let long = postings_of-length ledger.terms ledger.history in
         within-borne ledger request
-        (few-bear ledger.terms (postings_of ledger.terms ledger.history) (charged_account ledger.terms (postings_of ledger.terms ledger.history) request) small moved
+        (few-bear (terms_of ledger.terms ledger.history) (postings_of ledger.terms ledger.history) (charged_account (terms_of ledger.terms ledger.history) (postings_of ledger.terms ledger.history) request) small moved
         (omega arith)))
     | inr full ↦ within-full ledger request (answer_of-full ledger request (new-without_reply ledger.terms ledger.history request e) full)
   ]

@@ -1,7 +1,7 @@
 -- What a request does, kind by kind, from the sessions that are open.
 use Rattle.std.proofs.Common.{◌≡◌, ℕ, ◌+◌, ◌-◌, ◌<◌, ◌≤◌, ◌^◌, Bool, true, false, cond, ◌&&◌, List, [], ◌++◌, length, Option, Some, None, refl, sym, ap, subst, ◌∙◌, arith}
 use Rattle.std.specs.Prelude.{ℤ, pos, negsuc, ◌+ℤ◌, ◌-ℤ◌, ◌≤ℤ◌, is_some, slice_get, slice_index_or, unwrap_or, find, IfSome}
-use Rattle.std.specs.Option.{option_and_then}
+use Rattle.std.specs.Option.{option_and_then, option_or}
 use Rattle.std.proofs.lemmas.Int.{ints}
 use Rattle.dia_base.specs.declared.number.Moment.{Moment}
 use Rattle.cc_view.specs.declared.code.ResultCode.{ResultCode}
@@ -17,12 +17,16 @@ use Rattle.cc_book.specs.declared.entry.Entry.TheVariants.{Take}
 use Rattle.cc_book.specs.declared.session.Hold.{Hold}
 use Rattle.cc_book.specs.declared.session.OpenSession.{OpenSession}
 use Rattle.cc_book.specs.declared.terms.Terms.{Terms}
-use Rattle.cc_book.specs.AccountMachine.{account_by, account_of, action_debit, charged_account, closing_reply, code_alone, debit_after, debit_by, event_after, event_reply, free_for, free_to_grant, granting_reply, grants_after, grants_by, grants_with, holds_from, opener_account, posting_of, reply_after, reply_by, settles_after, settles_by, total_of, unsettled_code}
+use Rattle.cc_book.specs.AccountMachine.{account_by, account_of, action_debit, charged_account, closing_reply, code_alone, debit_after, debit_by, event_after, event_reply, free_for, free_to_grant, granting_reply, grants_after, grants_by, grants_with, holds_from, opener_account, posting_of, reply_after, reply_by, settles_after, settles_by, total_of, unsettled_code, price_by}
 use Rattle.cc_book.specs.Posting.{Posting}
-use Rattle.cc_book.specs.ServiceRating.{used_total}
+use Rattle.cc_book.specs.ServiceRating.{used_total, tariff_of}
 use Rattle.cc_book.specs.Session.{Opened, is_initial_kind, is_open, is_success, opens}
-use Rattle.cc_book.specs.Standing.{IsOutcome, Stands, change_at, change_closed, change_of, change_open, free_in, held_in, holds_beside, is_session, place_in, prolonged, reserved_in}
+use Rattle.cc_book.specs.Standing.{IsOutcome, Stands, change_at, change_closed, change_of, change_open, free_in, held_in, holds_beside, is_session, place_in, prolonged, reserved_in, opened_session}
 use Rattle.cc_book.proofs.Stands.{closed-stands, free-stands, free_to_grant-closed, free_to_grant-open, open-stands}
+use Rattle.cc_book.specs.Pricing.{price_at, price_in, price_of, priced, prices_after}
+use Rattle.cc_view.specs.declared.request.Service.{Service}
+use Rattle.cc_view.specs.declared.request.ServiceName.{ServiceName}
+use Rattle.cc_view.specs.Request.ServiceLimits.{name_of}
 
 -- ---- a request by its kind
 
@@ -62,16 +66,16 @@ change-unsettled : (sessions : List OpenSession) (request : CcRequest) (moment :
     → opens posting ≡ false → Stays ≡ change_of sessions request moment posting
 change-unsettled sessions request moment posting none shut =
     sym (change-closed sessions request moment posting none
-    ∙ ap (λ (b : Bool). cond b (Opens (record { id = request.session; account = unwrap_or posting.account 0; last = moment; holds = posting.grants }))
+    ∙ ap (λ (b : Bool). cond b (Opens (opened_session request moment posting.tariffs (unwrap_or posting.account 0) posting.grants))
     Stays) shut)
 
 change-open : (sessions : List OpenSession) (request : CcRequest) (moment : Moment) (posting : Posting) (kind : RequestKind) (place : ℕ)
     (session : OpenSession) → request.kind ≡ kind → place_in sessions request.session ≡ Some place → find (is_session request.session) sessions ≡ Some session
-    → change_of sessions request moment posting ≡ change_open request moment posting.grants kind place session
+    → change_of sessions request moment posting ≡ change_open request moment posting kind place session
 change-open sessions request moment posting kind place session is at found =
     ap (λ (p : Option ℕ). change_at request moment posting p (find (is_session request.session) sessions)) at
     ∙ ap (λ (s : Option OpenSession). change_at request moment posting (Some place) s) found
-    ∙ ap (λ (k : RequestKind). change_open request moment posting.grants k place session) is
+    ∙ ap (λ (k : RequestKind). change_open request moment posting k place session) is
 
 -- ---- requests that are refused
 
@@ -80,13 +84,14 @@ unsettled : {terms : Terms} {before : List Posting} {sessions : List OpenSession
     (account : Option ℕ) (code : ResultCode) (change : Change)
     → request.kind ≡ kind → settles_after terms before request ≡ false
     → account ≡ charged_account terms before request
-    → debit_by terms before request kind ≡ cond (settles_after terms before request) (pos (used_total terms.tariffs request.services)) (pos 0)
+    → debit_by terms before request kind ≡ cond (settles_after terms before request) (pos (used_total (price_by terms before request kind) request.services)) (pos 0)
     → reply_by terms before request kind ≡ code_alone code
     → change ≡ change_of sessions request moment (posting_of terms before (Take moment request))
     → IsOutcome terms before sessions moment request (record { account = account; debit = pos 0; reply = code_alone code; change = change })
 unsettled {terms} {before} {sessions} {moment} {request} kind account code change is none charged debits replies changed = record {
   account = charged;
-  debit = sym (ap (debit_by terms before request) is ∙ debits ∙ ap (λ (b : Bool). cond b (pos (used_total terms.tariffs request.services)) (pos 0)) none);
+  debit = sym (ap (debit_by terms before request) is ∙ debits
+      ∙ ap (λ (b : Bool). cond b (pos (used_total (price_by terms before request kind) request.services)) (pos 0)) none);
   reply = sym (ap (reply_by terms before request) is ∙ replies);
   change = changed;
   least = omega (arith, ints);
@@ -146,13 +151,13 @@ module _ {terms : Terms} {before : List Posting} {balances : List ℤ} {sessions
         debit = pos 0;
         reply = code_alone UnableToComply;
         change =
-            GoesOn place (prolonged session moment session.holds);
+            GoesOn place (prolonged session moment session.holds session.prices);
       })
   initial-open place session is at there =
       let known = is_some (account_of terms.accounts request.subscriptions) in
       let none : settles_after terms before request ≡ false = settles-by terms before request Initial true known is (opened place session at there) refl in
       let found = (open-stands s request.session place session at there).1 in
-      unsettled Initial (account_of terms.accounts request.subscriptions) UnableToComply (GoesOn place (prolonged session moment session.holds)) is none
+      unsettled Initial (account_of terms.accounts request.subscriptions) UnableToComply (GoesOn place (prolonged session moment session.holds session.prices)) is none
       (sym (charged Initial is)) refl
       (ap (λ (b : Bool). cond b (granting_reply terms (free_to_grant terms before request) request.services)
       (code_alone (unsettled_code Initial (is_open terms.validity request.session before)))) none
@@ -194,19 +199,29 @@ module _ {terms : Terms} {before : List Posting} {balances : List ℤ} {sessions
 
   -- ---- requests that settle services
 
+  -- the prices of the session are those at which a request pays
+  pub used-open : (place : ℕ) (session : OpenSession) → place_in sessions request.session ≡ Some place → slice_get sessions place ≡ Some session
+      → used_total (priced terms.tariffs session.prices) request.services ≡ used_total (price_at terms.tariffs before request.session) request.services
+  used-open place session at there =
+      let found = (open-stands s request.session place session at there).1 in
+      let same : (name : ServiceName) → price_in session.prices name ≡ price_of request.session name before =
+      λ name. subst (λ (o : Option OpenSession). IfSome o (λ x. price_in x.prices name ≡ price_of request.session name before)) found
+      (s.prices request.session name) in
+      λ i. used_total (λ (service : Service). option_or (same (name_of service) i) (tariff_of terms.tariffs service)) request.services
+
   settled-debit : (kind : RequestKind) → request.kind ≡ kind → settles_after terms before request ≡ true
-      → debit_by terms before request kind ≡ cond (settles_after terms before request) (pos (used_total terms.tariffs request.services)) (pos 0)
-      → pos (used_total terms.tariffs request.services) ≡ debit_after terms before request
+      → debit_by terms before request kind ≡ cond (settles_after terms before request) (pos (used_total (price_by terms before request kind) request.services)) (pos 0)
+      → pos (used_total (price_by terms before request kind) request.services) ≡ debit_after terms before request
   settled-debit kind is settled debits = sym (ap (debit_by terms before request) is ∙ debits
-      ∙ ap (λ (b : Bool). cond b (pos (used_total terms.tariffs request.services)) (pos 0)) settled)
+      ∙ ap (λ (b : Bool). cond b (pos (used_total (price_by terms before request kind) request.services)) (pos 0)) settled)
 
   pub termination-open : (place : ℕ) (session : OpenSession) → request.kind ≡ Termination → place_in sessions request.session ≡ Some place
       → slice_get sessions place ≡ Some session
-      → used_total terms.tariffs request.services ≤ 2 ^ 103
+      → used_total (price_by terms before request Termination) request.services ≤ 2 ^ 103
       → IsOutcome terms before sessions moment request
       (record {
         account = Some session.account;
-        debit = pos (used_total terms.tariffs request.services);
+        debit = pos (used_total (price_by terms before request Termination) request.services);
         reply = closing_reply terms request.services;
         change = Ends place;
       })
@@ -240,13 +255,14 @@ module _ {terms : Terms} {before : List Posting} {balances : List ℤ} {sessions
 
   pub update-open : (place : ℕ) (session : OpenSession) (free : ℤ) (holds : List Hold) → request.kind ≡ Update
       → place_in sessions request.session ≡ Some place → slice_get sessions place ≡ Some session
-      → used_total terms.tariffs request.services ≤ 2 ^ 103 → free ≡ free_to_grant terms before request
+      → used_total (price_by terms before request Update) request.services ≤ 2 ^ 103 → free ≡ free_to_grant terms before request
       → holds ≡ holds_from terms.tariffs free request.services → held_in holds ≤ 2 ^ 89
       → IsOutcome terms before sessions moment request (record {
         account = Some session.account;
-        debit = pos (used_total terms.tariffs request.services);
+        debit = pos (used_total (price_by terms before request Update) request.services);
         reply = granting_reply terms free request.services;
-        change = GoesOn place (prolonged session moment (holds_beside request.services session.holds ++ holds));
+        change = GoesOn place (prolonged session moment (holds_beside request.services session.holds ++ holds)
+            (prices_after terms.tariffs session.prices holds));
       })
   update-open place session free holds is at there small same held few =
       let known = is_some (account_of terms.accounts request.subscriptions) in
@@ -258,7 +274,8 @@ module _ {terms : Terms} {before : List Posting} {balances : List ℤ} {sessions
         account = sym (charged Update is ∙ opener-open place session at there);
         debit = settled-debit Update is settled refl;
         reply = ap (λ (z : ℤ). granting_reply terms z request.services) same ∙ granted-reply Update is settled refl;
-        change = ap (λ (hs : List Hold). GoesOn place (prolonged session moment (holds_beside request.services session.holds ++ hs))) grants
+        change = ap (λ (hs : List Hold). GoesOn place (prolonged session moment (holds_beside request.services session.holds ++ hs)
+            (prices_after terms.tariffs session.prices hs))) grants
             ∙ sym (change-open sessions request moment (posting_of terms before (Take moment request)) Update place session is at found);
         least = omega (arith, ints);
         most = omega (arith, ints);
@@ -267,7 +284,7 @@ module _ {terms : Terms} {before : List Posting} {balances : List ℤ} {sessions
 
   -- a session opens where its INITIAL is answered DIAMETER_SUCCESS
   abbrev pub opening-change : Bool → ℕ → List Hold → Change
-  opening-change success account holds = cond success (Opens (record { id = request.session; account = account; last = moment; holds = holds })) Stays
+  opening-change success account holds = cond success (Opens (opened_session request moment terms.tariffs account holds)) Stays
 
   opening-grants : (success : Bool) (account : ℕ) (holds : List Hold)
       → opening-change success account holds ≡ opening-change success account (cond success holds [])
@@ -280,12 +297,12 @@ module _ {terms : Terms} {before : List Posting} {balances : List ℤ} {sessions
 
   pub initial-closed : (account : ℕ) (free : ℤ) (holds : List Hold) (change : Change) → request.kind ≡ Initial → place_in sessions request.session ≡ None
       → account_of terms.accounts request.subscriptions ≡ Some account
-      → used_total terms.tariffs request.services ≤ 2 ^ 103 → free ≡ free_to_grant terms before request
+      → used_total (price_by terms before request Initial) request.services ≤ 2 ^ 103 → free ≡ free_to_grant terms before request
       → holds ≡ holds_from terms.tariffs free request.services → held_in holds ≤ 2 ^ 89
       → change ≡ opening-change (is_success (granting_reply terms free request.services).code) account holds
       → IsOutcome terms before sessions moment request (record {
         account = Some account;
-        debit = pos (used_total terms.tariffs request.services);
+        debit = pos (used_total (price_by terms before request Initial) request.services);
         reply = granting_reply terms free request.services;
         change = change;
       })
@@ -324,7 +341,7 @@ module _ {terms : Terms} {before : List Posting} {balances : List ℤ} {sessions
       → slice_get sessions place ≡ Some session
       → ended + held_in (holds_beside request.services session.holds) ≡ held_in session.holds
       → free ≡ ((slice_index_or balances session.account (pos 0) -ℤ pos (reserved_in session.account sessions)) +ℤ pos ended) -ℤ pos
-      (used_total terms.tariffs request.services)
+      (used_total (price_by terms before request Update) request.services)
       → free ≡ free_to_grant terms before request
   free-update place session free ended is at there parts value =
       let known = is_some (account_of terms.accounts request.subscriptions) in
@@ -336,7 +353,7 @@ module _ {terms : Terms} {before : List Posting} {balances : List ℤ} {sessions
 
   pub free-initial : (account : ℕ) (free : ℤ) → request.kind ≡ Initial → place_in sessions request.session ≡ None
       → account_of terms.accounts request.subscriptions ≡ Some account → account < length terms.accounts
-      → free ≡ ((slice_index_or balances account (pos 0) -ℤ pos (reserved_in account sessions)) +ℤ pos 0) -ℤ pos (used_total terms.tariffs request.services)
+      → free ≡ ((slice_index_or balances account (pos 0) -ℤ pos (reserved_in account sessions)) +ℤ pos 0) -ℤ pos (used_total (price_by terms before request Initial) request.services)
       → free ≡ free_to_grant terms before request
   free-initial account free is shut own within value =
       let settled : settles_after terms before request ≡ true = settles-by terms before request Initial false true is (closed shut) (ap is_some own) in
@@ -391,14 +408,14 @@ module _ {terms : Terms} {before : List Posting} {balances : List ℤ} {sessions
 
         event-stays : (place : Option ℕ) (found : Option OpenSession) → request.kind ≡ Event → opens posting ≡ false
             → Stays ≡ change_at request moment posting place found
-        event-stays (Some place) (Some session) kind shut = sym (ap (λ (k : RequestKind). change_open request moment posting.grants k place session) kind)
+        event-stays (Some place) (Some session) kind shut = sym (ap (λ (k : RequestKind). change_open request moment posting k place session) kind)
         event-stays (Some place) None kind shut =
             sym (ap
-            (λ (b : Bool). cond b (Opens (record { id = request.session; account = unwrap_or posting.account 0; last = moment; holds = posting.grants }))
+            (λ (b : Bool). cond b (Opens (opened_session request moment posting.tariffs (unwrap_or posting.account 0) posting.grants))
             Stays) shut)
         event-stays None found kind shut =
             sym (ap
-            (λ (b : Bool). cond b (Opens (record { id = request.session; account = unwrap_or posting.account 0; last = moment; holds = posting.grants }))
+            (λ (b : Bool). cond b (Opens (opened_session request moment posting.tariffs (unwrap_or posting.account 0) posting.grants))
             Stays) shut)
 
 -- ---- a outcome by its parts

@@ -6,7 +6,7 @@ use Rattle.std.proofs.lemmas.List.Sums.{fold-append}
 use Rattle.dia_base.specs.declared.number.Moment.{Moment}
 use Rattle.cc_view.specs.declared.request.ServiceName.{ServiceName}
 use Rattle.cc_book.specs.declared.entry.Entry.{Entry}
-use Rattle.cc_book.specs.declared.entry.Entry.TheVariants.{Take, Sweep}
+use Rattle.cc_book.specs.declared.entry.Entry.TheVariants.{Take, Sweep, ChangeTerms}
 use Rattle.cc_book.specs.declared.session.Hold.{Hold}
 use Rattle.cc_book.specs.Posting.{Posting}
 use Rattle.cc_book.specs.Reservation.{is_alive, replaces}
@@ -17,7 +17,7 @@ use Rattle.cc_book.proofs.Ending.{AllKeep, Covers, covers_all, own_session}
 
 -- what a sweep does to the accounts: nothing
 abbrev pub swept : Moment → Posting
-swept moment = record { entry = Sweep moment; account = None; debit = pos 0; settles = false; grants = []; reply = None }
+swept moment = record { entry = Sweep moment; account = None; debit = pos 0; settles = false; tariffs = []; grants = []; reply = None }
 
 -- what is open of each session
 abbrev pub States : Type 0
@@ -74,6 +74,7 @@ module _ (validity : ℕ) (moment : Moment) where
       ap is_some (fold-append (left_after validity r.session) (first (Take m r)) after (q ∷ []))
       ∙ left-swept r.session (fold (left_after validity r.session) (first (Take m r)) after) (fold (next_session validity r.session) now after) covers
   outlasts-swept (Sweep m) now after opened = refl
+  outlasts-swept (ChangeTerms m change) now after opened = refl
 
   alive_by : (a b c : Bool) → (not (a || false) && (b && c)) ≡ ((not a && b) && c)
   alive_by true b c = refl
@@ -86,6 +87,7 @@ module _ (validity : ℕ) (moment : Moment) where
       ∙ ap (λ (b : Bool). not (list_any (replaces r.session name) after || false) && b) (outlasts-swept (Take m r) now after opened)
       ∙ alive_by (list_any (replaces r.session name) after) (outlasts validity (Take m r) after) (not (due_behind (Take m r) now after))
   is_alive-swept (Sweep m) now name after opened = refl
+  is_alive-swept (ChangeTerms m change) now name after opened = refl
 
   -- ---- grants
 
@@ -110,6 +112,7 @@ module _ (validity : ℕ) (moment : Moment) where
   owned : (entry : Entry) → (is_of (session_in entry) entry ≡ true) ⊎ ((name : ServiceName) (after : List Posting) → is_alive validity entry name after ≡ false)
   owned (Take m r) = inl (own_session r.session)
   owned (Sweep m) = inr (λ name after. refl)
+  owned (ChangeTerms m change) = inr (λ name after. refl)
 
   grants_weight-here : (states : States) (weight : Weight) (p : Posting) (after : List Posting)
       → (is_of (session_in p.entry) p.entry ≡ true → (p.grants ≡ []) ⊎ Covers (first p.entry) (next states p (session_in p.entry)))

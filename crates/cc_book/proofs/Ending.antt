@@ -13,15 +13,16 @@ use Rattle.cc_view.specs.declared.request.RequestKind.{RequestKind}
 use Rattle.cc_view.specs.declared.request.RequestKind.TheVariants.{Initial, Update, Termination, Event}
 use Rattle.cc_view.specs.declared.request.ServiceName.{ServiceName}
 use Rattle.cc_book.specs.declared.entry.Entry.{Entry}
-use Rattle.cc_book.specs.declared.entry.Entry.TheVariants.{Take, Sweep}
+use Rattle.cc_book.specs.declared.entry.Entry.TheVariants.{Take, Sweep, ChangeTerms}
 use Rattle.cc_book.specs.declared.session.Hold.{Hold}
 use Rattle.cc_book.specs.declared.terms.Terms.{Terms}
-use Rattle.cc_book.specs.AccountMachine.{account_of, charged_account, free_to_grant, grants_by, grants_with, holds_from, post, posting_of, postings_of, reply_after, settles_after, settles_by}
+use Rattle.cc_book.specs.AccountMachine.{account_of, charged_account, free_to_grant, grants_by, grants_with, holds_from, post, posting_of, postings_of, reply_after, settles_after, settles_by, terms_at}
 use Rattle.cc_book.specs.Duplicate.{same_session}
 use Rattle.cc_book.specs.Balance.{open_sessions_of, reserved_of}
 use Rattle.cc_book.specs.Posting.{Posting, is_account}
 use Rattle.cc_book.specs.Reservation.{held_after, held_by, is_alive, replaces, reserved_by, same_name}
 use Rattle.cc_book.specs.Session.{Opened, is_initial, is_initial_kind, is_of, is_open, is_success, left_after, moment_of, next_session, open_count, opened_at, opens, outlasts, replies_success, session_after, session_by, session_of}
+use Rattle.cc_book.proofs.Postings.{postings_hold}
 
 -- ---- a session lasts as long as the grants that were made in it
 
@@ -64,6 +65,8 @@ covers_entry validity session account one other settles success (Take moment req
     (opens_none settles success request.kind) same
 covers_entry validity session account one other true success (Sweep moment) same = covers_sweep one other moment.0 same
 covers_entry validity session account one other false success (Sweep moment) same = covers_sweep one other moment.0 same
+covers_entry validity session account one other true success (ChangeTerms moment change) same = same
+covers_entry validity session account one other false success (ChangeTerms moment change) same = same
 
 covers_next : (validity : ℕ) (session : List ℕ) (left now : Option Opened) (posting : Posting) → Covers left now
     → Covers (left_after validity session left posting) (next_session validity session now posting)
@@ -142,6 +145,7 @@ keeps terms before session (Take moment request) own =
     subst (λ (id : List ℕ). KeepsOpen terms.validity id (session_of terms.validity id before) (posting_of terms before (Take moment request)))
     ((bytes_eq-Decides request.session session).0 own) (keeps_own terms before moment request)
 keeps terms before session (Sweep moment) own = absurd cc
+keeps terms before session (ChangeTerms moment change) own = absurd cc
 
 -- postings of which each does, from a state of the session on
 unfoldable pub AllKeep : ℕ → List ℕ → Option Opened → List Posting → Type 0
@@ -156,16 +160,15 @@ keep_push validity session now [] posting all one = (one, tt)
 keep_push validity session now (first ∷ before) posting all one =
     (all.0, keep_push validity session (next_session validity session now first) before posting all.1 one)
 
-keep_fold : (terms : Terms) (session : List ℕ) (before : List Posting) (history : List Entry) → AllKeep terms.validity session None before
-    → AllKeep terms.validity session None (fold (post terms) before history)
-keep_fold terms session before [] all = all
-keep_fold terms session before (entry ∷ history) all =
-    keep_fold terms session (post terms before entry) history
-    (keep_push terms.validity session None before (posting_of terms before entry) all (keeps terms before session entry))
+keep_next : (terms : Terms) (session : List ℕ) (before : List Posting) (entry : Entry) → AllKeep terms.validity session None before
+    → AllKeep terms.validity session None (post terms before entry)
+keep_next terms session before entry all =
+    let now = terms_at terms before in
+    keep_push terms.validity session None before (posting_of now before entry) all (keeps now before session entry)
 
 pub all_keep : (terms : Terms) (session : List ℕ) (history : List Entry) → AllKeep terms.validity session None (postings_of terms history)
-unfolding postings_of AllKeep
-all_keep terms session history = keep_fold terms session [] history tt
+unfolding AllKeep
+all_keep terms session history = postings_hold (AllKeep terms.validity session None) terms history (keep_next terms session) tt
 
 -- ---- what has ended holds nothing
 
@@ -177,6 +180,7 @@ dead : (validity : ℕ) (session : List ℕ) (now : Option Opened) (entry : Entr
     → Covers (Some (opened_at validity None (moment_of entry))) now
     → is_some (fold (next_session validity session) now after) ≡ false → is_alive validity entry name after ≡ false
 dead validity session now (Sweep moment) name after own covers closed = refl
+dead validity session now (ChangeTerms moment change) name after own covers closed = refl
 dead validity session now (Take moment request) name after own covers closed =
     let same = (bytes_eq-Decides request.session session).0 own in
     let first : Option Opened = Some (opened_at validity None moment.0) in
@@ -231,6 +235,8 @@ module _ (validity : ℕ) (now : List ℕ → Option Opened) (posting : Posting)
     by : (entry : Entry) → posting.entry ≡ entry → held_after validity posting.entry posting.grants after ≡ 0
     by (Sweep moment) is = ap (λ (e : Entry). held_after validity e posting.grants after) is
         ∙ held_after-none validity (Sweep moment) posting.grants after (λ hold. refl)
+    by (ChangeTerms moment change) is = ap (λ (e : Entry). held_after validity e posting.grants after) is
+        ∙ held_after-none validity (ChangeTerms moment change) posting.grants after (λ hold. refl)
     by (Take moment request) is =
         let id = request.session in
         let own : is_of id posting.entry ≡ true = ap (λ (e : Entry). is_of id e) is ∙ own_session id in
@@ -279,6 +285,7 @@ closed_stays validity session (posting ∷ after) = closed_stays validity sessio
 opener-counts : (validity : ℕ) (session : List ℕ) (account : Option ℕ) (entry : Entry) (after : List Posting) → is_of session entry ≡ true
     → is_some (fold (left_after validity session) (Some (opened_at validity account (moment_of entry))) after) ≡ true → outlasts validity entry after ≡ true
 opener-counts validity session account (Sweep moment) after own lasts = absurd cc
+opener-counts validity session account (ChangeTerms moment change) after own lasts = absurd cc
 opener-counts validity session account (Take moment request) after own lasts =
     let same = (bytes_eq-Decides request.session session).0 own in
     let first : Option Opened = Some (opened_at validity None moment.0) in

@@ -12,8 +12,9 @@ use Rattle.cc_book.specs.declared.session.OpenSession.{OpenSession}
 use Rattle.cc_book.specs.OpenSessions.{FitsIn, Sessions}
 use Rattle.cc_book.specs.Posting.{Posting}
 use Rattle.cc_book.specs.Session.{opens}
-use Rattle.cc_book.specs.Standing.{after_change, change_at, change_open, held_in, holds_beside, is_session, place_in, prolonged, reserved_in}
+use Rattle.cc_book.specs.Standing.{after_change, change_at, change_open, held_in, holds_beside, is_session, place_in, prolonged, reserved_in, opened_session}
 use Rattle.cc_book.proofs.Sessions.{OwnIds, find-at, is_at_place, open_at_place, same_number}
+use Rattle.cc_book.specs.Pricing.{prices_after}
 
 own-held : (session : OpenSession) → cond (eqb session.account session.account) (held_in session.holds) 0 ≡ held_in session.holds
 own-held session = ap (λ (b : Bool). cond b (held_in session.holds) 0) (same_number session.account)
@@ -41,22 +42,23 @@ module _ (now : Sessions) (request : CcRequest) (moment : Moment) (posting : Pos
       → All (λ s. s.account < now.accounts) (after_change now.items change) → FitsIn now request.session change
 
   closed_by : (b : Bool) (account : ℕ) → place_in now.items request.session ≡ None
-      → Fits (cond b (Opens (record { id = request.session; account = account; last = moment; holds = posting.grants })) Stays)
+      → Fits (cond b (Opens (opened_session request moment posting.tariffs account posting.grants)) Stays)
   closed_by true account is most known =
-      let session : OpenSession = record { id = request.session; account = account; last = moment; holds = posting.grants } in
+      let session : OpenSession = opened_session request moment posting.tariffs account posting.grants in
       let last = held-last now.items session in
       let few = most account in
       (refl, is, last-known now.accounts now.items session known, omega arith)
   closed_by false account is most known = tt
 
   open_by : (place : ℕ) (session : OpenSession) (kind : RequestKind) → slice_get now.items place ≡ Some session
-      → Fits (change_open request moment posting.grants kind place session)
+      → Fits (change_open request moment posting kind place session)
   open_by place session Initial there most known =
-      let here = held-set now.items place (prolonged session moment session.holds) (slice_get_within now.items place session there) in
+      let here = held-set now.items place (prolonged session moment session.holds session.prices) (slice_get_within now.items place session there) in
       let few = most session.account in
       (record { before = session; there = there; id = refl; account = refl }, omega arith)
   open_by place session Update there most known =
-      let later = prolonged session moment (holds_beside request.services session.holds ++ posting.grants) in
+      let later = prolonged session moment (holds_beside request.services session.holds ++ posting.grants)
+      (prices_after posting.tariffs session.prices posting.grants) in
       let here = held-set now.items place later (slice_get_within now.items place session there) in
       let few = most session.account in
       (record { before = session; there = there; id = refl; account = refl }, omega arith)

@@ -22,17 +22,17 @@ use Rattle.cc_rating.proofs.Costs.{find-all, in_range-parts}
 use Rattle.cc_rating.proofs.Faults.{fault_of-none}
 use Rattle.cc_rating.proofs.Grants.{held-free}
 use Rattle.cc_book.specs.declared.entry.Entry.{Entry}
-use Rattle.cc_book.specs.declared.entry.Entry.TheVariants.{Take, Sweep}
+use Rattle.cc_book.specs.declared.entry.Entry.TheVariants.{Take, Sweep, ChangeTerms}
 use Rattle.cc_book.specs.declared.session.Hold.{Hold}
 use Rattle.cc_book.specs.declared.terms.Terms.{Terms}
-use Rattle.cc_book.specs.AccountMachine.{charged_account, free_after, free_behind, free_for, free_to_grant, grant_to, grants_after, grants_by, grants_with, hold_of, holds_from, is_refused, made_grant, posting_of, postings_of, reply_after, settles_after, settling_posting}
+use Rattle.cc_book.specs.AccountMachine.{charged_account, free_after, free_behind, free_for, free_to_grant, grant_to, grants_after, grants_by, grants_with, hold_of, holds_from, is_refused, made_grant, posting_of, postings_of, reply_after, settles_after, settling_posting, terms_of}
 use Rattle.cc_book.specs.Duplicate.{same_session}
 use Rattle.cc_book.specs.Posting.{Posting, is_account}
 use Rattle.cc_book.specs.Reservation.{held_after, is_alive, replaces, reserved_by}
 use Rattle.cc_book.specs.ServiceRating.{asked_of, tariff_of}
 use Rattle.cc_book.specs.Session.{Opened, is_success, left_after, opened_at, outlasts, session_by}
 use Rattle.cc_book.specs.Standing.{held_in}
-use Rattle.cc_book.proofs.Postings.{debits_to-push, postings_of-push}
+use Rattle.cc_book.proofs.Postings.{debits_to-push, postings_of-push, terms_of-take}
 
 -- ---- a grant is of what is free
 
@@ -103,9 +103,9 @@ grants_after-free terms before request good = by (settles_after terms before req
       (holds-free terms.tariffs (free_to_grant terms before request) request.services good)
   by false = none_free (free_to_grant terms before request)
 
-pub grants-free : (terms : Terms) (history : List Entry) (request : CcRequest) → fault_of terms.tariffs ≡ None
-    → pos (held_in (grants_after terms (postings_of terms history) request)) ≤ℤ int_max (free_to_grant terms (postings_of terms history) request) (pos 0)
-grants-free terms history request none = grants_after-free terms (postings_of terms history) request (fault_of-none terms.tariffs none)
+pub grants-free : (terms : Terms) (history : List Entry) (request : CcRequest) → fault_of (terms_of terms history).tariffs ≡ None
+    → pos (held_in (grants_after (terms_of terms history) (postings_of terms history) request)) ≤ℤ int_max (free_to_grant (terms_of terms history) (postings_of terms history) request) (pos 0)
+grants-free terms history request none = grants_after-free (terms_of terms history) (postings_of terms history) request (fault_of-none (terms_of terms history).tariffs none)
 
 -- ---- what is free after a request
 
@@ -118,6 +118,7 @@ record EndAlike (one other : Posting) : Type 0 where
 is_alive-alike : (validity : ℕ) (entry : Entry) (name : ServiceName) (after : List Posting) (one other : Posting) → EndAlike one other
     → is_alive validity entry name (after ++ one ∷ []) ≡ is_alive validity entry name (after ++ other ∷ [])
 is_alive-alike validity (Sweep moment) name after one other alike = refl
+is_alive-alike validity (ChangeTerms moment change) name after one other alike = refl
 is_alive-alike validity (Take moment request) name after one other alike =
     let left = fold (left_after validity request.session) (Some (opened_at validity None moment.0)) in
     let lasts : outlasts validity (Take moment request) (after ++ one ∷ []) ≡ outlasts validity (Take moment request) (after ++ other ∷ []) =
@@ -202,21 +203,23 @@ free_after-take terms before moment request account charged =
     omega (arith, ints)
 
 pub free-left : (terms : Terms) (history : List Entry) (moment : Moment) (request : CcRequest) (account : ℕ)
-    → charged_account terms (postings_of terms history) request ≡ Some account
-    → free_after terms (postings_of terms (history ++ Take moment request ∷ [])) account ≡ free_to_grant terms (postings_of terms history) request -ℤ pos
-    (held_in (grants_after terms (postings_of terms history) request))
+    → charged_account (terms_of terms history) (postings_of terms history) request ≡ Some account
+    → free_after (terms_of terms (history ++ Take moment request ∷ [])) (postings_of terms (history ++ Take moment request ∷ [])) account
+    ≡ free_to_grant (terms_of terms history) (postings_of terms history) request -ℤ pos
+    (held_in (grants_after (terms_of terms history) (postings_of terms history) request))
 free-left terms history moment request account charged =
-    ap (λ (postings : List Posting). free_after terms postings account) (postings_of-push terms history (Take moment request))
-    ∙ free_after-take terms (postings_of terms history) moment request account charged
+    ap (λ (now : Terms). free_after now (postings_of terms (history ++ Take moment request ∷ [])) account) (terms_of-take terms history moment request)
+    ∙ ap (λ (postings : List Posting). free_after (terms_of terms history) postings account) (postings_of-push terms history (Take moment request))
+    ∙ free_after-take (terms_of terms history) (postings_of terms history) moment request account charged
 
 not_below : (free left : ℤ) (held : ℕ) → left ≡ free -ℤ pos held → pos held ≤ℤ int_max free (pos 0) → pos 0 ≤ℤ free → pos 0 ≤ℤ left
 not_below free left held is most some = omega (arith, ints, clamps)
 
-pub free-not_below : (terms : Terms) (history : List Entry) (moment : Moment) (request : CcRequest) (account : ℕ) → fault_of terms.tariffs ≡ None
-    → charged_account terms (postings_of terms history) request ≡ Some account
-    → pos 0 ≤ℤ free_to_grant terms (postings_of terms history) request
-    → pos 0 ≤ℤ free_after terms (postings_of terms (history ++ Take moment request ∷ [])) account
+pub free-not_below : (terms : Terms) (history : List Entry) (moment : Moment) (request : CcRequest) (account : ℕ) → fault_of (terms_of terms history).tariffs ≡ None
+    → charged_account (terms_of terms history) (postings_of terms history) request ≡ Some account
+    → pos 0 ≤ℤ free_to_grant (terms_of terms history) (postings_of terms history) request
+    → pos 0 ≤ℤ free_after (terms_of terms (history ++ Take moment request ∷ [])) (postings_of terms (history ++ Take moment request ∷ [])) account
 free-not_below terms history moment request account none charged some =
-    not_below (free_to_grant terms (postings_of terms history) request) (free_after terms (postings_of terms (history ++ Take moment request ∷ [])) account)
-    (held_in (grants_after terms (postings_of terms history) request))
+    not_below (free_to_grant (terms_of terms history) (postings_of terms history) request) (free_after (terms_of terms (history ++ Take moment request ∷ [])) (postings_of terms (history ++ Take moment request ∷ [])) account)
+    (held_in (grants_after (terms_of terms history) (postings_of terms history) request))
     (free-left terms history moment request account charged) (grants-free terms history request none) some

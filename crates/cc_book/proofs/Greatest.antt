@@ -1,10 +1,12 @@
 -- What a session holds for a service costs no more than the greatest grant of its tariff.
-use Rattle.std.proofs.Common.{◌≡◌, ℕ, zero, suc, ◌+◌, ◌*◌, ◌<◌, ◌≤◌, Bool, true, false, cond, ◌&&◌, List, [], ◌∷◌, ◌++◌, All, find, Option, Some, None, option_map, refl, ap, sym, subst, arith}
+use Rattle.std.proofs.Common.{◌≡◌, ℕ, zero, suc, ◌+◌, ◌*◌, ◌<◌, ◌≤◌, Bool, true, false, cond, ◌&&◌, List, [], ◌∷◌, ◌++◌, length, length-append, All, find, Option, Some, None, option_map, refl, ap, sym, subst, ◌∙◌, arith, append_assoc}
 use Rattle.std.specs.Prelude.{ℤ, IfSome, count_by, sum_by}
 use Rattle.std.specs.List.{AllByRecursion}
 use Rattle.std.specs.Option.{option_and_then}
+use Rattle.std.proofs.Math.ListN.{get_or-append}
 use Rattle.std.proofs.Math.Nat.{mul-le-mul_right}
 use Rattle.std.proofs.lemmas.Grind.{div_ceil_times}
+use Rattle.std.proofs.lemmas.List.{append-nil}
 use Rattle.std.proofs.lemmas.List.Sums.{sum_by-cons}
 use Rattle.dia_base.proofs.Counting.{one, count-cons}
 use Rattle.cc_view.specs.Request.ServiceLimits.{name_of}
@@ -21,17 +23,17 @@ use Rattle.cc_rating.proofs.Costs.{find-all, in_range-parts}
 use Rattle.cc_rating.proofs.Faults.{fault_of-none}
 use Rattle.cc_rating.proofs.Grants.{held-is, units-wanted}
 use Rattle.cc_book.specs.declared.entry.Entry.{Entry}
-use Rattle.cc_book.specs.declared.entry.Entry.TheVariants.{Take, Sweep}
+use Rattle.cc_book.specs.declared.entry.Entry.TheVariants.{Take, Sweep, ChangeTerms}
 use Rattle.cc_book.specs.declared.session.Hold.{Hold}
 use Rattle.cc_book.specs.declared.terms.Terms.{Terms}
-use Rattle.cc_book.specs.AccountMachine.{free_behind, free_to_grant, grant_to, grants_by, grants_with, hold_of, holds_from, is_refused, made_grant, posting_of, postings_of, reply_after, settles_after}
-use Rattle.cc_book.specs.Laws.{HasLimits, grants_alive}
+use Rattle.cc_book.specs.AccountMachine.{free_behind, free_to_grant, grant_to, grants_by, grants_with, hold_of, holds_from, is_refused, made_grant, posting_of, postings_of, reply_after, settles_after, terms_of}
+use Rattle.cc_book.specs.Laws.{GrantsAtMost, HasLimits, KeepsTerms, grants_alive}
 use Rattle.cc_book.specs.Posting.{Posting}
 use Rattle.cc_book.specs.Reservation.{held_by, is_alive, same_name}
 use Rattle.cc_book.specs.ServiceRating.{asked_of, tariff_of}
 use Rattle.cc_book.specs.Session.{is_of, is_success}
 use Rattle.cc_book.proofs.Holding.{has_name-is, has_name-same, held-once}
-use Rattle.cc_book.proofs.Postings.{postings_all}
+use Rattle.cc_book.proofs.Postings.{all_push, postings_of-push, terms_of-kept}
 
 -- ---- a grant costs no more than the greatest
 
@@ -78,17 +80,36 @@ hold-most : (name : ServiceName) (most : ℕ) (service : Service) (made : Option
 hold-most name most service None rest le more = more
 hold-most name most service (Some grant) rest le more = (le, more)
 
-holds-most : (name : ServiceName) (tariffs : List Tariff) (tariff : Tariff) (free : ℤ) (services : List Service) → 0 < tariff.block
-    → find (rates name.group name.ident) tariffs ≡ Some tariff
-    → CostsAtMost name (cost_of tariff tariff.greatest) (holds_from tariffs free services)
-holds-most name tariffs tariff free [] some is = tt
-holds-most name tariffs tariff free (service ∷ services) some is =
+-- what a service is granted costs at most so much, where its name's greatest grant does
+limited-most : (name : ServiceName) (most : ℕ) (tariffs : List Tariff) (free : ℤ) (service : Service) → GrantsAtMost tariffs name most
+    → same_name (name_of service) name ≡ true → IfSome (grant_to tariffs free service) (λ made. made.held ≤ most)
+limited-most name most tariffs free service limits same = by (tariff_of tariffs service) refl where
+  named : name ≡ name_of service
+  named = has_name-is name service (has_name-same name service same)
+
+  weaker : (grant : Option Grant) (n : ℕ) → n ≤ most → IfSome grant (λ made. made.held ≤ n) → IfSome grant (λ made. made.held ≤ most)
+  weaker None n le less = tt
+  weaker (Some made) n le less = omega (arith, less)
+
+  by : (found : Option Tariff) → tariff_of tariffs service ≡ found → IfSome (grant_to tariffs free service) (λ made. made.held ≤ most)
+  by None is =
+      subst (λ (found : Option Tariff). IfSome (option_and_then (λ (t : Tariff). option_map (grant_of t free) (asked_of t service)) found)
+      (λ made. made.held ≤ most)) (sym is) tt
+  by (Some tariff) is =
+      let there : find (rates name.group name.ident) tariffs ≡ Some tariff =
+      subst (λ (n : ServiceName). find (rates n.group n.ident) tariffs ≡ Some tariff) (sym named) is in
+      let some = (in_range-parts tariff (find-all (rates name.group name.ident) in_range tariff tariffs (fault_of-none tariffs limits.sound) there)).0 in
+      weaker (grant_to tariffs free service) (cost_of tariff tariff.greatest) (limits.greatest tariff there)
+      (granted-most tariffs free service tariff some is)
+
+holds-most : (name : ServiceName) (most : ℕ) (tariffs : List Tariff) (free : ℤ) (services : List Service) → GrantsAtMost tariffs name most
+    → CostsAtMost name most (holds_from tariffs free services)
+holds-most name most tariffs free [] limits = tt
+holds-most name most tariffs free (service ∷ services) limits =
     let grant = grant_to tariffs free service in
-    let most : ℕ = cost_of tariff tariff.greatest in
     hold-most name most service (made_grant grant) (holds_from tariffs (free_behind free grant) services)
-    (λ same. made-most most grant (granted-most tariffs free service tariff some
-    (subst (λ (n : ServiceName). find (rates n.group n.ident) tariffs ≡ Some tariff) (has_name-is name service (has_name-same name service same)) is)))
-    (holds-most name tariffs tariff (free_behind free grant) services some is)
+    (λ same. made-most most grant (limited-most name most tariffs free service limits same))
+    (holds-most name most tariffs (free_behind free grant) services limits)
 
 with-most : (name : ServiceName) (most : ℕ) (kind : RequestKind) (code : ResultCode) (holds : List Hold) → CostsAtMost name most holds
     → CostsAtMost name most (grants_with kind code holds)
@@ -100,17 +121,34 @@ with-most name most Update code holds all = all
 with-most name most Termination code holds all = tt
 with-most name most Event code holds all = tt
 
-posting-most : (terms : Terms) (before : List Posting) (entry : Entry) (name : ServiceName) (tariff : Tariff) → 0 < tariff.block
-    → find (rates name.group name.ident) terms.tariffs ≡ Some tariff
-    → CostsAtMost name (cost_of tariff tariff.greatest) (posting_of terms before entry).grants
-posting-most terms before (Sweep moment) name tariff some is = tt
-posting-most terms before (Take moment request) name tariff some is = by (settles_after terms before request) where
-  by : (b : Bool) → CostsAtMost name (cost_of tariff tariff.greatest) (grants_by terms before request b)
+posting-most : (terms : Terms) (before : List Posting) (entry : Entry) (name : ServiceName) (most : ℕ) → GrantsAtMost terms.tariffs name most
+    → CostsAtMost name most (posting_of terms before entry).grants
+posting-most terms before (Sweep moment) name most limits = tt
+posting-most terms before (ChangeTerms moment change) name most limits = tt
+posting-most terms before (Take moment request) name most limits = by (settles_after terms before request) where
+  by : (b : Bool) → CostsAtMost name most (grants_by terms before request b)
   by true =
-      with-most name (cost_of tariff tariff.greatest) request.kind (reply_after terms before request).code
+      with-most name most request.kind (reply_after terms before request).code
       (holds_from terms.tariffs (free_to_grant terms before request) request.services)
-      (holds-most name terms.tariffs tariff (free_to_grant terms before request) request.services some is)
+      (holds-most name most terms.tariffs (free_to_grant terms before request) request.services limits)
   by false = tt
+
+-- each entry of a history, under the terms of its place
+abbrev AllCost : ServiceName → ℕ → List Posting → Type 0
+AllCost name most postings = AllByRecursion (λ (posting : Posting). CostsAtMost name most posting.grants) postings
+
+all_cost : (terms : Terms) (front history : List Entry) (name : ServiceName) (most : ℕ)
+    → ((before after : List Entry) → front ++ history ≡ before ++ after → GrantsAtMost (terms_of terms before).tariffs name most)
+    → AllCost name most (postings_of terms front) → AllCost name most (postings_of terms (front ++ history))
+all_cost terms front [] name most each all = subst (λ (h : List Entry). AllCost name most (postings_of terms h)) (sym (append-nil front)) all
+all_cost terms front (entry ∷ history) name most each all =
+    let here = posting-most (terms_of terms front) (postings_of terms front) entry name most (each front (entry ∷ history) refl) in
+    let next = all_push (λ (posting : Posting). CostsAtMost name most posting.grants) (postings_of terms front)
+    (posting_of (terms_of terms front) (postings_of terms front) entry) all here in
+    let same : (front ++ entry ∷ []) ++ history ≡ front ++ entry ∷ history = append_assoc front (entry ∷ []) history in
+    subst (λ (h : List Entry). AllCost name most (postings_of terms h)) same
+    (all_cost terms (front ++ entry ∷ []) history name most (λ before after e. each before after (sym same ∙ e))
+    (subst (AllCost name most) (sym (postings_of-push terms front entry)) next))
 
 -- ---- so what is held does not either
 
@@ -156,15 +194,37 @@ one_most sum (suc count) most le one = by count (omega arith) le where
   by zero few le = omega arith
   by (suc n) few le = absurd (omega arith)
 
+front_all : {X : Type 0} (P : X → Type 0) (xs ys : List X) → All P (xs ++ ys) → All P xs
+front_all P xs ys all k d lt =
+    let long = length-append xs ys in
+    subst P (get_or-append xs ys d k lt) (all k d (omega arith))
+
+none_cost : (terms : Terms) (name : ServiceName) (most : ℕ) → AllCost name most (postings_of terms [])
+unfolding postings_of
+none_cost terms name most = tt
+
+pub held-limited : (terms : Terms) (history : List Entry) (session : List ℕ) (name : ServiceName) (most : ℕ) → All HasLimits history
+    → ((before after : List Entry) → history ≡ before ++ after → GrantsAtMost (terms_of terms before).tariffs name most)
+    → held_by terms.validity session name (postings_of terms history) ≤ most
+held-limited terms history session name most limits each =
+    one_most (held_by terms.validity session name (postings_of terms history)) (grants_alive terms.validity session name (postings_of terms history)) most
+    (held-most terms.validity session name most (postings_of terms history) (all_cost terms [] history name most each (none_cost terms name most)))
+    (held-once terms history session name limits)
+
+-- where no entry changes the terms, the tariff is that of the opening
 pub held-greatest : (terms : Terms) (history : List Entry) (session : List ℕ) (name : ServiceName) (tariff : Tariff) → All HasLimits history
-    → fault_of terms.tariffs ≡ None → find (rates name.group name.ident) terms.tariffs ≡ Some tariff
+    → All KeepsTerms history → fault_of terms.tariffs ≡ None → find (rates name.group name.ident) terms.tariffs ≡ Some tariff
     → held_by terms.validity session name (postings_of terms history) ≤ cost_of tariff tariff.greatest
-held-greatest terms history session name tariff limits none is =
-    let most : ℕ = cost_of tariff tariff.greatest in
-    let some = (in_range-parts tariff (find-all (rates name.group name.ident) in_range tariff terms.tariffs (fault_of-none terms.tariffs none) is)).0 in
-    let all : AllByRecursion (λ (posting : Posting). CostsAtMost name (cost_of tariff tariff.greatest) posting.grants) (postings_of terms history) =
-    postings_all (λ (posting : Posting). CostsAtMost name (cost_of tariff tariff.greatest) posting.grants) (λ entry. Unit {0}) terms history
-    (λ before entry all any. posting-most terms before entry name tariff some is) (λ k d lt. tt) in
-    one_most (held_by terms.validity session name (postings_of terms history)) (grants_alive terms.validity session name (postings_of terms history))
-    (cost_of tariff tariff.greatest)
-    (held-most terms.validity session name (cost_of tariff tariff.greatest) (postings_of terms history) all) (held-once terms history session name limits)
+held-greatest terms history session name tariff limits keeps none is =
+    held-limited terms history session name (cost_of tariff tariff.greatest) limits
+    (λ before after e. subst (λ (now : Terms). GrantsAtMost now.tariffs name (cost_of tariff tariff.greatest))
+    (sym (terms_of-kept terms before (front_all KeepsTerms before after (subst (λ (h : List Entry). All KeepsTerms h) e keeps)))) opened)
+  where
+    same : (other : Tariff) → find (rates name.group name.ident) terms.tariffs ≡ Some other → tariff ≡ other
+    same other there = let both : Some tariff ≡ Some other = sym is ∙ there in cc
+
+    opened : GrantsAtMost terms.tariffs name (cost_of tariff tariff.greatest)
+    opened = record {
+      sound = none;
+      greatest = λ other there. subst (λ (t : Tariff). cost_of t t.greatest ≤ cost_of tariff tariff.greatest) (same other there) (omega arith);
+    }

@@ -18,10 +18,10 @@ use Rattle.cc_view.specs.declared.request.ServiceName.{ServiceName}
 use Rattle.cc_rating.specs.declared.tariff.Grant.{Grant}
 use Rattle.cc_rating.specs.declared.tariff.Tariff.{Tariff}
 use Rattle.cc_book.specs.declared.entry.Entry.{Entry}
-use Rattle.cc_book.specs.declared.entry.Entry.TheVariants.{Take, Sweep}
+use Rattle.cc_book.specs.declared.entry.Entry.TheVariants.{Take, Sweep, ChangeTerms}
 use Rattle.cc_book.specs.declared.session.Hold.{Hold}
 use Rattle.cc_book.specs.declared.terms.Terms.{Terms}
-use Rattle.cc_book.specs.AccountMachine.{free_behind, free_to_grant, grant_to, grants_by, grants_with, hold_of, grants_after, holds_from, made_grant, posting_of, postings_of, reply_after, settles_after}
+use Rattle.cc_book.specs.AccountMachine.{free_behind, free_to_grant, grant_to, grants_by, grants_with, hold_of, grants_after, holds_from, made_grant, posting_of, postings_of, reply_after, settles_after, terms_at}
 use Rattle.cc_book.specs.Duplicate.{same_session}
 use Rattle.cc_book.specs.Laws.{HasLimits, grants_alive}
 use Rattle.cc_book.specs.Posting.{Posting}
@@ -41,6 +41,11 @@ option_eq-sym : (a b : Option ℕ) → option_eq eqb a b ≡ true → option_eq 
 option_eq-sym a b e =
     let same = option_eq-true a b e in
     subst (λ (x : Option ℕ). option_eq eqb x a ≡ true) same (subst (λ (x : Option ℕ). option_eq eqb a x ≡ true) (sym same) e)
+
+pub same_name-equal : (one other : ServiceName) → same_name one other ≡ true → one ≡ other
+same_name-equal one other e =
+    let parts = and_parts (option_eq eqb one.group other.group) (option_eq eqb one.ident other.ident) e in
+    λ i. record { group = option_eq-true one.group other.group parts.0 i; ident = option_eq-true one.ident other.ident parts.1 i }
 
 pub has_name-is : (name : ServiceName) (service : Service) → has_name name service ≡ true → name ≡ name_of service
 has_name-is name service e =
@@ -137,6 +142,7 @@ holds_once : (terms : Terms) (before : List Posting) (session : List ℕ) (name 
     → HoldsOnce session name (posting_of terms before entry)
 unfolding held
 holds_once terms before session name (Sweep moment) limits = record { once = λ own. absurd cc; ends = λ own ends. refl }
+holds_once terms before session name (ChangeTerms moment change) limits = record { once = λ own. absurd cc; ends = λ own ends. refl }
 holds_once terms before session name (Take moment request) limits =
     record { once = λ own. most; ends = λ own none. by (settles_after terms before request) refl own none } where
       most : count_by (λ (hold : Hold). same_name hold.service name) (grants_after terms before request) ≤ 1
@@ -167,6 +173,7 @@ alive-le validity name posting after =
 replaced-dead : (validity : ℕ) (session : List ℕ) (name : ServiceName) (entry : Entry) (after : List Posting) → is_of session entry ≡ true
     → list_any (replaces session name) after ≡ true → is_alive validity entry name after ≡ false
 replaced-dead validity session name (Sweep moment) after own ends = refl
+replaced-dead validity session name (ChangeTerms moment change) after own ends = refl
 replaced-dead validity session name (Take moment request) after own ends =
     ap (λ (b : Bool). not b && outlasts validity (Take moment request) after)
     (subst (λ (id : List ℕ). list_any (replaces id name) after ≡ true) (sym ((bytes_eq-Decides request.session session).0 own)) ends)
@@ -226,7 +233,7 @@ alive_once validity session name (posting ∷ after) all = alive_more validity s
 all_once : (terms : Terms) (history : List Entry) (session : List ℕ) (name : ServiceName) → All HasLimits history
     → AllByRecursion (HoldsOnce session name) (postings_of terms history)
 all_once terms history session name limits = postings_all (HoldsOnce session name) HasLimits terms history
-    (λ before entry all within. holds_once terms before session name entry within) limits
+    (λ before entry all within. holds_once (terms_at terms before) before session name entry within) limits
 
 pub held-once : (terms : Terms) (history : List Entry) (session : List ℕ) (name : ServiceName) → All HasLimits history
     → grants_alive terms.validity session name (postings_of terms history) ≤ 1

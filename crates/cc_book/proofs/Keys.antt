@@ -8,12 +8,14 @@ use Rattle.cc_view.specs.declared.code.ResultCode.TheVariants.{UnableToComply}
 use Rattle.cc_view.specs.declared.reply.CcReply.{CcReply}
 use Rattle.cc_view.specs.declared.request.CcRequest.{CcRequest}
 use Rattle.cc_book.specs.declared.entry.Entry.{Entry}
-use Rattle.cc_book.specs.declared.entry.Entry.TheVariants.{Take, Sweep}
+use Rattle.cc_book.specs.declared.entry.Entry.TheVariants.{Take, Sweep, ChangeTerms}
 use Rattle.cc_book.specs.declared.terms.Terms.{Terms}
-use Rattle.cc_book.specs.AccountMachine.{code_alone, reply_to, reply_at, repeat_reply, kept_from, kept_reply}
+use Rattle.cc_book.specs.declared.terms_change.TermsChange.{TermsChange}
+use Rattle.cc_book.specs.AccountMachine.{code_alone, reply_to, reply_at, repeat_reply, kept_from, kept_reply, terms_of}
 use Rattle.cc_book.specs.Duplicate.{Key, key_of, same_session, same_key, has_key}
-use Rattle.cc_book.specs.History.{keys_of, ended_sessions, IsLegal, place_of, IsNew, IsKeptAt}
+use Rattle.cc_book.specs.History.{entry_key, keys_of, ended_sessions, IsLegal, place_of, IsNew, IsKeptAt}
 use Rattle.cc_book.specs.Laws.{RepliesToEntry}
+use Rattle.cc_book.specs.TermsChange.{fault_of_change}
 use Rattle.std.proofs.lemmas.Bool.{and_from, and_parts}
 use Rattle.cc_book.proofs.SameRequests.{same_request-other, same_request-self}
 use Rattle.cc_book.proofs.Sessions.{equal_number, same_number, same_session-equal, same_session-met, same_session-self}
@@ -78,6 +80,7 @@ takes_reply : (terms : Terms) (before : List Entry) (request : CcRequest) (entry
     → reply_at terms before request entry ≢ None
 takes_reply terms before request (Take moment taken) has e = absurd cc
 takes_reply terms before request (Sweep moment) has e = absurd cc
+takes_reply terms before request (ChangeTerms moment change) has e = absurd cc
 
 new_from : (terms : Terms) (before history : List Entry) (request : CcRequest) → kept_from terms before history request ≡ None → IsNew history (key_of request)
 new_from terms before [] request e = refl
@@ -98,6 +101,7 @@ of_here : (terms : Terms) (before after : List Entry) (request : CcRequest) (ent
 of_here terms before after request (Take moment taken) reply same e =
     record { before = before; moment = moment; taken = taken; after = after; among = refl; same = same; is_reply = cc }
 of_here terms before after request (Sweep moment) reply same e = absurd cc
+of_here terms before after request (ChangeTerms moment change) reply same e = absurd cc
 
 of_by : (terms : Terms) (before after : List Entry) (request : CcRequest) (entry : Entry) (reply : CcReply) (b : Bool) → has_key (key_of request) entry ≡ b
     → (kept_from terms (before ++ entry ∷ []) after request ≡ Some reply → RepliesToEntry terms (before ++ entry ∷ after) request reply)
@@ -154,6 +158,7 @@ others_push : (key : Key) (history : List Entry) (moment : Moment) (request : Cc
 others_push key [] moment request all other = (other, tt)
 others_push key (Take m r ∷ history) moment request all other = (all.0, others_push key history moment request all.1 other)
 others_push key (Sweep m ∷ history) moment request all other = others_push key history moment request all other
+others_push key (ChangeTerms m change ∷ history) moment request all other = others_push key history moment request all other
 
 distinct_push : (history : List Entry) (moment : Moment) (request : CcRequest) → IsDistinct same_key (keys_of history) → IsNew history (key_of request)
     → IsDistinct same_key (keys_of (history ++ Take moment request ∷ []))
@@ -166,13 +171,18 @@ distinct_push (Take m r ∷ history) moment request all new =
           parts.1,
     )
 distinct_push (Sweep m ∷ history) moment request all new = distinct_push history moment request all new
+distinct_push (ChangeTerms m change ∷ history) moment request all new = distinct_push history moment request all new
 
-distinct_sweep : (history : List Entry) (moment : Moment) → keys_of (history ++ Sweep moment ∷ []) ≡ keys_of history
-distinct_sweep [] moment = refl
-distinct_sweep (Take m r ∷ history) moment = ap (λ (keys : List Key). key_of r ∷ keys) (distinct_sweep history moment)
-distinct_sweep (Sweep m ∷ history) moment = distinct_sweep history moment
+-- an entry without a key adds none
+distinct_keyless : (history : List Entry) (last : Entry) → entry_key last ≡ None → keys_of (history ++ last ∷ []) ≡ keys_of history
+distinct_keyless [] (Take m r) none = absurd cc
+distinct_keyless [] (Sweep m) none = refl
+distinct_keyless [] (ChangeTerms m change) none = refl
+distinct_keyless (Take m r ∷ history) last none = ap (λ (keys : List Key). key_of r ∷ keys) (distinct_keyless history last none)
+distinct_keyless (Sweep m ∷ history) last none = distinct_keyless history last none
+distinct_keyless (ChangeTerms m change ∷ history) last none = distinct_keyless history last none
 
--- ---- sweeps
+-- ---- one more entry
 
 not_empty : (before after : List Entry) (entry : Entry) → before ++ entry ∷ after ≡ [] → ⊥
 not_empty [] after entry e = cc
@@ -198,33 +208,58 @@ among_push (h ∷ history) (b ∷ before) after last entry e =
       | inr p ↦ inr (p.0, cc)
     ]
 
-pub IsLegal-push : (terms : Terms) (history : List Entry) (moment : Moment) (request : CcRequest) → IsLegal terms history → IsNew history (key_of request)
-    → IsLegal terms (history ++ Take moment request ∷ [])
-IsLegal-push terms history moment request legal new = record {
-  distinct = distinct_push history moment request legal.distinct new;
-  sweeps = λ before after m e. elim (among_push history before after (Take moment request) (Sweep m) e) as (λ _. 0 < ended_sessions terms before m) [
-    | inl p ↦ absurd (let is : Take moment request ≡ Sweep m = p.0 in cc)
+-- a legal history stays legal with an entry that could be made
+legal_push : (terms : Terms) (history : List Entry) (last : Entry) → IsLegal terms history → IsDistinct same_key (keys_of (history ++ last ∷ []))
+    → ((moment : Moment) → last ≡ Sweep moment → 0 < ended_sessions terms history moment)
+    → ((moment : Moment) (change : TermsChange) → last ≡ ChangeTerms moment change → fault_of_change (terms_of terms history) change ≡ None)
+    → IsLegal terms (history ++ last ∷ [])
+legal_push terms history last legal distinct ends sound = record {
+  distinct = distinct;
+  sweeps = λ before after m e. elim (among_push history before after last (Sweep m) e) as (λ _. 0 < ended_sessions terms before m) [
+    | inl p ↦ subst (λ (h : List Entry). 0 < ended_sessions terms h m) (sym p.1) (ends m p.0)
     | inr p ↦ legal.sweeps before p.0 m p.1
   ];
+  changes = λ before after m change e. elim (among_push history before after last (ChangeTerms m change) e) as (λ _.
+      fault_of_change (terms_of terms before) change ≡ None) [
+        | inl p ↦ subst (λ (h : List Entry). fault_of_change (terms_of terms h) change ≡ None) (sym p.1) (sound m change p.0)
+        | inr p ↦ legal.changes before p.0 m change p.1
+      ];
 }
+
+pub IsLegal-push : (terms : Terms) (history : List Entry) (moment : Moment) (request : CcRequest) → IsLegal terms history → IsNew history (key_of request)
+    → IsLegal terms (history ++ Take moment request ∷ [])
+IsLegal-push terms history moment request legal new =
+    legal_push terms history (Take moment request) legal (distinct_push history moment request legal.distinct new)
+    (λ m is. absurd cc) (λ m change is. absurd cc)
 
 same_moment : (m n : Moment) → Sweep m ≡ Sweep n → m ≡ n
 same_moment m n e = cc
 
 pub IsLegal-sweep : (terms : Terms) (history : List Entry) (moment : Moment) → IsLegal terms history → 0 < ended_sessions terms history moment
     → IsLegal terms (history ++ Sweep moment ∷ [])
-IsLegal-sweep terms history moment legal ends = record {
-  distinct = subst (λ (keys : List Key). IsDistinct same_key keys) (sym (distinct_sweep history moment)) legal.distinct;
-  sweeps = λ before after m e. elim (among_push history before after (Sweep moment) (Sweep m) e) as (λ _. 0 < ended_sessions terms before m) [
-    | inl p ↦ subst (λ (n : Moment). 0 < ended_sessions terms before n) (same_moment moment m p.0)
-        (subst (λ (h : List Entry). 0 < ended_sessions terms h moment) (sym p.1) ends)
-    | inr p ↦ legal.sweeps before p.0 m p.1
-  ];
-}
+IsLegal-sweep terms history moment legal ends =
+    legal_push terms history (Sweep moment) legal
+    (subst (λ (keys : List Key). IsDistinct same_key keys) (sym (distinct_keyless history (Sweep moment) refl)) legal.distinct)
+    (λ m is. subst (λ (n : Moment). 0 < ended_sessions terms history n) (same_moment moment m is) ends) (λ m change is. absurd cc)
+
+same_change : (m n : Moment) (one other : TermsChange) → ChangeTerms m one ≡ ChangeTerms n other → one ≡ other
+same_change m n one other e = cc
+
+pub IsLegal-change : (terms : Terms) (history : List Entry) (moment : Moment) (change : TermsChange) → IsLegal terms history
+    → fault_of_change (terms_of terms history) change ≡ None → IsLegal terms (history ++ ChangeTerms moment change ∷ [])
+IsLegal-change terms history moment change legal sound =
+    legal_push terms history (ChangeTerms moment change) legal
+    (subst (λ (keys : List Key). IsDistinct same_key keys) (sym (distinct_keyless history (ChangeTerms moment change) refl)) legal.distinct)
+    (λ m is. absurd cc)
+    (λ m other is. subst (λ (c : TermsChange). fault_of_change (terms_of terms history) c ≡ None) (same_change moment m change other is) sound)
 
 pub IsLegal-empty : (terms : Terms) → IsLegal terms []
 unfolding IsDistinct
-IsLegal-empty terms = record { distinct = tt; sweeps = λ before after moment e. absurd (not_empty before after (Sweep moment) (sym e)) }
+IsLegal-empty terms = record {
+  distinct = tt;
+  sweeps = λ before after moment e. absurd (not_empty before after (Sweep moment) (sym e));
+  changes = λ before after moment change e. absurd (not_empty before after (ChangeTerms moment change) (sym e));
+}
 
 -- ---- laws
 
@@ -268,6 +303,7 @@ others_at : (key : Key) (history after : List Entry) (moment : Moment) (request 
 others_at key [] after moment request all = all.0
 others_at key (Take m r ∷ history) after moment request all = others_at key history after moment request all.1
 others_at key (Sweep m ∷ history) after moment request all = others_at key history after moment request all
+others_at key (ChangeTerms m change ∷ history) after moment request all = others_at key history after moment request all
 
 pub keys-distinct : (before between after : List Entry) (m n : Moment) (one other : CcRequest)
     → IsDistinct same_key (keys_of (before ++ Take m one ∷ (between ++ Take n other ∷ after))) → same_key (key_of one) (key_of other) ≡ false
@@ -275,6 +311,7 @@ unfolding IsDistinct
 keys-distinct [] between after m n one other all = others_at (key_of one) between after n other all.0
 keys-distinct (Take l r ∷ before) between after m n one other all = keys-distinct before between after m n one other all.1
 keys-distinct (Sweep l ∷ before) between after m n one other all = keys-distinct before between after m n one other all
+keys-distinct (ChangeTerms l change ∷ before) between after m n one other all = keys-distinct before between after m n one other all
 
 pub keys-apart : (terms : Terms) (before between after : List Entry) (m n : Moment) (one other : CcRequest)
     → IsLegal terms (before ++ Take m one ∷ (between ++ Take n other ∷ after)) → key_of one ≢ key_of other
@@ -294,6 +331,7 @@ new_before (Take m r ∷ before) after moment request all =
     and_from (not (same_key (key_of r) (key_of request))) (list_all (λ (e : Entry). not (has_key (key_of request) e)) before)
     (not_false (same_key (key_of r) (key_of request)) (others_at (key_of r) before after moment request all.0)) (new_before before after moment request all.1)
 new_before (Sweep m ∷ before) after moment request all = new_before before after moment request all
+new_before (ChangeTerms m change ∷ before) after moment request all = new_before before after moment request all
 
 get_behind : (before after : List Entry) (entry : Entry) → slice_get (before ++ entry ∷ after) (length before) ≡ Some entry
 get_behind [] after entry = refl

@@ -5,12 +5,15 @@ pub mod Fitting
 mod Ending
 mod Granting
 mod Greatest
+pub mod Changing
 mod Holding
+mod Joining
 mod Paying
 mod Ranges
 mod Refusing
 mod Reserving
 mod SweepLaws
+mod Totals
 mod Unnamed
 pub mod Alive
 pub mod Amounts
@@ -24,6 +27,7 @@ pub mod Keys
 pub mod Looking
 pub mod Outcomes
 pub mod Placing
+pub mod Pricing
 pub mod Postings
 pub mod Replies
 pub mod SameRequests

@@ -16,13 +16,17 @@ use Rattle.cc_book.specs.declared.terms.Terms.{Terms}
 use Rattle.cc_book.specs.AccountMachine.{account_by, account_of, charged_account, free_to_grant, grants_after, grants_by, grants_with, holds_from, opener_account, post, posting_of, reply_after, settles_after, settles_by}
 use Rattle.cc_book.specs.Posting.{Posting, debit_to, is_account}
 use Rattle.cc_book.specs.Session.{Opened, is_initial_kind, is_open, is_success, next_session, opens, session_by}
-use Rattle.cc_book.specs.Standing.{IsOutcome, Stands, after_change, after_debit, change_at, change_closed, change_of, change_open, grants_weight, holds_beside, holds_weight, is_session, opened_as, place_in}
+use Rattle.cc_book.specs.Standing.{IsOutcome, Stands, after_change, after_debit, change_at, change_closed, change_of, change_open, grants_weight, holds_beside, holds_weight, is_session, opened_as, place_in, opened_session}
 use Rattle.cc_book.proofs.Alive.{Weight, grants_weight-own, holds_weight-append, holds_weight-beside, holds_weight-left, is_ending, kept, left-others, left-quiet}
 use Rattle.cc_book.proofs.Changes.{Sit, next-there, next-unopened, no_grants, sits-ended, sits-going_on, sits-opened, sits-same}
 use Rattle.cc_book.proofs.Sessions.{IsAt, Others, equal_number, find-at, find-others, is_at_place, open_at_place, others-closed}
 use Rattle.cc_book.proofs.Stands.{closed-stands, open-stands, update_settles}
 use Rattle.cc_book.proofs.Postings.{debits_to-push}
 use Rattle.cc_book.proofs.Looking.{account_of-within}
+use Rattle.cc_book.specs.Pricing.{price_in, prices_after}
+use Rattle.cc_book.proofs.Pricing.{price-none, price_in-after}
+use Rattle.std.specs.Option.{option_or}
+use Rattle.cc_rating.specs.declared.tariff.Tariff.{Tariff}
 
 -- ---- a request debits its account
 
@@ -143,10 +147,10 @@ module _ {terms : Terms} {before : List Posting} {balances : List ℤ} {sessions
     nowhere = ap (option_map (opened_as terms.validity)) (find-others request.session sessions others)
 
     by : (b : Bool) → opens posted ≡ b → SitsAfter
-        (cond b (Opens (record { id = request.session; account = unwrap_or charged 0; last = moment; holds = grants_after terms before request })) Stays)
+        (cond b (Opens (opened_session request moment terms.tariffs (unwrap_or charged 0) (grants_after terms before request))) Stays)
     by true does =
         let known = opener_known terms before moment request does in
-        subst (λ (a : ℕ). SitsAfter (Opens (record { id = request.session; account = a; last = moment; holds = grants_after terms before request })))
+        subst (λ (a : ℕ). SitsAfter (Opens (opened_session request moment terms.tariffs a (grants_after terms before request))))
         (sym (ap (λ (o : Option ℕ). unwrap_or o 0) known.1))
         (sits-opened s moment request posted known.0 does known.1 known.2 others)
     by false unopened =
@@ -181,12 +185,14 @@ module _ {terms : Terms} {before : List Posting} {balances : List ℤ} {sessions
         let nothing = no_grants s moment request posted weight (none-unsettled terms before moment request settled) in
         omega arith
 
-    sits-initial : request.kind ≡ Initial → SitsAfter (change_open request moment (grants_after terms before request) Initial place session)
+    sits-initial : request.kind ≡ Initial → SitsAfter (change_open request moment posted Initial place session)
     sits-initial kind =
         sits-going_on s moment request posted place session there at
-        (unopened-unsettled terms before moment request (settled-by Initial kind)) session.holds (ap is_ending kind)
+        (unopened-unsettled terms before moment request (settled-by Initial kind)) session.holds session.prices (ap is_ending kind)
         (λ now. ap (session_by terms.validity now moment.0) kind)
         (initial_weight kind)
+        (λ name. sym (ap (λ (t : Option Tariff). option_or t (price_in session.prices name))
+        (price-none name posted (none-unsettled terms before moment request (settled-by Initial kind)))))
 
     -- an UPDATE ends the holds of the services that it names, and adds what is granted to it
     update_weight : request.kind ≡ Update → (weight : Weight)
@@ -207,22 +213,24 @@ module _ {terms : Terms} {before : List Posting} {balances : List ℤ} {sessions
         let parts = holds_weight-append weight session.id a (holds_beside request.services session.holds) (grants_after terms before request) in
         omega arith
 
-    sits-update : request.kind ≡ Update → SitsAfter (change_open request moment (grants_after terms before request) Update place session)
+    sits-update : request.kind ≡ Update → SitsAfter (change_open request moment posted Update place session)
     sits-update kind =
         sits-going_on s moment request posted place session there at
         (unopened-by_kind terms before moment request (ap is_initial_kind kind))
-        (holds_beside request.services session.holds ++ grants_after terms before request) (ap is_ending kind)
+        (holds_beside request.services session.holds ++ grants_after terms before request)
+        (prices_after terms.tariffs session.prices (grants_after terms before request)) (ap is_ending kind)
         (λ now. ap (session_by terms.validity now moment.0) kind)
         (update_weight kind)
+        (λ name. price_in-after name terms.tariffs session.prices (grants_after terms before request))
 
     -- a TERMINATION ends its session, and all that it holds
-    sits-termination : request.kind ≡ Termination → SitsAfter (change_open request moment (grants_after terms before request) Termination place session)
+    sits-termination : request.kind ≡ Termination → SitsAfter (change_open request moment posted Termination place session)
     sits-termination kind =
         sits-ended s moment request posted place session there at
         (unopened-by_kind terms before moment request (ap is_initial_kind kind)) kind (none-ending terms before moment request kind)
 
     -- an EVENT touches no session
-    sits-event : request.kind ≡ Event → SitsAfter (change_open request moment (grants_after terms before request) Event place session)
+    sits-event : request.kind ≡ Event → SitsAfter (change_open request moment posted Event place session)
     sits-event kind =
         let settled = settled-by Event kind in
         let unopened = unopened-by_kind terms before moment request (ap is_initial_kind kind) in
@@ -234,7 +242,7 @@ module _ {terms : Terms} {before : List Posting} {balances : List ℤ} {sessions
         sits-same s moment request posted unopened
         (none-unsettled terms before moment request settled) (left-quiet request settles sessions settled (ap is_ending kind)) same
 
-    sits-open : (kind : RequestKind) → request.kind ≡ kind → SitsAfter (change_open request moment (grants_after terms before request) kind place session)
+    sits-open : (kind : RequestKind) → request.kind ≡ kind → SitsAfter (change_open request moment posted kind place session)
     sits-open Initial is = sits-initial is
     sits-open Update is = sits-update is
     sits-open Termination is = sits-termination is
@@ -257,7 +265,7 @@ module _ {terms : Terms} {before : List Posting} {balances : List ℤ} {sessions
 pub take-stands : {terms : Terms} {before : List Posting} {balances : List ℤ} {sessions : List OpenSession} {moment : Moment} {request : CcRequest}
     {outcome : Outcome}
     → Stands terms before balances sessions → IsOutcome terms before sessions moment request outcome
-    → Stands terms (post terms before (Take moment request)) (after_debit balances outcome.account outcome.debit) (after_change sessions outcome.change)
+    → Stands terms (before ++ posting_of terms before (Take moment request) ∷ []) (after_debit balances outcome.account outcome.debit) (after_change sessions outcome.change)
 take-stands {terms} {before} {balances} {sessions} {moment} {request} {outcome} s d = record {
   accounts = long ∙ s.accounts;
   balance = λ account lt. (
@@ -269,6 +277,7 @@ take-stands {terms} {before} {balances} {sessions} {moment} {request} {outcome} 
   known = sits.known;
   holds = sits.holds;
   count = sits.count;
+  prices = sits.prices;
 } where
   posting : Posting
   posting = posting_of terms before (Take moment request)

@@ -25,7 +25,7 @@ use Rattle.cc_book.specs.declared.account.Money.{Money}
 use Rattle.cc_book.specs.declared.entry.Entry.{Entry}
 use Rattle.cc_rating.specs.declared.tariff.Tariff.{Tariff}
 use Rattle.cc_book.specs.declared.terms.Terms.{Terms}
-use Rattle.cc_book.specs.AccountMachine.{account_of, action_debit, action_reply, add, check_reply, closing_reply, code_alone, debit_after, debit_by, event_reply, free_after, free_behind, free_for, free_to_grant, grant_to, granted, granted_all, granting_reply, needs_account, postings_of, price_reply, rated_reply, replies_from, reply_after, reply_by, reply_to, service_cost, settled_reply, settles_after, sum_of_costs, total_of, unsettled_code}
+use Rattle.cc_book.specs.AccountMachine.{account_of, action_debit, action_reply, add, check_reply, closing_reply, code_alone, debit_after, debit_by, event_reply, free_after, free_behind, free_for, free_to_grant, grant_to, granted, granted_all, granting_reply, needs_account, postings_of, price_reply, rated_reply, replies_from, reply_after, reply_by, reply_to, service_cost, settled_reply, settles_after, sum_of_costs, total_of, unsettled_code, terms_of}
 use Rattle.cc_book.specs.Balance.{debit_of}
 use Rattle.cc_book.specs.Laws.{cost_of_reply, granted_cost}
 use Rattle.cc_book.specs.Posting.{Posting}
@@ -108,14 +108,14 @@ unfolding replied
 reply-event terms before request action event is = ap (reply_by terms before request) event ∙ ap (replied terms before request) is
 
 pub paid : (terms : Terms) (history : List Entry) (request : CcRequest) → request.kind ≡ Event → request.action ≡ Some DirectDebiting
-    → debit_of terms history request ≡ pos (cost_of_reply terms.tariffs (reply_to terms history request))
+    → debit_of terms history request ≡ pos (cost_of_reply (terms_of terms history).tariffs (reply_to terms history request))
 unfolding debit_of reply_to replied
 paid terms history request event debits =
     let before = postings_of terms history in
-    let account = account_of terms.accounts request.subscriptions in
-    debit_of-event terms before request (Some DirectDebiting) event debits
-    ∙ paid-account terms request.services account (free_for terms before account)
-    ∙ sym (ap (λ (r : CcReply). pos (cost_of_reply terms.tariffs r)) (reply-event terms before request (Some DirectDebiting) event debits))
+    let account = account_of (terms_of terms history).accounts request.subscriptions in
+    debit_of-event (terms_of terms history) before request (Some DirectDebiting) event debits
+    ∙ paid-account (terms_of terms history) request.services account (free_for (terms_of terms history) before account)
+    ∙ sym (ap (λ (r : CcReply). pos (cost_of_reply (terms_of terms history).tariffs r)) (reply-event (terms_of terms history) before request (Some DirectDebiting) event debits))
 
 -- ---- what is covered
 
@@ -133,23 +133,23 @@ covered-total terms services free None e = absurd cc
 covered-total terms services free (Some total) e = test_le (pos total) free (covered-room terms.tariffs services (int_le (pos total) free) e)
 
 pub covered : (terms : Terms) (history : List Entry) (request : CcRequest) (account : ℕ) → request.kind ≡ Event → request.action ≡ Some DirectDebiting
-    → account_of terms.accounts request.subscriptions ≡ Some account
-    → (reply_to terms history request).code ≡ Success → debit_of terms history request ≤ℤ free_after terms (postings_of terms history) account
+    → account_of (terms_of terms history).accounts request.subscriptions ≡ Some account
+    → (reply_to terms history request).code ≡ Success → debit_of terms history request ≤ℤ free_after (terms_of terms history) (postings_of terms history) account
 unfolding debit_of reply_to replied
 covered terms history request account event debits is_account e =
     let before = postings_of terms history in
-    let free = free_after terms before account in
-    let total = total_of terms.tariffs request.services in
-    let reply = rated_reply terms request.services total free DirectDebiting in
-    let is : replied terms before request (Some DirectDebiting) ≡ reply =
-    ap (λ (a : Option ℕ). event_reply terms request.services a (free_for terms before a) (Some DirectDebiting)) is_account in
-    let same : reply_after terms before request ≡ reply = reply-event terms before request (Some DirectDebiting) event debits ∙ is in
+    let free = free_after (terms_of terms history) before account in
+    let total = total_of (terms_of terms history).tariffs request.services in
+    let reply = rated_reply (terms_of terms history) request.services total free DirectDebiting in
+    let is : replied (terms_of terms history) before request (Some DirectDebiting) ≡ reply =
+    ap (λ (a : Option ℕ). event_reply (terms_of terms history) request.services a (free_for (terms_of terms history) before a) (Some DirectDebiting)) is_account in
+    let same : reply_after (terms_of terms history) before request ≡ reply = reply-event (terms_of terms history) before request (Some DirectDebiting) event debits ∙ is in
     let success : reply.code ≡ Success = sym (ap (λ (r : CcReply). r.code) same) ∙ e in
-    let debit : debit_after terms before request ≡ pos (unwrap_or total 0) =
-    debit_of-event terms before request (Some DirectDebiting) event debits
+    let debit : debit_after (terms_of terms history) before request ≡ pos (unwrap_or total 0) =
+    debit_of-event (terms_of terms history) before request (Some DirectDebiting) event debits
     ∙ ap (λ (r : CcReply). action_debit (unwrap_or total 0) r.code (Some DirectDebiting)) is
     ∙ ap (λ (code : ResultCode). action_debit (unwrap_or total 0) code (Some DirectDebiting)) success in
-    subst (λ (z : ℤ). z ≤ℤ free) (sym debit) (covered-total terms request.services free total success)
+    subst (λ (z : ℤ). z ≤ℤ free) (sym debit) (covered-total (terms_of terms history) request.services free total success)
 
 -- ---- what is made, and what is not
 
@@ -174,64 +174,64 @@ answered terms before request action account total event is is_account is_total 
     ∙ ap (λ (t : Option ℕ). rated_reply terms request.services t (free_after terms before account) action) is_total
 
 module _ (terms : Terms) (history : List Entry) (request : CcRequest) (account total : ℕ) (event : request.kind ≡ Event)
-    (is_account : account_of terms.accounts request.subscriptions ≡ Some account) (is_total : total_of terms.tariffs request.services ≡ Some total) where
+    (is_account : account_of (terms_of terms history).accounts request.subscriptions ≡ Some account) (is_total : total_of (terms_of terms history).tariffs request.services ≡ Some total) where
   abbrev room : ℤ
-  room = free_after terms (postings_of terms history) account
+  room = free_after (terms_of terms history) (postings_of terms history) account
 
   pub debit-made : request.action ≡ Some DirectDebiting → pos total ≤ℤ room → (reply_to terms history request).code ≡ Success
   unfolding reply_to
   debit-made is enough =
-      ap (λ (reply : CcReply). reply.code) (answered terms (postings_of terms history) request DirectDebiting account total event is is_account is_total)
-      ∙ ap (λ (b : Bool). (cond b (granted_all terms.tariffs request.services) (code_alone CreditLimitReached)).code) (test_yes (pos total) room enough)
+      ap (λ (reply : CcReply). reply.code) (answered (terms_of terms history) (postings_of terms history) request DirectDebiting account total event is is_account is_total)
+      ∙ ap (λ (b : Bool). (cond b (granted_all (terms_of terms history).tariffs request.services) (code_alone CreditLimitReached)).code) (test_yes (pos total) room enough)
 
   pub debit-refused : request.action ≡ Some DirectDebiting → room <ℤ pos total → reply_to terms history request ≡ code_alone CreditLimitReached
   unfolding reply_to
   debit-refused is less =
-      answered terms (postings_of terms history) request DirectDebiting account total event is is_account is_total
-      ∙ ap (λ (b : Bool). cond b (granted_all terms.tariffs request.services) (code_alone CreditLimitReached)) (test_no (pos total) room less)
+      answered (terms_of terms history) (postings_of terms history) request DirectDebiting account total event is is_account is_total
+      ∙ ap (λ (b : Bool). cond b (granted_all (terms_of terms history).tariffs request.services) (code_alone CreditLimitReached)) (test_no (pos total) room less)
 
   pub check-enough : request.action ≡ Some CheckBalance → pos total ≤ℤ room → (reply_to terms history request).check ≡ Some 0
   unfolding reply_to
   check-enough is enough =
-      ap (λ (reply : CcReply). reply.check) (answered terms (postings_of terms history) request CheckBalance account total event is is_account is_total)
+      ap (λ (reply : CcReply). reply.check) (answered (terms_of terms history) (postings_of terms history) request CheckBalance account total event is is_account is_total)
       ∙ ap (λ (b : Bool). Some (cond {A = ℕ} b 0 1)) (test_yes (pos total) room enough)
 
   pub check-too_little : request.action ≡ Some CheckBalance → room <ℤ pos total → (reply_to terms history request).check ≡ Some 1
   unfolding reply_to
   check-too_little is less =
-      ap (λ (reply : CcReply). reply.check) (answered terms (postings_of terms history) request CheckBalance account total event is is_account is_total)
+      ap (λ (reply : CcReply). reply.check) (answered (terms_of terms history) (postings_of terms history) request CheckBalance account total event is is_account is_total)
       ∙ ap (λ (b : Bool). Some (cond {A = ℕ} b 0 1)) (test_no (pos total) room less)
 
 -- ---- refunds, and what moves nothing
 
 pub refunded : (terms : Terms) (history : List Entry) (request : CcRequest) (total : ℕ) → request.kind ≡ Event → request.action ≡ Some RefundAccount
-    → (reply_to terms history request).code ≡ Success → total_of terms.tariffs request.services ≡ Some total
+    → (reply_to terms history request).code ≡ Success → total_of (terms_of terms history).tariffs request.services ≡ Some total
     → debit_of terms history request ≡ pos 0 -ℤ pos total
 unfolding debit_of reply_to
 refunded terms history request total event refunds e is =
     let before = postings_of terms history in
-    let success : (replied terms before request (Some RefundAccount)).code ≡ Success =
-    sym (ap (λ (r : CcReply). r.code) (reply-event terms before request (Some RefundAccount) event refunds)) ∙ e in
-    debit_of-event terms before request (Some RefundAccount) event refunds
-    ∙ ap (λ (code : ResultCode). action_debit (unwrap_or (total_of terms.tariffs request.services) 0) code (Some RefundAccount)) success
+    let success : (replied (terms_of terms history) before request (Some RefundAccount)).code ≡ Success =
+    sym (ap (λ (r : CcReply). r.code) (reply-event (terms_of terms history) before request (Some RefundAccount) event refunds)) ∙ e in
+    debit_of-event (terms_of terms history) before request (Some RefundAccount) event refunds
+    ∙ ap (λ (code : ResultCode). action_debit (unwrap_or (total_of (terms_of terms history).tariffs request.services) 0) code (Some RefundAccount)) success
     ∙ ap (λ (t : Option ℕ). pos 0 -ℤ pos (unwrap_or t 0)) is
 
 pub checked : (terms : Terms) (history : List Entry) (request : CcRequest) → request.kind ≡ Event → request.action ≡ Some CheckBalance
     → debit_of terms history request ≡ pos 0
 unfolding debit_of
-checked terms history request event checks = debit_of-event terms (postings_of terms history) request (Some CheckBalance) event checks
-    ∙ checks_nothing (unwrap_or (total_of terms.tariffs request.services) 0) (replied terms (postings_of terms history) request (Some CheckBalance)).code
+checked terms history request event checks = debit_of-event (terms_of terms history) (postings_of terms history) request (Some CheckBalance) event checks
+    ∙ checks_nothing (unwrap_or (total_of (terms_of terms history).tariffs request.services) 0) (replied (terms_of terms history) (postings_of terms history) request (Some CheckBalance)).code
 
 pub enquired : (terms : Terms) (history : List Entry) (request : CcRequest) → request.kind ≡ Event → request.action ≡ Some PriceEnquiry
     → debit_of terms history request ≡ pos 0
 unfolding debit_of
-enquired terms history request event asks = debit_of-event terms (postings_of terms history) request (Some PriceEnquiry) event asks
-    ∙ prices_nothing (unwrap_or (total_of terms.tariffs request.services) 0) (replied terms (postings_of terms history) request (Some PriceEnquiry)).code
+enquired terms history request event asks = debit_of-event (terms_of terms history) (postings_of terms history) request (Some PriceEnquiry) event asks
+    ∙ prices_nothing (unwrap_or (total_of (terms_of terms history).tariffs request.services) 0) (replied (terms_of terms history) (postings_of terms history) request (Some PriceEnquiry)).code
 
 pub unnamed : (terms : Terms) (history : List Entry) (request : CcRequest) → request.kind ≡ Event → request.action ≡ None
     → debit_of terms history request ≡ pos 0
 unfolding debit_of replied
-unnamed terms history request event none = debit_of-event terms (postings_of terms history) request None event none
+unnamed terms history request event none = debit_of-event (terms_of terms history) (postings_of terms history) request None event none
 
 refuses_nothing : (amount : ℕ) (code : ResultCode) (action : Option RequestedAction) → code ≢ Success → action_debit amount code action ≡ pos 0
 refuses_nothing amount Success action refused = absurd (refused refl)
@@ -242,9 +242,9 @@ pub refused : (terms : Terms) (history : List Entry) (request : CcRequest) → r
 unfolding debit_of reply_to
 refused terms history request event failed =
     let before = postings_of terms history in
-    debit_of-event terms before request request.action event refl
-    ∙ refuses_nothing (unwrap_or (total_of terms.tariffs request.services) 0) (replied terms before request request.action).code request.action
-    (λ success. failed (ap (λ (reply : CcReply). reply.code) (reply-event terms before request request.action event refl) ∙ success))
+    debit_of-event (terms_of terms history) before request request.action event refl
+    ∙ refuses_nothing (unwrap_or (total_of (terms_of terms history).tariffs request.services) 0) (replied (terms_of terms history) before request request.action).code request.action
+    (λ success. failed (ap (λ (reply : CcReply). reply.code) (reply-event (terms_of terms history) before request request.action event refl) ∙ success))
 
 -- ---- what fits
 
@@ -351,19 +351,19 @@ grants_few terms history request limits = by request.kind where
   before = postings_of terms history
 
   granting : (code : ResultCode)
-      → GrantsFew (cond (settles_after terms before request) (granting_reply terms (free_to_grant terms before request) request.services) (code_alone code))
+      → GrantsFew (cond (settles_after (terms_of terms history) before request) (granting_reply (terms_of terms history) (free_to_grant (terms_of terms history) before request) request.services) (code_alone code))
   granting code =
-      fits-test (settles_after terms before request) (granting_reply terms (free_to_grant terms before request) request.services) (code_alone code)
-      (fits-granting terms (free_to_grant terms before request) request.services limits.few) (fits-alone code)
+      fits-test (settles_after (terms_of terms history) before request) (granting_reply (terms_of terms history) (free_to_grant (terms_of terms history) before request) request.services) (code_alone code)
+      (fits-granting (terms_of terms history) (free_to_grant (terms_of terms history) before request) request.services limits.few) (fits-alone code)
 
-  by : (kind : RequestKind) → GrantsFew (reply_by terms before request kind)
-  by Event = fits-event terms request.services (account_of terms.accounts request.subscriptions)
-      (free_for terms before (account_of terms.accounts request.subscriptions)) request.action limits.few
+  by : (kind : RequestKind) → GrantsFew (reply_by (terms_of terms history) before request kind)
+  by Event = fits-event (terms_of terms history) request.services (account_of (terms_of terms history).accounts request.subscriptions)
+      (free_for (terms_of terms history) before (account_of (terms_of terms history).accounts request.subscriptions)) request.action limits.few
   by Initial = granting (unsettled_code Initial (is_open terms.validity request.session before))
   by Update = granting UnknownSessionId
   by Termination =
-      fits-test (settles_after terms before request) (closing_reply terms request.services) (code_alone UnknownSessionId)
-      (fits-closing terms request.services limits.few) (fits-alone UnknownSessionId)
+      fits-test (settles_after (terms_of terms history) before request) (closing_reply (terms_of terms history) request.services) (code_alone UnknownSessionId)
+      (fits-closing (terms_of terms history) request.services limits.few) (fits-alone UnknownSessionId)
 
 pub grants_units : (terms : Terms) (history : List Entry) (request : CcRequest) → WithinLimits request.services → GrantsUnits (reply_to terms history request)
 grants_units terms history request limits = (grants_few terms history request limits).units

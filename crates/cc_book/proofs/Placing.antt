@@ -11,10 +11,10 @@ use Rattle.indexmap.specs.IndexMap.{get}
 use Rattle.dia_base.specs.declared.number.Moment.{Moment}
 use Rattle.cc_view.specs.declared.request.CcRequest.{CcRequest}
 use Rattle.cc_book.specs.declared.entry.Entry.{Entry}
-use Rattle.cc_book.specs.declared.entry.Entry.TheVariants.{Take, Sweep}
+use Rattle.cc_book.specs.declared.entry.Entry.TheVariants.{Take, Sweep, ChangeTerms}
 use Rattle.cc_book.specs.declared.places.Places.{Places}
 use Rattle.cc_book.specs.Duplicate.{Key, has_key, key_of, same_key, same_session}
-use Rattle.cc_book.specs.History.{IsNew, place_of}
+use Rattle.cc_book.specs.History.{IsNew, entry_key, place_of}
 use Rattle.cc_book.specs.Places.{IsIndexed, first_of, place_in, same_numbered}
 use Rattle.cc_book.specs.Session.{is_of}
 use Rattle.cc_book.proofs.Sessions.{equal_number, same_number, same_session-equal, same_session-self}
@@ -156,6 +156,7 @@ unknown_by (Take m r ∷ history) id number all =
     (list_all (λ (e : Entry). not (has_key (record { session = id; number = number }) e)) history)
     (ap not apart) (unknown_by history id number parts.1)
 unknown_by (Sweep m ∷ history) id number all = unknown_by history id number all
+unknown_by (ChangeTerms m change ∷ history) id number all = unknown_by history id number all
 
 unknown : (history : List Entry) (id : List ℕ) (number : ℕ) → first_of history id ≡ None → place_of history (record { session = id; number = number }) ≡ None
 unknown history id number none =
@@ -181,18 +182,33 @@ IsIndexed-empty places firsts numbered = record {
   untaken = λ first number le. numbered (first, number);
 }
 
-pub IsIndexed-sweep : (history : List Entry) (places : Places) (moment : Moment) → IsIndexed history places → IsIndexed (history ++ Sweep moment ∷ []) places
-IsIndexed-sweep history places moment indexed =
-    let same : (id : List ℕ) → first_of (history ++ Sweep moment ∷ []) id ≡ first_of history id = λ id. position-push (is_of id) history (Sweep moment)
+-- an entry that is no request stands at no place
+pub IsIndexed-keyless : (history : List Entry) (places : Places) (last : Entry) → entry_key last ≡ None → IsIndexed history places
+    → IsIndexed (history ++ last ∷ []) places
+IsIndexed-keyless history places last none indexed =
+    let same : (id : List ℕ) → first_of (history ++ last ∷ []) id ≡ first_of history id = λ id. position-push (is_of id) history last
+    ∙ ap (λ (b : Bool). option_or (first_of history id) (cond b (Some (length history)) None)) (of_none id last none)
     ∙ or_none (first_of history id) in
-    let long = length-append history (Sweep moment ∷ []) in
+    let long = length-append history (last ∷ []) in
     record {
       firsts = λ id. indexed.firsts id ∙ sym (same id);
-      numbered = λ id first number some. indexed.numbered id first number (sym (same id) ∙ some)
-          ∙ sym (position-push (has_key (record { session = id; number = number })) history (Sweep moment)
-          ∙ or_none (place_of history (record { session = id; number = number })));
+      numbered = λ id first number some.
+          let key : Key = record { session = id; number = number } in
+          indexed.numbered id first number (sym (same id) ∙ some)
+          ∙ sym (position-push (has_key key) history last
+          ∙ ap (λ (b : Bool). option_or (place_of history key) (cond b (Some (length history)) None)) (keyless key last none)
+          ∙ or_none (place_of history key));
       untaken = λ first number le. indexed.untaken first number (omega arith);
-    }
+    } where
+      of_none : (id : List ℕ) (entry : Entry) → entry_key entry ≡ None → is_of id entry ≡ false
+      of_none id (Take m r) none = absurd cc
+      of_none id (Sweep m) none = refl
+      of_none id (ChangeTerms m change) none = refl
+
+      keyless : (key : Key) (entry : Entry) → entry_key entry ≡ None → has_key key entry ≡ false
+      keyless key (Take m r) none = absurd cc
+      keyless key (Sweep m) none = refl
+      keyless key (ChangeTerms m change) none = refl
 
 same_first : (m n : ℕ) → Some m ≡ Some n → m ≡ n
 same_first m n e = cc
@@ -201,6 +217,7 @@ both_of : (one other : List ℕ) (entry : Entry) → is_of one entry ≡ true �
 both_of one other (Take m r) e f =
     subst (λ (id : List ℕ). same_session id other ≡ true) (same_session-equal r.session one e) f
 both_of one other (Sweep m) e f = absurd cc
+both_of one other (ChangeTerms m change) e f = absurd cc
 
 module _ (history : List Entry) (old new : Places) (place first : ℕ) (moment : Moment) (request : CcRequest)
     (indexed : IsIndexed history old) (at : place ≡ length history) (is_new : IsNew history (key_of request))

@@ -17,7 +17,7 @@ use Rattle.cc_rating.proofs.Grants.{held-is}
 use Rattle.cc_book.specs.declared.entry.Entry.{Entry}
 use Rattle.cc_book.specs.declared.session.Hold.{Hold}
 use Rattle.cc_book.specs.declared.terms.Terms.{Terms}
-use Rattle.cc_book.specs.AccountMachine.{closing_reply, code_alone, free_behind, free_to_grant, grant_to, granting_reply, grants_after, grants_by, grants_with, hold_of, holds_from, is_refused, made_grant, postings_of, replies_from, reply_after, reply_by, reply_to, settled_reply, settles_after, unsettled_code}
+use Rattle.cc_book.specs.AccountMachine.{closing_reply, code_alone, free_behind, free_to_grant, grant_to, granting_reply, grants_after, grants_by, grants_with, hold_of, holds_from, is_refused, made_grant, postings_of, replies_from, reply_after, reply_by, reply_to, settled_reply, settles_after, unsettled_code, terms_of}
 use Rattle.cc_book.specs.Laws.{cost_of_reply, granted_cost}
 use Rattle.cc_book.specs.Posting.{Posting}
 use Rattle.cc_book.specs.ServiceRating.{asked_of, tariff_of}
@@ -127,25 +127,25 @@ grants-are terms before request kind code is answered =
     ∙ ap (λ (c : ResultCode). reserves terms before request kind c settled) answered
 
 pub update-reserved : (terms : Terms) (history : List Entry) (request : CcRequest) → request.kind ≡ Update
-    → held_in (grants_after terms (postings_of terms history) request) ≡ cost_of_reply terms.tariffs (reply_to terms history request)
+    → held_in (grants_after (terms_of terms history) (postings_of terms history) request) ≡ cost_of_reply (terms_of terms history).tariffs (reply_to terms history request)
 unfolding reply_to
 update-reserved terms history request is =
     let before = postings_of terms history in
-    let code = (reply_after terms before request).code in
-    ap held_in (grants-are terms before request Update code is refl)
-    ∙ reserved-update terms before request code (is_open terms.validity request.session before) (settles_after terms before request)
-    ∙ sym (ap (λ (k : RequestKind). cost_of_reply terms.tariffs (reply_by terms before request k)) is)
+    let code = (reply_after (terms_of terms history) before request).code in
+    ap held_in (grants-are (terms_of terms history) before request Update code is refl)
+    ∙ reserved-update (terms_of terms history) before request code (is_open terms.validity request.session before) (settles_after (terms_of terms history) before request)
+    ∙ sym (ap (λ (k : RequestKind). cost_of_reply (terms_of terms history).tariffs (reply_by (terms_of terms history) before request k)) is)
 
 pub opening-reserved : (terms : Terms) (history : List Entry) (request : CcRequest) → request.kind ≡ Initial → (reply_to terms history request).code ≡ Success
-    → held_in (grants_after terms (postings_of terms history) request) ≡ cost_of_reply terms.tariffs (reply_to terms history request)
+    → held_in (grants_after (terms_of terms history) (postings_of terms history) request) ≡ cost_of_reply (terms_of terms history).tariffs (reply_to terms history request)
 unfolding reply_to
 opening-reserved terms history request is success =
     let before = postings_of terms history in
-    let kind = ap (reply_by terms before request) is in
-    ap held_in (grants-are terms before request Initial Success is success)
-    ∙ reserved-opening terms before request (is_open terms.validity request.session before) (settles_after terms before request)
+    let kind = ap (reply_by (terms_of terms history) before request) is in
+    ap held_in (grants-are (terms_of terms history) before request Initial Success is success)
+    ∙ reserved-opening (terms_of terms history) before request (is_open terms.validity request.session before) (settles_after (terms_of terms history) before request)
     (sym (ap (λ (r : CcReply). r.code) kind) ∙ success)
-    ∙ sym (ap (cost_of_reply terms.tariffs) kind)
+    ∙ sym (ap (cost_of_reply (terms_of terms history).tariffs) kind)
 
 closed-reply : (terms : Terms) (services : List Service) (settled : Bool)
     → cost_of_reply terms.tariffs (cond settled (closing_reply terms services) (code_alone UnknownSessionId)) ≡ 0
@@ -153,9 +153,9 @@ closed-reply terms services true = closed-services terms services
 closed-reply terms services false = refl
 
 pub termination-granted : (terms : Terms) (history : List Entry) (request : CcRequest) → request.kind ≡ Termination
-    → cost_of_reply terms.tariffs (reply_to terms history request) ≡ 0
+    → cost_of_reply (terms_of terms history).tariffs (reply_to terms history request) ≡ 0
 unfolding reply_to
 termination-granted terms history request is =
     let before = postings_of terms history in
-    ap (λ (k : RequestKind). cost_of_reply terms.tariffs (reply_by terms before request k)) is
-    ∙ closed-reply terms request.services (settles_after terms before request)
+    ap (λ (k : RequestKind). cost_of_reply (terms_of terms history).tariffs (reply_by (terms_of terms history) before request k)) is
+    ∙ closed-reply (terms_of terms history) request.services (settles_after (terms_of terms history) before request)

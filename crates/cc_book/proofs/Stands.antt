@@ -47,7 +47,7 @@ grants_weight-reserved validity account p after (hold ∷ holds) false e =
     ∙ no_amount (is_alive validity p.entry hold.service after) in
     let more = grants_weight-reserved validity account p after holds false e in omega arith
 
-reserved_by-alive : (validity account : ℕ) (before : List Posting) → reserved_by validity account before ≡ alive_weight (reserving account) validity before
+pub reserved_by-alive : (validity account : ℕ) (before : List Posting) → reserved_by validity account before ≡ alive_weight (reserving account) validity before
 reserved_by-alive validity account [] = refl
 reserved_by-alive validity account (p ∷ after) =
     let here = grants_weight-reserved validity account p after p.grants (is_account account p.account) refl in
@@ -213,4 +213,5 @@ empty-stands terms balances openings =
       known = λ k d lt. absurd (omega arith);
       holds = λ weight. refl;
       count = λ weight. refl;
+      prices = λ id name. tt;
     }

@@ -1,5 +1,5 @@
 -- Each debit is of one account.
-use Rattle.std.proofs.Common.{◌≡◌, ℕ, zero, suc, ◌<◌, ◌≤◌, Bool, true, false, cond, not, ◌&&◌, eqb, leb, ltb, List, [], ◌∷◌, length, Option, Some, None, refl, sym, ap, ◌∙◌, arith, rules}
+use Rattle.std.proofs.Common.{◌≡◌, ℕ, zero, suc, ◌+◌, ◌<◌, ◌≤◌, Bool, true, false, cond, not, ◌&&◌, eqb, leb, ltb, List, [], ◌∷◌, ◌++◌, length, length-append, Option, Some, None, refl, sym, ap, subst, ◌∙◌, arith, rules}
 use Rattle.std.proofs.lemmas.Bool.{and_right}
 use Rattle.std.specs.Prelude.{ℤ, pos, ◌+ℤ◌, ◌-ℤ◌, is_some, unwrap_or, MatchOption}
 use Rattle.std.specs.List.{fold, AllByRecursion}
@@ -14,17 +14,22 @@ use Rattle.cc_view.specs.declared.request.RequestedAction.{RequestedAction}
 use Rattle.cc_view.specs.declared.request.RequestedAction.TheVariants.{DirectDebiting, RefundAccount, CheckBalance, PriceEnquiry}
 use Rattle.cc_view.specs.declared.request.Service.{Service}
 use Rattle.cc_book.specs.declared.entry.Entry.{Entry}
-use Rattle.cc_book.specs.declared.entry.Entry.TheVariants.{Take, Sweep}
+use Rattle.cc_book.specs.declared.entry.Entry.TheVariants.{Take, Sweep, ChangeTerms}
+use Rattle.cc_book.specs.declared.account.Account.{Account}
 use Rattle.cc_book.specs.declared.terms.Terms.{Terms}
-use Rattle.cc_book.specs.AccountMachine.{account_of, account_by, action_debit, charged_account, opener_account, opening_at, total_of, debit_after, debit_by, event_reply, free_for, posting_of, postings_of, reply_after, settles_after, settles_by}
+use Rattle.cc_book.specs.declared.terms_change.TermsChange.{TermsChange}
+use Rattle.dia_base.specs.declared.number.Moment.{Moment}
+use Rattle.cc_book.specs.AccountMachine.{account_of, account_by, action_debit, charged_account, opener_account, opening_at, total_of, debit_after, debit_by, event_reply, free_for, post, posting_of, postings_of, reply_after, settles_after, settles_by, terms_at, terms_of, price_by}
 use Rattle.cc_book.specs.Balance.{balance_of, spent_by}
 use Rattle.cc_book.specs.Duplicate.{same_session}
 use Rattle.cc_book.specs.Laws.{total_below, debits_of}
 use Rattle.cc_book.specs.Posting.{Posting, is_account, debit_to, debits_to}
 use Rattle.cc_book.specs.ServiceRating.{used_total}
 use Rattle.cc_book.specs.Session.{Opened, deadline_at, is_initial_kind, is_of, is_success, left_after, moment_of, next_session, opens, session_after, session_by, session_of}
-use Rattle.cc_book.proofs.Postings.{postings_all}
+use Rattle.cc_book.specs.TermsChange.{accounts_with}
+use Rattle.cc_book.proofs.Postings.{all_push, balance_of-changed, opening_at-behind, postings_hold, terms_at-post}
 use Rattle.cc_book.proofs.Looking.{account_of-within}
+use Rattle.cc_rating.specs.declared.tariff.Tariff.{Tariff}
 
 -- ---- sums over accounts
 
@@ -127,6 +132,7 @@ left_after-place n validity session (Some opened) posting p = by posting.entry w
   by (Take moment request) = place_by n (same_session request.session session) (session_by validity opened moment.0 request.kind) (Some opened)
       (session_by-place n validity moment.0 opened request.kind p) p
   by (Sweep moment) = place_by n (leb opened.deadline moment.0) None (Some opened) tt p
+  by (ChangeTerms moment change) = p
 
 -- a posting that opens a session charges an account
 opened-place : (n : ℕ) (account : Option ℕ) (debit : ℤ) (deadline : ℕ) (opened own : Bool) (left : Option Opened)
@@ -214,8 +220,8 @@ settles-none n Event own opened p none = refl
 debit-none : (terms : Terms) (before : List Posting) (request : CcRequest) → charged_account terms before request ≡ None
     → settles_after terms before request ≡ false → debit_after terms before request ≡ pos 0
 debit-none terms before request none unsettled = by request.kind none where
-  used : debit_by terms before request Initial ≡ pos 0
-  used = ap (λ (b : Bool). cond b (pos (used_total terms.tariffs request.services)) (pos 0)) unsettled
+  used : (price : Service → Option Tariff) → cond (settles_after terms before request) (pos (used_total price request.services)) (pos 0) ≡ pos 0
+  used price = ap (λ (b : Bool). cond b (pos (used_total price request.services)) (pos 0)) unsettled
 
   by : (kind : RequestKind) → account_by kind (account_of terms.accounts request.subscriptions) (opener_account terms.validity before request.session) ≡ None
       → debit_by terms before request kind ≡ pos 0
@@ -224,9 +230,9 @@ debit-none terms before request none unsettled = by request.kind none where
       ap (λ (account : Option ℕ). action_debit amount (event_reply terms request.services account (free_for terms before account) request.action).code
       request.action) none
       ∙ action-none terms request.services amount (pos 0) request.action
-  by Initial none = used
-  by Update none = used
-  by Termination none = used
+  by Initial none = used (price_by terms before request Initial)
+  by Update none = used (price_by terms before request Update)
+  by Termination none = used (price_by terms before request Termination)
 
 placed_by : (n : ℕ) (account : Option ℕ) (debit : ℤ) (opened : Bool) → IsWithin n account → (account ≡ None → (debit ≡ pos 0) × (opened ≡ false))
     → MatchOption account ((debit ≡ pos 0) × (opened ≡ false)) (λ a. a < n)
@@ -250,17 +256,76 @@ placed terms before (Take moment request) all =
           ap (λ (b : Bool). b && (is_initial_kind request.kind && is_success (reply_after terms before request).code)) unsettled,
         )
 placed terms before (Sweep moment) all = (refl, refl)
+placed terms before (ChangeTerms moment change) all = (refl, refl)
 
-pub all_placed : (terms : Terms) (history : List Entry) → AllByRecursion (Placed (length terms.accounts)) (postings_of terms history)
-all_placed terms history = postings_all (Placed (length terms.accounts)) (λ entry. Unit {0}) terms history
-    (λ before entry all any. placed terms before entry all) (λ k d lt. tt)
+-- accounts join, and none leaves
+longer : (accounts : List Account) (entry : Entry) → length accounts ≤ length (accounts_with accounts entry)
+longer accounts (Take moment request) = omega arith
+longer accounts (Sweep moment) = omega arith
+longer accounts (ChangeTerms moment change) = let long = length-append accounts change.joining in omega arith
+
+still_placed : (m n : ℕ) (posting : Posting) → m ≤ n → Placed m posting → Placed n posting
+still_placed m n posting le = by posting.account where
+  by : (account : Option ℕ) → MatchOption account ((posting.debit ≡ pos 0) × (opens posting ≡ false)) (λ a. a < m)
+      → MatchOption account ((posting.debit ≡ pos 0) × (opens posting ≡ false)) (λ a. a < n)
+  by None none = none
+  by (Some a) lt = omega (arith, lt)
+
+all_still_placed : (m n : ℕ) (postings : List Posting) → m ≤ n → AllByRecursion (Placed m) postings → AllByRecursion (Placed n) postings
+all_still_placed m n [] le all = tt
+all_still_placed m n (p ∷ postings) le all = (still_placed m n p le all.0, all_still_placed m n postings le all.1)
+
+-- each posting is of an account that is there at its place, and so behind it
+abbrev AllPlaced : Terms → List Posting → Type 0
+AllPlaced terms before = AllByRecursion (Placed (length (terms_at terms before).accounts)) before
+
+placed_next : (terms : Terms) (before : List Posting) (entry : Entry) → AllPlaced terms before → AllPlaced terms (post terms before entry)
+placed_next terms before entry all =
+    let now = terms_at terms before in
+    let posting = posting_of now before entry in
+    let more : length now.accounts ≤ length (terms_at terms (post terms before entry)).accounts =
+    subst (λ (next : Terms). length now.accounts ≤ length next.accounts) (sym (terms_at-post terms before entry)) (longer now.accounts entry) in
+    all_push (Placed (length (terms_at terms (post terms before entry)).accounts)) before posting
+    (all_still_placed (length now.accounts) (length (terms_at terms (post terms before entry)).accounts) before more all)
+    (still_placed (length now.accounts) (length (terms_at terms (post terms before entry)).accounts) posting more (placed now before entry all))
+
+pub all_placed : (terms : Terms) (history : List Entry) → AllByRecursion (Placed (length (terms_of terms history).accounts)) (postings_of terms history)
+all_placed terms history = postings_hold (AllPlaced terms) terms history (placed_next terms) tt
 
 -- the balances of all accounts are their opening amounts less all debits
 pub balances_total : (terms : Terms) (history : List Entry)
-    → total_below (length terms.accounts) (λ (a : ℕ). balance_of terms history a)
-    ≡ total_below (length terms.accounts) (λ (a : ℕ). opening_at terms.accounts a) -ℤ debits_of (postings_of terms history)
+    → total_below (length (terms_of terms history).accounts) (λ (a : ℕ). balance_of terms history a)
+    ≡ total_below (length (terms_of terms history).accounts) (λ (a : ℕ). opening_at (terms_of terms history).accounts a) -ℤ debits_of (postings_of terms history)
 unfolding balance_of spent_by
 balances_total terms history =
-    let less = total_below-sub (length terms.accounts) (λ (a : ℕ). opening_at terms.accounts a) (λ (a : ℕ). debits_to a (postings_of terms history)) in
-    let debits = debits_total (length terms.accounts) (postings_of terms history) (all_placed terms history) in
-    less ∙ ap (λ (z : ℤ). total_below (length terms.accounts) (λ (a : ℕ). opening_at terms.accounts a) -ℤ z) debits
+    let accounts = (terms_of terms history).accounts in
+    let less = total_below-sub (length accounts) (λ (a : ℕ). opening_at accounts a) (λ (a : ℕ). debits_to a (postings_of terms history)) in
+    let debits = debits_total (length accounts) (postings_of terms history) (all_placed terms history) in
+    less ∙ ap (λ (z : ℤ). total_below (length accounts) (λ (a : ℕ). opening_at accounts a) -ℤ z) debits
+
+-- ---- an account that joins
+
+pub no_debits : (n account : ℕ) (postings : List Posting) → n ≤ account → AllByRecursion (Placed n) postings → debits_to account postings ≡ pos 0
+no_debits n account [] le all = refl
+no_debits n account (p ∷ postings) le all =
+    let here = by p.account all.0 in
+    let more = no_debits n account postings le all.1 in
+    omega (arith, ints)
+  where
+    apart : (m k : ℕ) → k < m → eqb m k ≡ false
+    apart m k lt = search rules
+
+    by : (charged : Option ℕ) → MatchOption charged ((p.debit ≡ pos 0) × (opens p ≡ false)) (λ a. a < n)
+        → cond (is_account account charged) p.debit (pos 0) ≡ pos 0
+    by None none = refl
+    by (Some other) lt = ap (λ (b : Bool). cond b p.debit (pos 0)) (apart account other (omega (arith, lt)))
+
+-- it has its opening amount, for nothing was debited of it
+pub balance_of-joined : (terms : Terms) (history : List Entry) (moment : Moment) (change : TermsChange) (place : ℕ) → place < length change.joining
+    → balance_of terms (history ++ ChangeTerms moment change ∷ []) (length (terms_of terms history).accounts + place) ≡ opening_at change.joining place
+balance_of-joined terms history moment change place lt =
+    let accounts = (terms_of terms history).accounts in
+    let now = balance_of-changed terms history moment change (length accounts + place) in
+    let behind = opening_at-behind accounts change.joining place in
+    let none = no_debits (length accounts) (length accounts + place) (postings_of terms history) (omega arith) (all_placed terms history) in
+    omega (arith, ints)

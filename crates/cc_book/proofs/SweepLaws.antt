@@ -10,7 +10,7 @@ use Rattle.cc_view.specs.declared.request.ServiceName.{ServiceName}
 use Rattle.cc_book.specs.declared.book.BookRefusal.{BookRefusal}
 use Rattle.cc_book.specs.declared.book.BookRefusal.TheVariants.{Full}
 use Rattle.cc_book.specs.declared.entry.Entry.{Entry}
-use Rattle.cc_book.specs.declared.entry.Entry.TheVariants.{Take, Sweep}
+use Rattle.cc_book.specs.declared.entry.Entry.TheVariants.{Take, Sweep, ChangeTerms}
 use Rattle.cc_book.specs.declared.session.Hold.{Hold}
 use Rattle.cc_book.specs.declared.terms.Terms.{Terms}
 use Rattle.cc_book.specs.AccountMachine.{postings_of}
@@ -80,6 +80,7 @@ module _ (terms : Terms) (history : List Entry) (moment : Moment) where
       (ap (λ (id : List ℕ). due_in moment (fold (next_session terms.validity id) now more)) ((bytes_eq-Decides r.session session).0 own) ∙ lasts)
       ∙ and_true (is_alive terms.validity (Take m r) name more)
   alive-same session name (Sweep m) now more own covers lasts = absurd cc
+  alive-same session name (ChangeTerms m change) now more own covers lasts = absurd cc
 
   held_by-same : (session : List ℕ) (name : ServiceName) (now : Option Opened) (postings : List Posting) → AllKeep terms.validity session now postings
       → due_in moment (fold (next_session terms.validity session) now postings) ≡ false

@@ -1,11 +1,10 @@
 -- What stands after a sweep, and what a book answers to it.
 use Rattle.std.proofs.Common.{◌≡◌, ◌≢◌, ℕ, zero, suc, ◌<◌, ◌≤◌, Bool, true, false, cond, not, leb, List, [], ◌∷◌, ◌++◌, length, Option, Some, None, Result, Ok, Err, inl, inr, refl, sym, ap, subst, ◌∙◌, arith, rules, find, option_map, length-append, get_or}
-use Rattle.std.specs.Prelude.{ℤ, count_by}
+use Rattle.std.specs.Prelude.{ℤ, IfSome, count_by}
 use Rattle.std.specs.List.{AllByRecursion}
 use Rattle.std.specs.Option.{option_and_then}
 use Rattle.std.proofs.lemmas.Bool.{cases_lt}
 use Rattle.std.proofs.lemmas.Int.{ints}
-use Rattle.std.proofs.lemmas.List.{map-append}
 use Rattle.std.proofs.lemmas.List.Elements.{All-filter, recursion_from_All}
 use Rattle.std.proofs.lemmas.List.Filters.{length-filter_both}
 use Rattle.std.proofs.lemmas.List.Kept.{AllPairs-filter}
@@ -20,7 +19,7 @@ use Rattle.cc_book.specs.declared.entry.Entry.TheVariants.{Sweep}
 use Rattle.cc_book.specs.declared.session.Hold.{Hold}
 use Rattle.cc_book.specs.declared.session.OpenSession.{OpenSession}
 use Rattle.cc_book.specs.declared.terms.Terms.{Terms}
-use Rattle.cc_book.specs.AccountMachine.{post, postings_of}
+use Rattle.cc_book.specs.AccountMachine.{postings_of, terms_of}
 use Rattle.cc_book.specs.Balance.{open_sessions_of}
 use Rattle.cc_book.specs.Bounds.{MovesLittle}
 use Rattle.cc_book.specs.History.{ended_sessions}
@@ -29,13 +28,16 @@ use Rattle.cc_book.specs.Session.{Opened, next_session, open_count, session_of}
 use Rattle.cc_book.specs.Standing.{Stands, holds_weight, ids_weight, is_due, is_session, opened_as, reserved_in, sessions_after, sessions_weight, without_due}
 use Rattle.cc_book.specs.Taking.{IsBook, Ledger, answer_to_sweep, sweep_answer}
 use Rattle.cc_book.proofs.Alive.{Weight}
-use Rattle.cc_book.proofs.Books.{open_sessions_of-is, replies_in, sessions_after-push}
+use Rattle.cc_book.proofs.Books.{open_sessions_of-is, opens-push, replies-push, sessions_after-push, stands-push}
 use Rattle.cc_book.proofs.Due.{States, alive_weight-swept, due_in, lasting, lasting_ids, open_weight-swept, swept}
 use Rattle.cc_book.proofs.Ending.{all_keep}
 use Rattle.cc_book.proofs.Keys.{IsLegal-sweep}
 use Rattle.cc_book.proofs.Postings.{all_push, debits_to-push, postings_of-push}
 use Rattle.cc_book.proofs.Sessions.{Others, OwnIds, find-at, find-others, is_at, others_after, same_session-equal}
 use Rattle.cc_book.proofs.Stands.{open_count-stands}
+use Rattle.cc_book.specs.Pricing.{price_in, price_of}
+use Rattle.cc_book.proofs.Pricing.{price-push}
+use Rattle.cc_rating.specs.declared.tariff.Tariff.{Tariff}
 
 -- an open session after a sweep
 abbrev pub left : Moment → Opened → Option Opened
@@ -126,6 +128,24 @@ module _ (validity : ℕ) (moment : Moment) where
         by false true is e more = more
         by false false is e more = more ∙ sym (ap (λ (b : Bool). opened (cond b (Some s) (find (is_session id) (kept sessions)))) is)
 
+  -- what is so of the session with an id is so of it where it goes on
+  found-kept : (P : OpenSession → Type 0) (id : List ℕ) (sessions : List OpenSession) → OwnIds sessions → IfSome (find (is_session id) sessions) P
+      → IfSome (find (is_session id) (kept sessions)) P
+  found-kept P id [] own holds = tt
+  found-kept P id (s ∷ sessions) own holds = by (is_session id s) (due s) refl holds
+      (found-kept P id sessions (λ i j d lt below. own (suc i) (suc j) d (omega arith) (omega arith))) where
+        by : (is b : Bool) → is_session id s ≡ is → IfSome (cond is (Some s) (find (is_session id) sessions)) P
+            → (IfSome (find (is_session id) sessions) P → IfSome (find (is_session id) (kept sessions)) P)
+            → IfSome (find (is_session id) (cond (not b) (s ∷ kept sessions) (kept sessions))) P
+        by true true is holds more =
+            subst (λ (o : Option OpenSession). IfSome o P)
+            (sym (find-others id (kept sessions) (others-kept id sessions (others_after id s sessions (same_session-equal s.id id is) own)))) tt
+        by true false is holds more =
+            subst (λ (b : Bool). IfSome (cond b (Some s) (find (is_session id) (kept sessions))) P) (sym is) holds
+        by false true is holds more = more holds
+        by false false is holds more =
+            subst (λ (b : Bool). IfSome (cond b (Some s) (find (is_session id) (kept sessions))) P) (sym is) (more holds)
+
 -- each session is found by its id
 finds : (sessions : List OpenSession) → OwnIds sessions → AllByRecursion (λ session. find (is_session session.id) sessions ≡ Some session) sessions
 finds sessions own =
@@ -139,8 +159,8 @@ all_right P Q each (s ∷ sessions) all = (each s all.0, all_right P Q each sess
 
 -- ---- what stands after a sweep
 
-module _ {terms : Terms} (history : List Entry) {balances : List ℤ} {sessions : List OpenSession}
-    (s : Stands terms (postings_of terms history) balances sessions) (moment : Moment) where
+module _ (terms : Terms) (history : List Entry) {balances : List ℤ} {sessions : List OpenSession}
+    (s : Stands (terms_of terms history) (postings_of terms history) balances sessions) (moment : Moment) where
   abbrev before : List Posting
   before = postings_of terms history
 
@@ -154,20 +174,24 @@ module _ {terms : Terms} (history : List Entry) {balances : List ℤ} {sessions 
       ∙ ap (λ (o : Option OpenSession). due_in moment (option_map (opened_as terms.validity) o)) found)
       sessions (finds sessions s.own_ids)
 
-  pub sweep-stands : Stands terms (post terms before (Sweep moment)) balances (without_due terms.validity moment sessions)
+  pub sweep-stands : Stands (terms_of terms history) (before ++ swept moment ∷ []) balances (without_due terms.validity moment sessions)
   sweep-stands = record {
     accounts = s.accounts;
     balance = λ account lt. (let old = s.balance account lt in let debits = debits_to-push account before (swept moment) in omega (arith, ints));
     session = λ id. fold-append (next_session terms.validity id) None before (swept moment ∷ []) ∙ ap (option_and_then (left moment)) (s.session id)
         ∙ find-kept terms.validity moment id sessions s.own_ids;
     own_ids = AllPairs-filter (λ (one other : OpenSession). one.id ≢ other.id) (λ (x : OpenSession). not (is_due terms.validity moment x)) sessions s.own_ids;
-    known = All-filter (λ (x : OpenSession). not (is_due terms.validity moment x)) (λ (x : OpenSession). x.account < length terms.accounts) sessions s.known;
+    known = All-filter (λ (x : OpenSession). not (is_due terms.validity moment x)) (λ (x : OpenSession). x.account < length (terms_of terms history).accounts) sessions s.known;
     holds = λ weight.
         alive_weight-swept terms.validity moment (λ id. None) weight before (λ id. all_keep terms id history)
         ∙ s.holds (lasting moment states weight) ∙ sessions_weight-kept terms.validity moment states weight sessions rights;
     count = λ weight.
         open_weight-swept terms.validity moment (λ id. None) weight before
         ∙ s.count (lasting_ids moment states weight) ∙ ids_weight-kept terms.validity moment states weight sessions rights;
+    prices = λ id name.
+        subst (λ (price : Option Tariff). IfSome (find (is_session id) (without_due terms.validity moment sessions))
+        (λ session. price_in session.prices name ≡ price)) (sym (price-push id name before (swept moment)))
+        (found-kept terms.validity moment (λ session. price_in session.prices name ≡ price_of id name before) id sessions s.own_ids (s.prices id name));
   }
 
   -- ---- how many sessions it ends
@@ -179,7 +203,7 @@ module _ {terms : Terms} (history : List Entry) {balances : List ℤ} {sessions 
   pub ended-due : ended_sessions terms history moment ≡ count_by (is_due terms.validity moment) sessions
   unfolding open_sessions_of
   ended-due =
-      let now = open_sessions_of-is history s in
+      let now = open_sessions_of-is terms history s in
       let later : open_sessions_of terms (history ++ Sweep moment ∷ []) ≡ length (without_due terms.validity moment sessions) =
       ap (open_count terms.validity) (postings_of-push terms history (Sweep moment)) ∙ open_count-stands sweep-stands in
       let parts = length-filter_both (λ (x : OpenSession). not (is_due terms.validity moment x)) (is_due terms.validity moment)
@@ -197,14 +221,12 @@ IsBook-sweep terms limit history replies balances sessions moment book room some
     let before = postings_of terms history in
     let long = length-append history (Sweep moment ∷ []) in
     let next = postings_of-push terms history (Sweep moment) in
-    let ended = ended-due history book.stands moment in
+    let ended = ended-due terms history book.stands moment in
     record {
       legal = IsLegal-sweep terms history moment book.legal (omega arith);
       within = omega arith;
-      replies_kept = ap (λ (rs : List (Option CcReply)). rs ++ None ∷ []) book.replies_kept
-          ∙ sym (ap replies_in next ∙ map-append (λ (p : Posting). p.reply) before (swept moment ∷ []));
-      stands = subst (λ (ps : List Posting). Stands terms ps balances (without_due terms.validity moment sessions)) (sym next)
-          (sweep-stands history book.stands moment);
+      replies_kept = replies-push before (postings_of terms (history ++ Sweep moment ∷ [])) (swept moment) replies next book.replies_kept;
+      stands = stands-push terms history (Sweep moment) (sweep-stands terms history book.stands moment);
       sessions_left = ap (without_due terms.validity moment) book.sessions_left
           ∙ sym (ap (sessions_after terms.validity) next ∙ sessions_after-push terms.validity before (swept moment));
       bounded = record {
@@ -213,7 +235,7 @@ IsBook-sweep terms limit history replies balances sessions moment book room some
             let old = book.bounded.held account in
             let less = reserved_in-kept terms.validity moment account sessions in omega arith);
       };
-      openings = book.openings;
+      openings = opens-push terms history (Sweep moment) book.openings;
       moved = subst (AllByRecursion MovesLittle) (sym next)
           (all_push MovesLittle before (swept moment) book.moved (record { debit = omega arith; grants = omega arith }));
     }
@@ -264,7 +286,7 @@ module _ {terms : Terms} {limit : ℕ} {history : List Entry} {replies : List (O
   count = count_by (is_due terms.validity moment) sessions
 
   counted : sweep_answer ledger moment ≡ answer_to_sweep ledger count
-  counted = ap (answer_to_sweep ledger) (ended-due history book.stands moment)
+  counted = ap (answer_to_sweep ledger) (ended-due terms history book.stands moment)
 
   pub sweep-none : count ≡ 0 → sweep_answer ledger moment ≡ Ok 0
   sweep-none none = counted ∙ ap (answer_to_sweep ledger) none

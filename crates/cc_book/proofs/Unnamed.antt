@@ -17,7 +17,7 @@ use Rattle.cc_book.specs.declared.entry.Entry.{Entry}
 use Rattle.cc_book.specs.declared.entry.Entry.TheVariants.{Take}
 use Rattle.cc_book.specs.declared.session.Hold.{Hold}
 use Rattle.cc_book.specs.declared.terms.Terms.{Terms}
-use Rattle.cc_book.specs.AccountMachine.{grants_after, posting_of, postings_of, settles_after}
+use Rattle.cc_book.specs.AccountMachine.{grants_after, posting_of, postings_of, settles_after, terms_of}
 use Rattle.cc_book.specs.Duplicate.{same_session}
 use Rattle.cc_book.specs.Posting.{Posting}
 use Rattle.cc_book.specs.Reservation.{has_name, held_by, is_alive, same_name}
@@ -126,4 +126,4 @@ pub held-unnamed : (terms : Terms) (history : List Entry) (moment : Moment) (req
     ≡ held_by terms.validity request.session name (postings_of terms history)
 held-unnamed terms history moment request name stays others =
     ap (held_by terms.validity request.session name) (postings_of-push terms history (Take moment request))
-    ∙ held-same terms (postings_of terms history) moment request name stays others (postings_of terms history)
+    ∙ held-same (terms_of terms history) (postings_of terms history) moment request name stays others (postings_of terms history)

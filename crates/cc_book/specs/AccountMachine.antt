@@ -23,15 +23,17 @@ use Rattle.cc_book.specs.declared.account.Account.{Account}
 use Rattle.cc_book.specs.declared.account.Money.{Money}
 use Rattle.cc_book.specs.declared.session.Hold.{Hold}
 use Rattle.cc_book.specs.declared.entry.Entry.{Entry}
-use Rattle.cc_book.specs.declared.entry.Entry.TheVariants.{Take, Sweep}
+use Rattle.cc_book.specs.declared.entry.Entry.TheVariants.{Take, Sweep, ChangeTerms}
 use Rattle.cc_rating.specs.declared.tariff.Tariff.{Tariff}
 use Rattle.cc_book.specs.declared.terms.Terms.{Terms}
 use Rattle.cc_book.specs.Content.{same_request}
 use Rattle.cc_book.specs.Duplicate.{has_key, key_of, same_session}
 use Rattle.cc_book.specs.Posting.{Posting, debits_to}
+use Rattle.cc_book.specs.Pricing.{price_at}
 use Rattle.cc_book.specs.ServiceRating.{asked_of, asking_cost, tariff_of, unit_code, used_total}
 use Rattle.cc_book.specs.Reservation.{reserved_by}
 use Rattle.cc_book.specs.Session.{is_open, is_success, session_of}
+use Rattle.cc_book.specs.TermsChange.{accounts_with, tariffs_with}
 
 -- ---- the account
 
@@ -188,12 +190,19 @@ abbrev pub settles_after : Terms → List Posting → CcRequest → Bool
 settles_after terms before request =
     settles_by request.kind (is_open terms.validity request.session before) (is_some (account_of terms.accounts request.subscriptions))
 
+-- The tariff at which a request pays for the used units of a service: in an open session that of the service's last grant
+-- there, else that which holds. An INITIAL begins its session.
+abbrev pub price_by : Terms → List Posting → CcRequest → RequestKind → Service → Option Tariff
+price_by terms before request Initial service = tariff_of terms.tariffs service
+price_by terms before request _ service = price_at terms.tariffs before request.session service
+
 -- what a request debits of the account that it charges: where it settles services, what their used units cost; of an
 -- EVENT what its action debits
 abbrev pub debit_by : Terms → List Posting → CcRequest → RequestKind → ℤ
 debit_by terms before request Event =
     action_debit (unwrap_or (total_of terms.tariffs request.services) 0) (event_after terms before request).code request.action
-debit_by terms before request _ = if settles_after terms before request then pos (used_total terms.tariffs request.services) else pos 0
+debit_by terms before request kind =
+    if settles_after terms before request then pos (used_total (price_by terms before request kind) request.services) else pos 0
 
 abbrev pub debit_after : Terms → List Posting → CcRequest → ℤ
 debit_after terms before request = debit_by terms before request request.kind
@@ -208,6 +217,7 @@ settling_posting terms before request = record {
   account = charged_account terms before request;
   debit = debit_after terms before request;
   settles = settles_after terms before request;
+  tariffs = terms.tariffs;
   grants = [];
   reply = None;
 }
@@ -325,17 +335,46 @@ posting_of terms before (Take moment request) = record {
   account = charged_account terms before request;
   debit = debit_after terms before request;
   settles = settles_after terms before request;
+  tariffs = terms.tariffs;
   grants = grants_after terms before request;
   reply = Some (reply_after terms before request);
 }
-posting_of terms before (Sweep moment) = record { entry = Sweep moment; account = None; debit = pos 0; settles = false; grants = []; reply = None }
+posting_of terms before (Sweep moment) = record {
+  entry = Sweep moment;
+  account = None;
+  debit = pos 0;
+  settles = false;
+  tariffs = [];
+  grants = [];
+  reply = None;
+}
+posting_of terms before (ChangeTerms moment change) = record {
+  entry = ChangeTerms moment change;
+  account = None;
+  debit = pos 0;
+  settles = false;
+  tariffs = [];
+  grants = [];
+  reply = None;
+}
 
 -- ---- the terms that hold at a place
 
+abbrev pub accounts_at : List Account → List Posting → List Account
+accounts_at accounts before = fold (λ known posting. accounts_with known posting.entry) accounts before
+
+abbrev pub tariffs_at : List Tariff → List Posting → List Tariff
+tariffs_at tariffs before = fold (λ known posting. tariffs_with known posting.entry) tariffs before
+
 -- The terms that hold after postings, where a book began with these: all that a request does, it does under the terms of
--- its own place. No entry changes them yet.
+-- its own place. Accounts join and tariffs change; validity and money stay.
 abbrev pub terms_at : Terms → List Posting → Terms
-terms_at opening before = opening
+terms_at opening before = record {
+  accounts = accounts_at opening.accounts before;
+  tariffs = tariffs_at opening.tariffs before;
+  validity = opening.validity;
+  money = opening.money;
+}
 
 -- each entry with what it did after the entries before it, and under the terms of its place
 abbrev pub post : Terms → List Posting → Entry → List Posting
@@ -362,6 +401,7 @@ repeat_reply opening before taken request = if same_request taken request then r
 abbrev pub reply_at : Terms → List Entry → CcRequest → Entry → Option CcReply
 reply_at opening before request (Take moment taken) = Some (repeat_reply opening before taken request)
 reply_at opening before request (Sweep moment) = None
+reply_at opening before request (ChangeTerms moment change) = None
 
 abbrev pub kept_from : Terms → List Entry → List Entry → CcRequest → Option CcReply
 kept_from opening before [] request = None

@@ -4,8 +4,9 @@ use Rattle.std.specs.Prelude.{◌≡◌, ℕ, ◌+◌, ◌^◌, ◌≤◌, ◌<�
 use Rattle.cc_view.specs.Request.ServiceLimits.{WithinLimits}
 use Rattle.cc_view.specs.declared.request.CcRequest.{CcRequest}
 use Rattle.cc_view.specs.declared.request.Service.{Service}
+use Rattle.cc_rating.specs.Tariffs.{fault_of}
 use Rattle.cc_book.specs.declared.entry.Entry.{Entry}
-use Rattle.cc_book.specs.declared.entry.Entry.TheVariants.{Take, Sweep}
+use Rattle.cc_book.specs.declared.entry.Entry.TheVariants.{Take, Sweep, ChangeTerms}
 use Rattle.cc_book.specs.declared.session.OpenSession.{OpenSession}
 use Rattle.cc_book.specs.declared.terms.Terms.{Terms}
 use Rattle.cc_book.specs.AccountMachine.{charged_account, opening_at}
@@ -42,10 +43,12 @@ pub record MovesLittle (posting : Posting) : Type 0 where
 abbrev pub AsksSmall : Service → Type 0
 AsksSmall service = (counts : List (Option ℕ)) (place : ℕ) → service.asked ≡ Some counts → IfSome (slice_index_or counts place None) (λ count. count < 2 ^ 64)
 
--- the services of an entry's request are within their limits, and ask for such counts
+-- The services of an entry's request are within their limits, and ask for such counts. The tariffs of a change are in
+-- their ranges, and the openings of the accounts that join are of 64 bits.
 abbrev pub IsInRange : Entry → Type 0
 IsInRange (Take moment request) = WithinLimits request.services × All AsksSmall request.services
 IsInRange (Sweep moment) = Unit {0}
+IsInRange (ChangeTerms moment change) = IfSome change.tariffs (λ tariffs. fault_of tariffs ≡ None) × All (λ account. nat_abs account.opening ≤ 2 ^ 64) change.joining
 
 -- opening amounts are of 64 bits
 abbrev pub OpensSmall : Terms → Type 0

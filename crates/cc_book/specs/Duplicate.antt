@@ -3,7 +3,7 @@ use Rattle.std.specs.Prelude.{ℕ, List, Bool, false, ◌&&◌, ◌==◌, nat_eq
 use lib.Pointwise.{pointwise}
 use Rattle.cc_view.specs.declared.request.CcRequest.{CcRequest}
 use Rattle.cc_book.specs.declared.entry.Entry.{Entry}
-use Rattle.cc_book.specs.declared.entry.Entry.TheVariants.{Take, Sweep}
+use Rattle.cc_book.specs.declared.entry.Entry.TheVariants.{Take, Sweep, ChangeTerms}
 
 pub record Key : Type 0 where
   pub session : List ℕ
@@ -22,3 +22,4 @@ same_key one other = one.number == other.number && same_session one.session othe
 abbrev pub has_key : Key → Entry → Bool
 has_key key (Take moment request) = same_key (key_of request) key
 has_key key (Sweep moment) = false
+has_key key (ChangeTerms moment change) = false

@@ -1,5 +1,5 @@
 -- What the laws of the book speak of.
-use Rattle.std.specs.Prelude.{◌≡◌, ℕ, zero, suc, ◌+◌, List, [], ◌∷◌, ◌++◌, IsTrue, count_by, ◌&&◌, if◌then◌else◌, ℤ, pos, ◌+ℤ◌, find, sum_by, unwrap_or}
+use Rattle.std.specs.Prelude.{◌≡◌, ℕ, zero, suc, ◌+◌, ◌≤◌, Some, List, [], ◌∷◌, ◌++◌, IsTrue, count_by, ◌&&◌, if◌then◌else◌, None, Option, ℤ, pos, ◌+ℤ◌, find, sum_by, unwrap_or}
 use Rattle.std.specs.Option.{option_and_then, option_map}
 use Rattle.dia_base.specs.declared.number.Moment.{Moment}
 use Rattle.cc_view.specs.declared.code.ResultCode.{ResultCode}
@@ -9,7 +9,7 @@ use Rattle.cc_view.specs.Request.ServiceLimits.{WithinLimits}
 use Rattle.cc_view.specs.declared.request.CcRequest.{CcRequest}
 use Rattle.cc_view.specs.declared.request.ServiceName.{ServiceName}
 use Rattle.cc_book.specs.declared.entry.Entry.{Entry}
-use Rattle.cc_book.specs.declared.entry.Entry.TheVariants.{Take, Sweep}
+use Rattle.cc_book.specs.declared.entry.Entry.TheVariants.{Take, Sweep, ChangeTerms}
 use Rattle.cc_rating.specs.declared.tariff.Tariff.{Tariff}
 use Rattle.cc_book.specs.declared.terms.Terms.{Terms}
 use Rattle.cc_book.specs.AccountMachine.{code_alone, grants_after, postings_of, repeat_reply, reply_to, terms_of}
@@ -19,7 +19,7 @@ use Rattle.cc_book.specs.Posting.{Posting}
 use Rattle.cc_book.specs.Reservation.{is_alive, same_name}
 use Rattle.cc_book.specs.Session.{is_of}
 use Rattle.cc_rating.specs.Rating.{cost_of}
-use Rattle.cc_rating.specs.Tariffs.{rates}
+use Rattle.cc_rating.specs.Tariffs.{fault_of, rates}
 
 -- A reply is by an entry of the history, a taken request with the key of this one: the account machine's reply to it,
 -- after the entries before it, if it is this very request, else DIAMETER_UNABLE_TO_COMPLY alone.
@@ -62,6 +62,18 @@ grants_alive validity session name (posting ∷ after) =
 abbrev pub HasLimits : Entry → Type 0
 HasLimits (Take moment request) = WithinLimits request.services
 HasLimits (Sweep moment) = Unit {0}
+HasLimits (ChangeTerms moment change) = Unit {0}
+
+-- an entry that leaves the terms as they are
+abbrev pub KeepsTerms : Entry → Type 0
+KeepsTerms (Take moment request) = Unit {0}
+KeepsTerms (Sweep moment) = Unit {0}
+KeepsTerms (ChangeTerms moment change) = ⊥
+
+-- nothing is wrong with these tariffs, and by them the greatest grant for a service costs at most so much
+pub record GrantsAtMost (tariffs : List Tariff) (name : ServiceName) (most : ℕ) : Type 0 where
+  pub sound : fault_of tariffs ≡ None
+  pub greatest : (tariff : Tariff) → find (rates name.group name.ident) tariffs ≡ Some tariff → cost_of tariff tariff.greatest ≤ most
 
 -- a request that is refused with this Result-Code: nothing is debited, and nothing reserved
 pub record IsRefused (terms : Terms) (history : List Entry) (request : CcRequest) (code : ResultCode) : Type 0 where

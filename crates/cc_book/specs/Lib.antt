@@ -2,6 +2,8 @@ pub mod AccountMachine
 pub mod Balance
 pub mod BoundExample
 pub mod Bounds
+pub mod ChangeExample
+pub mod Changing
 pub mod Content
 pub mod Duplicate
 pub mod History
@@ -10,6 +12,7 @@ pub mod Places
 pub mod OpenSessions
 pub mod Planning
 pub mod Posting
+pub mod Pricing
 pub mod Reservation
 pub mod RowExample
 pub mod ServiceRating
@@ -17,3 +20,4 @@ pub mod Session
 pub mod SessionExample
 pub mod Standing
 pub mod Taking
+pub mod TermsChange

@@ -2,6 +2,7 @@
 use Rattle.std.specs.Prelude.{ℕ, List, [], ◌∷◌, Bool, false, ◌==◌, if◌then◌else◌, Option, Some, None, ℤ, pos, ◌+ℤ◌}
 use Rattle.cc_view.specs.declared.reply.CcReply.{CcReply}
 use Rattle.cc_book.specs.declared.session.Hold.{Hold}
+use Rattle.cc_rating.specs.declared.tariff.Tariff.{Tariff}
 use Rattle.cc_book.specs.declared.entry.Entry.{Entry}
 
 pub record Posting : Type 0 where
@@ -12,6 +13,8 @@ pub record Posting : Type 0 where
   pub debit : ℤ
   -- whether it settles the services of its session
   pub settles : Bool
+  -- the tariffs by which it grants, none where it is no request
+  pub tariffs : List Tariff
   -- what it reserves
   pub grants : List Hold
   -- the reply to its request

@@ -6,7 +6,7 @@ use Rattle.cc_view.specs.declared.request.Service.{Service}
 use Rattle.cc_view.specs.declared.request.ServiceName.{ServiceName}
 use Rattle.cc_book.specs.declared.session.Hold.{Hold}
 use Rattle.cc_book.specs.declared.entry.Entry.{Entry}
-use Rattle.cc_book.specs.declared.entry.Entry.TheVariants.{Take, Sweep}
+use Rattle.cc_book.specs.declared.entry.Entry.TheVariants.{Take, Sweep, ChangeTerms}
 use Rattle.cc_book.specs.Posting.{Posting, is_account}
 use Rattle.cc_book.specs.Session.{is_of, outlasts}
 
@@ -20,6 +20,7 @@ has_name name service = option_eq ◌==◌ name.group service.group && option_eq
 abbrev pub names : ServiceName → Entry → Bool
 names name (Take moment request) = list_any (has_name name) request.services
 names name (Sweep moment) = false
+names name (ChangeTerms moment change) = false
 
 -- whether a posting settles a service of this session, which ends the service's earlier grant
 abbrev pub replaces : List ℕ → ServiceName → Posting → Bool
@@ -30,6 +31,7 @@ abbrev pub is_alive : ℕ → Entry → ServiceName → List Posting → Bool
 is_alive validity (Take moment request) name after =
     not (list_any (replaces request.session name) after) && outlasts validity (Take moment request) after
 is_alive validity (Sweep moment) name after = false
+is_alive validity (ChangeTerms moment change) name after = false
 
 -- what the grants of an entry still hold after these postings
 abbrev pub held_after : ℕ → Entry → List Hold → List Posting → ℕ

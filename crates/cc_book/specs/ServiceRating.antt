@@ -39,11 +39,11 @@ asking_cost tariff service = unwrap_or (option_map (cost_of tariff) (asked_of ta
 abbrev pub used_of : Tariff → Service → ℕ
 used_of tariff service = slice_index_or service.used (count_place tariff.kind) 0
 
--- what the used units of a service cost, 0 without a tariff
-abbrev pub used_cost : List Tariff → Service → ℕ
-used_cost tariffs service = unwrap_or (option_map (λ tariff. cost_of tariff (used_of tariff service)) (tariff_of tariffs service)) 0
+-- what the used units of a service cost at a tariff, 0 without one
+abbrev pub used_cost : Option Tariff → Service → ℕ
+used_cost tariff service = unwrap_or (option_map (λ found. cost_of found (used_of found service)) tariff) 0
 
--- what the used units of services cost
-abbrev pub used_total : List Tariff → List Service → ℕ
-used_total tariffs [] = 0
-used_total tariffs (service ∷ services) = used_cost tariffs service + used_total tariffs services
+-- what the used units of services cost, each at its tariff
+abbrev pub used_total : (Service → Option Tariff) → List Service → ℕ
+used_total price [] = 0
+used_total price (service ∷ services) = used_cost (price service) service + used_total price services

@@ -8,7 +8,7 @@ use Rattle.cc_view.specs.declared.reply.CcReply.{CcReply}
 use Rattle.cc_view.specs.declared.request.RequestKind.{RequestKind}
 use Rattle.cc_view.specs.declared.request.RequestKind.TheVariants.{Initial, Termination, Event}
 use Rattle.cc_book.specs.declared.entry.Entry.{Entry}
-use Rattle.cc_book.specs.declared.entry.Entry.TheVariants.{Take, Sweep}
+use Rattle.cc_book.specs.declared.entry.Entry.TheVariants.{Take, Sweep, ChangeTerms}
 use Rattle.cc_book.specs.Duplicate.{same_session}
 use Rattle.cc_book.specs.Posting.{Posting}
 
@@ -28,16 +28,19 @@ is_initial_kind _ = false
 abbrev pub is_initial : Entry → Bool
 is_initial (Take moment request) = is_initial_kind request.kind
 is_initial (Sweep moment) = false
+is_initial (ChangeTerms moment change) = false
 
 -- whether a posting is a request of this session
 abbrev pub is_of : List ℕ → Entry → Bool
 is_of session (Take moment request) = same_session request.session session
 is_of session (Sweep moment) = false
+is_of session (ChangeTerms moment change) = false
 
 -- the Session-Id of an entry's request
 abbrev pub session_in : Entry → List ℕ
 session_in (Take moment request) = request.session
 session_in (Sweep moment) = []
+session_in (ChangeTerms moment change) = []
 
 -- whether a posting opens its session: an INITIAL that is settled and answered 2001
 abbrev pub opens : Posting → Bool
@@ -67,10 +70,12 @@ abbrev pub session_after : ℕ → List ℕ → Opened → Entry → Option Open
 session_after validity session opened (Take moment request) =
     if same_session request.session session then session_by validity opened moment.0 request.kind else Some opened
 session_after validity session opened (Sweep moment) = if nat_le opened.deadline moment.0 then None else Some opened
+session_after validity session opened (ChangeTerms moment change) = Some opened
 
 abbrev pub moment_of : Entry → ℕ
 moment_of (Take moment request) = moment.0
 moment_of (Sweep moment) = moment.0
+moment_of (ChangeTerms moment change) = moment.0
 
 -- a session after one more posting: one that has ended does not come back
 abbrev pub left_after : ℕ → List ℕ → Option Opened → Posting → Option Opened
@@ -94,6 +99,7 @@ is_open validity session postings = is_some (session_of validity session posting
 abbrev pub outlasts : ℕ → Entry → List Posting → Bool
 outlasts validity (Take moment request) after = is_some (fold (left_after validity request.session) (Some (opened_at validity None moment.0)) after)
 outlasts validity (Sweep moment) after = false
+outlasts validity (ChangeTerms moment change) after = false
 
 -- how many sessions are open: each was opened by a posting after which none ended it
 abbrev pub open_count : ℕ → List Posting → ℕ

@@ -38,6 +38,7 @@ posting session moment number kind settles code services grants = record {
   account = Some 0;
   debit = pos 0;
   settles = settles;
+  tariffs = [];
   grants = grants;
   reply = Some (code_alone code);
 }
@@ -47,7 +48,15 @@ abbrev pub settled : ℕ → ℕ → RequestKind → List Service → List Hold 
 settled moment number kind services grants = posting session moment number kind true Success services grants
 
 abbrev pub swept : ℕ → Posting
-swept moment = record { entry = Sweep (record { 0 = moment }); account = None; debit = pos 0; settles = false; grants = []; reply = None }
+swept moment = record {
+  entry = Sweep (record { 0 = moment });
+  account = None;
+  debit = pos 0;
+  settles = false;
+  tariffs = [];
+  grants = [];
+  reply = None;
+}
 
 -- ---- one session with one service
 

@@ -1,6 +1,6 @@
 -- What a history has left: the balances of the accounts, and the sessions that are open with what they hold. It is
 -- all that the book looks at to answer a request.
-use Rattle.std.specs.Prelude.{◌≡◌, ◌≢◌, ℕ, ◌+◌, ◌-◌, ◌^◌, ◌<◌, ◌≤◌, List, [], ◌∷◌, ◌++◌, length, remove, slice_get, slice_index_or, slice_set, All, AllPairs, Bool, ◌&&◌, not, ◌==◌, nat_le, if◌then◌else◌, Option, Some, None, IfSome, unwrap_or, find, ℤ, pos, negsuc, ◌-ℤ◌, ◌≤ℤ◌}
+use Rattle.std.specs.Prelude.{◌≡◌, ◌≢◌, ℕ, ◌+◌, ◌-◌, ◌^◌, ◌<◌, ◌≤◌, List, [], ◌∷◌, ◌++◌, length, remove, slice_get, slice_index_or, slice_set, map, All, AllPairs, Bool, ◌&&◌, not, ◌==◌, nat_le, if◌then◌else◌, Option, Some, None, IfSome, unwrap_or, find, ℤ, pos, negsuc, ◌-ℤ◌, ◌≤ℤ◌}
 use Rattle.std.specs.List.{filter, fold, list_any, position}
 use Rattle.std.specs.Option.{option_map}
 use Rattle.dia_base.specs.declared.number.Moment.{Moment}
@@ -8,17 +8,22 @@ use Rattle.cc_view.specs.declared.request.CcRequest.{CcRequest}
 use Rattle.cc_view.specs.declared.request.RequestKind.{RequestKind}
 use Rattle.cc_view.specs.declared.request.RequestKind.TheVariants.{Initial, Update, Termination, Event}
 use Rattle.cc_view.specs.declared.request.Service.{Service}
+use Rattle.cc_book.specs.declared.account.Account.{Account}
 use Rattle.cc_book.specs.declared.outcome.Change.{Change}
 use Rattle.cc_book.specs.declared.outcome.Change.TheVariants.{Stays, Opens, GoesOn, Ends}
 use Rattle.cc_book.specs.declared.outcome.Outcome.{Outcome}
 use Rattle.cc_book.specs.declared.entry.Entry.{Entry}
-use Rattle.cc_book.specs.declared.entry.Entry.TheVariants.{Take, Sweep}
+use Rattle.cc_book.specs.declared.entry.Entry.TheVariants.{Take, Sweep, ChangeTerms}
 use Rattle.cc_book.specs.declared.session.Hold.{Hold}
 use Rattle.cc_book.specs.declared.session.OpenSession.{OpenSession}
 use Rattle.cc_book.specs.declared.terms.Terms.{Terms}
 use Rattle.cc_book.specs.AccountMachine.{account_of, charged_account, debit_after, grants_after, opening_at, posting_of, reply_after}
 use Rattle.cc_book.specs.Duplicate.{same_session}
+use Rattle.cc_book.specs.declared.price.Price.{Price}
+use Rattle.cc_rating.specs.declared.tariff.Tariff.{Tariff}
+use Rattle.cc_view.specs.declared.request.ServiceName.{ServiceName}
 use Rattle.cc_book.specs.Posting.{Posting, debits_to}
+use Rattle.cc_book.specs.Pricing.{price_in, price_of, prices_after}
 use Rattle.cc_book.specs.Reservation.{has_name, is_alive}
 use Rattle.cc_book.specs.Session.{Opened, deadline_at, opened_at, opens, outlasts, session_in, session_of}
 
@@ -66,29 +71,41 @@ pub record NamesAccount (terms : Terms) (request : CcRequest) (account : Option 
   pub initial : request.kind ≡ Initial → account ≡ account_of terms.accounts request.subscriptions
   pub event : request.kind ≡ Event → account ≡ account_of terms.accounts request.subscriptions
 
+-- the balances of accounts before the first request
+abbrev pub openings_of : List Account → List ℤ
+openings_of accounts = map (λ account. account.opening) accounts
+
 -- ---- what a request does to its session
 
--- an open session after a request at a moment, which leaves it these holds
-abbrev pub prolonged : OpenSession → Moment → List Hold → OpenSession
-prolonged session moment holds = record { id = session.id; account = session.account; last = moment; holds = holds }
+-- an open session after a request at a moment, which leaves it these holds and these prices
+abbrev pub prolonged : OpenSession → Moment → List Hold → List Price → OpenSession
+prolonged session moment holds prices = record { id = session.id; account = session.account; last = moment; holds = holds; prices = prices }
 
 -- What a request of this kind does to its session, which is open at a place: an UPDATE ends the holds of the services
--- that it names and adds what is granted to it; an INITIAL is refused, and yet prolongs the session.
-abbrev pub change_open : CcRequest → Moment → List Hold → RequestKind → ℕ → OpenSession → Change
-change_open request moment grants Event place session = Stays
-change_open request moment grants Termination place session = Ends place
-change_open request moment grants Initial place session = GoesOn place (prolonged session moment session.holds)
-change_open request moment grants Update place session = GoesOn place (prolonged session moment (holds_beside request.services session.holds ++ grants))
+-- that it names and adds what is granted to it, at the prices of its place; an INITIAL is refused, and yet prolongs the
+-- session.
+abbrev pub change_open : CcRequest → Moment → Posting → RequestKind → ℕ → OpenSession → Change
+change_open request moment posting Event place session = Stays
+change_open request moment posting Termination place session = Ends place
+change_open request moment posting Initial place session = GoesOn place (prolonged session moment session.holds session.prices)
+change_open request moment posting Update place session =
+    GoesOn place (prolonged session moment (holds_beside request.services session.holds ++ posting.grants)
+    (prices_after posting.tariffs session.prices posting.grants))
+
+-- the session that a request opens on an account, with what it is granted by these tariffs
+abbrev pub opened_session : CcRequest → Moment → List Tariff → ℕ → List Hold → OpenSession
+opened_session request moment tariffs account grants =
+    record { id = request.session; account = account; last = moment; holds = grants; prices = prices_after tariffs [] grants }
 
 -- what a request does to its session, which is not open
 abbrev pub change_closed : CcRequest → Moment → Posting → Change
 change_closed request moment posting =
     if opens posting
-    then Opens (record { id = request.session; account = unwrap_or posting.account 0; last = moment; holds = posting.grants })
+    then Opens (opened_session request moment posting.tariffs (unwrap_or posting.account 0) posting.grants)
     else Stays
 
 abbrev pub change_at : CcRequest → Moment → Posting → Option ℕ → Option OpenSession → Change
-change_at request moment posting (Some place) (Some session) = change_open request moment posting.grants request.kind place session
+change_at request moment posting (Some place) (Some session) = change_open request moment posting request.kind place session
 change_at request moment posting _ _ = change_closed request moment posting
 
 -- what a posting of a request does to its session, where these are open
@@ -114,6 +131,7 @@ without_due validity moment sessions = filter (λ session. not (is_due validity 
 abbrev pub sessions_with : ℕ → List OpenSession → Posting → Entry → List OpenSession
 sessions_with validity sessions posting (Take moment request) = after_change sessions (change_of sessions request moment posting)
 sessions_with validity sessions posting (Sweep moment) = without_due validity moment sessions
+sessions_with validity sessions posting (ChangeTerms moment change) = sessions
 
 abbrev pub next_sessions : ℕ → List OpenSession → Posting → List OpenSession
 next_sessions validity sessions posting = sessions_with validity sessions posting posting.entry
@@ -185,7 +203,7 @@ abbrev pub opened_as : ℕ → OpenSession → Opened
 opened_as validity session = opened_at validity (Some session.account) session.last.0
 
 -- These balances and these open sessions are what postings have left: of each account its opening amount less its
--- debits, and of each session what is alive of its grants, however that is counted.
+-- debits, and of each session what is alive of its grants, however that is counted, and their prices.
 pub record Stands (terms : Terms) (before : List Posting) (balances : List ℤ) (sessions : List OpenSession) : Type 0 where
   pub accounts : length balances ≡ length terms.accounts
   pub balance : (account : ℕ) → account < length terms.accounts
@@ -195,6 +213,8 @@ pub record Stands (terms : Terms) (before : List Posting) (balances : List ℤ) 
   pub known : All (λ session. session.account < length terms.accounts) sessions
   pub holds : (weight : List ℕ → Option ℕ → Hold → ℕ) → alive_weight weight terms.validity before ≡ sessions_weight weight sessions
   pub count : (weight : List ℕ → ℕ) → open_weight weight terms.validity before ≡ ids_weight weight sessions
+  pub prices :
+      (id : List ℕ) (name : ServiceName) → IfSome (find (is_session id) sessions) (λ session. price_in session.prices name ≡ price_of id name before)
 
 -- The amounts are so small that no sum of them leaves 128 bits, and accounts are known.
 pub record IsSmall (terms : Terms) (balances : List ℤ) (sessions : List OpenSession) : Type 0 where

@@ -3,7 +3,7 @@
 use dia_avp::Octets;
 
 /// An account of the site. Amounts are whole minor units of its money.
-#[derive(Debug, Drop)]
+#[derive(Clone, Debug, Drop)]
 pub struct Account {
     /// Subscription-Id-Type of its owner (RFC 8506, section 8.47).
     pub id_kind: u32,

@@ -1,9 +1,10 @@
-//! The account book: a history of requests and sweeps, from which every balance and reply is made.
+//! The account book: a history of requests, sweeps and changes of terms, from which every balance and reply is made.
 
 ghost use Rattle.std.specs.Prelude.{◌≡◌, ◌≢◌, ◌≤◌, ◌<◌, ◌^◌, [], length, nat_abs, Err, IfNone, IfOk, IfSome, if◌then◌else◌, nat_lt, Some, None, pos};
 ghost use Rattle.cc_book.specs.declared.book.BookRefusal.TheVariants.{OutOfMemory};
 ghost use Rattle.cc_book.specs.Taking.{AnswersWith, answer_of, answer_within};
 
+mod changing;
 mod planning;
 
 use crate::account::{Account, Money};
@@ -56,11 +57,15 @@ impl<T: Drop> From<AllocFailed<T>> for BookRefusal {
     }
 }
 
-/// The account book. It is its history: balances, reservations, sessions and replies are made from the entries alone.
-/// Beside the entries it keeps what they replied and what they have left, so that nothing is worked out twice.
+/// The account book. It is its history: balances, reservations, sessions and replies are made from the terms that it
+/// began with and the entries alone. Beside the entries it keeps what they replied and what they have left, so that
+/// nothing is worked out twice.
 #[derive(Debug, Drop)]
 pub struct Book {
+    /// The terms that it began with.
     terms: Terms,
+    /// The terms that hold now, where an entry changed them.
+    changed: Option<Terms>,
     limit: u64,
     history: Vec<Entry>,
     /// The reply of each entry, none of a sweep.
@@ -71,7 +76,8 @@ pub struct Book {
 }
 
 impl Model for Book {
-    ghost use Rattle.std.specs.Prelude.{◌≡◌, ◌+◌, ◌≤◌, ◌^◌, length, vec_capacity};
+    ghost use Rattle.std.specs.Prelude.{◌≡◌, ◌+◌, ◌≤◌, ◌^◌, length, unwrap_or, vec_capacity};
+    ghost use Rattle.cc_book.specs.AccountMachine.{terms_of};
     ghost use Rattle.cc_book.specs.Places.{HasPlaces, IsIndexed};
     ghost use Rattle.cc_book.specs.Taking.{HasRoom, IsBook, Ledger};
 
@@ -82,13 +88,15 @@ impl Model for Book {
     ghost invariant = { λ b.
         IsBook b.terms b.limit b.history.items b.replies.items b.standing.balances.items b.standing.sessions.items
         × HasRoom b.limit (vec_capacity b.history) (vec_capacity b.replies) (length b.history.items + b.standing.sessions.room)
-        × (b.standing.sessions.accounts ≡ length b.terms.accounts)
+        × (b.standing.sessions.accounts ≡ length b.standing.balances.items)
         × IsIndexed b.history.items b.places
         × HasPlaces b.limit (length b.history.items) b.places
-        × (b.limit ≤ 2 ^ 20) };
+        × (b.limit ≤ 2 ^ 20)
+        × (unwrap_or b.changed b.terms ≡ terms_of b.terms b.history.items) };
 }
 
 impl Book {
+    ghost use Rattle.cc_book.specs.AccountMachine.{terms_of};
     ghost use Rattle.cc_book.specs.Balance.{balance_of, reserved_of, open_sessions_of};
     ghost use Rattle.cc_book.specs.History.{IsLegal};
     ghost use Rattle.cc_book.specs.Taking.{Ledger, SweepsWith, is_fresh, sweep_answer, after_sweep_with, with_take};
@@ -118,6 +126,7 @@ impl Book {
                 validity,
                 money,
             },
+            changed: None,
             limit,
             history: Vec::with_capacity(alloc, room)?,
             replies: Vec::with_capacity(alloc, room)?,
@@ -192,26 +201,26 @@ impl Book {
         Ok(ended)
     }
 
-    /// The terms under which it charges, as they were handed to `new`.
+    /// The terms that it began with, as they were handed to `new`.
     pub fn terms(&self) -> &Terms
         ensures { result.now ≡ self.now.terms }
     {
         &self.terms
     }
 
-    /// The accounts, as they were handed to `new`.
+    /// The accounts: those that were handed to `new`, and behind them those that have joined.
     pub fn accounts(&self) -> &[Account]
-        ensures { result.now ≡ self.now.terms.accounts }
+        ensures { result.now ≡ (terms_of self.now.terms self.now.history).accounts }
     {
-        self.terms.accounts.as_slice()
+        self.terms_now().accounts.as_slice()
     }
 
     /// The balance of the account at this place, which stays below 2^124 in size. None beyond the last account.
     pub fn balance(&self, account: usize) -> Option<i128>
         ensures small { IfSome result (λ balance. nat_abs balance < 2 ^ 124) }
-        ensures value { result ≡ (if nat_lt account (length self.now.terms.accounts) then Some (balance_of self.now.terms self.now.history account) else None) }
+        ensures value { result ≡ (if nat_lt account (length (terms_of self.now.terms self.now.history).accounts) then Some (balance_of self.now.terms self.now.history account) else None) }
     {
-        if account < self.terms.accounts.len() {
+        if account < self.standing.balances.len() {
             Some(self.standing.balances[account])
         } else {
             None
@@ -220,9 +229,9 @@ impl Book {
 
     /// What the sessions of the account at this place have reserved. None beyond the last account.
     pub fn reserved(&self, account: usize) -> Option<i128>
-        ensures { result ≡ (if nat_lt account (length self.now.terms.accounts) then Some (pos (reserved_of self.now.terms self.now.history account)) else None) }
+        ensures { result ≡ (if nat_lt account (length (terms_of self.now.terms self.now.history).accounts) then Some (pos (reserved_of self.now.terms self.now.history account)) else None) }
     {
-        if account < self.terms.accounts.len() {
+        if account < self.standing.balances.len() {
             Some(self.standing.reserved(account) as i128)
         } else {
             None

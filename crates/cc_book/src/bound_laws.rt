@@ -10,7 +10,7 @@ ghost use Rattle.cc_rating.specs.Tariffs.{fault_of};
 ghost use Rattle.cc_book.specs.declared.book.BookRefusal.TheVariants.{Full};
 ghost use Rattle.cc_book.specs.declared.entry.Entry.{Entry};
 ghost use Rattle.cc_book.specs.declared.terms.Terms.{Terms};
-ghost use Rattle.cc_book.specs.AccountMachine.{code_alone, postings_of};
+ghost use Rattle.cc_book.specs.AccountMachine.{code_alone, postings_of, terms_of};
 ghost use Rattle.cc_book.specs.BoundExample.{all_reserved, balance_edge, block_returned, block_used, edge_book, edge_terms, reserved_edge};
 ghost use Rattle.cc_book.specs.Bounds.{IsInRange, MovesLittle, OpensSmall, bears, bears_request};
 ghost use Rattle.cc_book.specs.RowExample.{event_on, initial_again, no_units, success, taken, termination};
@@ -28,7 +28,7 @@ pub fn entries_move_little()
 pub fn short_books_are_full_at_their_limit()
     ensures by_ranges { (ledger : Ledger) (request : CcRequest) → ledger.limit ≤ 2 ^ 20 → OpensSmall ledger.terms →
         fault_of ledger.terms.tariffs ≡ None → All IsInRange ledger.history → answer_within ledger request ≡ answer_of ledger request }
-    ensures by_moves { (ledger : Ledger) (request : CcRequest) → ledger.limit ≤ 2 ^ 20 → OpensSmall ledger.terms →
+    ensures by_moves { (ledger : Ledger) (request : CcRequest) → ledger.limit ≤ 2 ^ 20 → OpensSmall (terms_of ledger.terms ledger.history) →
         AllByRecursion MovesLittle (postings_of ledger.terms ledger.history) → answer_within ledger request ≡ answer_of ledger request }
 {}
 

@@ -1,5 +1,6 @@
 //! The entries of the book.
 
+use crate::terms_change::TermsChange;
 use cc_view::CcRequest;
 use dia_base::Moment;
 
@@ -10,4 +11,6 @@ pub enum Entry {
     Take { moment: Moment, request: CcRequest },
     /// A look at the clock that ended sessions (RFC 8506, section 13).
     Sweep { moment: Moment },
+    /// A change of the terms, which hold from here on.
+    ChangeTerms { moment: Moment, change: TermsChange },
 }

@@ -21,6 +21,6 @@ pub fn kept<'a>(
     let place = places.find(request)?;
     match &history[place] {
         Entry::Take { request, .. } => Some((place, request)),
-        Entry::Sweep { .. } => unreachable!(),
+        Entry::Sweep { .. } | Entry::ChangeTerms { .. } => unreachable!(),
     }
 }

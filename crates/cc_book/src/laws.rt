@@ -1,7 +1,7 @@
 //! Laws of the account book, in the words of a reader who knows none of its code.
 #![tactic(auto, unfolding(crate::specs::AccountMachine::postings_of, crate::specs::AccountMachine::reply_to, crate::specs::Balance::balance_of, crate::specs::Balance::open_sessions_of, crate::specs::Balance::reserved_of, crate::specs::Balance::spent_by,))]
 
-ghost use Rattle.std.specs.Prelude.{◌≡◌, ◌≢◌, ℕ, ◌+◌, ◌<◌, ◌≤◌, All, IsTrue, List, find, [], ◌∷◌, ◌++◌, ◌↔◌, length, None, Some, true, false, codes, if◌then◌else◌, pos, negsuc, ◌-ℤ◌, ◌≤ℤ◌, ◌<ℤ◌, Ok, Err, sum_by, unwrap_or};
+ghost use Rattle.std.specs.Prelude.{◌≡◌, ◌≢◌, ℕ, ◌+◌, ◌<◌, ◌≤◌, All, IsTrue, List, find, [], ◌∷◌, ◌++◌, ◌↔◌, length, None, Option, Some, true, false, codes, if◌then◌else◌, pos, negsuc, ◌-ℤ◌, ◌≤ℤ◌, ◌<ℤ◌, Ok, Err, sum_by, unwrap_or};
 ghost use Rattle.std.specs.Int.{int_max};
 ghost use Rattle.dia_base.specs.declared.number.Moment.{Moment};
 ghost use Rattle.cc_view.specs.Answer.Fitting.{Fits};
@@ -20,22 +20,25 @@ ghost use Rattle.cc_rating.specs.declared.tariff.Tariff.{Tariff};
 ghost use Rattle.cc_rating.specs.declared.tariff.UnitKind.TheVariants.{Time, Octets, Units};
 ghost use Rattle.cc_book.specs.declared.book.BookRefusal.TheVariants.{Full};
 ghost use Rattle.cc_book.specs.declared.entry.Entry.{Entry};
-ghost use Rattle.cc_book.specs.declared.entry.Entry.TheVariants.{Take, Sweep};
+ghost use Rattle.cc_book.specs.declared.entry.Entry.TheVariants.{Take, Sweep, ChangeTerms};
 ghost use Rattle.cc_book.specs.declared.terms.Terms.{Terms};
+ghost use Rattle.cc_book.specs.declared.terms_change.TermsChange.{TermsChange};
 ghost use Rattle.cc_book.specs.AccountMachine.{account_of, charged_account, code_alone, free_after, free_to_grant, grants_after, opening_at, total_of, postings_of, reply_to, kept_reply, terms_of};
 ghost use Rattle.cc_book.specs.Balance.{debit_of, balance_of, open_sessions_of, reserved_of};
 ghost use Rattle.cc_book.specs.Content.{same_request};
 ghost use Rattle.cc_book.specs.Duplicate.{key_of, same_key};
 ghost use Rattle.cc_book.specs.History.{IsLegal, IsNew, ended_sessions, place_of};
-ghost use Rattle.cc_book.specs.Laws.{HasLimits, IsRefused, RepliesToEntry, cost_of_reply, debits_of, grants_alive, total_below};
+ghost use Rattle.cc_book.specs.Laws.{GrantsAtMost, HasLimits, IsRefused, KeepsTerms, RepliesToEntry, cost_of_reply, debits_of, grants_alive, total_below};
 ghost use Rattle.cc_book.specs.Posting.{is_account};
+ghost use Rattle.cc_book.specs.Pricing.{price_at};
 ghost use Rattle.cc_book.specs.Reservation.{held_by, reserved_by};
 ghost use Rattle.cc_book.specs.RowExample.{any_units, bare_initial, bare_reply, bare_terms, counted_service, ended_by, event_between, event_on, granted_units, gratis_terms, half_bare_initial, initial, initial_again, no_units, octets, opened_by, opened_then, request_of, row_book, row_reply, row_service, row_terms, subscription, success, taken, tariff_in, termination, two_services_initial, two_services_update, unrated_initial, unrated_reply, update, updated_by};
-ghost use Rattle.cc_book.specs.ServiceRating.{asked_of, unit_code, used_cost, used_of, used_total};
+ghost use Rattle.cc_book.specs.ServiceRating.{asked_of, tariff_of, unit_code, used_cost, used_of, used_total};
 ghost use Rattle.cc_book.specs.Session.{Opened, is_open, open_count, session_of};
 ghost use Rattle.cc_book.specs.SessionExample.{early_update, failed_opening, first_termination, first_update, group_opening, narrow_update, opening, other_opening, other_termination, reopening, second_opening, service_name, session, small_terms, strange_update, swept, unrelated_event, wide_opening};
 ghost use Rattle.cc_book.specs.Standing.{held_in};
 ghost use Rattle.cc_book.specs.Taking.{Ledger, after_sweep, answer_of, is_fresh, sweep_answer, with_take};
+ghost use Rattle.cc_book.specs.TermsChange.{fault_of_change};
 
 /// Books with one history answer alike, whatever came before they had it: the history is all that counts.
 pub fn books_with_one_history_answer_alike()
@@ -89,13 +92,15 @@ pub fn the_empty_history_is_legal()
     ensures { (terms : Terms) → IsLegal terms [] }
 {}
 
-/// A legal history stays legal when it grows by a request for which no reply is kept, or by a sweep that ends
-/// a session.
+/// A legal history stays legal when it grows by a request for which no reply is kept, by a sweep that ends a session, or
+/// by a change of the terms with which nothing is wrong.
 pub fn legal_histories_grow()
     ensures by_request { (terms : Terms) (history : List Entry) (moment : Moment) (request : CcRequest) →
         IsLegal terms history → kept_reply terms history request ≡ None → IsLegal terms (history ++ Take moment request ∷ []) }
     ensures by_sweep { (terms : Terms) (history : List Entry) (moment : Moment) →
         IsLegal terms history → 0 < ended_sessions terms history moment → IsLegal terms (history ++ Sweep moment ∷ []) }
+    ensures by_change { (terms : Terms) (history : List Entry) (moment : Moment) (change : TermsChange) →
+        IsLegal terms history → fault_of_change (terms_of terms history) change ≡ None → IsLegal terms (history ++ ChangeTerms moment change ∷ []) }
 {}
 
 /// No two requests of a legal history have one key.
@@ -110,13 +115,18 @@ pub fn keys_are_session_and_number()
         (same_key (key_of one) (key_of other) ≡ true) ↔ ((one.session ≡ other.session) × (one.number ≡ other.number)) }
 {}
 
-/// A request moves the balance of the account that it charges by its debit, and no other balance. A sweep moves none.
+/// A request moves the balance of the account that it charges by its debit, and no other balance. A sweep moves none, and
+/// a change of the terms moves none of an account that is there: one that joins has its opening amount.
 pub fn balances_move_by_debits()
     ensures by_request { (terms : Terms) (history : List Entry) (moment : Moment) (request : CcRequest) (account : ℕ) →
         balance_of terms (history ++ Take moment request ∷ []) account
         ≡ balance_of terms history account -ℤ (if is_account account (charged_account (terms_of terms history) (postings_of terms history) request) then debit_of terms history request else pos 0) }
     ensures by_sweep { (terms : Terms) (history : List Entry) (moment : Moment) (account : ℕ) →
         balance_of terms (history ++ Sweep moment ∷ []) account ≡ balance_of terms history account }
+    ensures by_change { (terms : Terms) (history : List Entry) (moment : Moment) (change : TermsChange) (account : ℕ) → account < length (terms_of terms history).accounts →
+        balance_of terms (history ++ ChangeTerms moment change ∷ []) account ≡ balance_of terms history account }
+    ensures joined { (terms : Terms) (history : List Entry) (moment : Moment) (change : TermsChange) (place : ℕ) → place < length change.joining →
+        balance_of terms (history ++ ChangeTerms moment change ∷ []) (length (terms_of terms history).accounts + place) ≡ opening_at change.joining place }
 {}
 
 /// The balances of all accounts are their opening amounts less all debits: each debit is of one account, once.
@@ -379,16 +389,20 @@ pub fn events_leave_sessions_alone()
 
 /// A request of a session debits in full what its used units cost, also where less is free: an INITIAL of a session that
 /// is not open, with an account that the site knows, and an UPDATE or a TERMINATION of an open session (RFC 8506,
-/// sections 5.3 and 5.4). Each of its services is paid for.
+/// sections 5.3 and 5.4). Each of its services is paid for: in an open session at the tariff of its last grant there, and
+/// where there was none at the tariff that holds.
 pub fn sessions_pay_for_what_is_used()
     ensures initial { (terms : Terms) (history : List Entry) (request : CcRequest) (account : ℕ) → request.kind ≡ Initial →
         is_open terms.validity request.session (postings_of terms history) ≡ false → account_of (terms_of terms history).accounts request.subscriptions ≡ Some account →
-        debit_of terms history request ≡ pos (used_total (terms_of terms history).tariffs request.services) }
+        debit_of terms history request ≡ pos (used_total (tariff_of (terms_of terms history).tariffs) request.services) }
     ensures update { (terms : Terms) (history : List Entry) (request : CcRequest) → request.kind ≡ Update →
-        is_open terms.validity request.session (postings_of terms history) ≡ true → debit_of terms history request ≡ pos (used_total (terms_of terms history).tariffs request.services) }
+        is_open terms.validity request.session (postings_of terms history) ≡ true →
+        debit_of terms history request ≡ pos (used_total (price_at (terms_of terms history).tariffs (postings_of terms history) request.session) request.services) }
     ensures termination { (terms : Terms) (history : List Entry) (request : CcRequest) → request.kind ≡ Termination →
-        is_open terms.validity request.session (postings_of terms history) ≡ true → debit_of terms history request ≡ pos (used_total (terms_of terms history).tariffs request.services) }
-    ensures each { (tariffs : List Tariff) (services : List Service) → used_total tariffs services ≡ sum_by (used_cost tariffs) services }
+        is_open terms.validity request.session (postings_of terms history) ≡ true →
+        debit_of terms history request ≡ pos (used_total (price_at (terms_of terms history).tariffs (postings_of terms history) request.session) request.services) }
+    ensures each { (price : Service → Option Tariff) (services : List Service) →
+        used_total price services ≡ sum_by (λ service. used_cost (price service) service) services }
 {}
 
 /// All other requests of sessions are refused: they debit nothing and reserve nothing.
@@ -501,11 +515,14 @@ pub fn sweeps_end_a_session_once()
 {}
 
 /// What a session holds for a service is of one grant: each later grant takes the place of the one before. So it costs
-/// no more than the greatest grant of the tariff.
+/// no more than the greatest grant of a tariff that the service has had; where the terms never change, of its tariff.
 pub fn services_are_held_once()
     ensures once { (terms : Terms) (history : List Entry) (session : List ℕ) (name : ServiceName) →
         All HasLimits history → grants_alive terms.validity session name (postings_of terms history) ≤ 1 }
+    ensures limited { (terms : Terms) (history : List Entry) (session : List ℕ) (name : ServiceName) (most : ℕ) → All HasLimits history →
+        ((before after : List Entry) → history ≡ before ++ after → GrantsAtMost (terms_of terms before).tariffs name most) →
+        held_by terms.validity session name (postings_of terms history) ≤ most }
     ensures most { (terms : Terms) (history : List Entry) (session : List ℕ) (name : ServiceName) (tariff : Tariff) →
-        All HasLimits history → fault_of terms.tariffs ≡ None → find (rates name.group name.ident) terms.tariffs ≡ Some tariff →
+        All HasLimits history → All KeepsTerms history → fault_of terms.tariffs ≡ None → find (rates name.group name.ident) terms.tariffs ≡ Some tariff →
         held_by terms.validity session name (postings_of terms history) ≤ cost_of tariff tariff.greatest }
 {}

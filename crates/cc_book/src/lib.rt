@@ -14,9 +14,9 @@
 //!
 //! The reply to a request stands in `specs/AccountMachine`, what entries do to accounts in `specs/Posting` and
 //! `specs/Balance`, sessions and reservations in `specs/Session` and `specs/Reservation`, what services ask and used
-//! in `specs/ServiceRating`, the history in `specs/History`, which requests are one in `specs/Duplicate` and
-//! `specs/Content`, how a request is found in it in `specs/Places`, what it has left in `specs/Standing`, a call in
-//! `specs/Taking`, and its two halves in `specs/Planning`.
+//! in `specs/ServiceRating`, at which price in `specs/Pricing`, how terms change in `specs/TermsChange`, the history in
+//! `specs/History`, which requests are one in `specs/Duplicate` and `specs/Content`, how a request is found in it in
+//! `specs/Places`, what it has left in `specs/Standing`, a call in `specs/Taking`, and its two halves in `specs/Planning`.
 //! `specs/Bounds` says which amounts an account bears. `specs/RowExample`, `specs/SessionExample` and
 //! `specs/BoundExample` are worked examples. The functions of `laws` and `bound_laws` have no body: their contracts are
 //! laws of these definitions.
@@ -40,6 +40,7 @@ mod account;
 mod asking;
 mod book;
 mod bound_laws;
+mod change_laws;
 mod content;
 mod copy;
 mod entry;
@@ -51,16 +52,23 @@ mod open_sessions;
 mod outcome;
 mod places;
 mod plan;
+mod price;
 mod session;
 mod settling;
 mod standing;
 mod terms;
+mod terms_change;
 
 pub use account::{Account, Money};
 pub use book::{Answered, Book, BookRefusal, free_place, kept_answer};
 pub use bound_laws::{
     accounts_at_their_bound_refuse_requests, accounts_bear_requests_below_their_bounds,
     entries_move_little, short_books_are_full_at_their_limit, what_is_reserved_is_bounded_too,
+};
+pub use change_laws::{
+    accounts_join_at_their_place, changes_are_refused_by_name, changes_leave_sessions_alone,
+    tariffs_hold_from_their_place, terms_change_by_their_entries_alone,
+    used_units_are_paid_at_the_price_of_their_grant,
 };
 pub use content::same_request;
 pub use copy::{RequestCopy, copy_of_reply};
@@ -85,5 +93,7 @@ pub use laws::{
 pub use lookup::Lookup;
 pub use outcome::{Change, Outcome};
 pub use plan::{Plan, Taken};
+pub use price::{Price, Prices};
 pub use session::{Hold, OpenSession, held_in};
 pub use terms::Terms;
+pub use terms_change::{ChangeRefusal, TermsChange};

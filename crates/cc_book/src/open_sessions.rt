@@ -1,6 +1,6 @@
 //! The sessions that are open, by their Session-Id, and what they hold of each account.
 
-ghost use Rattle.std.specs.Prelude.{◌≡◌, ℕ, ◌+◌, ◌<◌, ◌≤◌, ◌^◌, ◌++◌, ◌∷◌, [], length, remove, slice_set, count_by, not, None, IfOk, MatchOption};
+ghost use Rattle.std.specs.Prelude.{◌≡◌, ℕ, ◌+◌, ◌<◌, ◌≤◌, ◌^◌, ◌++◌, ◌∷◌, [], length, remove, replicate, slice_set, count_by, not, None, IfOk, OnOk, OnErr, MatchOption};
 ghost use Rattle.std.specs.List.{AllByRecursion};
 ghost use Rattle.indexmap.specs.IndexMap.{values};
 ghost use Rattle.cc_book.specs.OpenSessions.{AreTotals, GoesOnAt};
@@ -95,6 +95,16 @@ impl OpenSessions {
         self.sessions.insert(id, session).unwrap();
     }
 
+    /// So many accounts join, of which nothing is held. An error leaves all as it is.
+    pub fn join(&mut self, joining: usize) -> Result<(), AllocError>
+        ensures items { self.new.items ≡ self.old.items }
+        ensures room { self.new.room ≡ self.old.room }
+        ensures ok { OnOk result (self.new.accounts ≡ self.old.accounts + joining) }
+        ensures err { OnErr result (self.new.accounts ≡ self.old.accounts) }
+    {
+        add_totals(&mut self.totals, joining)
+    }
+
     /// The session at a place is this one now.
     pub fn go_on(&mut self, place: usize, session: OpenSession)
         requires there { GoesOnAt self.old.items place session }
@@ -138,6 +148,18 @@ impl OpenSessions {
             { !session.is_due(validity, moment) },
         );
     }
+}
+
+/// Adds so many totals of nothing.
+fn add_totals(totals: &mut Vec<u128>, joining: usize) -> Result<(), AllocError>
+    ensures ok { OnOk result (totals.new.items ≡ totals.old.items ++ replicate joining 0) }
+    ensures err { OnErr result (totals.new.items ≡ totals.old.items) }
+{
+    totals.reserve(joining)?;
+    for _account in 0..joining {
+        totals.push_reserved(0);
+    }
+    Ok(())
 }
 
 /// Takes off the totals what the sessions hold that have ended by a moment.

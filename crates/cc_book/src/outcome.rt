@@ -11,6 +11,7 @@ ghost use Rattle.cc_book.specs.Standing.{IsOutcome, IsSmall, NamesAccount, Stand
 ghost use Rattle.cc_book.specs.declared.outcome.Change.TheVariants.{Opens, Stays};
 
 use crate::lookup::Lookup;
+use crate::price::Prices;
 use crate::session::{Hold, OpenSession, held_in};
 use crate::settling::session_reply;
 use crate::terms::{Terms, code_alone};
@@ -100,7 +101,8 @@ impl Terms {
         match (standing.open_session(&request.session), account) {
             (Some((place, session)), _) => {
                 let holds = session.holds.as_slice().to_vec(alloc)?;
-                let session = session.prolonged(moment, Listing::from_vec(holds))?;
+                let prices = session.prices.copy(alloc)?;
+                let session = session.prolonged(moment, Listing::from_vec(holds), prices)?;
                 let change = Change::GoesOn { place, session };
                 Ok(refused(alloc, account, ResultCode::UnableToComply, change))
             }
@@ -127,11 +129,13 @@ impl Terms {
         ensures { IfOk result (λ outcome. (before : List Posting) → request.now.kind ≡ Initial → place_in (S.sessions standing.now) request.now.session ≡ None → Stands self.now before (S.balances standing.now) (S.sessions standing.now) → IsOutcome self.now before (S.sessions standing.now) moment request.now outcome) }
     {
         let services = request.services.as_slice();
-        let debit = self.used_total(services);
+        let none = Prices::none(alloc);
+        let debit = self.used_total(&none, services);
         let free = standing.free_to_grant(account, 0, debit);
         let granted = self.granted_services(alloc, free, services)?;
+        let prices = none.after(alloc, &self.tariffs, &granted.holds)?;
         let reply = session_reply(granted.replies);
-        let change = opening(reply.code, account, moment, request, granted.holds)?;
+        let change = opening(reply.code, account, moment, request, granted.holds, prices)?;
         Ok(Outcome {
             account: Some(account),
             debit,
@@ -158,12 +162,13 @@ impl Terms {
         let account = session.account;
         let services = request.services.as_slice();
         let mut holds = session.holds_beside(alloc, services)?;
-        let debit = self.used_total(services);
+        let debit = self.used_total(&session.prices, services);
         let ended = held_in(session.holds.as_slice()) - held_in(&holds);
         let free = standing.free_to_grant(account, ended, debit);
         let mut granted = self.granted_services(alloc, free, services)?;
+        let prices = session.prices.after(alloc, &self.tariffs, &granted.holds)?;
         holds.append(&mut granted.holds)?;
-        let session = session.prolonged(moment, Listing::from_vec(holds))?;
+        let session = session.prolonged(moment, Listing::from_vec(holds), prices)?;
         Ok(Outcome {
             account: Some(account),
             debit,
@@ -188,7 +193,7 @@ impl Terms {
         let services = request.services.as_slice();
         Ok(Outcome {
             account: Some(session.account),
-            debit: self.used_total(services),
+            debit: self.used_total(&session.prices, services),
             reply: session_reply(self.closed_services(alloc, services)?),
             change: Change::Ends { place },
         })
@@ -202,8 +207,9 @@ fn opening(
     moment: Moment,
     request: &CcRequest,
     holds: Vec<Hold>,
+    prices: Prices,
 ) -> Result<Change, AllocError>
-    ensures { IfOk result (λ change. change ≡ (if is_success code then Opens (record { id = request.now.session; account = account; last = moment; holds = holds.items }) else Stays)) }
+    ensures { IfOk result (λ change. change ≡ (if is_success code then Opens (record { id = request.now.session; account = account; last = moment; holds = holds.items; prices = prices }) else Stays)) }
 {
     match code {
         ResultCode::Success => Ok(Change::Opens {
@@ -212,6 +218,7 @@ fn opening(
                 account,
                 last: moment,
                 holds: Listing::from_vec(holds),
+                prices,
             },
         }),
         _ => Ok(Change::Stays),

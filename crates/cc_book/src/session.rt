@@ -4,6 +4,7 @@ ghost use Rattle.std.specs.Prelude.{◌≡◌, ◌≤◌, ◌^◌, IfOk};
 ghost use Rattle.cc_book.specs.Reservation.{has_name};
 ghost use Rattle.cc_book.specs.Standing.{held_in, holds_beside, is_due, is_named, prolonged};
 
+use crate::price::Prices;
 use cc_view::{Service, ServiceName};
 use dia_avp::Octets;
 use dia_base::{Listing, Moment};
@@ -27,18 +28,26 @@ pub struct OpenSession {
     pub last: Moment,
     /// What it holds of its account, at most once for a service.
     pub holds: Listing<Hold>,
+    /// The tariffs at which its services were last granted.
+    pub prices: Prices,
 }
 
 impl OpenSession {
-    /// The session after a request at a moment, which leaves it these holds.
-    pub fn prolonged(&self, moment: Moment, holds: Listing<Hold>) -> Result<Self, AllocError>
-        ensures { IfOk result (λ session. session ≡ prolonged self.now moment holds) }
+    /// The session after a request at a moment, which leaves it these holds and these prices.
+    pub fn prolonged(
+        &self,
+        moment: Moment,
+        holds: Listing<Hold>,
+        prices: Prices,
+    ) -> Result<Self, AllocError>
+        ensures { IfOk result (λ session. session ≡ prolonged self.now moment holds prices) }
     {
         Ok(OpenSession {
             id: self.id.clone()?,
             account: self.account,
             last: moment,
             holds,
+            prices,
         })
     }
 

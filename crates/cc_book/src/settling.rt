@@ -1,17 +1,20 @@
 //! What a request of a session settles and is granted (RFC 8506, sections 5.1 to 5.5).
 
-ghost use Rattle.std.specs.Prelude.{◌≡◌, ◌+◌, ◌++◌, ◌<◌, ◌≤◌, ◌^◌, length, map, None, negsuc, pos, ◌≤ℤ◌, IfOk, IfSome, OnOk};
+ghost use Rattle.std.specs.Prelude.{◌≡◌, ◌+◌, ◌++◌, ◌<◌, ◌≤◌, ◌^◌, length, map, None, negsuc, pos, ◌≤ℤ◌, IfOk, IfSome, IsTrue, OnOk};
 ghost use Rattle.std.specs.List.{find};
 ghost use Rattle.std.specs.Option.{ForSome, option_copied};
 ghost use Rattle.cc_view.specs.Request.ServiceLimits.{HasSmallSums, WithinLimits};
 ghost use Rattle.cc_book.specs.AccountMachine.{code_of_grant, command_code, free_behind, grant_to, hold_of, holds_from, made_grant, replies_from, session_reply, settled_reply};
+ghost use Rattle.cc_rating.specs.Tariffs.{in_range};
+ghost use Rattle.cc_book.specs.Pricing.{priced};
 ghost use Rattle.cc_book.specs.ServiceRating.{used_cost, used_total};
 ghost use Rattle.cc_book.specs.Standing.{held_in};
 
 use crate::asking::{asked_of, unit_code, used_of};
+use crate::price::Prices;
 use crate::session::Hold;
 use crate::terms::{Terms, name_of};
-use cc_rating::Grant;
+use cc_rating::{Grant, Tariff};
 use cc_view::{CcReply, ResultCode, Service, ServiceReply};
 use dia_base::Listing;
 use std::alloc::{AllocError, Global};
@@ -24,28 +27,39 @@ pub struct Granted {
 }
 
 impl Terms {
-    /// What the used units of services cost.
-    pub fn used_total(&self, services: &[Service]) -> i128
+    /// What the used units of services cost, where these are the prices of their last grants.
+    pub fn used_total(&self, prices: &Prices, services: &[Service]) -> i128
         requires { WithinLimits services.now }
-        ensures value { result ≡ pos (used_total self.now.tariffs services.now) }
-        ensures most { used_total self.now.tariffs services.now ≤ 2 ^ 103 }
+        ensures value { result ≡ pos (used_total (priced self.now.tariffs prices.now) services.now) }
+        ensures most { used_total (priced self.now.tariffs prices.now) services.now ≤ 2 ^ 103 }
     {
         let mut total = 0;
         for service in services {
-            total += self.used_cost(service) as i128;
+            total += self.used_cost(prices, service) as i128;
         }
         total
     }
 
     /// What the used units of a service cost, 0 without a tariff.
-    fn used_cost(&self, service: &Service) -> u128
+    fn used_cost(&self, prices: &Prices, service: &Service) -> u128
         requires { HasSmallSums service.now }
-        ensures value { result ≡ used_cost self.now.tariffs service.now }
+        ensures value { result ≡ used_cost (priced self.now.tariffs prices.now service.now) service.now }
         ensures most { result ≤ 2 ^ 98 }
     {
-        match self.tariff_of(service) {
-            Some(tariff) => tariff.cost(used_of(tariff, service)),
+        match self.price_of(prices, service) {
+            Some(tariff) => tariff.cost(used_of(&tariff, service)),
             None => 0,
+        }
+    }
+
+    /// The tariff at which the used units of a service are paid for: that of its last grant, else that which holds.
+    fn price_of(&self, prices: &Prices, service: &Service) -> Option<Tariff>
+        ensures value { result ≡ priced self.now.tariffs prices.now service.now }
+        ensures rates { IfSome result (λ tariff. IsTrue (in_range tariff)) }
+    {
+        match prices.find(name_of(service)) {
+            Some(tariff) => Some(tariff),
+            None => self.tariff_of(service).copied(),
         }
     }
 

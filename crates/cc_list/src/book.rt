@@ -3,6 +3,8 @@
 ghost use Rattle.std.specs.Prelude.{◌≡◌, ◌≢◌, ◌≤◌, ◌<◌, ◌^◌, [], length, nat_abs, Err, IfOk, IfSome, if◌then◌else◌, nat_lt, Some, None, pos};
 ghost use Rattle.cc_book.specs.declared.book.BookRefusal.TheVariants.{OutOfMemory};
 
+mod changing;
+
 use crate::key::kept;
 use crate::standing::Lists;
 use cc_book::{
@@ -19,7 +21,10 @@ use std::marker::Model;
 /// [`cc_book::Book`], with the same contracts.
 #[derive(Debug, Drop)]
 pub struct ListBook {
+    /// The terms that it began with.
     terms: Terms,
+    /// The terms that hold now, where an entry changed them.
+    changed: Option<Terms>,
     limit: u64,
     history: Vec<Entry>,
     /// The reply of each entry, none of a sweep.
@@ -28,7 +33,8 @@ pub struct ListBook {
 }
 
 impl Model for ListBook {
-    ghost use Rattle.std.specs.Prelude.{◌≤◌, ◌^◌, vec_capacity};
+    ghost use Rattle.std.specs.Prelude.{◌≡◌, ◌≤◌, ◌^◌, unwrap_or, vec_capacity};
+    ghost use Rattle.cc_book.specs.AccountMachine.{terms_of};
     ghost use Rattle.cc_book.specs.Taking.{HasRoom, IsBook, Ledger};
 
     ghost Value = { Ledger };
@@ -38,10 +44,12 @@ impl Model for ListBook {
     ghost invariant = { λ b.
         IsBook b.terms b.limit b.history.items b.replies.items b.standing.balances.items b.standing.sessions.items
         × HasRoom b.limit (vec_capacity b.history) (vec_capacity b.replies) (vec_capacity b.standing.sessions)
-        × (b.limit ≤ 2 ^ 20) };
+        × (b.limit ≤ 2 ^ 20)
+        × (unwrap_or b.changed b.terms ≡ terms_of b.terms b.history.items) };
 }
 
 impl ListBook {
+    ghost use Rattle.cc_book.specs.AccountMachine.{terms_of};
     ghost use Rattle.cc_book.specs.Balance.{balance_of, reserved_of, open_sessions_of};
     ghost use Rattle.cc_book.specs.History.{IsLegal};
     ghost use Rattle.cc_book.specs.Planning.{IsGoodFor, IsTaking, PlansWith, after_plan, answer_planned};
@@ -72,6 +80,7 @@ impl ListBook {
                 validity,
                 money,
             },
+            changed: None,
             limit,
             history: Vec::with_capacity(alloc, room)?,
             replies: Vec::with_capacity(alloc, room)?,
@@ -135,13 +144,12 @@ impl ListBook {
         let Some(place) = free_place(&self.history, self.limit) else {
             return Err(BookRefusal::Full { limit: self.limit });
         };
-        let account = self.terms.charged_account(&self.standing, request);
+        let terms = self.terms_now();
+        let account = terms.charged_account(&self.standing, request);
         if !self.standing.bears_more(account) {
             return Err(BookRefusal::Full { limit: self.limit });
         }
-        let outcome = self
-            .terms
-            .outcome_of(alloc, &self.standing, account, moment, request)?;
+        let outcome = terms.outcome_of(alloc, &self.standing, account, moment, request)?;
         let reply = copy_of_reply(alloc, &outcome.reply)?;
         let request = RequestCopy::of(alloc, request)?;
         Ok(Plan {
@@ -211,19 +219,19 @@ impl ListBook {
         Ok(ended as u64)
     }
 
-    /// The accounts, as they were handed to `new`.
+    /// The accounts: those that were handed to `new`, and behind them those that have joined.
     pub fn accounts(&self) -> &[Account]
-        ensures { result.now ≡ self.now.terms.accounts }
+        ensures { result.now ≡ (terms_of self.now.terms self.now.history).accounts }
     {
-        self.terms.accounts.as_slice()
+        self.terms_now().accounts.as_slice()
     }
 
     /// The balance of the account at this place, which stays below 2^124 in size. None beyond the last account.
     pub fn balance(&self, account: usize) -> Option<i128>
         ensures small { IfSome result (λ balance. nat_abs balance < 2 ^ 124) }
-        ensures value { result ≡ (if nat_lt account (length self.now.terms.accounts) then Some (balance_of self.now.terms self.now.history account) else None) }
+        ensures value { result ≡ (if nat_lt account (length (terms_of self.now.terms self.now.history).accounts) then Some (balance_of self.now.terms self.now.history account) else None) }
     {
-        if account < self.terms.accounts.len() {
+        if account < self.standing.balances.len() {
             Some(self.standing.balances[account])
         } else {
             None
@@ -232,9 +240,9 @@ impl ListBook {
 
     /// What the sessions of the account at this place have reserved. None beyond the last account.
     pub fn reserved(&self, account: usize) -> Option<i128>
-        ensures { result ≡ (if nat_lt account (length self.now.terms.accounts) then Some (pos (reserved_of self.now.terms self.now.history account)) else None) }
+        ensures { result ≡ (if nat_lt account (length (terms_of self.now.terms self.now.history).accounts) then Some (pos (reserved_of self.now.terms self.now.history account)) else None) }
     {
-        if account < self.terms.accounts.len() {
+        if account < self.standing.balances.len() {
             Some(self.standing.reserved(account) as i128)
         } else {
             None

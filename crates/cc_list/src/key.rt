@@ -25,7 +25,7 @@ pub fn kept<'a>(history: &'a [Entry], request: &CcRequest) -> Option<(usize, &'a
                     return Some((place, taken));
                 }
             }
-            Entry::Sweep { .. } => {}
+            Entry::Sweep { .. } | Entry::ChangeTerms { .. } => {}
         }
     }
     None

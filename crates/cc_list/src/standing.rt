@@ -1,8 +1,8 @@
 //! What a history has left, in two lists.
 
-ghost use Rattle.std.specs.Prelude.{◌≡◌, ℕ, ◌-◌, ◌<◌, ◌≤◌, ◌^◌, [], length, map, pos, negsuc, ◌≤ℤ◌, IfOk, IfSome, vec_capacity, vec_len, All, count_by};
+ghost use Rattle.std.specs.Prelude.{◌≡◌, ℕ, ◌-◌, ◌<◌, ◌≤◌, ◌^◌, [], length, map, pos, negsuc, ◌≤ℤ◌, ◌++◌, IfOk, IfSome, OnErr, OnOk, vec_capacity, vec_len, All, count_by};
 ghost use Rattle.std.specs.Option.{ForSome};
-ghost use Rattle.cc_book.specs.Standing.{after_change, after_debit, is_due, place_in, reserved_in, without_due, IsPlacedIn};
+ghost use Rattle.cc_book.specs.Standing.{after_change, after_debit, is_due, openings_of, place_in, reserved_in, without_due, IsPlacedIn};
 
 use cc_book::{Account, Change, Lookup, OpenSession, held_in};
 use dia_avp::Octets;
@@ -54,6 +54,21 @@ impl Lists {
             balances,
             sessions: Vec::with_capacity(alloc, room)?,
         })
+    }
+
+    /// Accounts join, with their opening amounts. An error leaves all as it is.
+    pub fn join(&mut self, joining: &[Account]) -> Result<(), AllocError>
+        ensures balances { OnOk result (self.new.balances.items ≡ self.old.balances.items ++ openings_of joining.now) }
+        ensures least { OnOk result (All (λ opening. negsuc (2 ^ 63) ≤ℤ opening) (openings_of joining.now)) }
+        ensures most { OnOk result (All (λ opening. opening ≤ℤ pos (2 ^ 63)) (openings_of joining.now)) }
+        ensures sessions { self.new.sessions ≡ self.old.sessions }
+        ensures err_balances { OnErr result (self.new.balances.items ≡ self.old.balances.items) }
+    {
+        self.balances.reserve(joining.len())?;
+        for account in joining {
+            self.balances.push_reserved(account.opening as i128);
+        }
+        Ok(())
     }
 
     fn place_of(&self, id: &Octets) -> Option<usize>

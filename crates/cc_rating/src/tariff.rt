@@ -130,7 +130,7 @@ impl Tariff {
     }
 
     /// Whether it rates a service: by its Rating-Group where it has one, else by its Service-Identifier.
-    pub(crate) fn rates(&self, group: Option<u32>, ident: Option<u32>) -> bool
+    pub fn rates(&self, group: Option<u32>, ident: Option<u32>) -> bool
         ensures { result ≡ rates group ident self.now }
     {
         match (group, ident) {

@@ -14,7 +14,7 @@ use Rattle.cc_view.specs.declared.request.CcRequest.{CcRequest}
 use Rattle.cc_book.specs.declared.book.Answered.{Answered}
 use Rattle.cc_book.specs.declared.book.BookRefusal.TheVariants.{Full}
 use Rattle.cc_book.specs.declared.entry.Entry.{Entry}
-use Rattle.cc_book.specs.declared.entry.Entry.TheVariants.{Take, Sweep}
+use Rattle.cc_book.specs.declared.entry.Entry.TheVariants.{Take, Sweep, ChangeTerms}
 use Rattle.cc_book.specs.declared.terms.Terms.{Terms}
 use Rattle.cc_book.specs.AccountMachine.{repeat_reply, reply_to, kept_reply}
 use Rattle.cc_book.specs.Duplicate.{Key, has_key, key_of, same_key}
@@ -45,6 +45,7 @@ pub legal_front : (terms : Terms) (before after : List Entry) → IsLegal terms 
 legal_front terms before after legal = record {
   distinct = distinct_front (keys_of before) (keys_of after) (subst (λ (keys : List Key). IsDistinct same_key keys) (filter_map-append entry_key before after) legal.distinct);
   sweeps = λ b a m e. legal.sweeps b (a ++ after) m (ap (λ (h : List Entry). h ++ after) e ∙ append_assoc b (Sweep m ∷ a) after);
+  changes = λ b a m c e. legal.changes b (a ++ after) m c (ap (λ (h : List Entry). h ++ after) e ∙ append_assoc b (ChangeTerms m c ∷ a) after);
 }
 
 -- what stands behind an entry of a list
@@ -99,6 +100,7 @@ new_or_kept : (history : List Entry) (key : Key) → IsNew history key ⊎ Kept 
 new_or_kept [] key = inl refl
 new_or_kept (Take moment request ∷ history) key = here_or_later moment request history key (same_key (key_of request) key) refl (new_or_kept history key)
 new_or_kept (Sweep moment ∷ history) key = later (Sweep moment) history key refl (new_or_kept history key)
+new_or_kept (ChangeTerms moment change ∷ history) key = later (ChangeTerms moment change) history key refl (new_or_kept history key)
 
 -- ---- what the book answers stands in its history
 

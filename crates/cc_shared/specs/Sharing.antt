@@ -4,8 +4,9 @@ use Rattle.std.specs.List.{range_with_len}
 use Rattle.dia_base.specs.declared.number.Moment.{Moment}
 use Rattle.cc_book.specs.declared.book.BookRefusal.{BookRefusal}
 use Rattle.cc_book.specs.declared.entry.Entry.{Entry}
-use Rattle.cc_book.specs.declared.entry.Entry.TheVariants.{Take, Sweep}
+use Rattle.cc_book.specs.declared.entry.Entry.TheVariants.{Take, Sweep, ChangeTerms}
 use Rattle.cc_book.specs.declared.terms.Terms.{Terms}
+use Rattle.cc_book.specs.AccountMachine.{terms_of}
 use Rattle.cc_book.specs.Balance.{balance_of, reserved_of}
 use Rattle.cc_book.specs.History.{IsLegal}
 use Rattle.cc_book.specs.Taking.{Ledger, sweep_answer}
@@ -18,6 +19,7 @@ use Rattle.cc_shared.specs.History.{SharedLedger, book_at, is_closed}
 abbrev pub is_take : Entry → Bool
 is_take (Take moment request) = true
 is_take (Sweep moment) = false
+is_take (ChangeTerms moment change) = false
 
 -- how many of these entries are takes
 abbrev pub takes_in : List Entry → ℕ
@@ -41,9 +43,9 @@ pub record Stood (opened book : Ledger) : Type 0 where
 abbrev pub standing_at : Terms → List Entry → ℕ → ℤ × ℤ
 standing_at terms history account = (balance_of terms history account, pos (reserved_of terms history account))
 
--- the same of each account, in the order of the accounts
+-- the same of each account that is there after the history, in the order of the accounts
 abbrev pub standings_of : Terms → List Entry → List (ℤ × ℤ)
-standings_of terms history = map (standing_at terms history) (range_with_len 0 (length terms.accounts))
+standings_of terms history = map (standing_at terms history) (range_with_len 0 (length (terms_of terms history).accounts))
 
 -- What a sweep adds to the history that ends so many sessions.
 abbrev pub swept_by : Moment → ℕ → List Logged

@@ -10,6 +10,7 @@
 //! that has happened to the book is stored, where the book is stored at all ([`book_journal`]): what a call has done is stored
 //! before the call returns. A call that cannot store it answers nobody: [`SharedBook::has_failed`] says so then. Threads that serve on
 //! a stored book collect their requests one after the other ([`SharedBook::begin_batch`]), so that one commit stores all that wait.
+//! The next one collects as soon as this one has the lock, and so while this one stores.
 //!
 //! What receipts say stands in `specs/Receipts`, what a shared book is in `specs/Sharing`, what a call of `serve` answers
 //! in `specs/Serving`, and when a book is finished in `specs/Closing`.

@@ -219,7 +219,8 @@ impl<L: Sharing, S: RowStore + Drop> LockedBook<L, S> {
         }
     }
 
-    /// Serves a request, and stores what the book has done. None where it was not stored.
+    /// Serves a request, and stores what the book has done. None where it was not stored. The batch ends as soon as the lock is
+    /// had, so that the next one is collected while this one is stored.
     fn serve_stored<R: Wait>(
         &self,
         rt: &R,
@@ -236,6 +237,7 @@ impl<L: Sharing, S: RowStore + Drop> LockedBook<L, S> {
         ensures count { IfSome result (λ served. seat.new ≡ count_after seat.old served) }
     {
         let mut guard = self.lock.lock(rt);
+        self.batching.end();
         let Some(mut open) = take_open(&mut guard) else {
             return guard.refuse(request);
         };
@@ -271,7 +273,8 @@ impl<L: Sharing, S: RowStore + Drop> LockedBook<L, S> {
         unreachable!()
     }
 
-    /// Serves these requests, and stores what the book has done. None where it was not stored.
+    /// Serves these requests, and stores what the book has done. None where it was not stored. The batch ends as soon as the lock
+    /// is had, so that the next one is collected while this one is stored.
     fn serve_all_stored<J: Drop, R: Wait>(
         &self,
         rt: &R,
@@ -285,6 +288,7 @@ impl<L: Sharing, S: RowStore + Drop> LockedBook<L, S> {
         ensures { IfSome result (λ served. ServesAll L.shared seat.old asked.items served.items seat.new) }
     {
         let mut guard = self.lock.lock(rt);
+        self.batching.end();
         let Some(mut open) = take_open(&mut guard) else {
             return guard.refuse_all(asked, served);
         };
@@ -306,6 +310,7 @@ impl<L: Sharing, S: RowStore + Drop> LockedBook<L, S> {
         ensures back { IfErr result (λ back. (back ≡ asked) × (seat.new ≡ seat.old)) }
     {
         let Ok(served) = Vec::with_capacity(alloc, asked.len()) else {
+            self.batching.end();
             return Err(asked);
         };
         if let Some(served) = self.serve_all_stored(rt, alloc, seat, asked, served) {

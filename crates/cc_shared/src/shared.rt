@@ -97,12 +97,13 @@ impl<L: Sharing, S: RowStore + Drop> SharedBook<L, S> {
     }
 
     /// Waits until no other thread collects requests for a stored book. It does not wait where the book is in memory. What is collected
-    /// from then on, until [`SharedBook::end_batch`], is to be asked in one call.
+    /// from then on is to be asked in one call, [`SharedBook::serve`] or [`SharedBook::serve_all`], which ends the batch.
     pub fn begin_batch<R: Wait>(&self, rt: &R) {
         self.locked.batching().begin(rt);
     }
 
-    /// Lets the next thread collect requests. Each batch that was begun is to be ended once.
+    /// Lets the next thread collect requests. It ends a batch of which the book is not asked: each one that was begun is to be ended
+    /// once, by this or by the call that asks.
     pub fn end_batch(&self) {
         self.locked.batching().end();
     }

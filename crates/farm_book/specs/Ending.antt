@@ -11,6 +11,7 @@ use Rattle.book_journal.specs.declared.error.JournalError.TheVariants.{Unread, R
 use Rattle.book_lines.specs.declared.fault.LinesFault.TheVariants as lines
 use Rattle.book_opening.specs.declared.fault.BookFault.{BookFault}
 use Rattle.book_opening.specs.declared.fault.BookFault.TheVariants as book
+use Rattle.book_store.specs.declared.error.AppendError.{AppendError}
 use Rattle.book_store.specs.declared.error.AppendError.TheVariants as append
 use Rattle.book_store.specs.declared.error.CheckError.TheVariants as check
 use Rattle.book_store.specs.declared.error.RowError.TheVariants as row
@@ -45,9 +46,18 @@ status_of_journal (Unread place row.Damaged) = status.Refused
 status_of_journal (RowRefused place refusal.OutOfMemory) = status.OutOfMemory
 status_of_journal (RowRefused place other) = status.Refused
 
+-- rows that are not stored: the disk, or want of memory; or rows of other places
+abbrev pub status_of_append : AppendError → Status
+status_of_append (append.Store error) = status_of_store error
+status_of_append append.NotBehind = status.Refused
+status_of_append append.NoPlace = status.Refused
+
 abbrev pub status_of_book : BookFault → Status
 status_of_book (book.File error) = status_of_file error
 status_of_book (book.OtherTerms key) = status.Refused
+status_of_book (book.TermsDiffer difference) = status.Refused
+status_of_book (book.NotChanged refusal) = status.Refused
+status_of_book (book.NotStored error) = status_of_append error
 status_of_book book.DamagedTerms = status.Refused
 status_of_book (book.Row error) = status_of_journal error
 status_of_book book.OutOfMemory = status.OutOfMemory
@@ -59,9 +69,7 @@ status_of_rows (rows.Check (check.Row row.Damaged)) = status.Refused
 status_of_rows (rows.Check (check.Wrong place)) = status.Refused
 status_of_rows (rows.Read (row.Store error)) = status_of_store error
 status_of_rows (rows.Read row.Damaged) = status.Refused
-status_of_rows (rows.Append (append.Store error)) = status_of_store error
-status_of_rows (rows.Append append.NotBehind) = status.Refused
-status_of_rows (rows.Append append.NoPlace) = status.Refused
+status_of_rows (rows.Append error) = status_of_append error
 status_of_rows rows.OutOfMemory = status.OutOfMemory
 
 -- something stands there already, or what befell a file or its rows
@@ -80,6 +88,7 @@ status_of (task.Site site.OutOfMemory) = status.OutOfMemory
 status_of (task.Site other) = status.Refused
 status_of (task.NotMade fault) = status_of_book fault
 status_of (task.NotRead fault) = status_of_book fault
+status_of (task.NotChanged fault) = status_of_book fault
 status_of (task.NotCopied fault) = status_of_copy fault
 status_of (task.CopyNotRead fault) = status_of_book fault
 status_of task.OtherCopy = status.Refused

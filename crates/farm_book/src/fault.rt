@@ -1,7 +1,7 @@
 //! Why a task is not done.
 
 ghost use Rattle.std.specs.Prelude.{◌≡◌};
-ghost use Rattle.farm_book.specs.Ending.{status_of, status_of_book, status_of_copy, status_of_file, status_of_journal, status_of_rows, status_of_store};
+ghost use Rattle.farm_book.specs.Ending.{status_of, status_of_append, status_of_book, status_of_copy, status_of_file, status_of_journal, status_of_rows, status_of_store};
 
 use book_copy::{CopyError, CopyFault};
 use book_entries::RowRefusal;
@@ -27,6 +27,8 @@ pub enum TaskFault {
     NotMade(BookFault),
     #[error("the book is not read: {0}")]
     NotRead(BookFault),
+    #[error("the book is not changed: {0}")]
+    NotChanged(BookFault),
     #[error("the book is not backed up: {0}")]
     NotCopied(CopyFault),
     #[error("the backup is not read: {0}")]
@@ -49,8 +51,10 @@ impl TaskFault {
     {
         match self {
             TaskFault::SiteFile | TaskFault::Write => Status::Failed,
-            TaskFault::NotMade(fault) | TaskFault::NotRead(fault) | TaskFault::CopyNotRead(fault) =>
-                book_status(*fault),
+            TaskFault::NotMade(fault)
+            | TaskFault::NotRead(fault)
+            | TaskFault::NotChanged(fault)
+            | TaskFault::CopyNotRead(fault) => book_status(*fault),
             TaskFault::NotCopied(fault) => copy_status(*fault),
             TaskFault::OtherCopy => Status::Refused,
             TaskFault::Site(SiteFault::OutOfMemory)
@@ -68,7 +72,11 @@ fn book_status(fault: BookFault) -> Status
     match fault {
         BookFault::File(error) => file_status(error),
         BookFault::Row(error) => journal_status(error),
-        BookFault::OtherTerms(_) | BookFault::DamagedTerms => Status::Refused,
+        BookFault::NotStored(error) => append_status(error),
+        BookFault::OtherTerms(_)
+        | BookFault::TermsDiffer(_)
+        | BookFault::NotChanged(_)
+        | BookFault::DamagedTerms => Status::Refused,
         BookFault::OutOfMemory => Status::OutOfMemory,
     }
 }
@@ -92,10 +100,20 @@ fn rows_status(error: CopyError) -> Status
 {
     match error {
         CopyError::Check(CheckError::Row(RowError::Store(error)))
-        | CopyError::Read(RowError::Store(error))
-        | CopyError::Append(AppendError::Store(error)) => store_status(error),
-        CopyError::Check(_) | CopyError::Read(_) | CopyError::Append(_) => Status::Refused,
+        | CopyError::Read(RowError::Store(error)) => store_status(error),
+        CopyError::Append(error) => append_status(error),
+        CopyError::Check(_) | CopyError::Read(_) => Status::Refused,
         CopyError::OutOfMemory => Status::OutOfMemory,
+    }
+}
+
+/// How the program ends by rows that are not stored.
+fn append_status(error: AppendError) -> Status
+    ensures { result ≡ status_of_append error }
+{
+    match error {
+        AppendError::Store(error) => store_status(error),
+        AppendError::NotBehind | AppendError::NoPlace => Status::Refused,
     }
 }
 

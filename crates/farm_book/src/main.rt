@@ -10,7 +10,7 @@ use tasks::carry_out_task;
 
 /// What is told where the words are others.
 const USAGE: &str =
-    "usage: book create|check|report|export FILE --site FILE, or book backup FILE FILE --site FILE";
+    "usage: book create|check|report|export|change-terms FILE --site FILE, or book backup FILE FILE --site FILE";
 
 /// Does what the words behind the program's name ask for.
 fn carry_out(rt: &HostRuntime, words: &[String]) -> ExitCode {

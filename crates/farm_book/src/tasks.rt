@@ -1,14 +1,23 @@
 //! What is done with a book.
 
-ghost use Rattle.std.specs.Prelude.{◌≡◌, ◌↔◌, IfErr, IfOk, IsTrue};
+ghost use Rattle.std.specs.Prelude.{◌≡◌, ◌≤◌, ◌↔◌, IfErr, IfOk, IsTrue};
+ghost use Rattle.book_lines.specs.Lines.{lines_of};
 ghost use Rattle.farm_base.specs.CheckedSite.{IsChecked};
-ghost use Rattle.farm_book.specs.Told.{IsCopyOf, IsStoredUnder, IsTold, text_of};
+ghost use Rattle.farm_model.specs.Run.{empty_book};
+ghost use Rattle.farm_report.specs.Report.{report_of};
+ghost use Rattle.farm_book.specs.Told.{IsCopyOf, IsStoredFor, IsTold, summary_text, text_of};
 
 use crate::fault::TaskFault;
 use book_copy::{Copied, copy_file};
-use book_lines::{entry_lines, made_line, summary};
-use book_opening::{StoredBook, create_book, read_book};
+use book_lines::{entry_lines, made_line, push_difference_line, summary};
+use book_opening::{
+    BookFault, StoredBook, change_book, change_for, copy_of_terms, create_book, empty_under,
+    read_book,
+};
 use book_store::FIRST_SUM;
+use book_terms::says_nothing;
+use cc_book::{Terms, TermsChange};
+use dia_base::HISTORY_LIMIT;
 use farm_base::Site;
 use farm_command::{BookCommand, BookTask};
 use farm_report::report;
@@ -33,10 +42,19 @@ fn site_at(rt: &HostRuntime, path: &str) -> Result<Site, TaskFault>
     }
 }
 
+/// The terms of a site.
+fn wanted_by(alloc: Global, site: &Site) -> Result<Terms, TaskFault>
+    requires { IsChecked site.now }
+    ensures { IfOk result (λ wanted. wanted ≡ (empty_book site.now).terms) }
+{
+    let empty = empty_book(alloc, site)?;
+    Ok(copy_of_terms(alloc, empty.terms())?)
+}
+
 /// Makes a book under the terms of a site. It is given as it is stored then.
 fn made(rt: &HostRuntime, path: &str, site: &Site) -> Result<StoredBook, TaskFault>
     requires { IsChecked site.now }
-    ensures { IfOk result (IsStoredUnder site.now) }
+    ensures { IfOk result (IsStoredFor site.now) }
 {
     let book = empty_book(rt.alloc(), site)?;
     match create_book(rt, path, book.terms()) {
@@ -49,27 +67,53 @@ fn made(rt: &HostRuntime, path: &str, site: &Site) -> Result<StoredBook, TaskFau
     }
 }
 
-/// Reads a book under the terms of a site.
-fn read(rt: &HostRuntime, path: &str, site: &Site) -> Result<StoredBook, TaskFault>
+/// Reads a book, from whose terms a change leads to those that are wanted.
+fn read_for(
+    rt: &HostRuntime,
+    path: &str,
+    site: &Site,
+    wanted: &Terms,
+) -> Result<StoredBook, BookFault>
     requires { IsChecked site.now }
-    ensures { IfOk result (IsStoredUnder site.now) }
+    ensures { IfOk result (IsStoredFor site.now) }
 {
-    let empty = empty_book(rt.alloc(), site)?;
-    match read_book(rt, path, empty) {
-        Ok(read) => Ok(read),
-        Err(fault) => Err(TaskFault::NotRead(fault)),
+    let read = read_book(rt, path, site.limit)?;
+    drop(change_for(rt.alloc(), &read.book, wanted)?);
+    Ok(read)
+}
+
+/// Copies a book to a new file, and reads that.
+fn backed_up(
+    rt: &HostRuntime,
+    path: &str,
+    to: &str,
+    site: &Site,
+    wanted: &Terms,
+) -> Result<StoredBook, TaskFault>
+    requires { IsChecked site.now }
+    ensures { IfOk result (IsStoredFor site.now) }
+{
+    drop(read_for(rt, path, site, wanted).map_err(TaskFault::NotRead)?);
+    let copied = copy_file(rt, path, to).map_err(TaskFault::NotCopied)?;
+    match read_for(rt, to, site, wanted) {
+        Ok(copy) => checked_copy(copied, copy),
+        Err(fault) => Err(TaskFault::CopyNotRead(fault)),
     }
 }
 
-/// Reads a copy of a book under the terms of a site.
-fn read_copy(rt: &HostRuntime, path: &str, site: &Site) -> Result<StoredBook, TaskFault>
+/// Changes the terms of a book to those that are wanted.
+fn changed(
+    rt: &HostRuntime,
+    path: &str,
+    site: &Site,
+    wanted: &Terms,
+) -> Result<StoredBook, TaskFault>
     requires { IsChecked site.now }
-    ensures { IfOk result (IsStoredUnder site.now) }
+    ensures { IfOk result (IsStoredFor site.now) }
 {
-    let empty = empty_book(rt.alloc(), site)?;
-    match read_book(rt, path, empty) {
-        Ok(read) => Ok(read),
-        Err(fault) => Err(TaskFault::CopyNotRead(fault)),
+    match change_book(rt, path, site.limit, wanted) {
+        Ok(changed) => Ok(changed),
+        Err(fault) => Err(TaskFault::NotChanged(fault)),
     }
 }
 
@@ -93,84 +137,109 @@ fn checked_copy(copied: Copied, copy: StoredBook) -> Result<StoredBook, TaskFaul
     }
 }
 
-/// Copies a book that can be read under the terms of a site to a new file, and reads that.
-fn backed_up(rt: &HostRuntime, path: &str, to: &str, site: &Site) -> Result<StoredBook, TaskFault>
+/// Makes, reads, changes or copies the book that a command names, for a site that wants these terms.
+fn stored(
+    rt: &HostRuntime,
+    command: &BookCommand<'_>,
+    site: &Site,
+    wanted: &Terms,
+) -> Result<StoredBook, TaskFault>
     requires { IsChecked site.now }
-    ensures { IfOk result (IsStoredUnder site.now) }
-{
-    drop(read(rt, path, site)?);
-    let copied = copy_file(rt, path, to).map_err(TaskFault::NotCopied)?;
-    checked_copy(copied, read_copy(rt, to, site)?)
-}
-
-/// Makes, reads or copies the book that a command names.
-fn stored(rt: &HostRuntime, command: &BookCommand<'_>, site: &Site) -> Result<StoredBook, TaskFault>
-    requires { IsChecked site.now }
-    ensures { IfOk result (IsStoredUnder site.now) }
+    ensures { IfOk result (IsStoredFor site.now) }
 {
     match command.task {
         BookTask::Create => made(rt, command.file, site),
-        BookTask::Check | BookTask::Report | BookTask::Export => read(rt, command.file, site),
-        BookTask::Backup { to } => backed_up(rt, command.file, to, site),
+        BookTask::Check | BookTask::Report | BookTask::Export => read_for(
+            rt,
+            command.file,
+            site,
+            wanted,
+        ).map_err(TaskFault::NotRead),
+        BookTask::ChangeTerms => changed(rt, command.file, site, wanted),
+        BookTask::Backup { to } => backed_up(rt, command.file, to, site, wanted),
     }
 }
 
 /// What a book comes to.
-fn summary_of(alloc: Global, site: &Site, stored: &StoredBook) -> Result<Vec<u8>, TaskFault>
-    requires { IsStoredUnder site.now stored.now }
-    ensures { IfOk result (λ text. text.items ≡ text_of BookTask.Check stored.now) }
+fn summary_of(alloc: Global, limit: u64, stored: &StoredBook) -> Result<Vec<u8>, TaskFault>
+    requires { stored.now.book.limit ≡ limit }
+    ensures { IfOk result (λ text. text.items ≡ summary_text stored.now) }
 {
     let history = stored.book.history();
-    Ok(summary(alloc, stored.identity, history, stored.sum, site.limit)?)
+    Ok(summary(alloc, stored.identity, history, stored.sum, limit)?)
+}
+
+/// The same, and which change leads to the terms of the site, where they do not hold.
+fn checked(
+    alloc: Global,
+    limit: u64,
+    stored: &StoredBook,
+    change: &TermsChange,
+) -> Result<Vec<u8>, TaskFault>
+    requires { stored.now.book.limit ≡ limit }
+    ensures { IfOk result (λ text. text.items ≡ text_of BookTask.Check stored.now change.now) }
+{
+    let mut text = summary_of(alloc, limit, stored)?;
+    if !says_nothing(change) {
+        push_difference_line(alloc, &mut text, change)?;
+    }
+    Ok(text)
 }
 
 /// The report of the accounts of a book.
 fn report_of(alloc: Global, stored: &StoredBook) -> Result<Vec<u8>, TaskFault>
-    ensures { IfOk result (λ text. text.items ≡ text_of BookTask.Report stored.now) }
+    ensures { IfOk result (λ text. text.items ≡ report_of stored.now.book) }
 {
     let text = report(alloc, &stored.book)?;
     Ok(text.into_bytes())
 }
 
 /// The entries of a book, one on a line.
-fn entries_of(alloc: Global, site: &Site, stored: &StoredBook) -> Result<Vec<u8>, TaskFault>
-    requires checked { IsChecked site.now }
-    requires stored { IsStoredUnder site.now stored.now }
-    ensures { IfOk result (λ text. text.items ≡ text_of BookTask.Export stored.now) }
+fn entries_of(alloc: Global, limit: u64, stored: &StoredBook) -> Result<Vec<u8>, TaskFault>
+    requires { limit ≤ HISTORY_LIMIT }
+    ensures { IfOk result (λ text. text.items ≡ lines_of stored.now.book.terms stored.now.book.history) }
 {
-    let empty = empty_book(alloc, site)?;
+    let terms = copy_of_terms(alloc, stored.book.terms())?;
+    let empty = empty_under(alloc, terms, limit)?;
     match entry_lines(alloc, empty, stored.book.history()) {
         Ok(lines) => Ok(lines),
         Err(fault) => Err(TaskFault::Lines(fault)),
     }
 }
 
-/// What a task prints of a book.
+/// What a task prints of a book with room for so many entries, and of the change that leads to the terms of the site.
 fn text_of(
     alloc: Global,
     task: BookTask<'_>,
-    site: &Site,
+    limit: u64,
     stored: &StoredBook,
+    change: &TermsChange,
 ) -> Result<Vec<u8>, TaskFault>
-    requires checked { IsChecked site.now }
-    requires stored { IsStoredUnder site.now stored.now }
-    ensures { IfOk result (λ text. text.items ≡ text_of task.entry stored.now) }
+    requires most { limit ≤ HISTORY_LIMIT }
+    requires limit { stored.now.book.limit ≡ limit }
+    ensures { IfOk result (λ text. text.items ≡ text_of task.entry stored.now change.now) }
 {
     match task {
         BookTask::Create => Ok(made_line(alloc, stored.identity)?),
-        BookTask::Check | BookTask::Backup { .. } => summary_of(alloc, site, stored),
+        BookTask::Check => checked(alloc, limit, stored, change),
+        BookTask::ChangeTerms | BookTask::Backup { .. } => summary_of(alloc, limit, stored),
         BookTask::Report => report_of(alloc, stored),
-        BookTask::Export => entries_of(alloc, site, stored),
+        BookTask::Export => entries_of(alloc, limit, stored),
     }
 }
 
-/// Does what a command asks for, under the terms of a site, and gives what is printed of it.
+/// Does what a command asks for, for a site, and gives what is printed of it.
 fn told_of(rt: &HostRuntime, command: &BookCommand<'_>, site: &Site) -> Result<Vec<u8>, TaskFault>
     requires { IsChecked site.now }
     ensures { IfOk result (λ text. IsTold site.now command.now.task text.items) }
 {
-    let stored = stored(rt, command, site)?;
-    text_of(rt.alloc(), command.task, site, &stored)
+    let alloc = rt.alloc();
+    let wanted = wanted_by(alloc, site)?;
+    let stored = stored(rt, command, site, &wanted)?;
+    match change_for(alloc, &stored.book, &wanted) {
+        Ok(change) => text_of(alloc, command.task, site.limit, &stored, &change),
+        Err(fault) => Err(TaskFault::NotRead(fault)),
+    }
 }
 
 /// Does what a command asks for, and prints it. Nothing is printed before it is done.

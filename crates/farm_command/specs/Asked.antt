@@ -19,6 +19,8 @@ use Rattle.farm_command.specs.declared.command.Action.TheVariants.{Replay, Repor
 use Rattle.farm_command.specs.declared.command.Run.{Run}
 use Rattle.farm_command.specs.declared.command.Task.{Task}
 use Rattle.farm_command.specs.declared.command.Task.TheVariants as task
+use Rattle.farm_command.specs.declared.command.LogFormat.{LogFormat}
+use Rattle.farm_command.specs.declared.command.LogFormat.TheVariants as format
 use Rattle.farm_command.specs.declared.command.Process.{Process}
 use Rattle.farm_command.specs.declared.command.AuditAction.{AuditAction}
 use Rattle.farm_command.specs.declared.command.AuditAction.TheVariants as audit
@@ -80,6 +82,12 @@ abbrev pub IsLevel : Option Text → LevelFilter → Type 0
 IsLevel None level = level ≡ Info
 IsLevel (Some text) level = parse_filter text ≡ Some level
 
+-- `--log-format FORMAT`: `text` or `logfmt`; `text` where it is not there
+abbrev pub IsFormat : Option Text → LogFormat → Type 0
+IsFormat None f = f ≡ format.Text
+IsFormat (Some text) format.Text = text ≡ codes "text"
+IsFormat (Some text) format.Logfmt = text ≡ codes "logfmt"
+
 -- `--from STEP` and `--to STEP`: a number as at `--answers`, from 1 on
 abbrev pub IsStep : Option Text → Option ℕ → Type 0
 IsStep None None = Unit {0}
@@ -95,7 +103,7 @@ HasTask rows (task.Send client peer) = (value_in word.Client rows ≡ Some clien
 abbrev pub HasRun : List Row → Run → Type 0
 HasRun rows run = (value_in word.Site rows ≡ option_map (λ s. s.now) run.site) × (run.skipped ≡ flag_in (codes "skipped") rows)
 
--- what it writes down and says of itself, its book, and whether a clock behind it is no matter
+-- what it writes down and says of itself, its book, and whether a clock behind it is no matter, and it may change its terms
 abbrev pub HasReports : List Row → Process → Type 0
 HasReports rows process =
     (value_in word.Status rows ≡ option_map (λ s. s.now) process.status)
@@ -103,11 +111,12 @@ HasReports rows process =
     × (value_in word.Record rows ≡ option_map (λ s. s.now) process.record_path)
     × (value_in word.Book rows ≡ option_map (λ s. s.now) process.book)
     × (process.clock_behind ≡ flag_in (codes "clock-behind") rows)
+    × (process.change_terms ≡ flag_in (codes "change-terms") rows)
 
 abbrev pub HasProcess : List Row → Process → Type 0
 HasProcess rows process =
     HasTask rows process.task × (value_in word.Site rows ≡ Some process.site.now)
-    × HasReports rows process × IsLevel (value_in word.Log rows) process.level
+    × HasReports rows process × IsLevel (value_in word.Log rows) process.level × IsFormat (value_in word.LogFormat rows) process.log_format
 
 abbrev pub HasAudit : List Row → Audit → Type 0
 HasAudit rows records =
@@ -173,13 +182,16 @@ abbrev pub IsMissing : Word → List Row → Type 0
 IsMissing word.TaskAndFile rows = AreFew (all_of (id_of word.TaskAndFile) rows)
 IsMissing w rows = value_in w rows ≡ None
 
--- whose values it reads as numbers, as a level, or as a task
+-- whose values it reads as numbers, as a level, as a format, or as a task
 abbrev pub reads : Subcommand → Word → Bool
 reads sub.Relay word.Answers = true
 reads sub.Relay word.Log = true
+reads sub.Relay word.LogFormat = true
 reads sub.Front word.Answers = true
 reads sub.Front word.Log = true
+reads sub.Front word.LogFormat = true
 reads sub.Send word.Log = true
+reads sub.Send word.LogFormat = true
 reads sub.Picture word.From = true
 reads sub.Picture word.To = true
 reads sub.Book word.TaskAndFile = true
@@ -196,10 +208,11 @@ AreWrong (Some []) = ⊥
 AreWrong (Some (word ∷ [])) = ⊥
 AreWrong (Some (word ∷ file ∷ more)) = AreOfNoTask (word ∷ file ∷ more)
 
--- a value that is no number, or too large, or no step; or no level; or operands that no task has
+-- a value that is no number, or too large, or no step; or no level; or no format; or operands that no task has
 abbrev pub IsMalformed : Word → List Row → Type 0
 IsMalformed word.Answers rows = (count : ℕ) → ¬ IsCount (value_in word.Answers rows) count
 IsMalformed word.Log rows = (level : LevelFilter) → ¬ IsLevel (value_in word.Log rows) level
+IsMalformed word.LogFormat rows = (f : LogFormat) → ¬ IsFormat (value_in word.LogFormat rows) f
 IsMalformed word.From rows = (step : Option ℕ) → ¬ IsStep (value_in word.From rows) step
 IsMalformed word.To rows = (step : Option ℕ) → ¬ IsStep (value_in word.To rows) step
 IsMalformed word.TaskAndFile rows = AreWrong (all_of (id_of word.TaskAndFile) rows)

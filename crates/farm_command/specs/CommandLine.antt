@@ -22,6 +22,7 @@ id_of word.Token = codes "token"
 id_of word.Record = codes "record"
 id_of word.Book = codes "book"
 id_of word.Log = codes "log"
+id_of word.LogFormat = codes "log-format"
 id_of word.From = codes "from"
 id_of word.To = codes "to"
 id_of word.Records = codes "records"
@@ -47,6 +48,7 @@ operands_of task.Create file = codes "create" ∷ file ∷ []
 operands_of task.Check file = codes "check" ∷ file ∷ []
 operands_of task.Report file = codes "report" ∷ file ∷ []
 operands_of task.Export file = codes "export" ∷ file ∷ []
+operands_of task.ChangeTerms file = codes "change-terms" ∷ file ∷ []
 operands_of (task.Backup to) file = codes "backup" ∷ file ∷ to.now ∷ []
 
 -- `--NAME VALUE`
@@ -67,6 +69,10 @@ skipped_option = flag_named (codes "skipped")
 -- `--clock-behind`
 abbrev pub clock_option : Rule
 clock_option = flag_named (codes "clock-behind")
+
+-- `--change-terms`
+abbrev pub change_option : Rule
+change_option = flag_named (codes "change-terms")
 
 -- operands, as many as there are
 abbrev pub operands_named : Text → Rule
@@ -93,10 +99,10 @@ abbrev pub line_of : Subcommand → App
 line_of sub.Replay = with_rule (with_options (codes "replay") (word.Site ∷ [])) skipped_option
 line_of sub.Report = with_rule (with_options (codes "report") (word.Site ∷ [])) skipped_option
 line_of sub.Relay =
-    with_options (codes "relay") (word.Site ∷ word.Name ∷ word.Answers ∷ word.Status ∷ word.Token ∷ word.Record ∷ word.Log ∷ [])
+    with_options (codes "relay") (word.Site ∷ word.Name ∷ word.Answers ∷ word.Status ∷ word.Token ∷ word.Record ∷ word.Log ∷ word.LogFormat ∷ [])
 line_of sub.Front =
-    with_rule (with_options (codes "front") (word.Site ∷ word.Book ∷ word.Answers ∷ word.Status ∷ word.Token ∷ word.Record ∷ word.Log ∷ [])) clock_option
-line_of sub.Send = with_options (codes "send") (word.Site ∷ word.Client ∷ word.Peer ∷ word.Record ∷ word.Log ∷ [])
+    with_rule (with_rule (with_options (codes "front") (word.Site ∷ word.Book ∷ word.Answers ∷ word.Status ∷ word.Token ∷ word.Record ∷ word.Log ∷ word.LogFormat ∷ [])) clock_option) change_option
+line_of sub.Send = with_options (codes "send") (word.Site ∷ word.Client ∷ word.Peer ∷ word.Record ∷ word.Log ∷ word.LogFormat ∷ [])
 line_of sub.Check = with_options (codes "check") (word.Site ∷ [])
 line_of sub.Audit = with_rule (with_options (codes "audit") (word.Site ∷ [])) records_rule
 line_of sub.Schedule = with_rule (with_options (codes "schedule") (word.Site ∷ [])) records_rule

@@ -15,6 +15,8 @@ pub enum BookTask<'a> {
     Report,
     /// Its entries are printed, one on a line.
     Export,
+    /// It changes its terms by one entry, so that those of the site hold in it, and what it comes to is printed.
+    ChangeTerms,
     /// It is copied to a new file at this path.
     Backup { to: &'a str },
 }
@@ -29,6 +31,7 @@ pub fn task_named<'a>(word: &str) -> Option<BookTask<'a>>
         "check" => Some(BookTask::Check),
         "report" => Some(BookTask::Report),
         "export" => Some(BookTask::Export),
+        "change-terms" => Some(BookTask::ChangeTerms),
         _ => None,
     }
 }

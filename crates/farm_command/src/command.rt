@@ -33,6 +33,15 @@ pub enum Task<'a> {
     Send { client: &'a str, peer: &'a str },
 }
 
+/// How the log is spelled.
+#[derive(Clone, Copy, Debug, PartialEq, Eq)]
+pub enum LogFormat {
+    /// As text, for people.
+    Text,
+    /// Each fact as `key=value` on one line.
+    Logfmt,
+}
+
 /// A process of a farm over TCP.
 #[derive(Drop)]
 pub struct Process<'a> {
@@ -49,8 +58,12 @@ pub struct Process<'a> {
     pub book: Option<&'a str>,
     /// Whether it serves although the system's clock stands far behind the book.
     pub clock_behind: bool,
+    /// Whether the book of the fronts may change its terms, so that those of the site hold.
+    pub change_terms: bool,
     /// What it logs on standard error.
     pub level: LevelFilter,
+    /// How that is spelled.
+    pub log_format: LogFormat,
 }
 
 /// A look at a site file.

@@ -20,7 +20,7 @@ mod words;
 
 pub use book_task::BookTask;
 pub use command::{
-    Action, Audit, AuditAction, BookCommand, Check, Command, Picture, Process, Run, Task,
+    Action, Audit, AuditAction, BookCommand, Check, Command, LogFormat, Picture, Process, Run, Task,
 };
 pub use fault::CliFault;
 pub use reading::command_of;

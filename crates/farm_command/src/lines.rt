@@ -102,18 +102,31 @@ fn with_ends<'a>(line: Line<'a>, alloc: Global) -> Result<Line<'a>, AllocError>
     with_option(stated, alloc, "token", "FILE", help)
 }
 
-/// The line with `--record` and `--log`.
+/// The line with `--log` and `--log-format`.
+fn with_levels<'a>(line: Line<'a>, alloc: Global) -> Result<Line<'a>, AllocError>
+    ensures shape { (fields_of line.entry).has_globals ≡ false → IfOk result (λ made. app_of made ≡
+        with_rule (with_rule (app_of line.entry) (option_named (codes "log")))
+        (option_named (codes "log-format"))) }
+    ensures local { (fields_of line.entry).has_globals ≡ false →
+        IfOk result (λ made. (fields_of made).has_globals ≡ false) }
+{
+    let help = "What is told on standard error: off, error, warn, info (the default) or debug";
+    let levelled = with_option(line, alloc, "log", "LEVEL", help)?;
+    let help = "How that is spelled: text (the default), or logfmt, as key=value";
+    with_option(levelled, alloc, "log-format", "FORMAT", help)
+}
+
+/// The line with `--record`, `--log` and `--log-format`.
 fn with_log<'a>(line: Line<'a>, alloc: Global) -> Result<Line<'a>, AllocError>
     ensures shape { (fields_of line.entry).has_globals ≡ false → IfOk result (λ made. app_of made ≡
-        with_rule (with_rule (app_of line.entry) (option_named (codes "record")))
-        (option_named (codes "log"))) }
+        with_rule (with_rule (with_rule (app_of line.entry) (option_named (codes "record")))
+        (option_named (codes "log"))) (option_named (codes "log-format"))) }
     ensures local { (fields_of line.entry).has_globals ≡ false →
         IfOk result (λ made. (fields_of made).has_globals ≡ false) }
 {
     let help = "Writes down what happens, behind what the file has: farm audit plays it";
     let recorded = with_option(line, alloc, "record", "FILE", help)?;
-    let help = "What is told on standard error: off, error, warn, info (the default) or debug";
-    with_option(recorded, alloc, "log", "LEVEL", help)
+    with_levels(recorded, alloc)
 }
 
 /// The line with `--site FILE`, which must be there.
@@ -151,7 +164,10 @@ fn front_line<'a>(alloc: Global) -> Result<Line<'a>, AllocError>
     let ending = with_ends(booked, alloc)?;
     let logged = with_log(ending, alloc)?;
     let help = "Serves although the system's clock stands more than a day behind the book";
-    with_flag(logged, alloc, "clock-behind", help)
+    let timed = with_flag(logged, alloc, "clock-behind", help)?;
+    let help =
+        "Changes the terms of the book by one entry, where those of the site do not hold in it";
+    with_flag(timed, alloc, "change-terms", help)
 }
 
 /// `send`.

@@ -6,11 +6,11 @@ ghost use Rattle.clap.specs.Walk.{all_of};
 ghost use Rattle.clap.specs.Words.{fault_of, found_of, kind_of, rows_of, subcommand_of, subcommand_rows_of, takes};
 ghost use Rattle.farm_command.specs.declared.subcommand.Subcommand.TheVariants as sub;
 ghost use Rattle.farm_command.specs.CommandLine.{command_line, id_of, operands_of};
-ghost use Rattle.farm_command.specs.Asked.{AreFew, AreWrong, HasAudit, HasBook, HasProcess, HasOptions, HasPicture, HasReports, HasRun, IsCount, IsFaultBy, IsFaultIn, IsFaultOf, IsLevel, IsMalformed, IsOfKinds, IsPlain, IsReadFrom, IsStep, IsUnknown, of_audit, of_task, flag_in, subcommand_for, value_in};
+ghost use Rattle.farm_command.specs.Asked.{AreFew, AreWrong, HasAudit, HasBook, HasProcess, HasOptions, HasPicture, HasReports, HasRun, IsCount, IsFaultBy, IsFaultIn, IsFaultOf, IsFormat, IsLevel, IsMalformed, IsOfKinds, IsPlain, IsReadFrom, IsStep, IsUnknown, of_audit, of_task, flag_in, subcommand_for, value_in};
 
 use crate::book_task::{BookTask, task_named};
 use crate::command::{
-    Action, Audit, AuditAction, BookCommand, Check, Command, Picture, Process, Run, Task,
+    Action, Audit, AuditAction, BookCommand, Check, Command, LogFormat, Picture, Process, Run, Task,
 };
 use crate::fault::CliFault;
 use crate::lines::command_line;
@@ -75,6 +75,19 @@ fn level_in(found: &ArgMatches<'_>) -> Result<LevelFilter, CliFault>
             Err(_) => Err(CliFault::Malformed(Word::Log)),
         },
         None => Ok(LevelFilter::Info),
+    }
+}
+
+/// How the log is spelled: as text where that is not said.
+fn format_in(found: &ArgMatches<'_>) -> Result<LogFormat, CliFault>
+    ensures value { IfOk result (IsFormat (value_in Word.LogFormat (rows_of (found_of found.now)))) }
+    ensures fault { IfErr result (λ fault. (fault ≡ CliFault.Malformed Word.LogFormat)
+        × IsMalformed Word.LogFormat (rows_of (found_of found.now))) }
+{
+    match value_of(found, Word::LogFormat) {
+        Some("text") | None => Ok(LogFormat::Text),
+        Some("logfmt") => Ok(LogFormat::Logfmt),
+        Some(_) => Err(CliFault::Malformed(Word::LogFormat)),
     }
 }
 
@@ -157,9 +170,10 @@ fn process_of<'a>(
     task: Task<'a>,
     site: &'a str,
     level: LevelFilter,
+    log_format: LogFormat,
     found: &ArgMatches<'a>,
 ) -> Process<'a>
-    ensures is { (result.task ≡ task.entry) × (result.site ≡ site.entry) × (result.level ≡ level) }
+    ensures is { (result.task ≡ task.entry) × (result.site ≡ site.entry) × (result.level ≡ level) × (result.log_format ≡ log_format) }
     ensures reports { HasReports (rows_of (found_of found.now)) result }
 {
     Process {
@@ -170,7 +184,9 @@ fn process_of<'a>(
         record_path: value_of(found, Word::Record),
         book: value_of(found, Word::Book),
         clock_behind: flag_in(found, "clock-behind"),
+        change_terms: flag_in(found, "change-terms"),
         level,
+        log_format,
     }
 }
 
@@ -184,7 +200,8 @@ fn relay_in<'a>(found: &ArgMatches<'a>) -> Result<Process<'a>, CliFault>
     let answers = count_in(found)?;
     let site = text_in(found, Word::Site)?;
     let level = level_in(found)?;
-    Ok(process_of(Task::Relay { name, answers }, site, level, found))
+    let format = format_in(found)?;
+    Ok(process_of(Task::Relay { name, answers }, site, level, format, found))
 }
 
 /// What was found for `front`.
@@ -196,7 +213,8 @@ fn front_in<'a>(found: &ArgMatches<'a>) -> Result<Process<'a>, CliFault>
     let answers = count_in(found)?;
     let site = text_in(found, Word::Site)?;
     let level = level_in(found)?;
-    Ok(process_of(Task::Fronts { answers }, site, level, found))
+    let format = format_in(found)?;
+    Ok(process_of(Task::Fronts { answers }, site, level, format, found))
 }
 
 /// What was found for `send`.
@@ -209,7 +227,8 @@ fn send_in<'a>(found: &ArgMatches<'a>) -> Result<Process<'a>, CliFault>
     let peer = text_in(found, Word::Peer)?;
     let site = text_in(found, Word::Site)?;
     let level = level_in(found)?;
-    Ok(process_of(Task::Send { client, peer }, site, level, found))
+    let format = format_in(found)?;
+    Ok(process_of(Task::Send { client, peer }, site, level, format, found))
 }
 
 /// What was found for `check`.

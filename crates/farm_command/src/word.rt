@@ -18,6 +18,7 @@ pub enum Word {
     Record,
     Book,
     Log,
+    LogFormat,
     From,
     To,
     /// The operands of `audit` and `schedule`.
@@ -42,6 +43,7 @@ impl Word {
             Word::Record => "record",
             Word::Book => "book",
             Word::Log => "log",
+            Word::LogFormat => "log-format",
             Word::From => "from",
             Word::To => "to",
             Word::Records => "records",
@@ -57,6 +59,7 @@ impl Word {
             Word::Status => "ADDRESS",
             Word::Answers => "N",
             Word::Log => "LEVEL",
+            Word::LogFormat => "FORMAT",
             Word::From | Word::To => "STEP",
             Word::Records => "RECORD",
             Word::TaskAndFile => "TASK FILE",
@@ -79,6 +82,7 @@ impl fmt::Display for Word {
             | Word::Record
             | Word::Book
             | Word::Log
+            | Word::LogFormat
             | Word::From
             | Word::To => { write!(f, "--{} {}", self.id(), self.value_name()) }
         }

@@ -12,7 +12,7 @@ use Rattle.dia_message.specs.Traffic.{Traffic}
 use Rattle.cc_view.specs.RequestView.{view_under}
 use Rattle.cc_view.specs.declared.request.CcRequest.{CcRequest}
 use Rattle.cc_book.specs.declared.entry.Entry.{Entry}
-use Rattle.cc_book.specs.declared.entry.Entry.TheVariants.{Take, Sweep}
+use Rattle.cc_book.specs.declared.entry.Entry.TheVariants.{Take, Sweep, ChangeTerms}
 use Rattle.cc_book.specs.AccountMachine.{kept_reply}
 use Rattle.cc_book.specs.History.{IsLegal, ended_sessions}
 use Rattle.cc_book.specs.Taking.{Ledger, with_take, with_sweep}
@@ -68,6 +68,7 @@ ComesFrom-sent more (on_its_way d) = on_its_way (HasDescended-sent more d)
 IsTaken-sent : (p : Parties) (sent more : Traffic) (entry : Entry) → IsTaken p sent entry → IsTaken p (sent ++ more) entry
 IsTaken-sent p sent more (Take moment request) t = (t.0, t.1, Has-append more t.2, t.3, t.4)
 IsTaken-sent p sent more (Sweep moment) t = t
+IsTaken-sent p sent more (ChangeTerms moment change) t = t
 
 module _ (p : Parties) {has_ended : NodeNo → ConnId → Bool} {items : List Item} {rows : List PendingRow} {book : Ledger}
     {refused : List Refused} {sent received : Traffic} (v : Keeps p has_ended items rows book refused sent received) where

@@ -8,7 +8,7 @@ use Rattle.dia_message.specs.declared.message.Message.{Message}
 use Rattle.dia_message.specs.Traffic.{Traffic}
 use Rattle.cc_view.specs.RequestView.{view_under}
 use Rattle.cc_book.specs.declared.entry.Entry.{Entry}
-use Rattle.cc_book.specs.declared.entry.Entry.TheVariants.{Take, Sweep}
+use Rattle.cc_book.specs.declared.entry.Entry.TheVariants.{Take, Sweep, ChangeTerms}
 use Rattle.cc_book.specs.History.{IsLegal}
 use Rattle.cc_book.specs.Taking.{Ledger}
 use Rattle.front_core.specs.Counts.{requests_with, answers_with}
@@ -76,11 +76,13 @@ pub data ComesFrom (sent : Traffic) (message : Message) : Type 0 where
   as_sent : (conn : ConnId) → Has (conn, message) sent → ComesFrom sent message
   on_its_way : HasDescended sent message → ComesFrom sent message
 
--- An entry takes what is read in a request that a client sent. A sweep takes nothing of any message.
+-- An entry takes what is read in a request that a client sent. A sweep takes nothing of any message. No step of the farm changes
+-- the terms of its book.
 abbrev pub IsTaken : Parties → Traffic → Entry → Type 0
 IsTaken p sent (Take moment request) =
     (conn : ConnId) × (message : Message) × Has (conn, message) sent × (message.header.request ≡ true) × (view_under p.profile message ≡ Ok request)
 IsTaken p sent (Sweep moment) = Unit {0}
+IsTaken p sent (ChangeTerms moment change) = ⊥
 
 -- ---- the whole
 

@@ -51,6 +51,9 @@ pub enum Fault {
     StatusAddress,
     #[error("the status port cannot be opened: {0}")]
     Status(io::Error),
+    /// A token is named, and no status port, by which it would end the process.
+    #[error("error: --token FILE goes with --status ADDRESS")]
+    TokenAlone,
     #[error("the token's file can be neither read nor made")]
     TokenFile,
     #[error("the token's file is not its owner's alone: chmod 600 makes it so")]
@@ -110,7 +113,7 @@ impl Fault {
     pub fn status(&self) -> Status {
         match self {
             Fault::Words(fault) => fault.status(),
-            Fault::StatusAddress => Status::Misused,
+            Fault::StatusAddress | Fault::TokenAlone => Status::Misused,
             Fault::Site(SiteFault::OutOfMemory)
             | Fault::Access(AccessFault::OutOfMemory)
             | Fault::BookKey(BookKeyFault::OutOfMemory)
@@ -126,7 +129,13 @@ impl Fault {
             | Fault::Clock(_)
             | Fault::Place(PlaceFault::NoAddress | PlaceFault::UnknownName { .. })
             | Fault::Lines(LinesFault::NoMessage { .. })
-            | Fault::Book(BookFault::OtherTerms(_) | BookFault::DamagedTerms | BookFault::Row(_))
+            | Fault::Book(
+                BookFault::OtherTerms(_)
+                | BookFault::TermsDiffer(_)
+                | BookFault::NotChanged(_)
+                | BookFault::DamagedTerms
+                | BookFault::Row(_),
+            )
             | Fault::NoToken => Status::Refused,
             Fault::SiteFile
             | Fault::Read
@@ -137,7 +146,7 @@ impl Fault {
             | Fault::TokenFile
             | Fault::TokenSeen
             | Fault::Record(_)
-            | Fault::Book(BookFault::File(_))
+            | Fault::Book(BookFault::File(_) | BookFault::NotStored(_))
             | Fault::BookNotStored
             | Fault::Ended => Status::Failed,
         }

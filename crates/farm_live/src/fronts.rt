@@ -1,9 +1,11 @@
 //! A process that serves as all fronts of the site.
 
-ghost use Rattle.std.specs.Prelude.{◌≡◌, ◌<◌, ◌≤◌, ◌*◌, is_some, length};
+ghost use Rattle.std.specs.Prelude.{◌≡◌, ◌<◌, ◌≤◌, ◌*◌, is_some, length, IfOk};
 ghost use Rattle.dia_base.specs.declared.number.NodeNo.{NodeNo};
 ghost use Rattle.farm_base.specs.CheckedSite.{IsChecked};
-ghost use Rattle.book_journal.specs.Kept.{IsKeptBy, IsSettled, IsUnder};
+ghost use Rattle.book_journal.specs.Kept.{IsKeptBy, IsSettled};
+ghost use Rattle.book_opening.specs.Opened.{Serves, now_in};
+ghost use Rattle.book_terms.specs.Difference.{Hold};
 ghost use Rattle.farm_model.specs.Run.{empty_book};
 ghost use Rattle.farm_place.specs.Places.{fronts_from};
 ghost use Rattle.pool_node.specs.Fronts.{site_of};
@@ -15,18 +17,20 @@ use crate::waker::LoopWaker;
 use book_clock::check_clock;
 use book_file::FileBook;
 use book_journal::Journal;
-use book_opening::{identity_at, serving_book, state_id_of, where_allowed};
+use book_opening::{copy_of_terms, identity_at, renewed, serving_book, state_id_of};
 use book_store::RowStore;
-use cc_book::Book;
+use cc_book::{Book, Terms};
 use cc_shared::{BlankHistory, SharedBook};
 use dia_avp::ViewWire;
 use dia_base::NodeNo;
 use farm_clock::Timer;
+use farm_command::Process;
 use farm_loop::Sockets;
 use farm_place::{Place, fronts_of, place_of};
 use farm_world::empty_book;
 use front_pool::Pooling;
 use pool_node::{PoolFronts, Timing, seats_for, start_fronts};
+use std::alloc::Global;
 use std::marker::Brand;
 use std::net::Net;
 use std::random::RandomSource;
@@ -60,25 +64,51 @@ where
     };
     let workers = workers.max(1);
     let empty = empty_book(alloc, site)?;
-    match serving_book(setting.rt, setting.book, empty) {
-        Ok(served) => {
-            let timing = Timing::on(timer, &served.1);
-            let allowed = check_timing(timer, timing, setting.command.clock_behind);
-            match where_allowed(served, allowed) {
-                Ok((journal, book)) => serve_on::<Brand, O>(
-                    setting,
-                    nodes,
-                    listening,
-                    Blank::new(workers),
-                    BlankHistory::new(),
-                    book,
-                    journal,
-                    timing,
-                    workers,
-                    answers,
-                ),
-                Err(fault) => Err(fault),
-            }
+    let wanted = copy_of_terms(alloc, empty.terms())?;
+    match serving_book(setting.rt, setting.book, site.limit, empty) {
+        Ok(opened) => match allowed_to_serve(alloc, opened, &wanted, timer, setting.command) {
+            Ok((journal, book, timing)) => serve_on::<Brand, O>(
+                setting,
+                nodes,
+                listening,
+                Blank::new(workers),
+                BlankHistory::new(),
+                book,
+                journal,
+                timing,
+                workers,
+                answers,
+            ),
+            Err(fault) => Err(fault),
+        },
+        Err(fault) => Err(Fault::Book(fault)),
+    }
+}
+
+/// A book that was opened, under the terms of the site, and the timing of who serves on it. It is let go of as it was if the clock stands
+/// far behind it, or if the terms of the site do not hold in it and it may not change its own.
+fn allowed_to_serve<S: RowStore + Drop>(
+    alloc: Global,
+    opened: (Journal<S>, Book),
+    wanted: &Terms,
+    timer: Timer,
+    command: &Process<'_>,
+) -> Result<(Journal<S>, Book, Timing), Fault>
+    requires kept { IsKeptBy S.is_clean S.is_ready S.rows opened.0 opened.1 }
+    requires settled { IsSettled opened.0 }
+    ensures hold { IfOk result (λ served. Hold (now_in served.1) wanted.now) }
+    ensures limit { IfOk result (λ served. served.1.limit ≡ opened.1.limit) }
+    ensures kept { IfOk result (λ served. IsKeptBy S.is_clean S.is_ready S.rows served.0 served.1) }
+    ensures settled { IfOk result (λ served. IsSettled served.0) }
+    ensures store { IfOk result (λ served. is_some served.0.store ≡ is_some opened.0.store) }
+{
+    let timing = Timing::on(timer, &opened.1);
+    check_timing(timer, timing, command.clock_behind)?;
+    let moment = timing.timer.first();
+    match renewed(alloc, opened, wanted, moment, command.change_terms) {
+        Ok((journal, book)) => {
+            let timing = Timing::on(timing.timer, &book);
+            Ok((journal, book, timing))
         }
         Err(fault) => Err(Fault::Book(fault)),
     }
@@ -164,7 +194,7 @@ where
     O: Threads + Wait + Net + Clock + RandomSource + Copy + Send + 'static,
     requires checked { IsChecked setting.now.site.now }
     requires nodes { nodes.items ≡ fronts_from 0 setting.now.site.now.nodes }
-    requires under { IsUnder (empty_book setting.now.site.now) book }
+    requires serves { Serves (empty_book setting.now.site.now) book }
     requires stored { is_some journal.store ≡ is_some setting.now.book }
     requires name { blank.name ≡ L.name }
     requires parts { (blank.parts ≡ L.parts) × (blank.parts ≡ workers) }
@@ -212,7 +242,7 @@ where
     O: Threads + Wait + Clock + Copy + Send + 'static,
     requires checked { IsChecked setting.now.site.now }
     requires nodes { nodes.now ≡ fronts_from 0 setting.now.site.now.nodes }
-    requires under { IsUnder (empty_book setting.now.site.now) book }
+    requires serves { Serves (empty_book setting.now.site.now) book }
     requires stored { is_some journal.store ≡ is_some setting.now.book }
     requires name { blank.name ≡ L.name }
     requires parts { (blank.parts ≡ L.parts) × (blank.parts ≡ workers) }

@@ -3,17 +3,20 @@
 //! - `program`: words, site file, and what is asked for. `setting`: what a process is started with.
 //! - `relay`, `fronts`, `sending`: to serve as a relay or as all fronts, or to send. `serving`, `turns`: what these have in
 //!   common.
+//! - `label`: how the log is spelled, and what it calls the process.
 //! - `waker`: how the workers of fronts end the wait of the loop.
-//! - `watching`, `view`, `token`: what it says of itself on its status port, and who may end it there.
+//! - `watching`, `rising`, `view`, `token`: what it says of itself in its log and on its status port, and who may end it there.
 //! - `recording`: the record of what happens, which is written before anything goes to the sockets.
 //! - `fault`: why the program does not do it, and its exit status.
 #![tactic(auto)]
 
 mod fault;
 mod fronts;
+mod label;
 mod program;
 mod recording;
 mod relay;
+mod rising;
 mod sending;
 mod serving;
 mod setting;
@@ -24,13 +27,13 @@ mod waker;
 mod watching;
 
 use farm_command::end;
+use farm_log::Lines;
 use log::Logged;
-use log::sink::Console;
 use program::farm;
 use std::process::ExitCode;
 
 /// What tells an operator what happens, on standard error.
-pub type Logger = Logged<HostRuntime, Console<HostRuntime>>;
+pub type Logger = Logged<HostRuntime, Lines<HostRuntime>>;
 
 fn main(rt: HostRuntime) -> ExitCode {
     match farm(&rt, &rt) {

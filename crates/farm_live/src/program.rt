@@ -10,6 +10,7 @@ ghost use Rattle.toml.specs.View.{table_view};
 
 use crate::fault::Fault;
 use crate::fronts::serve_fronts;
+use crate::label::lines_of;
 use crate::relay::serve_relay;
 use crate::sending::send;
 use crate::setting::Setting;
@@ -20,7 +21,6 @@ use farm_command::{CliFault, Command, Process, Task, command_of, words_of};
 use farm_site::{SiteDocument, site_document_of_octets};
 use farm_text::{ReadFault, file_at};
 use log::Logged;
-use log::sink::Console;
 use std::alloc::Global;
 use std::net::Net;
 use std::random::RandomSource;
@@ -113,7 +113,8 @@ where
     O: Threads + Wait + Net + Clock + RandomSource + Copy + Send + 'static,
 {
     let spelled = spelled_at(rt, command)?;
-    let log = Logged::new(*rt, command.level, Console(*rt));
+    let lines = lines_of(rt, command, &spelled.site)?;
+    let log = Logged::new(*rt, command.level, lines);
     let setting = Setting {
         os,
         rt,

@@ -20,7 +20,13 @@ pub fn turn<O: Net + Clock, N: Booked>(
     let moment = live.hear(setting.os, setting.log, setting.site, setting.access)?;
     N::tell(live);
     recording.write(setting.log, live);
-    live.answer(setting.os, setting.log, setting.site, moment)?;
+    live.answer(
+        setting.os,
+        setting.log,
+        setting.site,
+        setting.access,
+        moment,
+    )?;
     if live.serving.node().has_failed() {
         return Err(Fault::BookNotStored);
     }

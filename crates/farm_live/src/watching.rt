@@ -2,11 +2,13 @@
 
 use crate::Logger;
 use crate::fault::Fault;
+use crate::rising::Rising;
 use crate::setting::Setting;
 use crate::token::token_at;
 use crate::view::{Booked, View, open_in};
 use dia_base::NodeNo;
 use farm_base::Site;
+use farm_clock::Timer;
 use farm_command::Process;
 use farm_loop::{Live, StatusPort};
 use farm_node::Node;
@@ -23,10 +25,11 @@ pub struct Watching {
     nodes: Vec<NodeNo>,
     /// The hundredths of the book that were told of last.
     told: u64,
-    /// How many answers that nobody waited for were told of last.
-    strangers: u64,
-    /// How many answers whose request has another End-to-End Identifier were told of last.
-    mismatched: u64,
+    timer: Timer,
+    /// How many answers came that nobody waited for.
+    strangers: Rising,
+    /// How many answers came whose request has another End-to-End Identifier.
+    mismatched: Rising,
 }
 
 /// The hundredths of the book at which its filling is told.
@@ -78,10 +81,13 @@ fn token_of(rt: &HostRuntime, command: &Process<'_>) -> Result<Option<Token>, Fa
 fn port_of<O: Net + Clock + RandomSource>(
     setting: &Setting<'_, O>,
 ) -> Result<Option<StatusPort>, Fault> {
-    let token = token_of(setting.rt, setting.command)?;
     let Some(text) = setting.command.status else {
-        return Ok(None);
+        return match setting.command.token {
+            Some(_) => Err(Fault::TokenAlone),
+            None => Ok(None),
+        };
     };
+    let token = token_of(setting.rt, setting.command)?;
     let address = address_of(text)?;
     match StatusPort::open(setting.os, setting.rt.alloc(), address, token) {
         Ok(port) => Ok(Some(port)),
@@ -101,8 +107,9 @@ impl Watching {
             port,
             nodes,
             told: 0,
-            strangers: 0,
-            mismatched: 0,
+            timer: Timer::start(setting.os)?,
+            strangers: Rising::zero(),
+            mismatched: Rising::zero(),
         })
     }
 
@@ -114,8 +121,9 @@ impl Watching {
         live: &Live<N>,
     ) -> Result<bool, Fault> {
         self.tell_filling(setting.log, setting.site, live);
-        self.tell_strangers(setting.log, live);
-        self.tell_mismatched(setting.log, live);
+        let second = self.timer.now(setting.os)?.0 / 1_000;
+        self.tell_strangers(setting.log, live, second);
+        self.tell_mismatched(setting.log, live, second);
         let Some(port) = &mut self.port else {
             return Ok(false);
         };
@@ -151,19 +159,27 @@ impl Watching {
     }
 
     /// Tells of answers of workers that were dropped since nobody waited for them.
-    fn tell_strangers<N: Node + Drop + Booked>(&mut self, log: &Logger, live: &Live<N>) {
+    fn tell_strangers<N: Node + Drop + Booked>(
+        &mut self,
+        log: &Logger,
+        live: &Live<N>,
+        second: u64,
+    ) {
         let now = live.serving.node().strangers();
-        if now > self.strangers {
-            self.strangers = now;
+        if self.strangers.tells(now, second) {
             error!(log; target: "farm", "{now} answers of workers were dropped, for which no front waited");
         }
     }
 
     /// Tells of answers that were dropped since their request has another End-to-End Identifier.
-    fn tell_mismatched<N: Node + Drop + Booked>(&mut self, log: &Logger, live: &Live<N>) {
+    fn tell_mismatched<N: Node + Drop + Booked>(
+        &mut self,
+        log: &Logger,
+        live: &Live<N>,
+        second: u64,
+    ) {
         let now = live.serving.node().mismatched();
-        if now > self.mismatched {
-            self.mismatched = now;
+        if self.mismatched.tells(now, second) {
             warn!(log; target: "farm", "{now} answers were dropped, whose request has another End-to-End Identifier");
         }
     }

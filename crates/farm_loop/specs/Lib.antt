@@ -1,4 +1,5 @@
 pub mod Callers
 pub mod Dialing
+pub mod Ending
 pub mod Pausing
 pub mod Tokens

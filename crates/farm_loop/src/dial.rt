@@ -27,6 +27,8 @@ pub struct Dial {
     pub state: DialState,
     /// Whether it has failed or ended once.
     pub has_ended: bool,
+    /// Whether the log has told why the one that was made last fails.
+    pub is_explained: bool,
 }
 
 /// How many intervals of the watchdog pass before a node is connected to again that has said goodbye since it is busy, or
@@ -52,7 +54,7 @@ impl Dial {
         ensures ends { (result.local ≡ local) × (result.peer ≡ peer) }
         ensures due { IsTrue has_address → result.state ≡ DialState.Due (record { 0 = 0 }) }
         ensures nowhere { has_address ≡ false → result.state ≡ DialState.Nowhere }
-        ensures fresh { result.has_ended ≡ false }
+        ensures fresh { (result.has_ended ≡ false) × (result.is_explained ≡ false) }
     {
         let at = Moment(0);
         let state = if has_address {
@@ -65,6 +67,7 @@ impl Dial {
             peer,
             state,
             has_ended: false,
+            is_explained: false,
         }
     }
 
@@ -80,9 +83,17 @@ impl Dial {
 
     /// It was made.
     pub fn make(&mut self, conn: ConnId)
-        ensures { self.new ≡ record self.old { state = DialState.Made conn } }
+        ensures { self.new ≡ record self.old { state = DialState.Made conn; is_explained = false } }
     {
         self.state = DialState::Made { conn };
+        self.is_explained = false;
+    }
+
+    /// The log has told why it fails.
+    pub fn explain(&mut self)
+        ensures { self.new ≡ record self.old { is_explained = true } }
+    {
+        self.is_explained = true;
     }
 
     /// It has failed, or has ended: it is made again so many milliseconds later.

@@ -6,6 +6,7 @@ use mio::{Interest, Registry, Token};
 use std::alloc::Global;
 use std::io;
 use std::io::{ErrorKind, Read, Write};
+use std::net::IpAddr;
 use std::os::fd::AsRawFd;
 use std::sync::Arc;
 
@@ -28,10 +29,20 @@ pub enum Drain {
 pub struct Half {
     stream: Arc<TcpStream, Global>,
     drain: Drain,
+    /// From where its other end has connected, if that has.
+    origin: Option<IpAddr>,
+    /// What the first read gave, if its other end has connected.
+    first: Vec<u8>,
+    /// Why a call failed last, if one has.
+    fault: Option<ErrorKind>,
 }
 
-/// The reader and the writer of a socket.
-pub fn halves(alloc: Global, stream: TcpStream) -> io::Result<(Half, Half)> {
+/// The reader and the writer of a socket, whose other end has connected from this address, if it has.
+pub fn halves(
+    alloc: Global,
+    stream: TcpStream,
+    origin: Option<IpAddr>,
+) -> io::Result<(Half, Half)> {
     let _ = stream.set_nodelay(true);
     let Ok(stream) = Arc::new(alloc, stream) else {
         return Err(ErrorKind::OutOfMemory.into());
@@ -39,18 +50,46 @@ pub fn halves(alloc: Global, stream: TcpStream) -> io::Result<(Half, Half)> {
     let Ok(other) = Arc::try_clone(&stream) else {
         return Err(ErrorKind::OutOfMemory.into());
     };
-    let reader = Half {
-        stream,
-        drain: Drain::Empty,
-    };
-    let writer = Half {
-        stream: other,
-        drain: Drain::Empty,
-    };
-    Ok((reader, writer))
+    Ok((
+        Half::new(alloc, stream, origin),
+        Half::new(alloc, other, origin),
+    ))
 }
 
 impl Half {
+    /// Nothing was read or written yet.
+    fn new(alloc: Global, stream: Arc<TcpStream, Global>, origin: Option<IpAddr>) -> Half {
+        Half {
+            stream,
+            drain: Drain::Empty,
+            origin,
+            first: Vec::new(alloc),
+            fault: None,
+        }
+    }
+
+    /// From where the other end has connected, if it has.
+    pub fn origin(&self) -> Option<IpAddr> {
+        self.origin
+    }
+
+    /// What the first read gave, if the other end has connected and memory was there.
+    pub fn first(&self) -> &[u8] {
+        &self.first
+    }
+
+    /// Keeps what the first read gave.
+    fn keep_first(&mut self, octets: &[u8]) {
+        if self.origin.is_some() && self.first.is_empty() {
+            let _ = self.first.extend_from_slice(octets);
+        }
+    }
+
+    /// Why a call failed last, if one has: not those that would have waited.
+    pub fn fault(&self) -> Option<ErrorKind> {
+        self.fault
+    }
+
     /// Whether there may be more to read, where it is reported that nothing comes behind that, or not: the end of a stream is
     /// reported once, and read behind all else.
     pub fn may_have_more(&self, closes: bool) -> bool {
@@ -69,6 +108,17 @@ impl Half {
             token,
             Interest::READABLE | Interest::WRITABLE,
         )
+    }
+}
+
+/// Why a call has failed, if it has, and not only would have waited.
+fn fault_of(outcome: &io::Result<usize>) -> Option<ErrorKind> {
+    match outcome {
+        Ok(_) => None,
+        Err(error) => match error.kind() {
+            ErrorKind::WouldBlock | ErrorKind::Interrupted => None,
+            kind => Some(kind),
+        },
     }
 }
 
@@ -91,6 +141,12 @@ impl Read for Half {
         let mut stream = &*self.stream;
         let outcome = stream.read(buf);
         self.drain = drain_after(&outcome, buf.len());
+        self.fault = fault_of(&outcome).or(self.fault);
+        if let Ok(count) = &outcome
+            && let Some(octets) = buf.get(..*count)
+        {
+            self.keep_first(octets);
+        }
         outcome
     }
 }
@@ -98,7 +154,9 @@ impl Read for Half {
 impl Write for Half {
     fn write(&mut self, buf: &[u8]) -> io::Result<usize> {
         let mut stream = &*self.stream;
-        stream.write(buf)
+        let outcome = stream.write(buf);
+        self.fault = fault_of(&outcome).or(self.fault);
+        outcome
     }
 
     fn flush(&mut self) -> io::Result<()> {

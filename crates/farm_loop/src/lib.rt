@@ -19,12 +19,17 @@ mod coming;
 mod dial;
 mod fault;
 mod half;
+mod kind;
+mod limits;
 mod live;
 mod outgoing;
 mod pause;
 mod port;
+mod rejected;
 mod sockets;
 mod tell;
+mod telling;
+mod why;
 
 pub use dial::{Dial, DialState, PATIENT_INTERVALS, are_tried, wait_after};
 use farm_net::Counted;

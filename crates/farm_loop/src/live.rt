@@ -8,8 +8,14 @@ use crate::coming::{barred_on, names_for};
 use crate::dial::{Dial, DialState, are_tried, wait_after};
 use crate::fault::LoopFault;
 use crate::half::{Half, halves};
+use crate::kind::Kind;
+use crate::limits::Limits;
 use crate::outgoing::Outgoing;
+use crate::rejected::rejected_on;
 use crate::sockets::{Callers, Ready, Sockets, Source, token_of};
+use crate::tell::{At, Named};
+use crate::telling::{explain, pair_of, tell_note, tell_refused};
+use crate::why::Why;
 use crate::{Served, tell};
 use dia_avp::ViewWire;
 use dia_base::{ConnId, Identity, Moment, NodeNo};
@@ -27,7 +33,7 @@ use std::alloc::Global;
 use std::io;
 use std::io::ErrorKind;
 use std::mem::swap;
-use std::net::{Net, SocketAddr};
+use std::net::{IpAddr, Net, SocketAddr};
 use std::rt::Clock;
 
 /// The most connections that are taken of one listener in a turn.
@@ -68,6 +74,8 @@ pub struct Live<N> {
     later: Vec<Unread>,
     /// Which connections are read while requests wait to be written on others.
     outgoing: Outgoing,
+    /// How many lines of the log there are lately.
+    limits: Limits,
     /// How many lines of the log were missing when that was last told.
     dropped: u64,
     timer: Timer,
@@ -120,7 +128,7 @@ fn begin<O: Net>(os: &O, alloc: Global, address: SocketAddr) -> io::Result<(Half
         Ok(own) => own.port(),
         Err(_) => 0,
     };
-    let (reader, writer) = halves(alloc, stream)?;
+    let (reader, writer) = halves(alloc, stream, None)?;
     Ok((reader, writer, port))
 }
 
@@ -151,6 +159,7 @@ impl<N: Node + Drop> Live<N> {
         let moment = timer.now(os)?;
         let dials = dials_of(alloc, site, &places)?;
         let (addresses, locals) = ends_of(alloc, places)?;
+        let limits = Limits::new(alloc, site.nodes.as_slice().len())?;
         Ok(Live {
             alloc,
             serving: Serving::new(alloc, node, locals),
@@ -161,6 +170,7 @@ impl<N: Node + Drop> Live<N> {
             again: Vec::new(alloc),
             later: Vec::new(alloc),
             outgoing: Outgoing::new(alloc, site.watchdog, moment),
+            limits,
             dropped: 0,
             timer,
             interval: site.watchdog,
@@ -201,6 +211,7 @@ impl<N: Node + Drop> Live<N> {
             again: _,
             later: _,
             outgoing: _,
+            limits: _,
             dropped: _,
             timer: _,
             interval: _,
@@ -217,7 +228,7 @@ impl<N: Node + Drop> Live<N> {
         access: &Access,
     ) -> Result<(), LoopFault> {
         let moment = self.hear(os, log, site, access)?;
-        self.answer(os, log, site, moment)
+        self.answer(os, log, site, access, moment)
     }
 
     /// The first half of a turn: waits 100 milliseconds at most, reads what is ready and need not wait for others, takes
@@ -252,11 +263,12 @@ impl<N: Node + Drop> Live<N> {
         os: &O,
         log: &L,
         site: &Site,
+        access: &Access,
         moment: Moment,
     ) -> Result<(), LoopFault> {
         self.serving.write_all::<ViewWire>(moment);
-        self.let_go(log, site, moment);
-        self.tell_notes(log, site);
+        self.tell_notes(log, site, moment);
+        self.let_go(log, site, access, moment);
         self.listen_where_due(os, log, site)?;
         if self.serving.has_failed() {
             return Err(LoopFault::OutOfMemory);
@@ -467,7 +479,8 @@ impl<N: Node + Drop> Live<N> {
                 _ => {
                     let moment = Moment(moment.0.saturating_add(AGAIN));
                     listening.callers = Callers::From { moment };
-                    tell::failed(log, "a connection cannot be accepted", &error);
+                    let node = Named { site, node: local };
+                    tell::failed(log, node, "a connection cannot be accepted", &error);
                     false
                 }
             },
@@ -487,18 +500,21 @@ impl<N: Node + Drop> Live<N> {
         moment: Moment,
     ) {
         let address = canonical(peer.ip());
+        let node = Named { site, node: local };
         if !access.admits(address) {
-            tell::not_admitted(log, site, local, address);
+            if self.limits.admit(Kind::NotAdmitted, None, moment) {
+                tell::not_admitted(log, node, address);
+            }
             return;
         }
         let Ok(barred) = barred_on(self.alloc, site, access, local, address) else {
-            tell::not_taken(log, site, local, Refusal::OutOfMemory);
+            self.tell_not_taken(log, node, address, Refusal::OutOfMemory, moment);
             return;
         };
-        let (reader, writer) = match halves(self.alloc, stream) {
+        let (reader, writer) = match halves(self.alloc, stream, Some(address)) {
             Ok(both) => both,
-            Err(error) => {
-                tell::failed(log, "a connection cannot be taken", &error);
+            Err(_) => {
+                self.tell_not_taken(log, node, address, Refusal::OutOfMemory, moment);
                 return;
             }
         };
@@ -510,20 +526,56 @@ impl<N: Node + Drop> Live<N> {
             moment,
         ) {
             Ok(conn) => {
-                tell::taken(log, site, local, conn, address);
+                self.tell_taken(log, node, conn, address, moment);
                 self.serving.record_taken(conn, u64::from(peer.port()));
-                self.register(log, conn);
+                self.register(log, node, conn);
             }
-            Err(refused) => tell::not_taken(log, site, local, refused.why),
+            Err(refused) => self.tell_not_taken(log, node, address, refused.why, moment),
+        }
+    }
+
+    /// Tells that a connection was taken.
+    fn tell_taken<L: Log>(
+        &mut self,
+        log: &L,
+        local: Named<'_>,
+        conn: ConnId,
+        address: IpAddr,
+        moment: Moment,
+    ) {
+        if self.limits.admit(Kind::Taken, None, moment) {
+            let origin = Some(address);
+            tell::taken(
+                log,
+                At {
+                    local,
+                    conn,
+                    origin,
+                },
+            );
+        }
+    }
+
+    /// Tells that one was not.
+    fn tell_not_taken<L: Log>(
+        &mut self,
+        log: &L,
+        node: Named<'_>,
+        address: IpAddr,
+        why: Refusal,
+        moment: Moment,
+    ) {
+        if self.limits.admit(Kind::NotTaken, None, moment) {
+            tell::not_taken(log, node, address, why);
         }
     }
 
     /// Has a connection reported. Where that fails, nothing is heard of it, and it ends an interval later.
-    fn register<L: Log>(&mut self, log: &L, conn: ConnId) {
+    fn register<L: Log>(&mut self, log: &L, node: Named<'_>, conn: ConnId) {
         if let Some(link) = self.serving.link(conn) {
             let half = link.conn.reader().device();
             if let Err(error) = half.register(self.sockets.registry(), token_of(conn)) {
-                tell::failed(log, "a connection cannot be watched", &error);
+                tell::failed(log, node, "a connection cannot be watched", &error);
             }
         }
     }
@@ -568,7 +620,7 @@ impl<N: Node + Drop> Live<N> {
         let (reader, writer, port) = match begin(os, self.alloc, address) {
             Ok(begun) => begun,
             Err(error) => {
-                tell::not_made(log, site, dial.local, dial.peer, &error);
+                tell::not_made(log, pair_of(site, &dial), &error);
                 return None;
             }
         };
@@ -583,11 +635,15 @@ impl<N: Node + Drop> Live<N> {
             Ok(conn) => {
                 self.serving
                     .record_dial(conn, dial.local, dial.peer, u64::from(port));
-                self.register(log, conn);
+                let node = Named {
+                    site,
+                    node: dial.local,
+                };
+                self.register(log, node, conn);
                 Some(conn)
             }
             Err(refused) => {
-                tell::not_taken(log, site, dial.local, refused.why);
+                tell::not_begun(log, pair_of(site, &dial), refused.why);
                 None
             }
         }
@@ -595,16 +651,22 @@ impl<N: Node + Drop> Live<N> {
 
     /// Lets the connections go that have ended: those that this process has made are made again later, by why their other end
     /// has said goodbye, if it has.
-    fn let_go<L: Log>(&mut self, log: &L, site: &Site, moment: Moment) {
+    fn let_go<L: Log>(&mut self, log: &L, site: &Site, access: &Access, moment: Moment) {
         for _ in 0..self.serving.count() {
             let Some(ended) = self.serving.take_ended(moment) else {
                 return;
             };
             let wait = wait_after(ended.farewell, self.interval);
+            let why = Why::of(ended.why, ended.farewell, &ended.streams);
+            let rejected = rejected_on(self.alloc, site, access, &ended);
+            tell_refused(log, &mut self.limits, site, &ended, rejected, why, moment);
             for dial in self.dials.iter_mut() {
                 if dial.is_made(ended.conn) {
-                    if ended.peer.is_none() {
-                        tell::not_up(log, site, dial.local, dial.peer, ended.why);
+                    if ended.peer.is_none()
+                        && !dial.is_explained
+                        && self.limits.admit(Kind::NotMade, Some(dial.peer), moment)
+                    {
+                        tell::not_up(log, pair_of(site, dial), why);
                     }
                     dial.fail(moment, wait);
                 }
@@ -613,12 +675,14 @@ impl<N: Node + Drop> Live<N> {
     }
 
     /// Tells what has happened.
-    fn tell_notes<L: Log>(&mut self, log: &L, site: &Site) {
+    fn tell_notes<L: Log>(&mut self, log: &L, site: &Site, moment: Moment) {
+        self.limits.tell_held(log, site, moment);
         for _ in 0..NOTE_LIMIT {
             let Some(note) = self.serving.take_note() else {
                 return;
             };
-            tell::note(log, site, note);
+            explain(self.dials.as_mut_slice(), &note);
+            tell_note(log, &mut self.limits, site, &self.serving, &note, moment);
         }
         let dropped = self.serving.notes_dropped();
         if self.dropped < dropped {
@@ -647,7 +711,11 @@ impl<N: Node + Drop> Live<N> {
         self.listens = true;
         for address in &self.addresses {
             self.sockets.listen(os, address.node, address.socket)?;
-            tell::listens(log, site, address.node, address.socket);
+            let node = Named {
+                site,
+                node: address.node,
+            };
+            tell::listens(log, node, address.socket);
         }
         Ok(())
     }

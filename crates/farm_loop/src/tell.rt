@@ -1,10 +1,14 @@
 //! What an operator reads of what happens.
 
+use crate::kind::Kind;
+use crate::rejected::Rejected;
+use crate::why::{Fault, Why};
 use dia_base::{ConnId, Identity, NodeNo};
 use farm_base::Site;
-use farm_serve::{End, Note, Refusal};
+use farm_node::NodeError;
+use farm_serve::Refusal;
 use farm_watch::DisconnectCause;
-use log::{Log, info, warn};
+use log::{Level, Log, debug, info, warn};
 use std::net::{IpAddr, SocketAddr};
 use std::{fmt, io};
 
@@ -43,11 +47,64 @@ impl fmt::Display for AddressOf<'_> {
     }
 }
 
-/// A name as a message says it.
+/// A connection of a node of this process: its number, and from where its other end has connected, if it has.
+#[derive(Clone, Copy)]
+pub struct At<'a> {
+    pub local: Named<'a>,
+    pub conn: ConnId,
+    pub origin: Option<IpAddr>,
+}
+
+impl fmt::Display for At<'_> {
+    fn fmt<W: fmt::Write>(&self, f: &mut fmt::Formatter<W>) -> fmt::Result {
+        write!(f, "{}, connection {}", self.local, self.conn.0)
+    }
+}
+
+/// The same with the address.
+#[derive(Clone, Copy)]
+struct WithOrigin<'a>(At<'a>);
+
+impl fmt::Display for WithOrigin<'_> {
+    fn fmt<W: fmt::Write>(&self, f: &mut fmt::Formatter<W>) -> fmt::Result {
+        match self.0.origin {
+            Some(address) => write!(f, "{} from {address}", self.0),
+            None => write!(f, "{}", self.0),
+        }
+    }
+}
+
+/// The two nodes of a connection that one of this process makes.
+#[derive(Clone, Copy)]
+pub struct Pair<'a> {
+    pub local: Named<'a>,
+    pub peer: Named<'a>,
+}
+
+impl fmt::Display for Pair<'_> {
+    fn fmt<W: fmt::Write>(&self, f: &mut fmt::Formatter<W>) -> fmt::Result {
+        let (local, peer) = (self.local, self.peer);
+        let address = AddressOf(peer);
+        write!(f, "{local} cannot connect to {peer} at {address}")
+    }
+}
+
+/// That a node of this name answers, as a message says it.
 #[derive(Clone, Copy)]
 struct Said<'a>(&'a Identity);
 
 impl fmt::Display for Said<'_> {
+    fn fmt<W: fmt::Write>(&self, f: &mut fmt::Formatter<W>) -> fmt::Result {
+        write_name(f, self.0)?;
+        f.write_str(" answers there")
+    }
+}
+
+/// A name as a message says it.
+#[derive(Clone, Copy)]
+struct Called<'a>(&'a Identity);
+
+impl fmt::Display for Called<'_> {
     fn fmt<W: fmt::Write>(&self, f: &mut fmt::Formatter<W>) -> fmt::Result {
         write_name(f, self.0)
     }
@@ -62,52 +119,73 @@ fn write_name<W: fmt::Write>(f: &mut fmt::Formatter<W>, name: &Identity) -> fmt:
 }
 
 /// A node listens.
-pub fn listens<L: Log>(log: &L, site: &Site, node: NodeNo, address: SocketAddr) {
-    let name = Named { site, node };
-    info!(log; target: "farm", "{name} listens on {address}");
+pub fn listens<L: Log>(log: &L, node: Named<'_>, address: SocketAddr) {
+    info!(log; target: "farm", node:% = node, event = "listens", address:% = address; "{node} listens on {address}");
 }
 
-/// A connection that somebody has made from this address is taken.
-pub fn taken<L: Log>(log: &L, site: &Site, node: NodeNo, conn: ConnId, address: IpAddr) {
-    let name = Named { site, node };
-    info!(log; target: "farm", "connection {}: {name} takes it from {address}", conn.0);
+/// A connection that somebody has made is taken.
+pub fn taken<L: Log>(log: &L, at: At<'_>) {
+    let from = WithOrigin(at);
+    debug!(log; target: "farm", node:% = at.local, event = "taken", connection = at.conn.0, from = at.origin; "{from}: it is taken");
 }
 
 /// A connection from where no node may come is closed.
-pub fn not_admitted<L: Log>(log: &L, site: &Site, node: NodeNo, address: IpAddr) {
-    let name = Named { site, node };
-    warn!(log; target: "farm", "{name} refuses a connection from {address}: no node may come from there");
+pub fn not_admitted<L: Log>(log: &L, node: Named<'_>, address: IpAddr) {
+    warn!(log; target: "farm", node:% = node, event = "not_admitted", from = address; "{node} refuses a connection from {address}: no node may come from there");
 }
 
-/// A connection that somebody has made is not taken.
-pub fn not_taken<L: Log>(log: &L, site: &Site, node: NodeNo, why: Refusal) {
-    let name = Named { site, node };
-    warn!(log; target: "farm", "{name} refuses a connection: {why}");
+/// A connection that somebody has made from this address is not taken.
+pub fn not_taken<L: Log>(log: &L, node: Named<'_>, address: IpAddr, why: Refusal) {
+    warn!(log; target: "farm", node:% = node, event = "not_taken", from = address, why:% = why; "{node} refuses a connection from {address}: {why}");
 }
 
-/// A socket of its own failed.
-pub fn failed<L: Log>(log: &L, what: &str, error: &io::Error) {
-    warn!(log; target: "farm", "{what}: {error}");
+/// A socket of a node failed.
+pub fn failed<L: Log>(log: &L, node: Named<'_>, what: &str, error: &io::Error) {
+    let fault = Fault(error);
+    warn!(log; target: "farm", node:% = node, event = "failed", what = what, why:% = fault; "{node}: {what}: {fault}");
+}
+
+/// A connection with a node was not made, or has ended before that node was up.
+fn not_connected<L: Log, D: fmt::Display + Copy>(log: &L, pair: Pair<'_>, why: D) {
+    let (local, peer) = (pair.local, pair.peer);
+    let address = AddressOf(peer);
+    warn!(log; target: "farm", node:% = local, event = "cannot_connect", peer:% = peer, address:% = address, why:% = why; "{pair}: {why}");
 }
 
 /// A connection with a node was not made.
-pub fn not_made<L: Log>(log: &L, site: &Site, local: NodeNo, peer: NodeNo, error: &io::Error) {
-    let (local, peer) = (Named { site, node: local }, Named { site, node: peer });
-    let address = AddressOf(peer);
-    warn!(log; target: "farm", "{local} cannot connect to {peer} at {address}: {error}");
+pub fn not_made<L: Log>(log: &L, pair: Pair<'_>, error: &io::Error) {
+    not_connected(log, pair, Fault(error));
+}
+
+/// A connection with a node was not made, since the process has no room for it.
+pub fn not_begun<L: Log>(log: &L, pair: Pair<'_>, why: Refusal) {
+    not_connected(log, pair, why);
 }
 
 /// A connection with a node has ended before that node was up.
-pub fn not_up<L: Log>(log: &L, site: &Site, local: NodeNo, peer: NodeNo, why: End) {
-    let (local, peer) = (Named { site, node: local }, Named { site, node: peer });
-    let address = AddressOf(peer);
-    warn!(log; target: "farm", "{local} cannot connect to {peer} at {address}: {why}");
+pub fn not_up<L: Log>(log: &L, pair: Pair<'_>, why: Why) {
+    not_connected(log, pair, why);
+}
+
+/// A node that was connected to does not come up, since its answer says this name, or none.
+pub fn misnamed<L: Log>(log: &L, pair: Pair<'_>, name: Option<&Identity>) {
+    match name {
+        Some(name) => not_connected(log, pair, Said(name)),
+        None => not_connected(log, pair, "the answer says no name"),
+    }
 }
 
 /// The node at the other end of a connection is up.
-fn up<L: Log>(log: &L, site: &Site, conn: ConnId, local: NodeNo, peer: NodeNo) {
-    let (local, peer) = (Named { site, node: local }, Named { site, node: peer });
-    info!(log; target: "farm", "connection {}: {local} and {peer} are up", conn.0);
+pub fn up<L: Log>(log: &L, at: At<'_>, peer: Named<'_>) {
+    let (local, conn) = (at.local, at.conn.0);
+    match at.origin {
+        Some(address) => {
+            info!(log; target: "farm", node:% = local, event = "up", peer:% = peer, connection = conn, from = address; "{local} and {peer} are up on connection {conn}, from {address}");
+        }
+        None => {
+            info!(log; target: "farm", node:% = local, event = "up", peer:% = peer, connection = conn; "{local} and {peer} are up on connection {conn}");
+        }
+    }
 }
 
 /// Why a node says goodbye, as the standard calls it.
@@ -120,79 +198,68 @@ fn cause_word(cause: DisconnectCause) -> &'static str {
 }
 
 /// The node at the other end of a connection has said goodbye, and gets no new request.
-fn leaves<L: Log>(log: &L, site: &Site, conn: ConnId, peer: NodeNo, cause: DisconnectCause) {
-    let (peer, word) = (Named { site, node: peer }, cause_word(cause));
-    info!(log; target: "farm", "connection {}: {peer} says goodbye: {word}", conn.0);
-}
-
-/// Whether a connection has ended as one of its ends wished, and not by a fault.
-fn is_wished(why: End) -> bool {
-    match why {
-        End::Disconnected | End::Closed => true,
-        End::Loss(_) | End::Unwelcome | End::Silent | End::Refused(_) | End::OutOfMemory => false,
-    }
+pub fn leaves<L: Log>(log: &L, at: At<'_>, peer: Named<'_>, cause: DisconnectCause) {
+    let word = cause_word(cause);
+    info!(log; target: "farm", node:% = at.local, event = "goodbye", peer:% = peer, connection = at.conn.0, cause = word; "{at}: {peer} says goodbye: {word}");
 }
 
 /// A connection has ended on which a node was up.
-fn lost<L: Log>(log: &L, site: &Site, conn: ConnId, peer: NodeNo, why: End) {
-    let peer = Named { site, node: peer };
-    if is_wished(why) {
-        info!(log; target: "farm", "connection {}: {peer} is lost: {why}", conn.0);
+pub fn lost<L: Log>(log: &L, at: At<'_>, peer: Named<'_>, why: Why) {
+    let level = if why.is_wished() {
+        Level::Info
     } else {
-        warn!(log; target: "farm", "connection {}: {peer} is lost: {why}", conn.0);
-    }
+        Level::Warn
+    };
+    log::log!(log; target: "farm", level, node:% = at.local, event = "lost", peer:% = peer, connection = at.conn.0, why:% = why; "{at}: {peer} is lost: {why}");
 }
 
-/// A node that was connected to does not come up, since its answer says this name, or none.
-fn misnamed<L: Log>(log: &L, site: &Site, conn: ConnId, peer: NodeNo, name: Option<&Identity>) {
-    let peer = Named { site, node: peer };
-    match name {
-        Some(name) => {
-            let name = Said(name);
-            warn!(log; target: "farm", "connection {}: {peer} was connected to, and {name} answers", conn.0);
-        }
-        None => {
-            warn!(log; target: "farm", "connection {}: {peer} was connected to, and the answer says no name", conn.0);
-        }
-    }
+/// A connection that somebody has made has ended with no node up on it.
+pub fn refused<L: Log>(log: &L, at: At<'_>, why: Why) {
+    let from = WithOrigin(at);
+    info!(log; target: "farm", node:% = at.local, event = "refused", connection = at.conn.0, from = at.origin, why:% = why; "{from}: ended with nobody up: {why}");
 }
 
-/// A connection has ended on which no node was up.
-fn refused<L: Log>(log: &L, conn: ConnId, why: End) {
-    info!(log; target: "farm", "connection {}: ended with nobody up: {why}", conn.0);
+/// A node that has connected is not welcome.
+pub fn unwelcome<L: Log>(log: &L, at: At<'_>, rejected: &Rejected) {
+    let (from, name, why) = (WithOrigin(at), Called(&rejected.name), rejected.why);
+    warn!(log; target: "farm", node:% = at.local, event = "unwelcome", name:% = name, connection = at.conn.0, from = at.origin, why:% = why; "{from}: {name} is not welcome: {why}");
 }
 
 /// A request that was not answered on a lost connection was sent again.
-fn failed_over<L: Log>(log: &L, lost: ConnId, to: ConnId) {
-    info!(log; target: "farm", "failover: a request of connection {} is sent again on connection {}", lost.0, to.0);
+pub fn failed_over<L: Log>(log: &L, at: At<'_>, to: ConnId) {
+    let to = to.0;
+    info!(log; target: "farm", node:% = at.local, event = "failover", connection = at.conn.0, to = to; "{at}: failover: a request is sent again on connection {to}");
 }
 
 /// A request that was not answered on a lost connection was answered with this Result-Code.
-fn given_up<L: Log>(log: &L, lost: ConnId, to: ConnId, code: u32) {
-    info!(log; target: "farm", "a request of connection {} cannot be sent again: {code} to connection {}", lost.0, to.0);
+pub fn given_up<L: Log>(log: &L, at: At<'_>, to: ConnId, code: u32) {
+    let to = to.0;
+    info!(log; target: "farm", node:% = at.local, event = "given_up", connection = at.conn.0, to = to, code = code; "{at}: a request cannot be sent again: {code} to connection {to}");
 }
 
 /// A request was refused with this Result-Code.
-fn refusal<L: Log>(log: &L, conn: ConnId, code: u32) {
-    info!(log; target: "farm", "connection {}: a request is refused: {code}", conn.0);
+pub fn refusal<L: Log>(log: &L, at: At<'_>, code: u32) {
+    info!(log; target: "farm", node:% = at.local, event = "refusal", connection = at.conn.0, code = code; "{at}: a request is refused: {code}");
+}
+
+/// A node did not do what it was told, which was of no connection.
+pub fn node_failed<L: Log>(log: &L, error: NodeError) {
+    warn!(log; target: "farm", event = "failed", why:% = error; "{error}");
 }
 
 /// So many lines are missing here: more happened in a turn than the log is told, or memory was missing.
 pub fn dropped<L: Log>(log: &L, count: u64) {
-    warn!(log; target: "farm", "{count} lines are missing here: too much happened at once");
+    warn!(log; target: "farm", event = "missing", lines = count; "{count} lines are missing here: too much happened at once");
 }
 
-/// Something that has happened to connections.
-pub fn note<L: Log>(log: &L, site: &Site, note: Note) {
-    match note {
-        Note::Up { conn, local, peer } => up(log, site, conn, local, peer),
-        Note::Leaves { conn, peer, cause } => leaves(log, site, conn, peer, cause),
-        Note::Lost { conn, peer, why } => lost(log, site, conn, peer, why),
-        Note::Misnamed { conn, peer, name } => misnamed(log, site, conn, peer, name.as_ref()),
-        Note::Refused { conn, why } => refused(log, conn, why),
-        Note::FailedOver { lost, to } => failed_over(log, lost, to),
-        Note::GivenUp { lost, to, code } => given_up(log, lost, to, code),
-        Note::Refusal { conn, code } => refusal(log, conn, code),
-        Note::Failed { error } => warn!(log; target: "farm", "{error}"),
-    }
+/// So many lines like the last one of this kind about a node were held back.
+pub fn held<L: Log>(log: &L, kind: Kind, peer: Named<'_>, lines: u64) {
+    let event = kind.event();
+    log::log!(log; target: "farm", kind.level(), event = "held_back", like = event, peer:% = peer, lines = lines; "and {lines} more like it ({event}) of {peer}");
+}
+
+/// The same about those who have not said who they are.
+pub fn held_of_strangers<L: Log>(log: &L, kind: Kind, lines: u64) {
+    let event = kind.event();
+    log::log!(log; target: "farm", kind.level(), event = "held_back", like = event, lines = lines; "and {lines} more like it ({event})");
 }

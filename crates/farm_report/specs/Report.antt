@@ -2,6 +2,7 @@
 use Rattle.std.specs.Prelude.{ℕ, List, [], ◌∷◌, ◌++◌, length, codes, ℤ, pos, encode_utf8_all}
 use Rattle.std.specs.List.{concat, flat_map, enumerate_from}
 use Rattle.std.specs.Fmt.{decimal, signed_decimal}
+use Rattle.cc_book.specs.AccountMachine.{terms_of}
 use Rattle.cc_book.specs.Balance.{balance_of, reserved_of, open_sessions_of}
 use Rattle.cc_book.specs.Taking.{Ledger}
 use Rattle.cc_book.specs.declared.account.Account.{Account}
@@ -27,5 +28,6 @@ abbrev pub line_of : Ledger → ℕ × Account → List ℕ
 line_of book (place, account) =
     account_line account (balance_of book.terms book.history place) (pos (reserved_of book.terms book.history place))
 
+-- the report of a book: its accounts are those that it began with, and those that have joined
 abbrev pub report_of : Ledger → List ℕ
-report_of book = heading_of book ++ flat_map (line_of book) (enumerate_from 0 book.terms.accounts)
+report_of book = heading_of book ++ flat_map (line_of book) (enumerate_from 0 (terms_of book.terms book.history).accounts)

@@ -10,7 +10,7 @@ use Rattle.cc_view.specs.Answer.{refusal_of}
 use Rattle.cc_view.specs.Refusal.{refusal_with}
 use Rattle.cc_view.specs.RequestView.{view_under}
 use Rattle.cc_book.specs.declared.entry.Entry.{Entry}
-use Rattle.cc_book.specs.declared.entry.Entry.TheVariants.{Take, Sweep}
+use Rattle.cc_book.specs.declared.entry.Entry.TheVariants.{Take, Sweep, ChangeTerms}
 use Rattle.cc_book.specs.Taking.{Ledger}
 use Rattle.front_core.specs.declared.event.FrontEvent.{FrontEvent}
 use Rattle.front_core.specs.declared.event.FrontEvent.TheVariants.{Charge, Refuse}
@@ -89,10 +89,11 @@ pub record RefusesRequest (site : FrontSite) (book : Ledger) (events : List Fron
 abbrev pub IsRightAnswer : FrontSite → Ledger → List FrontEvent → Ledger → ConnId × Message → Type 0
 IsRightAnswer site book events end item = AnswersRequest site events end item.0 item.1 ⊎ RefusesRequest site book events item.0 item.1
 
--- an entry takes what is read in a request that came, or is the sweep of an event
+-- An entry takes what is read in a request that came, or is the sweep of an event. No event of a front changes the terms.
 abbrev pub IsOfRequest : FrontSite → List FrontEvent → Entry → Type 0
 IsOfRequest site events (Take moment request) = (conn : ConnId) × (message : Message) × IsAsked events conn message × (view_under site.profile message ≡ Ok request)
 IsOfRequest site events (Sweep moment) = Contains events (FrontEvent.Sweep moment)
+IsOfRequest site events (ChangeTerms moment change) = ⊥
 
 -- the book grows by requests that came and by sweeps of the list, and by nothing else
 pub record GrowsByRequests (site : FrontSite) (events : List FrontEvent) (book end : Ledger) : Type 0 where

@@ -173,7 +173,7 @@ impl<L: Pooling, S: RowStore + Drop, G: Gate + Drop> Worker<L, S, G> {
         self.desk.gate.answered(rt, number);
     }
 
-    /// Finishes a job. The batch has ended.
+    /// Finishes a job. The batch has ended: where the book is asked, by the call that asks it.
     fn serve<W: Wire, R: Wait + Clock>(&mut self, rt: &R, alloc: Global, job: Job)
         ensures { WorksOff L.site L.shared (job ∷ []) self.old self.new }
     {
@@ -191,7 +191,6 @@ impl<L: Pooling, S: RowStore + Drop, G: Gate + Drop> Worker<L, S, G> {
                 let result = self
                     .shared
                     .serve(rt, alloc, &mut self.seat, moment, request);
-                self.shared.end_batch();
                 let served = Served {
                     job,
                     moment,
@@ -236,9 +235,7 @@ impl<L: Pooling, S: RowStore + Drop, G: Gate + Drop> Worker<L, S, G> {
         ensures ok { IfOk result (λ served. AsksAll (L.site self.old.front) L.shared asked.items served.items self.old self.new) }
         ensures err { IfErr result (λ back. (back ≡ asked) × (self.new ≡ self.old)) }
     {
-        let served = self.shared.serve_all(rt, alloc, &mut self.seat, asked);
-        self.shared.end_batch();
-        served
+        self.shared.serve_all(rt, alloc, &mut self.seat, asked)
     }
 
     /// Finishes these jobs, which the book has served or refused.

@@ -7,11 +7,13 @@
 //! - `live`: a front, a relay and a client in one process, over TCP.
 //! - `names`: who comes up over TCP, where a site holds to names and where it does not.
 //! - `status`: what two fronts say of themselves after a few requests, and what requests over HTTP are answered.
+//! - `lines`: lines of the log in both spellings, and how many of them a limiter lets through.
 //!
 //! What it must print, `stdout`, was worked out by hand, in this order.
 #![tactic(auto)]
 
 mod burst;
+mod lines;
 mod live;
 mod names;
 mod places;
@@ -23,5 +25,6 @@ fn main(rt: HostRuntime) -> anyhow::Result<()> {
     burst::print(&rt)?;
     live::print(&rt)?;
     names::print_all(&rt)?;
-    status::print_all(&rt, rt.alloc())
+    status::print_all(&rt, rt.alloc())?;
+    lines::print_all(&rt, rt.alloc())
 }

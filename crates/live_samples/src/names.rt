@@ -1,5 +1,6 @@
-//! Who comes up at a relay over TCP on this machine, where its site holds to names and where it does not: a front that answers
-//! at the address of another one, and a front that connects though the site has it as the side that is connected to.
+//! Who comes up at a relay over TCP on this machine: nobody, where nobody listens; and where its site holds to names and where it
+//! does not, a front that answers at the address of another one, and a front that connects though the site has it as the side
+//! that is connected to.
 
 ghost use Rattle.std.specs.Prelude.{IfOk};
 ghost use Rattle.farm_base.specs.CheckedSite.{IsChecked};
@@ -89,6 +90,15 @@ const CASES: [Case<'static>; 5] = [
         port: 3888,
     },
 ];
+
+/// The relay connects to f1.example, and nobody listens there.
+const ALONE: Case<'static> = Case {
+    words: "nobody listens",
+    meeting: Meeting::Elsewhere,
+    strict: "",
+    from: "",
+    port: 3890,
+};
 
 impl Case<'_> {
     /// The port of the front.
@@ -181,12 +191,13 @@ impl End {
     }
 }
 
-/// Prints a text that has an address once at most, with HOST in its place.
+/// Prints a text with HOST in place of each address of this run.
 fn print_without(rt: &HostRuntime, host: &str, text: &[u8]) -> anyhow::Result<()> {
-    let text = str::from_utf8(text)?;
-    match text.split_once(host) {
-        Some((before, behind)) => print!(rt; "{before}HOST{behind}")?,
-        None => print!(rt; "{text}")?,
+    for (place, part) in str::from_utf8(text)?.split(host).enumerate() {
+        if place > 0 {
+            print!(rt; "HOST")?;
+        }
+        print!(rt; "{part}")?;
     }
     Ok(())
 }
@@ -300,9 +311,32 @@ fn print_case(rt: &HostRuntime, host: &str, case: Case<'_>) -> anyhow::Result<()
     print_front(rt, case, ends)
 }
 
+/// Turns of a relay alone, until a connection of its own has failed. Prints whether some node is up.
+fn print_turns(rt: &HostRuntime, host: &str, end: &End) -> anyhow::Result<()>
+    requires { IsChecked end.now.site }
+{
+    let mut relay = relay_of(rt, &end.site)?;
+    for _ in 0..TURNS {
+        end.relay_turn(rt, host, &mut relay)?;
+        if relay.has_lost() {
+            break;
+        }
+    }
+    let (words, up) = (ALONE.words, is_up(&relay));
+    println!(rt; "{words}: up {up}")?;
+    Ok(())
+}
+
+/// Prints what the relay tells where nobody listens.
+fn print_alone(rt: &HostRuntime, host: &str) -> anyhow::Result<()> {
+    let end = relay_end(rt.alloc(), host, ALONE)?;
+    print_turns(rt, host, &end)
+}
+
 /// Prints who comes up.
 pub fn print_all(rt: &HostRuntime) -> anyhow::Result<()> {
     let host = host(rt)?;
+    print_alone(rt, host.as_str())?;
     for case in CASES {
         print_case(rt, host.as_str(), case)?;
     }

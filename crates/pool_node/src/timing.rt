@@ -25,7 +25,8 @@ fn moment_of(entry: &Entry) -> u64
     ensures { result ≡ moment_of entry.now }
 {
     match entry {
-        Entry::Take { moment, .. } | Entry::Sweep { moment } => moment.0,
+        Entry::Take { moment, .. } | Entry::Sweep { moment } | Entry::ChangeTerms { moment, .. } =>
+            moment.0,
     }
 }
 

@@ -1,7 +1,8 @@
 //! A book that is stored, without the book: rows as octets, and stores of them over trees in memory, one function for each
 //! subject.
 //!
-//! - `given`: what rows are made of, one request of each kind with its reply and debit, and a sweep.
+//! - `given`: what rows are made of, one request of each kind with its reply and debit, a sweep, and a change of the
+//!   terms.
 //! - `spelling`: the octets of each row, which are read back, and what is wrong with octets that are no row.
 //! - `abouts`: what a book is, which is read back, and a book of another format.
 //! - `appending`: an empty store, batches that are appended and read back, and batches that are refused.

@@ -43,13 +43,12 @@ impl Book {
         let Some(place) = free_place(&self.history, self.limit) else {
             return Err(BookRefusal::Full { limit: self.limit });
         };
-        let account = self.terms.charged_account(&self.standing, request);
+        let terms = self.terms_now();
+        let account = terms.charged_account(&self.standing, request);
         if !self.standing.bears_more(account) {
             return Err(BookRefusal::Full { limit: self.limit });
         }
-        let outcome = self
-            .terms
-            .outcome_of(alloc, &self.standing, account, moment, request)?;
+        let outcome = terms.outcome_of(alloc, &self.standing, account, moment, request)?;
         let reply = copy_of_reply(alloc, &outcome.reply)?;
         let request = RequestCopy::of(alloc, request)?;
         Ok(Plan {

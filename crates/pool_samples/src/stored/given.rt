@@ -1,11 +1,13 @@
-//! What rows are made of: a request of each kind with its reply and debit, and a sweep. Numbers are at their limits here and
-//! there.
+//! What rows are made of: a request of each kind with its reply and debit, a sweep, and a change of the terms. Numbers are at
+//! their limits here and there.
 
 ghost use Rattle.std.specs.Prelude.{◌≡◌, ◌≢◌, None};
 ghost use Rattle.cc_view.specs.Request.ServiceLimits.{HasSmallSums};
 
 use book_rows::{Row, Step, Sum, Taken, chained_row, spell_row};
 use book_store::FIRST_SUM;
+use cc_book::{Account, TermsChange};
+use cc_rating::{Tariff, Tariffs, UNITS_LIMIT, UnitKind};
 use cc_view::{
     CcReply, CcRequest, Cost, RequestKind, RequestedAction, ResultCode, Service, ServiceName,
     ServiceReply, Services, Subscription,
@@ -15,10 +17,10 @@ use dia_base::{Code, Listing, Moment};
 use std::alloc::Global;
 
 /// How many rows there are.
-pub const ROWS: u64 = 9;
+pub const ROWS: u64 = 10;
 
 /// What each of them is.
-pub const NAMES: [&str; 9] = [
+pub const NAMES: [&str; 10] = [
     "INITIAL",
     "UPDATE",
     "TERMINATION",
@@ -28,6 +30,7 @@ pub const NAMES: [&str; 9] = [
     "PRICE_ENQUIRY",
     "EVENT without an action",
     "sweep",
+    "change of terms",
 ];
 
 /// CC-Time (RFC 8506, section 8.21).
@@ -292,6 +295,29 @@ fn without_action(alloc: Global) -> anyhow::Result<Taken> {
     })
 }
 
+/// An account joins, as far below 0 as one can be, and a tariff holds.
+fn change(alloc: Global) -> anyhow::Result<TermsChange> {
+    let account = Account {
+        id_kind: 0,
+        id: Octets::copy_of(alloc, b"491700000001")?,
+        opening: i64::MIN,
+    };
+    let tariff = Tariff {
+        group: Some(10),
+        ident: None,
+        kind: UnitKind::Octets,
+        block: 1_000,
+        price: 7,
+        quantum: 5_000,
+        greatest: UNITS_LIMIT,
+    };
+    let tariffs = vec![in alloc; tariff]?;
+    Ok(TermsChange {
+        joining: Listing::from_vec(vec![in alloc; account]?),
+        tariffs: Some(Tariffs::new(alloc, tariffs)?),
+    })
+}
+
 fn step(alloc: Global, place: u64) -> anyhow::Result<Step> {
     let taken = match place {
         0 => initial(alloc)?,
@@ -302,7 +328,8 @@ fn step(alloc: Global, place: u64) -> anyhow::Result<Step> {
         5 => balance_check(alloc)?,
         6 => price_enquiry(alloc)?,
         7 => without_action(alloc)?,
-        _ => return Ok(Step::Sweep),
+        8 => return Ok(Step::Sweep),
+        _ => return Ok(Step::ChangeTerms(change(alloc)?)),
     };
     Ok(Step::Take(taken))
 }

@@ -6,9 +6,17 @@ use book_store::FIRST_SUM;
 use std::alloc::Global;
 
 /// Octets that are changed: the row, the place of the octet in it, what it becomes.
-const CHANGES: [(usize, usize, u8); 9] = [
+const CHANGES: [(usize, usize, u8); 15] = [
     // The kind of an entry.
-    (8, 16, 2),
+    (8, 16, 3),
+    // The opening of an account that joins: its sign, and its size, which stays below 2^63.
+    (9, 49, 2),
+    (9, 50, 1),
+    // Whether there are tariffs, what the units of one are, and its price, at most 2^20.
+    (9, 66, 2),
+    (9, 81, 3),
+    (9, 94, 1),
+    (9, 97, 0),
     // CC-Request-Type, and whether there is a Requested-Action.
     (3, 37, 5),
     (3, 38, 2),

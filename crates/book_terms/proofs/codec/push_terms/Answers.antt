@@ -4,7 +4,7 @@ use mir.Val.{SFits}
 use Rattle.std.proofs.lemmas.Int.{to_z-of_z}
 use Rattle.cc_book.specs.declared.account.Account.{Account}
 use Rattle.book_rows.specs.Form.{Adds, listed}
-use Rattle.book_terms.specs.Terms.{account}
+use Rattle.book_rows.specs.TermsParts.{account}
 use Rattle.book_terms.proofs.Written.{terms_added}
 use Rattle.book_terms.proofs.codec.push_terms.Goals as goal
 

@@ -1,4 +1,4 @@
-use Rattle.std.proofs.Common.{subst, sym, ap, ◌∙◌}
+use Rattle.std.proofs.Common.{inl, inr, subst, sym, ap, ◌∙◌}
 use Rattle.std.specs.Prelude.{MatchOption, Some}
 use Rattle.std.proofs.lemmas.Option.{slice_get-get_or}
 use Rattle.cc_book.specs.declared.entry.Entry.{Entry}
@@ -18,8 +18,10 @@ unreachable-requires c =
     let entry = c.index-history-place.result in
     let some = sym (c.in_ok-place.ensures c.args.history.now c.requires) in
     let at = place-within c.args.history.now (key_of c.args.request.now) c.in_ok-place.place entry some in
-    let is = ap (has_key (key_of c.args.request.now)) (sym c.in-Sweep.is ∙ c.index-history-place.is) ∙ at.1 in
-    cc
+    elim c.in-Sweep.is as (λ _. ⊥) [
+      | inl sweep ↦ let is = ap (has_key (key_of c.args.request.now)) (sym sweep.1 ∙ c.index-history-place.is) ∙ at.1 in cc
+      | inr change ↦ let is = ap (has_key (key_of c.args.request.now)) (sym change.2 ∙ c.index-history-place.is) ∙ at.1 in cc
+    ]
 
 pub returns : goal.returns
 returns c =

@@ -1,4 +1,4 @@
-use Rattle.cc_book.proofs.Keys.{IsLegal-push, IsLegal-sweep, new-without_reply}
+use Rattle.cc_book.proofs.Keys.{IsLegal-change, IsLegal-push, IsLegal-sweep, new-without_reply}
 use Rattle.cc_book.proofs.laws.legal_histories_grow.Goals as goal
 
 pub returns-clause-by_request : goal.returns-clause-by_request
@@ -7,3 +7,6 @@ returns-clause-by_request c = λ terms history moment request legal new. IsLegal
 
 pub returns-clause-by_sweep : goal.returns-clause-by_sweep
 returns-clause-by_sweep c = IsLegal-sweep
+
+pub returns-clause-by_change : goal.returns-clause-by_change
+returns-clause-by_change c = IsLegal-change

@@ -10,11 +10,13 @@ use Rattle.cc_book.specs.Duplicate.{Key, key_of}
 use Rattle.cc_book.specs.History.{IsNew}
 use Rattle.cc_book.specs.Places.{HasPlaces, IsIndexed}
 use Rattle.cc_book.specs.Planning.{IsTaking}
-use Rattle.cc_book.specs.AccountMachine.{posting_of, postings_of}
+use Rattle.cc_book.specs.AccountMachine.{posting_of, postings_of, terms_of}
 use Rattle.cc_book.specs.OpenSessions.{FitsIn, Sessions}
 use Rattle.cc_book.specs.Standing.{after_change, after_debit, reserved_in}
 use Rattle.cc_book.specs.Taking.{Ledger}
 use Rattle.cc_book.proofs.Books.{IsBook-push, account-within, replies-long, same-book, small-book, taking-outcome}
+use Rattle.cc_book.proofs.Outcomes.{after_debit-length}
+use Rattle.cc_book.proofs.Postings.{terms_of-take}
 use Rattle.cc_book.proofs.Fitting.{Fits, change-fits}
 use Rattle.cc_book.proofs.book.Book.keep.Goals as goal
 
@@ -62,12 +64,13 @@ change-requires-clause-fits c =
     let now = c.self.inside.standing.sessions in
     let book = IsBook-push c.self.inside.terms c.self.inside.limit c.self.inside.history.items c.self.inside.replies.items
     c.self.inside.standing.balances.items now.items c.args.taken.moment c.args.taken.request outcome c.self.invariant.0 taking.new taking.room taking.borne does in
-    let posting = posting_of c.self.inside.terms (postings_of c.self.inside.terms c.self.inside.history.items)
+    let posting = posting_of (terms_of c.self.inside.terms c.self.inside.history.items) (postings_of c.self.inside.terms c.self.inside.history.items)
     (Take c.args.taken.moment c.args.taken.request) in
     let fits : Fits now c.args.taken.request c.args.taken.moment posting c.self.invariant.0.stands.own_ids outcome.change =
     subst (Fits now c.args.taken.request c.args.taken.moment posting c.self.invariant.0.stands.own_ids) (sym does.change)
     (change-fits now c.args.taken.request c.args.taken.moment posting c.self.invariant.0.stands.own_ids) in
-    let known = subst (λ (n : ℕ). All (λ (s : OpenSession). s.account < n) (after_change now.items outcome.change)) (sym c.self.invariant.2)
+    let known = subst (λ (n : ℕ). All (λ (s : OpenSession). s.account < n) (after_change now.items outcome.change))
+    (sym book.stands.accounts ∙ after_debit-length c.self.inside.standing.balances.items outcome.account outcome.debit ∙ sym c.self.invariant.2)
     book.stands.known in
     subst (λ (later : Sessions). FitsIn later c.into_parts-request.result.2 outcome.change) (sym c.debit.ensures.sessions)
     (subst (λ (id : List ℕ). FitsIn now id outcome.change) (sym c.into_parts-request.ensures.opened) (fits (small-book book).held known))
@@ -105,7 +108,8 @@ invariant_of-self c =
         for_sessions = (let same = ap (λ (s : Sessions). s.room) c.debit.ensures.sessions in let more = ap length pushed in
             omega (arith, long, c.self.invariant.1.for_sessions, c.change.ensures.room));
       },
-      c.change.ensures.accounts ∙ ap (λ (s : Sessions). s.accounts) c.debit.ensures.sessions ∙ c.self.invariant.2,
+      c.change.ensures.accounts ∙ ap (λ (s : Sessions). s.accounts) c.debit.ensures.sessions ∙ c.self.invariant.2
+          ∙ sym (ap length balances ∙ after_debit-length c.self.inside.standing.balances.items outcome.account outcome.debit),
       subst (λ (es : List Entry). IsIndexed es c.add.new.self) (sym pushed)
           (c.add.ensures.indexed c.self.inside.history.items c.args.taken.moment c.args.taken.request c.self.invariant.3
           (omega (arith, c.len.ensures, c.self.inside.history.ok.0)) key (subst (IsNew c.self.inside.history.items) (sym key) taking.new)),
@@ -116,4 +120,7 @@ invariant_of-self c =
                 omega (arith, long, c.self.invariant.4.for_numbered, c.add.ensures.numbered);
           }),
       c.self.invariant.5,
+      c.self.invariant.6
+          ∙ sym (ap (λ (es : List Entry). terms_of c.self.inside.terms es) pushed
+          ∙ terms_of-take c.self.inside.terms c.self.inside.history.items c.args.taken.moment c.args.taken.request),
     )

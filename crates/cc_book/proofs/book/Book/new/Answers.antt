@@ -4,10 +4,12 @@ use Rattle.cc_book.specs.declared.account.Account.{Account}
 use Rattle.cc_book.specs.declared.entry.Entry.{Entry}
 use Rattle.cc_book.specs.declared.session.OpenSession.{OpenSession}
 use Rattle.cc_book.specs.declared.terms.Terms.{Terms}
+use Rattle.cc_book.specs.AccountMachine.{terms_of}
 use Rattle.cc_book.specs.Places.{HasPlaces, IsIndexed}
 use Rattle.cc_book.specs.Taking.{IsBook}
 use Rattle.cc_book.proofs.Books.{IsBook-empty}
 use Rattle.cc_book.proofs.Bounds.{bounded-empty, opens-small}
+use Rattle.cc_book.proofs.Postings.{terms_of-empty}
 use Rattle.cc_book.proofs.Stands.{empty-stands}
 use Rattle.cc_book.proofs.book.Book.new.Goals as goal
 
@@ -33,8 +35,9 @@ invariant_of-result c =
         for_replies = omega (arith, c.in_ok-with_capacity-2.ensures.exact);
         for_sessions = omega (arith, c.in_ok-standing.ensures.room);
       },
-      c.in_ok-standing.ensures.accounts ∙ ap length (c.deref.ensures.value ∙ sym c.from_vec.ensures),
+      c.in_ok-standing.ensures.accounts ∙ ap length (c.deref.ensures.value ∙ sym c.from_vec.ensures) ∙ sym stands.accounts,
       subst (λ (es : List Entry). IsIndexed es places) (sym c.in_ok-with_capacity.ensures.items) c.in_ok-new.ensures.indexed,
       subst (λ (es : List Entry). HasPlaces c.args.limit (length es) places) (sym c.in_ok-with_capacity.ensures.items) c.in_ok-new.ensures.room,
       omega arith,
+      sym (ap (λ (es : List Entry). terms_of terms es) c.in_ok-with_capacity.ensures.items ∙ terms_of-empty terms),
     )

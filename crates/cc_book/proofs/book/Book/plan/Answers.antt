@@ -4,14 +4,14 @@ use Rattle.cc_view.specs.declared.reply.CcReply.{CcReply}
 use Rattle.cc_view.specs.declared.request.CcRequest.{CcRequest}
 use Rattle.cc_book.specs.declared.entry.Entry.{Entry}
 use Rattle.cc_book.specs.declared.book.Answered.{Answered}
-use Rattle.cc_book.specs.AccountMachine.{postings_of}
+use Rattle.cc_book.specs.AccountMachine.{postings_of, terms_of}
 use Rattle.cc_book.specs.Bounds.{bears_request}
 use Rattle.cc_book.specs.Duplicate.{key_of}
 use Rattle.cc_book.specs.History.{IsKeptAt, IsNew}
 use Rattle.cc_book.specs.Planning.{IsRepeated, IsTakenWith}
 use Rattle.cc_book.specs.Standing.{IsOutcome}
 use Rattle.cc_book.specs.Taking.{AnswersRepeat, Ledger, answer_of, answer_within, with_take}
-use Rattle.cc_book.proofs.Books.{answer-fresh, answer-kept, borne-book, borne-by, charged-within, kept-answered, kept-some, new-answered, no_memory, not-fresh, planned-outcome, short-bears, small-book, within-now, within-ok}
+use Rattle.cc_book.proofs.Books.{answer-fresh, answer-kept, borne-book, borne-by, charged-now, charged-within, kept-answered, kept-some, new-answered, no_memory, not-fresh, outcome-now, planned-outcome, short-bears, small-book, small-now, within-now, within-ok}
 use Rattle.cc_book.proofs.Bounds.{within-borne, within-full, within-kept, within-refused}
 use Rattle.cc_book.proofs.Replies.{answer_of-full}
 use Rattle.cc_book.proofs.book.Book.plan.Goals as goal
@@ -75,11 +75,15 @@ returns-in_default-free_place-clause-answer c =
 -- ---- whether its account bears it
 
 pub charged_account-account-requires : goal.charged_account-account-requires
-charged_account-account-requires c = small-book c.self.invariant.0
+charged_account-account-requires c =
+    small-now c.self.invariant.0 c.terms_now-terms.result.now
+    (c.terms_now-terms.ensures ∙ sym (ap (λ (l : Ledger). terms_of l.terms l.history) c.self.view_is))
 
 pub bears_more-requires-clause-within : goal.bears_more-requires-clause-within
 bears_more-requires-clause-within c =
-    let charged = c.charged_account-account.ensures.charged (postings_of c.self.inside.terms c.self.inside.history.items) c.self.invariant.0.stands in
+    let charged = charged-now c.self.invariant.0 c.terms_now-terms.result.now
+    (c.terms_now-terms.ensures ∙ sym (ap (λ (l : Ledger). terms_of l.terms l.history) c.self.view_is))
+    c.args.request.now c.charged_account-account.result c.charged_account-account.ensures.charged in
     charged-within c.self.invariant.0 c.args.request.now c.charged_account-account.result charged
 
 pub bears_more-requires-clause-held : goal.bears_more-requires-clause-held
@@ -87,7 +91,9 @@ bears_more-requires-clause-held c = (small-book c.self.invariant.0).held
 
 pub returns-then-not-bears_more-clause-answer : goal.returns-then-not-bears_more-clause-answer
 returns-then-not-bears_more-clause-answer c =
-    let charged = c.charged_account-account.ensures.charged (postings_of c.self.inside.terms c.self.inside.history.items) c.self.invariant.0.stands in
+    let charged = charged-now c.self.invariant.0 c.terms_now-terms.result.now
+    (c.terms_now-terms.ensures ∙ sym (ap (λ (l : Ledger). terms_of l.terms l.history) c.self.view_is))
+    c.args.request.now c.charged_account-account.result c.charged_account-account.ensures.charged in
     let room = subst (λ (es : List Entry). length es < c.self.inside.limit) c.deref-2.ensures.value c.in-Some-free_place.ensures.some.1 in
     let bears : c.bears_more.result ≡ true = c.bears_more.ensures ∙ borne-book c.self.invariant.0 c.args.request.now c.charged_account-account.result charged
     ∙ short-bears c.self.invariant.0 c.args.request.now c.self.invariant.5 room in
@@ -96,7 +102,9 @@ returns-then-not-bears_more-clause-answer c =
 
 pub returns-then-not-bears_more-clause-within : goal.returns-then-not-bears_more-clause-within
 returns-then-not-bears_more-clause-within c =
-    let charged = c.charged_account-account.ensures.charged (postings_of c.self.inside.terms c.self.inside.history.items) c.self.invariant.0.stands in
+    let charged = charged-now c.self.invariant.0 c.terms_now-terms.result.now
+    (c.terms_now-terms.ensures ∙ sym (ap (λ (l : Ledger). terms_of l.terms l.history) c.self.view_is))
+    c.args.request.now c.charged_account-account.result c.charged_account-account.ensures.charged in
     let new = subst (λ (h : List Entry). IsNew h (key_of c.args.request.now)) c.deref.ensures.value c.in_default.ensures in
     let ledger : Ledger = record { terms = c.self.inside.terms; limit = c.self.inside.limit; history = c.self.inside.history.items } in
     let unborne = sym (c.bears_more.ensures ∙ borne-book c.self.invariant.0 c.args.request.now c.charged_account-account.result charged)
@@ -104,12 +112,16 @@ returns-then-not-bears_more-clause-within c =
     sym (ap (λ (l : Ledger). answer_within l c.args.request.now) c.self.view_is) ∙ within-refused ledger c.args.request.now new unborne
 
 pub outcome_of-requires-clause-small : goal.outcome_of-requires-clause-small
-outcome_of-requires-clause-small c = small-book c.self.invariant.0
+outcome_of-requires-clause-small c =
+    small-now c.self.invariant.0 c.terms_now-terms.result.now
+    (c.terms_now-terms.ensures ∙ sym (ap (λ (l : Ledger). terms_of l.terms l.history) c.self.view_is))
 
 pub returns-clause-answer : goal.returns-clause-answer
 returns-clause-answer c =
     let new = subst (λ (h : List Entry). IsNew h (key_of c.args.request.now)) c.deref.ensures.value c.in_default.ensures in
-    let does = c.in_ok-outcome.ensures (postings_of c.self.inside.terms c.self.inside.history.items) c.self.invariant.0.stands in
+    let does = outcome-now c.self.invariant.0 c.terms_now-terms.result.now
+    (c.terms_now-terms.ensures ∙ sym (ap (λ (l : Ledger). terms_of l.terms l.history) c.self.view_is))
+    c.args.moment c.args.request.now c.in_ok-outcome.outcome c.in_ok-outcome.ensures in
     let long = c.in-Some-free_place.ensures.some.0 ∙ ap length c.deref-2.ensures.value in
     let room = subst (λ (es : List Entry). length es < c.self.inside.limit) c.deref-2.ensures.value c.in-Some-free_place.ensures.some.1 in
     sym (ap (λ (l : Ledger). answer_of l c.args.request.now) c.self.view_is)
@@ -120,7 +132,9 @@ returns-clause-answer c =
 pub returns-clause-good : goal.returns-clause-good
 returns-clause-good c =
     let new = subst (λ (h : List Entry). IsNew h (key_of c.args.request.now)) c.deref.ensures.value c.in_default.ensures in
-    let does = c.in_ok-outcome.ensures (postings_of c.self.inside.terms c.self.inside.history.items) c.self.invariant.0.stands in
+    let does = outcome-now c.self.invariant.0 c.terms_now-terms.result.now
+    (c.terms_now-terms.ensures ∙ sym (ap (λ (l : Ledger). terms_of l.terms l.history) c.self.view_is))
+    c.args.moment c.args.request.now c.in_ok-outcome.outcome c.in_ok-outcome.ensures in
     let long = c.in-Some-free_place.ensures.some.0 ∙ ap length c.deref-2.ensures.value in
     let room = subst (λ (es : List Entry). length es < c.self.inside.limit) c.deref-2.ensures.value c.in-Some-free_place.ensures.some.1 in
     let same = sym c.in_ok-request.ensures in
@@ -131,12 +145,15 @@ returns-clause-good c =
       taking = record {
         new = subst (λ (r : CcRequest). IsNew c.self.inside.history.items (key_of r)) same new;
         room = room;
-        borne = subst (λ (r : CcRequest). IsTrue (bears_request c.self.inside.terms (postings_of c.self.inside.terms c.self.inside.history.items) r)) same
+        borne = subst (λ (r : CcRequest). IsTrue (bears_request (terms_of c.self.inside.terms c.self.inside.history.items)
+            (postings_of c.self.inside.terms c.self.inside.history.items) r)) same
             (borne-by c.self.invariant.0 c.args.request.now c.charged_account-account.result
-            (c.charged_account-account.ensures.charged (postings_of c.self.inside.terms c.self.inside.history.items) c.self.invariant.0.stands)
+            (charged-now c.self.invariant.0 c.terms_now-terms.result.now
+            (c.terms_now-terms.ensures ∙ sym (ap (λ (l : Ledger). terms_of l.terms l.history) c.self.view_is))
+            c.args.request.now c.charged_account-account.result c.charged_account-account.ensures.charged)
             (sym c.bears_more.ensures ∙ c.if-not-bears_more.false));
         outcome = planned-outcome c.self.invariant.0 c.args.moment c.in_ok-request.request c.in_ok-outcome.outcome
-            (subst (λ (r : CcRequest). IsOutcome c.self.inside.terms (postings_of c.self.inside.terms c.self.inside.history.items)
+            (subst (λ (r : CcRequest). IsOutcome (terms_of c.self.inside.terms c.self.inside.history.items) (postings_of c.self.inside.terms c.self.inside.history.items)
             c.self.inside.standing.sessions.items c.args.moment r c.in_ok-outcome.outcome) same does);
       };
       answer = ap (λ (r : CcReply). record { reply = r; place = c.in-Some-free_place.place; fresh = true }) c.in_ok-reply.ensures
@@ -205,10 +222,14 @@ pub returns-clause-within : goal.returns-clause-within
 returns-clause-within c =
     let ledger : Ledger = record { terms = c.self.inside.terms; limit = c.self.inside.limit; history = c.self.inside.history.items } in
     let borne = borne-by c.self.invariant.0 c.args.request.now c.charged_account-account.result
-    (c.charged_account-account.ensures.charged (postings_of c.self.inside.terms c.self.inside.history.items) c.self.invariant.0.stands)
+    (charged-now c.self.invariant.0 c.terms_now-terms.result.now
+    (c.terms_now-terms.ensures ∙ sym (ap (λ (l : Ledger). terms_of l.terms l.history) c.self.view_is))
+    c.args.request.now c.charged_account-account.result c.charged_account-account.ensures.charged)
     (sym c.bears_more.ensures ∙ c.if-not-bears_more.false) in
     let new = subst (λ (h : List Entry). IsNew h (key_of c.args.request.now)) c.deref.ensures.value c.in_default.ensures in
-    let does = c.in_ok-outcome.ensures (postings_of c.self.inside.terms c.self.inside.history.items) c.self.invariant.0.stands in
+    let does = outcome-now c.self.invariant.0 c.terms_now-terms.result.now
+    (c.terms_now-terms.ensures ∙ sym (ap (λ (l : Ledger). terms_of l.terms l.history) c.self.view_is))
+    c.args.moment c.args.request.now c.in_ok-outcome.outcome c.in_ok-outcome.ensures in
     let long = c.in-Some-free_place.ensures.some.0 ∙ ap length c.deref-2.ensures.value in
     let room = subst (λ (es : List Entry). length es < c.self.inside.limit) c.deref-2.ensures.value c.in-Some-free_place.ensures.some.1 in
     within-now c.args.request.now c.self.view_is (within-borne ledger c.args.request.now borne)
@@ -231,7 +252,9 @@ pub returns-in_err-outcome-clause-within : goal.returns-in_err-outcome-clause-wi
 returns-in_err-outcome-clause-within c =
     let ledger : Ledger = record { terms = c.self.inside.terms; limit = c.self.inside.limit; history = c.self.inside.history.items } in
     let borne = borne-by c.self.invariant.0 c.args.request.now c.charged_account-account.result
-    (c.charged_account-account.ensures.charged (postings_of c.self.inside.terms c.self.inside.history.items) c.self.invariant.0.stands)
+    (charged-now c.self.invariant.0 c.terms_now-terms.result.now
+    (c.terms_now-terms.ensures ∙ sym (ap (λ (l : Ledger). terms_of l.terms l.history) c.self.view_is))
+    c.args.request.now c.charged_account-account.result c.charged_account-account.ensures.charged)
     (sym c.bears_more.ensures ∙ c.if-not-bears_more.false) in
     let new = subst (λ (h : List Entry). IsNew h (key_of c.args.request.now)) c.deref.ensures.value c.in_default.ensures in
     let room = subst (λ (es : List Entry). length es < c.self.inside.limit) c.deref-2.ensures.value c.in-Some-free_place.ensures.some.1 in
@@ -243,7 +266,9 @@ pub returns-in_err-reply-clause-within : goal.returns-in_err-reply-clause-within
 returns-in_err-reply-clause-within c =
     let ledger : Ledger = record { terms = c.self.inside.terms; limit = c.self.inside.limit; history = c.self.inside.history.items } in
     let borne = borne-by c.self.invariant.0 c.args.request.now c.charged_account-account.result
-    (c.charged_account-account.ensures.charged (postings_of c.self.inside.terms c.self.inside.history.items) c.self.invariant.0.stands)
+    (charged-now c.self.invariant.0 c.terms_now-terms.result.now
+    (c.terms_now-terms.ensures ∙ sym (ap (λ (l : Ledger). terms_of l.terms l.history) c.self.view_is))
+    c.args.request.now c.charged_account-account.result c.charged_account-account.ensures.charged)
     (sym c.bears_more.ensures ∙ c.if-not-bears_more.false) in
     let new = subst (λ (h : List Entry). IsNew h (key_of c.args.request.now)) c.deref.ensures.value c.in_default.ensures in
     let room = subst (λ (es : List Entry). length es < c.self.inside.limit) c.deref-2.ensures.value c.in-Some-free_place.ensures.some.1 in
@@ -255,7 +280,9 @@ pub returns-in_err-request-clause-within : goal.returns-in_err-request-clause-wi
 returns-in_err-request-clause-within c =
     let ledger : Ledger = record { terms = c.self.inside.terms; limit = c.self.inside.limit; history = c.self.inside.history.items } in
     let borne = borne-by c.self.invariant.0 c.args.request.now c.charged_account-account.result
-    (c.charged_account-account.ensures.charged (postings_of c.self.inside.terms c.self.inside.history.items) c.self.invariant.0.stands)
+    (charged-now c.self.invariant.0 c.terms_now-terms.result.now
+    (c.terms_now-terms.ensures ∙ sym (ap (λ (l : Ledger). terms_of l.terms l.history) c.self.view_is))
+    c.args.request.now c.charged_account-account.result c.charged_account-account.ensures.charged)
     (sym c.bears_more.ensures ∙ c.if-not-bears_more.false) in
     let new = subst (λ (h : List Entry). IsNew h (key_of c.args.request.now)) c.deref.ensures.value c.in_default.ensures in
     let room = subst (λ (es : List Entry). length es < c.self.inside.limit) c.deref-2.ensures.value c.in-Some-free_place.ensures.some.1 in

@@ -1,12 +1,14 @@
-use Rattle.std.proofs.Common.{◌≡◌, ◌<◌, List, length, Ok, Vec, Global, ap, subst, sym, ◌∙◌, arith, ◌∷◌, [], length-append}
+use Rattle.std.proofs.Common.{◌≡◌, ◌<◌, List, length, Ok, Vec, Global, ap, refl, subst, sym, ◌∙◌, arith, ◌∷◌, [], length-append}
 use Rattle.std.specs.Prelude.{ℤ, count_by}
 use Rattle.cc_book.specs.declared.entry.Entry.{Entry}
 use Rattle.cc_book.specs.declared.entry.Entry.TheVariants.{Sweep}
+use Rattle.cc_book.specs.AccountMachine.{terms_of}
 use Rattle.cc_book.specs.Places.{HasPlaces, IsIndexed}
 use Rattle.cc_book.specs.Standing.{is_due}
 use Rattle.cc_book.specs.Taking.{Ledger, sweep_answer}
 use Rattle.cc_book.proofs.Books.{replies-long, same-book, small-book}
-use Rattle.cc_book.proofs.Placing.{IsIndexed-sweep}
+use Rattle.cc_book.proofs.Placing.{IsIndexed-keyless}
+use Rattle.cc_book.proofs.Postings.{terms_of-sweep}
 use Rattle.cc_book.proofs.Sweeps.{IsBook-sweep, sweep-has_room, sweep-some}
 use Rattle.cc_book.proofs.book.Book.sweep.Goals as goal
 
@@ -40,11 +42,14 @@ invariant_of-self c =
             let long = length-append c.self.inside.history.items (Sweep c.args.moment ∷ []) in
             omega (arith, c.self.invariant.1.for_sessions, c.sweep.ensures.room));
       },
-      c.sweep.ensures.accounts ∙ c.self.invariant.2,
+      c.sweep.ensures.accounts ∙ c.self.invariant.2 ∙ sym (ap length balances),
       subst (λ (es : List Entry). IsIndexed es c.self.inside.places) (sym c.push_reserved.ensures.items)
-          (IsIndexed-sweep c.self.inside.history.items c.self.inside.places c.args.moment c.self.invariant.3),
+          (IsIndexed-keyless c.self.inside.history.items c.self.inside.places (Sweep c.args.moment) refl c.self.invariant.3),
       subst (λ (es : List Entry). HasPlaces c.self.inside.limit (length es) c.self.inside.places) (sym c.push_reserved.ensures.items)
           (let long = length-append c.self.inside.history.items (Sweep c.args.moment ∷ []) in
           record { for_firsts = omega (arith, c.self.invariant.4.for_firsts); for_numbered = omega (arith, c.self.invariant.4.for_numbered) }),
       c.self.invariant.5,
+      c.self.invariant.6
+          ∙ sym (ap (λ (es : List Entry). terms_of c.self.inside.terms es) c.push_reserved.ensures.items
+          ∙ terms_of-sweep c.self.inside.terms c.self.inside.history.items c.args.moment),
     )

@@ -1,7 +1,8 @@
-use Rattle.std.proofs.Common.{◌≡◌, ℕ, Option, Result, Ok, Err, subst, sym, ap, ◌∙◌, rules}
+use Rattle.std.proofs.Common.{◌≡◌, ℕ, List, Option, Result, Ok, Err, subst, sym, ap, ◌∙◌, rules}
 use Rattle.std.specs.Prelude.{IfOk}
 use Rattle.cc_view.specs.declared.code.ResultCode.TheVariants.{UnableToComply}
 use Rattle.cc_book.specs.declared.outcome.Change.TheVariants.{GoesOn}
+use Rattle.cc_book.specs.declared.session.Hold.{Hold}
 use Rattle.cc_book.specs.declared.session.OpenSession.{OpenSession}
 use Rattle.cc_book.specs.AccountMachine.{account_of}
 use Rattle.cc_book.specs.Standing.{IsOutcome, prolonged}
@@ -12,10 +13,12 @@ pub returns-in_ok-session-in-Some-default : goal.returns-in_ok-session-in-Some-d
 returns-in_ok-session-in-Some-default g c = λ before is stands.
     let session = c.in-Some-default.session.now in
     let holds : c.from_vec.result ≡ session.holds = search rules in
-    let next : c.in_ok-session-in-Some-default.session ≡ prolonged session c.args.moment session.holds =
-    c.in_ok-session-in-Some-default.ensures ∙ ap (prolonged session c.args.moment) holds in
+    let next : c.in_ok-session-in-Some-default.session ≡ prolonged session c.args.moment session.holds session.prices =
+    c.in_ok-session-in-Some-default.ensures
+    ∙ ap (λ (hs : List Hold). prolonged session c.args.moment hs c.in_ok-prices-in-Some-default.prices) holds
+    ∙ ap (prolonged session c.args.moment session.holds) c.in_ok-prices-in-Some-default.ensures in
     let outcome : c.refused.result ≡ refused-outcome (account_of c.args.self.now.accounts c.args.request.now.subscriptions) UnableToComply
-    (GoesOn c.in-Some-default.place (prolonged session c.args.moment session.holds)) =
+    (GoesOn c.in-Some-default.place (prolonged session c.args.moment session.holds session.prices)) =
     c.refused.ensures
     ∙ ap (λ (a : Option ℕ). refused-outcome a UnableToComply (GoesOn c.in-Some-default.place c.in_ok-session-in-Some-default.session))
     c.requires.account

@@ -5,9 +5,11 @@ use Rattle.std.proofs.lemmas.Int.{to_z-of_z}
 use Rattle.cc_view.specs.declared.request.Service.{Service}
 use Rattle.cc_book.specs.declared.outcome.Change.TheVariants.{GoesOn}
 use Rattle.cc_book.specs.AccountMachine.{granting_reply, holds_from, session_reply}
+use Rattle.cc_book.specs.declared.session.Hold.{Hold}
+use Rattle.cc_book.specs.Pricing.{price_at, priced, prices_after}
 use Rattle.cc_book.specs.ServiceRating.{used_total}
 use Rattle.cc_book.specs.Standing.{IsOutcome, held_in, holds_beside, prolonged, reserved_in}
-use Rattle.cc_book.proofs.ByKind.{same-outcome, free-update, update-closed, update-open}
+use Rattle.cc_book.proofs.ByKind.{same-outcome, free-update, update-closed, update-open, used-open}
 use Rattle.cc_book.proofs.Amounts.{account-at, held-at, held_in-beside}
 use Rattle.cc_book.proofs.terms.Terms.update_outcome.Goals as goal
 
@@ -60,9 +62,12 @@ returns g c = λ before is stands.
     let session = c.in-Some.session.now in
     let services = c.as_slice-services.ensures.value in
     let fits : SFits w128 c.used_total-debit.result = search rules in
-    let debit : to_z w128 (of_z w128 c.used_total-debit.result) ≡ pos (used_total terms.tariffs request.services) =
-    to_z-of_z w128 c.used_total-debit.result fits ∙ c.used_total-debit.ensures.value ∙ ap (λ (ss : List Service). pos (used_total terms.tariffs ss)) services in
-    let small = subst (λ (ss : List Service). used_total terms.tariffs ss ≤ 2 ^ 103) services c.used_total-debit.ensures.most in
+    let prices = used-open request c.args.moment stands c.in-Some.place session c.in-Some.ensures.at c.in-Some.ensures.there in
+    let used : ℕ = used_total (price_at terms.tariffs before request.session) request.services in
+    let debit : to_z w128 (of_z w128 c.used_total-debit.result) ≡ pos used =
+    to_z-of_z w128 c.used_total-debit.result fits ∙ c.used_total-debit.ensures.value
+    ∙ ap (λ (ss : List Service). pos (used_total (priced terms.tariffs session.prices) ss)) services ∙ ap (λ (n : ℕ). pos n) prices in
+    let small = subst (λ (n : ℕ). n ≤ 2 ^ 103) (ap (used_total (priced terms.tariffs session.prices)) services ∙ prices) c.used_total-debit.ensures.most in
     let beside : c.deref.result.now ≡ holds_beside request.services session.holds =
     c.deref.ensures.value ∙ c.in_ok-holds.ensures ∙ ap (λ (ss : List Service). holds_beside ss session.holds) services in
     let free : ℤ = to_z w128 (of_z w128 c.free_to_grant-free.result) in
@@ -75,7 +80,7 @@ returns g c = λ before is stands.
     let parts : ended + held_in (holds_beside request.services session.holds) ≡ held_in session.holds = omega (arith, c.held_in.ensures, c.held_in-2.ensures) in
     let value : free
     ≡ ((slice_index_or (g.S.Lookup.balances c.args.standing.now) session.account (pos 0) -ℤ pos (reserved_in session.account sessions)) +ℤ pos
-    ended) -ℤ pos (used_total terms.tariffs request.services) =
+    ended) -ℤ pos used =
     here ∙ c.free_to_grant-free.ensures.value
     ∙ ap (λ (z : ℤ).
     ((slice_index_or (g.S.Lookup.balances c.args.standing.now) session.account (pos 0) -ℤ pos (reserved_in session.account sessions)) +ℤ pos ended) -ℤ z)
@@ -89,8 +94,14 @@ returns g c = λ before is stands.
     c.in-Some.ensures.there small is_free holds c.in_ok-granted.ensures.most in
     let all : c.append.new.self.items ≡ holds_beside request.services session.holds ++ c.in_ok-granted.granted.holds.items =
     search rules in
-    let next : c.in_ok-session.session ≡ prolonged session c.args.moment (holds_beside request.services session.holds ++ c.in_ok-granted.granted.holds.items) =
-    c.in_ok-session.ensures ∙ ap (prolonged session c.args.moment) (c.from_vec.ensures ∙ all) in
-    same-outcome (Some session.account) (pos (used_total terms.tariffs request.services)) _ (granting_reply terms free request.services)
+    let later : c.in_ok-prices.prices ≡ prices_after terms.tariffs session.prices c.in_ok-granted.granted.holds.items =
+    c.in_ok-prices.ensures ∙ ap (prices_after terms.tariffs session.prices) c.deref-2.ensures.value in
+    let next : c.in_ok-session.session
+    ≡ prolonged session c.args.moment (holds_beside request.services session.holds ++ c.in_ok-granted.granted.holds.items)
+    (prices_after terms.tariffs session.prices c.in_ok-granted.granted.holds.items) =
+    c.in_ok-session.ensures
+    ∙ ap (λ (hs : List Hold). prolonged session c.args.moment hs c.in_ok-prices.prices) (c.from_vec.ensures ∙ all)
+    ∙ ap (prolonged session c.args.moment (holds_beside request.services session.holds ++ c.in_ok-granted.granted.holds.items)) later in
+    same-outcome (Some session.account) (pos used) _ (granting_reply terms free request.services)
     c.session_reply.result _ (GoesOn c.in-Some.place c.in_ok-session.session)
     (sym debit) (sym reply) (ap (GoesOn c.in-Some.place) (sym next)) outcome

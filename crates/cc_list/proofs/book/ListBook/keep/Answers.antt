@@ -3,12 +3,15 @@ use Rattle.std.specs.Int.{w128}
 use Rattle.std.specs.Prelude.{ℤ, vec_capacity}
 use Rattle.std.proofs.lemmas.Int.{to_z-of_z}
 use Rattle.cc_view.specs.declared.request.CcRequest.{CcRequest}
+use Rattle.cc_book.specs.declared.entry.Entry.{Entry}
 use Rattle.cc_book.specs.declared.entry.Entry.TheVariants.{Take}
 use Rattle.cc_book.specs.declared.session.OpenSession.{OpenSession}
+use Rattle.cc_book.specs.AccountMachine.{terms_of}
 use Rattle.cc_book.specs.Planning.{IsTaking}
 use Rattle.cc_book.specs.Standing.{IsPlacedIn, after_change, after_debit}
 use Rattle.cc_book.specs.Taking.{Ledger}
 use Rattle.cc_book.proofs.Books.{IsBook-push, account-within, change-within, replies-long, same-book, sessions-within, small-book, taking-outcome}
+use Rattle.cc_book.proofs.Postings.{terms_of-take}
 use Rattle.cc_list.proofs.book.ListBook.keep.Goals as goal
 
 -- ---- there is room
@@ -84,4 +87,7 @@ invariant_of-self c =
             c.debit.ensures.sessions in omega (arith, c.self.invariant.1.for_sessions, c.change.ensures.room));
       },
       c.self.invariant.2,
+      c.self.invariant.3
+          ∙ sym (ap (λ (es : List Entry). terms_of c.self.inside.terms es) pushed
+          ∙ terms_of-take c.self.inside.terms c.self.inside.history.items c.args.taken.moment c.args.taken.request),
     )

@@ -4,9 +4,11 @@ use Rattle.cc_book.specs.declared.account.Account.{Account}
 use Rattle.cc_book.specs.declared.entry.Entry.{Entry}
 use Rattle.cc_book.specs.declared.session.OpenSession.{OpenSession}
 use Rattle.cc_book.specs.declared.terms.Terms.{Terms}
+use Rattle.cc_book.specs.AccountMachine.{terms_of}
 use Rattle.cc_book.specs.Taking.{IsBook}
 use Rattle.cc_book.proofs.Books.{IsBook-empty}
 use Rattle.cc_book.proofs.Bounds.{bounded-empty, opens-small}
+use Rattle.cc_book.proofs.Postings.{terms_of-empty}
 use Rattle.cc_book.proofs.Stands.{empty-stands}
 use Rattle.cc_list.proofs.book.ListBook.new.Goals as goal
 
@@ -32,4 +34,5 @@ invariant_of-result c =
         for_sessions = omega (arith, c.in_ok-standing.ensures.room);
       },
       omega arith,
+      sym (ap (λ (es : List Entry). terms_of terms es) c.in_ok-with_capacity.ensures.items ∙ terms_of-empty terms),
     )

@@ -1,9 +1,11 @@
 use Rattle.std.proofs.Common.{◌≡◌, ◌<◌, ◌≤◌, List, length, Ok, Vec, Global, ap, subst, sym, ◌∙◌, arith}
 use Rattle.std.specs.Prelude.{ℤ, count_by}
 use Rattle.cc_book.specs.declared.entry.Entry.{Entry}
+use Rattle.cc_book.specs.AccountMachine.{terms_of}
 use Rattle.cc_book.specs.Standing.{is_due}
 use Rattle.cc_book.specs.Taking.{Ledger, sweep_answer}
 use Rattle.cc_book.proofs.Books.{replies-long, same-book}
+use Rattle.cc_book.proofs.Postings.{terms_of-sweep}
 use Rattle.cc_book.proofs.Sweeps.{IsBook-sweep, sweep-full, sweep-none, sweep-some}
 use Rattle.cc_list.proofs.book.ListBook.sweep.Goals as goal
 
@@ -40,6 +42,9 @@ invariant_of-self c =
         for_sessions = omega (arith, c.self.invariant.1.for_sessions, c.sweep.ensures.room);
       },
       c.self.invariant.2,
+      c.self.invariant.3
+          ∙ sym (ap (λ (es : List Entry). terms_of c.self.inside.terms es) c.push_reserved.ensures.items
+          ∙ terms_of-sweep c.self.inside.terms c.self.inside.history.items c.args.moment),
     )
 
 pub returns-clause-answer : goal.returns-clause-answer

@@ -18,6 +18,11 @@ only_memory : {A : Type 0} (result : Result A FrontError) → IsErrAnd result (�
 only_memory (Ok done) error = tt
 only_memory (Err error) is = is
 
+-- the same of an error that is handed on
+handed_on : {A : Type 0} (result : Result A FrontError) (told : FrontError) → told ≡ OutOfMemory → IsErrAnd result (λ error. error ≡ told) → IsOkUnless result OutOfMemory
+handed_on (Ok done) told memory error = tt
+handed_on (Err error) told memory is = is ∙ memory
+
 pub loop-event-init : goal.loop-event-init
 loop-event-init g c = run_of-first c.args.site.now c.args.book c.in_ok-front.front c.new-outs.result.items c.in_ok-front.ensures c.new-outs.ensures.items
 
@@ -52,3 +57,7 @@ returns g c =
 
 pub returns-in_err-push-clause-memory : goal.returns-in_err-push-clause-memory
 returns-in_err-push-clause-memory g c = only_memory c.from_residual-in_err-push.result c.from_residual-in_err-push.ensures.1
+
+pub returns-in_err-on_event-clause-memory : goal.returns-in_err-on_event-clause-memory
+returns-in_err-on_event-clause-memory g c =
+    handed_on c.from_residual-in_err-on_event.result c.in_err-on_event.field-0.0 c.in_err-on_event.ensures.memory c.from_residual-in_err-on_event.ensures.1

@@ -11,5 +11,5 @@ returns-clause-ok g c =
     let site = g.L.Pooling.site in let w = c.self.inside in
     let old : Turns = record { front = w.desk.front; taken = (view w.job_pass).taken; finished = (view w.finished_pass).put; counted = w.seat } in
     let asks = subst (λ (t : Turns). All (IsAskedOf (site t.front)) c.args.asked.items) (sym c.self.view_is) c.requires in
-    rw (← c.self.view_is) (if_ok c.serve_all-served.result c.serve_all-served.ensures.served
-    (λ served all. asks_all (site old.front) g.L.Sharing.shared c.args.asked.items served.items old c.serve_all-served.new.seat all asks))
+    rw (← c.self.view_is) (if_ok c.serve_all.result c.serve_all.ensures.served
+    (λ served all. asks_all (site old.front) g.L.Sharing.shared c.args.asked.items served.items old c.serve_all.new.seat all asks))

@@ -1,6 +1,0 @@
-use Rattle.book_rows.proofs.Repeated.{listed_added}
-use Rattle.book_terms.specs.Terms.{account}
-use Rattle.book_terms.proofs.accounts.push_accounts.Goals as goal
-
-pub returns : goal.returns
-returns c = listed_added account c.args.values.now _ _ _ c.in_ok-push_u64.ensures c.in_ok-push_all_accounts.ensures

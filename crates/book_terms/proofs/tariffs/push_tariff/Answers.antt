@@ -1,7 +1,0 @@
-use Rattle.book_terms.proofs.Written.{tariff_added}
-use Rattle.book_terms.proofs.tariffs.push_tariff.Goals as goal
-
-pub returns : goal.returns
-returns c =
-    tariff_added c.args.value.now c.in_ok-push_optional_u32.ensures c.in_ok-push_optional_u32-2.ensures c.in_ok-push_kind.ensures c.in_ok-push_u64.ensures c.in_ok-push_u64-2.ensures c.in_ok-push_u64-3.ensures
-    c.in_ok-push_u64-4.ensures

@@ -1,8 +1,0 @@
-use Rattle.std.proofs.Common.{◌≡◌, ◌-◌}
-use Rattle.book_rows.specs.Form.{so_many}
-use Rattle.book_rows.proofs.Repeated.{with_front}
-use Rattle.book_terms.specs.Terms.{tariff}
-use Rattle.book_terms.proofs.tariffs.so_many_tariffs_at.Given as goal
-
-abbrev pub invariant-loop : goal.invariant-loop
-invariant-loop l = with_front l.values.items (so_many tariff.read (l.count - l.counter) l.rest) ≡ so_many tariff.read l.count l.octets

@@ -1,0 +1,23 @@
+use Rattle.std.proofs.Common.{◌≡◌, ℕ, List, Result, Ok, Err, subst}
+use Rattle.std.specs.Prelude.{IfOk}
+use Rattle.std.specs.Global.{Vec}
+use Rattle.cc_book.specs.declared.terms.Terms.{Terms}
+use Rattle.book_opening.specs.Opened.{now_in}
+use Rattle.book_terms.specs.Difference.{IsNeeded}
+use Rattle.farm_book.specs.Told.{IsTold, text_of}
+use Rattle.farm_book.proofs.tasks.told_of.Goals as goal
+
+-- what follows from what holds of the value of a call that is done
+of_value : {T E : Type 0} {P Q : T → Type 0} (result : Result T E) → ((value : T) → P value → Q value) → IfOk result P → IfOk result Q
+of_value (Ok value) follows holds = follows value holds
+of_value (Err error) follows holds = tt
+
+pub returns-in-Ok : goal.returns-in-Ok
+returns-in-Ok c =
+    let stored = c.in_ok-stored.stored in
+    let change = c.in-Ok.change in
+    let P : Terms → Type 0 = λ wanted. IsNeeded (now_in stored.book) wanted change in
+    let leads = subst P c.in_ok-wanted.ensures c.in-Ok.ensures in
+    of_value c.text_of.result
+    (λ text says. record { stored = stored; is_for = c.in_ok-stored.ensures; change = change; leads = leads; says = says })
+    c.text_of.ensures
