@@ -14,6 +14,7 @@ from diameter import (DESTINATION_REALM, ORIGIN_HOST, PROXIABLE, REQUEST, RETRAN
 from messages import (DEBIT, PROXY, again, appended, changed, of_session, of_subscriber, request, service, to_host,
                       to_realm, units, without)
 from nodes import Relay
+from random_changes import RandomChanges
 from row_site import C1, C2, F1, F2, R1, R2, ROW_SITE
 from site_data import CLIENT, FRONT, RELAY, Site
 from site_stories import F3, R3, pieces, rated, site_named
@@ -29,6 +30,8 @@ WEIGHTS = {"up": 5, "send": 6, "deliver": 14, "pick": 6, "charge": 6, "emit": 6,
            "restart": 1}
 # The same, where the book is swept among other steps.
 WITH_SWEEPS = {**WEIGHTS, "sweep": 1}
+# The same, where the terms change too.
+WITH_CHANGES = {**WITH_SWEEPS, "terms": 1}
 # The same, where nodes learn of their connections apart.
 WITH_ENDS = {"up": 3, "accept": 6, "opened": 12, "send": 8, "deliver": 22, "pick": 8, "charge": 8, "emit": 8, "refuse": 1,
              "lose": 1, "drop": 5, "crash": 1, "cut": 1, "restart": 1, "sweep": 1}
@@ -96,6 +99,7 @@ class Scene:
 ROW = Scene(ROW_SITE, hosts=[F1, F2, F2, R2, R2, R1, C2, "F1.Example", "f3.example"],
             realms=["OCS.example", "loop.example", "loop.example", "other.example", "ocs.example.org"])
 SWEEPS = replace(ROW, weights=WITH_SWEEPS, pace=180_000)
+CHANGES = replace(SWEEPS, weights=WITH_CHANGES)
 RING = Scene(site_named("ring"), hosts=[F1, F2, F3, F3, R2, R3, C1, "F2.EXAMPLE", "f9.example"],
              realms=["round.example", "Round.example", "round.example", "loop.example", "loop.EXAMPLE",
                      "other.example"],
@@ -188,6 +192,7 @@ class Player:
     def __init__(self, dice, scene):
         self.dice, self.scene, self.site, self.world = dice, scene, scene.site, World(scene.site)
         self.requests, self.lines, self.moment = Requests(dice, scene), [], 1000
+        self.changes = RandomChanges(dice, self.world.book)
 
     def play(self, step):
         if self.safe(step):
@@ -257,7 +262,7 @@ class Player:
                 return self.workers("can_answer")
             case "emit":
                 return self.workers("can_emit")
-            case "sweep":
+            case "sweep" | "terms":
                 return [()]
 
     def busy(self):
@@ -275,6 +280,8 @@ class Player:
             arguments = (*arguments, self.moment)
         if word == "sweep":
             arguments = (self.sweep_moment(),)
+        if word == "terms":
+            arguments = self.moment, self.changes.next()
         return word, *arguments
 
     def sweep_moment(self):
@@ -303,6 +310,8 @@ class Player:
     def any_step(self):
         """A step that rarely applies; one that would end connections is left out mostly."""
         word = self.dice.one_of([word for word in WORDS if word in self.scene.weights])
+        if word == "terms":
+            return word, self.dice.one_of(PLACES), self.changes.next()
         choices = {"node": list(self.site.nodes), "number": PLACES, "message": [DEBIT]}
         step = word, *(self.dice.one_of(choices[kind]) for kind in WORDS[word].split())
         return self.any_step() if self.ends_connections(step) and not self.dice.one_in(8) else step
@@ -325,6 +334,8 @@ COMMENTS = {
     "skips": "# Steps chosen at random by models/at_random.py, most of which do not apply.\n",
     "sweeps": "# Sessions of two clients, by relays and directly, with minutes between their requests, losses, cuts,\n"
               "# restarts, and sweeps that end some and not others, chosen at random by models/at_random.py.\n",
+    "changes": "# Sessions of two clients, by relays and directly, while accounts join and tariffs change, with losses, cuts,\n"
+               "# restarts and sweeps, chosen at random by models/at_random.py.\n",
     "ring": "# Requests of three clients by a ring of relays, with losses, cuts, restarts and what is sent again,\n"
             "# chosen at random by models/at_random.py.\n",
     "ends": "# Requests of three clients by a ring of relays, whose nodes learn apart that connections are made and have\n"
@@ -352,6 +363,11 @@ def sweeps(seed):
     return relays(seed, SWEEPS)
 
 
+def changes(seed):
+    """The same, where now and then the terms change."""
+    return relays(seed, CHANGES)
+
+
 def skips(seed):
     """400 steps of which most do not apply; those that do seldom break what others have begun."""
     player = Player(Dice(seed), ROW)
@@ -370,7 +386,7 @@ def ends(seed):
     return relays(seed, ENDS)
 
 
-KINDS = {"relays": relays, "skips": skips, "sweeps": sweeps, "ring": ring, "ends": ends}
+KINDS = {"relays": relays, "skips": skips, "sweeps": sweeps, "changes": changes, "ring": ring, "ends": ends}
 
 
 def site_of_kind(kind):

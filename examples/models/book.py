@@ -49,6 +49,7 @@ class Book:
 
     def __init__(self, site):
         self.site, self.balances, self.sessions, self.kept = site, dict(site.accounts), {}, {}
+        self.openings = dict(site.accounts)
         self.tariffs = site.group_tariffs, site.ident_tariffs
         self.sweeps = self.changes = 0
 
@@ -88,9 +89,16 @@ class Book:
                 del self.sessions[name]
 
     def change_terms(self, joining, tariffs):
-        """Accounts join, each with its opening, and these tariffs hold from now on; none where those stay that hold."""
+        """Accounts join, each with its opening, and these tariffs hold from now on; none where those stay that hold. Nothing
+        changes where no account joins and the tariffs stay, where an account is there already or joins twice, and where there
+        is no room for the entry."""
+        names = [account for account, _ in joining]
+        there = len({*names, *self.balances}) < len(names) + len(self.balances)
+        if there or not names and tariffs is None or self.entries >= self.site.limit:
+            return
         self.changes += 1
         self.balances.update(joining)
+        self.openings.update(joining)
         if tariffs is not None:
             self.tariffs = tariffs
 
@@ -98,8 +106,12 @@ class Book:
         return next((subscriber for subscriber in request.subscribers if subscriber in self.balances), None)
 
     def tariff(self, service):
+        return self.tariff_named(service.group, service.identifier)
+
+    def tariff_named(self, rating_group, identifier):
+        """The tariff of a service that holds now, by its Rating-Group where it has one, or None."""
         by_group, by_ident = self.tariffs
-        return by_ident.get(service.identifier) if service.group is None else by_group.get(service.group)
+        return by_ident.get(identifier) if rating_group is None else by_group.get(rating_group)
 
     def initial(self, request):
         if request.session in self.sessions:

@@ -6,15 +6,15 @@
     farm.py write FOLDER             writes the model's own schedules into a folder, each with its output; those over
                                      sites of their own below sites/
     farm.py random KIND SEED         prints a schedule chosen at random; KIND is relays, skips, sweeps,
-                                     ring or ends
+                                     changes, ring or ends
     farm.py check FOLDER             plays worked examples, compares each .schedule of the folder with its .out, and
                                      compares random runs of farms whose relays choose identifiers in different ways
 
-Its parts: diameter.py has messages, credit_control.py requests and answers, book.py the accounts, site_data.py what a
+Its parts: diameter.py has messages, credit_control.py requests and answers, book.py the accounts, terms.py changes of the terms, site_data.py what a
 site is, row_site.py the row site, site_file.py how a site file is read, nodes.py clients, fronts and relays, world.py
 the farm, its steps and its output, program.py the command line, messages.py, scenarios.py and site_stories.py the
 schedules written by hand, ends.py those of connections of which the two nodes learn apart, deviations.py those of
-clients that deviate from the rules, at_random.py those that are chosen, rows.py and each_end.py the worked examples.
+clients that deviate from the rules, changes.py those in which the terms change, at_random.py those that are chosen, rows.py and each_end.py the worked examples.
 Three programs stand beside it: request.py prints a request for a schedule of one's own, follow.py what a schedule puts
 in flight at each step, and at_large.py compares the program with the model in random runs.
 """
@@ -24,6 +24,7 @@ from pathlib import Path
 import each_end
 import program
 from at_random import KINDS, STORED, STORED_BY_SITE, Dice, schedule, site_of_kind
+from changes import CHANGES
 from deviations import DEVIATIONS, DEVIATIONS_OF_THE_FIELD
 from each_end import found_in
 from ends import ENDS, ENDS_OF_THE_RING
@@ -90,6 +91,8 @@ def stored_schedules():
         yield name, ROW_SITE, script().text()
     for name, script in ENDS_OF_THE_RING.items():
         yield f"sites/ring/{name}", site_named("ring"), script().text()
+    for name, script in CHANGES.items():
+        yield name, ROW_SITE, script().text()
     for name, script in DEVIATIONS.items():
         yield name, ROW_SITE, script().text()
     for name, script in DEVIATIONS_OF_THE_FIELD.items():

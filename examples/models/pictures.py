@@ -177,7 +177,7 @@ class Run:
         lines.append(f"Book at the end: entries {book.entries}, open sessions {len(book.sessions)}")
         others = 0
         for account, (balance, held) in self.purses().items():
-            opening = self.site.accounts[account]
+            opening = book.openings[account]
             moved = f" -> {balance}" if balance != opening else ""
             kept = f", held {held}" if held else ""
             others += not (moved or kept)

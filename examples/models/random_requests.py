@@ -41,12 +41,15 @@ class RandomRequests:
         self.dice, self.world, self.site, self.sent = dice, world, world.site, []
         self.hosts = [name for name in self.site.nodes] + ["f9.example"]
         self.realms = [self.site.realm] * 4 + [realm for _, realm, _ in self.site.routes]
-        self.subscribers = list(self.site.accounts)
-        self.services = [(rating_group, None) for rating_group in self.site.group_tariffs]
-        self.services += [(None, identifier) for identifier in self.site.ident_tariffs]
         self.deviations = [deviation for deviation, is_taken in DEVIATIONS.items() if is_taken(self.site)]
         # How many messages there are for one that is broken.
         self.care = dice.one_of([1, 3, 6, 12, 40])
+
+    @property
+    def services(self):
+        """The names that have tariffs now."""
+        groups, idents = self.world.book.tariffs
+        return [(rating_group, None) for rating_group in groups] + [(None, identifier) for identifier in idents]
 
     def next(self, client):
         """The next message of a client, as it is read from a schedule."""
@@ -126,7 +129,8 @@ class RandomRequests:
 
     def named(self):
         """Types and texts of Subscription-Ids: mostly one, which has an account."""
-        named = [self.dice.one_of(self.subscribers)] if self.subscribers and not self.dice.one_in(12) else []
+        subscribers = list(self.world.book.balances)
+        named = [self.dice.one_of(subscribers)] if subscribers and not self.dice.one_in(12) else []
         while self.dice.one_in(7):
             other = self.dice.below(6), self.dice.one_of(SUBSCRIBERS + ["", "é", "499"])
             named.insert(self.dice.below(len(named) + 1), other)
@@ -135,7 +139,7 @@ class RandomRequests:
     def account(self, session, subscribers):
         """The account that such a request charges, or None."""
         opened = self.world.book.sessions.get(session)
-        return opened.account if opened else next((it for it in subscribers if it in self.site.accounts), None)
+        return opened.account if opened else next((it for it in subscribers if it in self.world.book.balances), None)
 
     def asked_services(self, kind, account):
         if self.dice.one_in(8):
@@ -174,7 +178,7 @@ class RandomRequests:
 
     def counted_units(self, name, kind, account):
         """Requested- and Used-Service-Units of a service."""
-        tariff = self.site.tariff(*name)
+        tariff = self.world.book.tariff_named(*name)
         avps = []
         if not self.dice.one_in(2 if kind == TERMINATION else 10):
             avps.append(self.units(REQUESTED_UNITS, tariff, self.asked_count(tariff, account)))

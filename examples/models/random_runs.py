@@ -7,6 +7,7 @@ from at_random import LATEST, Dice, Player, Scene
 from diameter import DESTINATION_REALM, Message, text
 from messages import DEBIT
 from nodes import PENDING_LIMIT
+from random_changes import RandomChanges
 from random_requests import RandomRequests
 from random_sites import RandomSite
 from row_site import ROW_SITE
@@ -16,13 +17,13 @@ from world import World
 
 LEAST_STEPS, MOST_STEPS = 20, 500
 # How steps are weighed: mostly brought home, with many losses, with many ends that go alone, with many messages under way,
-# with workers that are slow or refuse, and with sweeps.
+# with workers that are slow or refuse, with sweeps, and with changes of the terms.
 WEIGHTS = {"up": 20, "accept": 4, "opened": 16, "send": 24, "deliver": 70, "pick": 30, "charge": 30, "emit": 30, "refuse": 1,
            "lose": 2, "cut": 2, "drop": 4, "restart": 1, "crash": 1, "sweep": 1}
 MOODS = [WEIGHTS, WEIGHTS, WEIGHTS | {"cut": 10, "restart": 5, "lose": 10},
          WEIGHTS | {"accept": 16, "opened": 30, "drop": 16, "crash": 5},
          WEIGHTS | {"send": 80, "pick": 6, "charge": 8, "emit": 6}, WEIGHTS | {"refuse": 10, "emit": 8, "cut": 6},
-         WEIGHTS | {"sweep": 12}]
+         WEIGHTS | {"sweep": 12}, WEIGHTS | {"terms": 3}, WEIGHTS | {"terms": 12, "sweep": 3}]
 UNDER_WAY = [4, 8, 8, 16, 60]
 PACES = [1, 2000, 180_000, 10**9]
 
@@ -33,6 +34,7 @@ class Traveller(Player):
     def __init__(self, dice, site):
         super().__init__(dice, Scene(site, [], [], weights=dice.one_of(MOODS), pace=dice.one_of(PACES)))
         self.world = World(site, None)
+        self.changes = RandomChanges(dice, self.world.book)
         self.requests, self.under_way = RandomRequests(dice, self.world), dice.one_of(UNDER_WAY)
         self.stray, self.figures = dice.one_of([4, 25, 25, 25, 100]), Counter()
 

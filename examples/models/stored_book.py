@@ -101,7 +101,7 @@ class Entry:
             book.sweep(moment)
             return
         if isinstance(request, Change):
-            book.change_terms(request.joining, request.tariffs and (request.tariffs, {}))
+            book.change_terms(list(request.joining.items()), request.tariffs and (request.tariffs, {}))
             return
         opener = book.sessions[request.session].account if request.session in book.sessions else None
         self.account = opener if request.kind in (UPDATE, TERMINATION) else book.account_of(request)

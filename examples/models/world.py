@@ -12,13 +12,14 @@ from book import Book
 from diameter import Message
 from nodes import Client, Front, Relay, RisingRelay
 from site_data import CLIENT, FRONT, RELAY
+from terms import BadSchedule, number_of, terms_of
 
 SCHEDULE_LIMIT, STEPS_LIMIT = 16_777_216, 1_000_000
 # The words of a schedule, each with what follows it.
 WORDS = {"up": "node node", "send": "node node message", "deliver": "node node number", "lose": "node node number",
          "cut": "node node", "restart": "node", "pick": "node number", "charge": "node number number",
          "refuse": "node number", "emit": "node number", "sweep": "number", "accept": "node node",
-         "opened": "node node", "drop": "node node", "crash": "node"}
+         "opened": "node node", "drop": "node node", "crash": "node", "terms": "number change"}
 
 
 def lowest_free(used, old):
@@ -215,16 +216,17 @@ class World:
         self.book.sweep(moment)
         return True
 
+    def terms(self, moment, change):
+        """The terms change; it applies though the book refuses the change."""
+        self.book.change_terms(change.joining, change.by_name)
+        return True
+
     def output(self):
         """What is printed after the last step."""
         for client, conn, message in self.received:
             yield f"recv {client} {conn} {message.octets().hex()}\n"
         yield f"end steps {self.steps} skipped {self.skipped} entries {self.book.entries}\n"
         yield from self.book.report()
-
-
-class BadSchedule(Exception):
-    """A text that is no schedule, and what is told of it."""
 
 
 def steps_of(octets, site):
@@ -253,6 +255,8 @@ def step_of(line, site):
     words = [word.decode("latin-1") for word in line.split(b" ") if word]
     if not words or words[0] not in WORDS:
         raise BadSchedule("unknown word")
+    if words[0] == "terms":
+        return words[0], *terms_of(words[1:])
     kinds = WORDS[words[0]].split()
     if len(words) != 1 + len(kinds):
         raise BadSchedule("wrong count")
@@ -273,13 +277,6 @@ def node_of(word, site):
     raise BadSchedule("unknown name")
 
 
-def number_of(word):
-    digits = word.lstrip("0") or "0"
-    if not re.fullmatch("[0-9]+", word) or len(digits) > 20 or int(digits) >= 2**64:
-        raise BadSchedule("bad number")
-    return int(digits)
-
-
 def message_of(word):
     if len(word) % 2 or not re.fullmatch("[0-9a-fA-F]+", word):
         raise BadSchedule("bad hex")
@@ -292,7 +289,7 @@ def message_of(word):
 def spelled_step(word, *arguments):
     """A step as a line of a schedule."""
     words = [argument.octets().hex() if isinstance(argument, Message) else str(argument) for argument in arguments]
-    return " ".join([word, *words]) + "\n"
+    return " ".join(filter(None, [word, *words])) + "\n"
 
 
 def played(octets, site, choose=lowest_free):

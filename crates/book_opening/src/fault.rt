@@ -1,13 +1,15 @@
 //! Why a book on disk is not made or opened.
 
-ghost use Rattle.std.specs.Prelude.{Some};
-ghost use Rattle.book_opening.specs.Words.{difference_text};
+ghost use Rattle.std.specs.Prelude.{◌≡◌, Some};
+ghost use Rattle.book_opening.specs.declared.fault.BookFault.TheVariants.{NotStored, OutOfMemory};
+ghost use Rattle.book_opening.specs.Refused.{fault_of};
+ghost use Rattle.book_opening.specs.Words.{difference_text, noun_of};
 
 use book_file::FileError;
 use book_journal::JournalError;
 use book_rows::ReadError;
 use book_store::AppendError;
-use book_terms::{NeededFault, TermsKey};
+use book_terms::TermsKey;
 use cc_book::ChangeRefusal;
 use std::alloc::{AllocError, AllocFailed};
 use std::{fmt, io};
@@ -22,20 +24,27 @@ pub struct TermsDifference {
     pub tariffs: bool,
 }
 
+/// What so many accounts are called.
+fn noun_of(accounts: u64) -> &'static str
+    ensures { result.now ≡ noun_of accounts }
+{
+    if accounts == 1 { "account" } else { "accounts" }
+}
+
 impl fmt::Display for TermsDifference {
     ghost output = { λ difference. Some (difference_text difference) };
 
     fn fmt<W: fmt::Write>(&self, f: &mut fmt::Formatter<W>) -> fmt::Result {
-        let accounts = self.accounts;
+        let (accounts, noun) = (self.accounts, noun_of(self.accounts));
         if self.tariffs {
             write!(
                 f,
-                "{accounts} accounts would join, and the tariffs would change"
+                "{accounts} {noun} would join, and the tariffs would change"
             )
         } else {
             write!(
                 f,
-                "{accounts} accounts would join, and the tariffs would not change"
+                "{accounts} {noun} would join, and the tariffs would not change"
             )
         }
     }
@@ -69,16 +78,9 @@ pub enum BookFault {
     OutOfMemory,
 }
 
-impl From<NeededFault> for BookFault {
-    fn from(fault: NeededFault) -> BookFault {
-        match fault {
-            NeededFault::Stays(key) => BookFault::OtherTerms(key),
-            NeededFault::OutOfMemory => BookFault::OutOfMemory,
-        }
-    }
-}
-
 impl From<ChangeRefusal> for BookFault {
+    ghost from_gives = { λ refusal fault. fault ≡ fault_of refusal };
+
     fn from(refusal: ChangeRefusal) -> BookFault {
         match refusal {
             ChangeRefusal::OutOfMemory => BookFault::OutOfMemory,
@@ -88,6 +90,8 @@ impl From<ChangeRefusal> for BookFault {
 }
 
 impl From<AppendError> for BookFault {
+    ghost from_gives = { λ error fault. fault ≡ NotStored error };
+
     fn from(error: AppendError) -> BookFault {
         BookFault::NotStored(error)
     }
@@ -121,6 +125,8 @@ impl From<io::Error> for BookFault {
 }
 
 impl From<AllocError> for BookFault {
+    ghost from_gives = { λ _ fault. fault ≡ OutOfMemory };
+
     fn from(_: AllocError) -> BookFault {
         BookFault::OutOfMemory
     }

@@ -1,35 +1,40 @@
 //! A book that is opened comes under the terms of a site.
 
-ghost use Rattle.std.specs.Prelude.{◌≡◌, ◌⊎◌, ◌<◌, IfErr, IfOk, IfSome, OnOk, is_some, length, true};
-ghost use Rattle.cc_book.specs.Changing.{with_change};
-ghost use Rattle.book_entries.specs.Replayed.{stored_in};
+ghost use Rattle.std.specs.Prelude.{◌≡◌, ◌⊎◌, IfErr, IfOk, OnOk, Err, is_some, length, false, true};
+ghost use Rattle.cc_book.specs.Changing.{change_answer, with_change};
+ghost use Rattle.cc_book.specs.declared.terms_change.ChangeRefusal.{ChangeRefusal as Refusal};
+ghost use Rattle.cc_book.specs.TermsChange.{says_nothing};
 ghost use Rattle.book_journal.specs.Kept.{IsKeptBy, IsSettled};
-ghost use Rattle.book_store.specs.Table.{Stored, stored_with};
-ghost use Rattle.book_terms.specs.Difference.{Hold, IsNeeded};
+ghost use Rattle.book_terms.specs.Difference.{DiffersIn, Hold, IsNeeded};
+ghost use Rattle.book_terms.specs.declared.key.TermsKey.{TermsKey};
+ghost use Rattle.book_store.specs.declared.error.AppendError.{AppendError};
+ghost use Rattle.book_opening.specs.declared.fault.BookFault.TheVariants.{NotChanged, NotStored, OtherTerms, OutOfMemory};
 ghost use Rattle.book_opening.specs.Opened.{IsRenewed, now_in};
+ghost use Rattle.book_opening.specs.Refused.{IsDifference, IsWhyNot};
 
 use crate::fault::{BookFault, TermsDifference};
 use book_journal::Journal;
 use book_store::RowStore;
-use book_terms::{needed_change, says_nothing};
+use book_terms::{NeededFault, needed_change};
 use cc_book::{Book, Terms, TermsChange};
 use dia_base::{Listing, Moment};
 use std::alloc::{AllocError, Global};
 
 /// The change that leads from the terms that hold in a book to those of a site, which no entry has made yet.
 pub fn change_for(alloc: Global, book: &Book, wanted: &Terms) -> Result<TermsChange, BookFault>
-    ensures { IfOk result (IsNeeded (now_in book.now) wanted.now) }
+    ensures needed { IfOk result (IsNeeded (now_in book.now) wanted.now) }
+    ensures stays { IfErr result (λ fault. (fault ≡ OutOfMemory) ⊎ ((key : TermsKey) × (fault ≡ OtherTerms key) × DiffersIn key (now_in book.now) wanted.now)) }
 {
     match needed_change(alloc, book.terms_now(), wanted) {
         Ok(change) => Ok(change),
-        Err(fault) => Err(fault.into()),
+        Err(NeededFault::Stays(key)) => Err(BookFault::OtherTerms(key)),
+        Err(NeededFault::OutOfMemory) => Err(BookFault::OutOfMemory),
     }
 }
 
 /// How many accounts join by a change, and whether the tariffs change.
 fn difference_of(change: &TermsChange) -> TermsDifference
-    ensures accounts { result.accounts ≡ length change.now.joining }
-    ensures tariffs { result.tariffs ≡ is_some change.now.tariffs }
+    ensures { IsDifference change.now result }
 {
     TermsDifference {
         accounts: change.joining.len() as u64,
@@ -48,6 +53,7 @@ fn change_stored<S: RowStore>(
     requires kept { IsKeptBy S.is_clean S.is_ready S.rows journal.old book.old }
     requires settled { IsSettled journal.old }
     ensures changed { OnOk result (book.new ≡ with_change book.old moment change) }
+    ensures refused { IfErr result (λ fault. (fault ≡ OutOfMemory) ⊎ ((error : AppendError) × (fault ≡ NotStored error)) ⊎ ((refusal : Refusal) × (fault ≡ NotChanged refusal) × (change_answer book.old change ≡ Err refusal))) }
     ensures kept { OnOk result (IsKeptBy S.is_clean S.is_ready S.rows journal.new book.new) }
     ensures settled { OnOk result (IsSettled journal.new) }
     ensures store { OnOk result (is_some journal.new.store ≡ is_some journal.old.store) }
@@ -74,6 +80,7 @@ pub fn renew<S: RowStore>(
     requires kept { IsKeptBy S.is_clean S.is_ready S.rows journal.old book.old }
     requires settled { IsSettled journal.old }
     ensures renewed { OnOk result (IsRenewed wanted.now moment is_allowed book.old book.new) }
+    ensures refused { IfErr result (IsWhyNot wanted.now is_allowed book.old) }
     ensures hold { OnOk result (Hold (now_in book.new) wanted.now) }
     ensures limit { OnOk result (book.new.limit ≡ book.old.limit) }
     ensures kept { OnOk result (IsKeptBy S.is_clean S.is_ready S.rows journal.new book.new) }
@@ -81,7 +88,7 @@ pub fn renew<S: RowStore>(
     ensures store { OnOk result (is_some journal.new.store ≡ is_some journal.old.store) }
 {
     let change = change_for(alloc, book, wanted)?;
-    if says_nothing(&change) {
+    if change.says_nothing() {
         return Ok(());
     }
     if !is_allowed {
@@ -101,6 +108,7 @@ pub fn renewed<S: RowStore + Drop>(
     requires kept { IsKeptBy S.is_clean S.is_ready S.rows opened.0 opened.1 }
     requires settled { IsSettled opened.0 }
     ensures renewed { IfOk result (λ served. IsRenewed wanted.now moment is_allowed opened.1 served.1) }
+    ensures refused { IfErr result (IsWhyNot wanted.now is_allowed opened.1) }
     ensures hold { IfOk result (λ served. Hold (now_in served.1) wanted.now) }
     ensures limit { IfOk result (λ served. served.1.limit ≡ opened.1.limit) }
     ensures kept { IfOk result (λ served. IsKeptBy S.is_clean S.is_ready S.rows served.0 served.1) }

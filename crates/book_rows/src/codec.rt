@@ -20,6 +20,9 @@ use dia_base::Moment;
 use sha2::{Digest, Sha256};
 use std::alloc::{AllocError, Global};
 
+/// A row's octets seldom go beyond this number, for which room is asked at once.
+const USUAL: usize = 512;
+
 #[tactic(auto, unfolding(crate::specs::Row::taken))]
 fn taken_at(alloc: Global, octets: &[u8]) -> Result<(Taken, &[u8]), ReadError>
     ensures { Gives (λ x. (x.0, x.1.now)) result (taken.read octets.now) }
@@ -147,7 +150,7 @@ pub fn spell_row(alloc: Global, row: &Row) -> Result<Vec<u8>, AllocError>
     ensures octets { IfOk result (λ octets. octets.items ≡ spelled row.now) }
     ensures is_row { OnOk result (IsRow row.now) }
 {
-    let mut out = Vec::new(alloc);
+    let mut out = Vec::with_capacity(alloc, USUAL)?;
     push_body(&mut out, row.place, row.moment, &row.step)?;
     push_u128(&mut out, row.sum.0)?;
     Ok(out)
@@ -191,7 +194,7 @@ pub fn chained_row(
     ensures parts { IfOk result (λ row. (row.place ≡ place) × (row.moment ≡ moment) × (row.step ≡ step)) }
     ensures chains { IfOk result (Chains before.0) }
 {
-    let mut out = Vec::new(alloc);
+    let mut out = Vec::with_capacity(alloc, USUAL)?;
     push_body(&mut out, place, moment, &step)?;
     Ok(Row {
         place,
@@ -205,7 +208,7 @@ pub fn chained_row(
 pub fn is_chained(alloc: Global, before: Sum, row: &Row) -> Result<bool, AllocError>
     ensures { IfOk result (λ chained. IsTrue chained ↔ Chains before.0 row.now) }
 {
-    let mut out = Vec::new(alloc);
+    let mut out = Vec::with_capacity(alloc, USUAL)?;
     push_body(&mut out, row.place, row.moment, &row.step)?;
     Ok(row.sum == sum_after(before, &out))
 }

@@ -3,7 +3,6 @@
 ghost use Rattle.std.specs.Prelude.{◌≡◌, ◌≤◌, ◌⊎◌, ◌++◌, ◌∷◌, [], ℕ, length, Err, IfErr, IfOk, IfSome, MatchOption, OnErr, OnOk, Some, is_some, false, true};
 ghost use Rattle.std.specs.Bool.{Decides};
 ghost use Rattle.std.specs.List.{list_any, position};
-ghost use Rattle.cc_book.specs.TermsChange.{same_owner, says_nothing};
 ghost use Rattle.book_terms.specs.declared.differences.NeededFault.TheVariants.{OutOfMemory, Stays};
 ghost use Rattle.book_terms.specs.declared.key.TermsKey.TheVariants as keys;
 ghost use Rattle.book_terms.specs.declared.key.TermsKey.{TermsKey as TermsKeyValue};
@@ -49,13 +48,6 @@ pub fn needed_change(alloc: Global, now: &Terms, wanted: &Terms) -> Result<Terms
     })
 }
 
-/// Whether a change says nothing: no account joins, and the tariffs stay.
-pub fn says_nothing(change: &TermsChange) -> bool
-    ensures { result ≡ says_nothing change.now }
-{
-    change.joining.is_empty() && change.tariffs.is_none()
-}
-
 fn difference_in_numbers(one: &Terms, other: &Terms) -> Option<TermsKey>
     ensures { MatchOption result (AgreeInNumbers one.now other.now) (λ key. DifferInNumbers key one.now other.now) }
 {
@@ -83,18 +75,7 @@ fn needed_tariffs(
     if same_tariffs(now.as_slice(), wanted.as_slice()) {
         return Ok(None);
     }
-    Ok(Some(copy_of_tariffs(alloc, wanted)?))
-}
-
-/// A copy of tariffs, which have no fault as those have none.
-fn copy_of_tariffs(alloc: Global, tariffs: &Tariffs) -> Result<Tariffs, AllocError>
-    ensures { IfOk result (λ copy. copy ≡ tariffs.now) }
-{
-    let copies = tariffs.as_slice().to_vec(alloc)?;
-    match Tariffs::new(alloc, copies) {
-        Ok(tariffs) => Ok(tariffs),
-        Err(_fault) => unreachable!(),
-    }
+    Ok(Some(wanted.copy(alloc)?))
 }
 
 fn same_tariffs(one: &[Tariff], other: &[Tariff]) -> bool
@@ -209,17 +190,11 @@ fn place_in(there: &[Account], account: &Account) -> Option<usize>
 fn is_known(there: &[Account], account: &Account) -> bool
     ensures { result ≡ is_known there.now account.now }
 {
-    there.iter().any(|other| same_owner(account, other))
+    there.iter().any(|other| account.has_same_owner(other))
 }
 
 fn same_account(one: &Account, other: &Account) -> bool
     ensures { result ≡ same_account one.now other.now }
 {
-    same_owner(one, other) && one.opening == other.opening
-}
-
-fn same_owner(one: &Account, other: &Account) -> bool
-    ensures { result ≡ same_owner one.now other.now }
-{
-    one.id_kind == other.id_kind && one.id == other.id
+    one.has_same_owner(other) && one.opening == other.opening
 }

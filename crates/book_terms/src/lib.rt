@@ -20,7 +20,7 @@ mod key;
 mod laws;
 
 pub use codec::{read_terms, spell_terms};
-pub use differences::{NeededFault, needed_change, says_nothing};
+pub use differences::{NeededFault, needed_change};
 pub use key::TermsKey;
 pub use laws::{
     needed_changes_lead_there, terms_are_read_back, terms_are_spelled_once,

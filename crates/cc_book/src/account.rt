@@ -1,5 +1,8 @@
 //! Accounts, and the money that they are kept in.
 
+ghost use Rattle.std.specs.Prelude.{◌≡◌};
+ghost use Rattle.cc_book.specs.TermsChange.{same_owner};
+
 use dia_avp::Octets;
 
 /// An account of the site. Amounts are whole minor units of its money.
@@ -11,6 +14,15 @@ pub struct Account {
     pub id: Octets,
     /// The balance before the first request.
     pub opening: i64,
+}
+
+impl Account {
+    /// Whether both have one Subscription-Id.
+    pub fn has_same_owner(&self, other: &Account) -> bool
+        ensures { result ≡ same_owner self.now other.now }
+    {
+        self.id_kind == other.id_kind && self.id == other.id
+    }
 }
 
 /// The money of a site: one minor unit is ten to the exponent of the currency.

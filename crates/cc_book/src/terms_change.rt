@@ -3,7 +3,7 @@
 ghost use Rattle.std.specs.Prelude.{◌≡◌, ◌++◌, [], IfOk, unwrap_or};
 ghost use Rattle.std.specs.List.{list_any};
 ghost use Rattle.cc_book.specs.declared.terms_change.ChangeRefusal.TheVariants.{OutOfMemory};
-ghost use Rattle.cc_book.specs.TermsChange.{account_fault, fault_of_change, joining_fault, same_owner};
+ghost use Rattle.cc_book.specs.TermsChange.{account_fault, fault_of_change, joining_fault, same_owner, says_nothing};
 
 use crate::account::Account;
 use crate::terms::Terms;
@@ -52,10 +52,17 @@ impl TermsChange {
     pub fn fault(&self, terms: &Terms) -> Option<ChangeRefusal>
         ensures { result ≡ fault_of_change terms.now self.now }
     {
-        if self.joining.is_empty() && self.tariffs.is_none() {
+        if self.says_nothing() {
             return Some(ChangeRefusal::Nothing);
         }
         joining_fault(terms.accounts.as_slice(), self.joining.as_slice())
+    }
+
+    /// Whether it changes nothing: no account joins, and the tariffs stay.
+    pub fn says_nothing(&self) -> bool
+        ensures { result ≡ says_nothing self.now }
+    {
+        self.joining.is_empty() && self.tariffs.is_none()
     }
 
     /// A copy in memory of its own.
@@ -105,13 +112,7 @@ fn account_fault(
 fn is_among(accounts: &[Account], account: &Account) -> bool
     ensures { result ≡ list_any (same_owner account.now) accounts.now }
 {
-    accounts.iter().any(|other| same_owner(account, other))
-}
-
-fn same_owner(one: &Account, other: &Account) -> bool
-    ensures { result ≡ same_owner one.now other.now }
-{
-    one.id_kind == other.id_kind && one.id == other.id
+    accounts.iter().any(|other| account.has_same_owner(other))
 }
 
 impl Terms {
@@ -125,7 +126,7 @@ impl Terms {
         accounts.append(&mut change.joining.as_slice().to_vec(alloc)?)?;
         Ok(Terms {
             accounts: Listing::from_vec(accounts),
-            tariffs: copy_of_tariffs(alloc, self.tariffs_after(change))?,
+            tariffs: self.tariffs_after(change).copy(alloc)?,
             validity: self.validity,
             money: self.money,
         })
@@ -147,18 +148,7 @@ fn copy_of_some(alloc: Global, tariffs: &Option<Tariffs>) -> Result<Option<Tarif
     ensures { IfOk result (λ copy. copy ≡ tariffs.now) }
 {
     match tariffs {
-        Some(tariffs) => Ok(Some(copy_of_tariffs(alloc, tariffs)?)),
+        Some(tariffs) => Ok(Some(tariffs.copy(alloc)?)),
         None => Ok(None),
-    }
-}
-
-/// A copy of tariffs, which have no fault as those have none.
-fn copy_of_tariffs(alloc: Global, tariffs: &Tariffs) -> Result<Tariffs, AllocError>
-    ensures { IfOk result (λ copy. copy ≡ tariffs.now) }
-{
-    let copies = tariffs.as_slice().to_vec(alloc)?;
-    match Tariffs::new(alloc, copies) {
-        Ok(tariffs) => Ok(tariffs),
-        Err(_fault) => unreachable!(),
     }
 }

@@ -6,7 +6,7 @@ ghost use Rattle.std.specs.List.{find, list_any};
 ghost use Rattle.cc_rating.specs.Tariffs.{fault_after, fault_of, in_range, is_twice, rates};
 
 use crate::tariff::Tariff;
-use std::alloc::Global;
+use std::alloc::{AllocError, Global};
 use std::marker::Model;
 use thiserror::Error;
 
@@ -51,6 +51,14 @@ impl Tariffs {
             Some(fault) => Err(fault),
             None => Ok(Tariffs { tariffs }),
         }
+    }
+
+    /// A copy in memory of its own.
+    pub fn copy(&self, alloc: Global) -> Result<Self, AllocError>
+        ensures { IfOk result (λ copy. copy ≡ self.now) }
+    {
+        let tariffs = self.tariffs.to_vec(alloc)?;
+        Ok(Tariffs { tariffs })
     }
 
     /// The tariffs themselves, in their order.

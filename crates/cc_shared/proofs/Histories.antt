@@ -5,7 +5,9 @@ use Rattle.std.proofs.lemmas.List.Sums.{count_by-le-length, sum_by-append}
 use Rattle.dia_base.specs.declared.number.Moment.{Moment}
 use Rattle.cc_view.specs.declared.request.CcRequest.{CcRequest}
 use Rattle.cc_book.specs.declared.entry.Entry.{Entry}
-use Rattle.cc_book.specs.declared.entry.Entry.TheVariants.{Take, Sweep}
+use Rattle.cc_book.specs.declared.entry.Entry.TheVariants.{Take, Sweep, ChangeTerms}
+use Rattle.cc_book.specs.declared.terms_change.TermsChange.{TermsChange}
+use Rattle.cc_book.specs.Changing.{with_change}
 use Rattle.cc_book.specs.Taking.{Ledger, after_sweep_with, with_take, with_sweep}
 use Rattle.cc_shared.specs.declared.logged.Logged.{Logged}
 use Rattle.cc_shared.specs.declared.logged.Logged.TheVariants.{Entered, Closed}
@@ -46,6 +48,10 @@ pub book_at-sweep : (opened : Ledger) (log : List Logged) (moment : Moment)
     → with_sweep (book_at opened log) moment ≡ book_at opened (log ++ Entered (Sweep moment) ∷ [])
 book_at-sweep opened log moment = ap (λ (h : List Entry). record opened { history = h }) (history_goes_on opened log (Sweep moment))
 
+pub book_at-change : (opened : Ledger) (log : List Logged) (moment : Moment) (change : TermsChange)
+    → with_change (book_at opened log) moment change ≡ book_at opened (log ++ Entered (ChangeTerms moment change) ∷ [])
+book_at-change opened log moment change = ap (λ (h : List Entry). record opened { history = h }) (history_goes_on opened log (ChangeTerms moment change))
+
 -- the closing of a book leaves it as it is
 pub book_at-closed : (opened : Ledger) (log : List Logged) → book_at opened (log ++ Closed ∷ []) ≡ book_at opened log
 book_at-closed opened log =
@@ -67,6 +73,11 @@ one_take_more log moment request = ap takes_in (entries_in-append log (Entered (
 pub no_take_more : (log : List Logged) (moment : Moment) → takes_in (entries_in (log ++ Entered (Sweep moment) ∷ [])) ≡ takes_in (entries_in log)
 no_take_more log moment =
     let more = ap takes_in (entries_in-append log (Entered (Sweep moment) ∷ [])) ∙ takes_in-append (entries_in log) (Sweep moment ∷ []) in omega (arith, more)
+
+pub change_is_no_take : (log : List Logged) (moment : Moment) (change : TermsChange) → takes_in (entries_in (log ++ Entered (ChangeTerms moment change) ∷ [])) ≡ takes_in (entries_in log)
+change_is_no_take log moment change =
+    let more = ap takes_in (entries_in-append log (Entered (ChangeTerms moment change) ∷ [])) ∙ takes_in-append (entries_in log) (ChangeTerms moment change ∷ []) in
+    omega (arith, more)
 
 -- a book that is the replay of its history has grown by as many takes as stand there
 pub replay_has_grown : (opened book : Ledger) (log : List Logged) (takes : ℕ) → book ≡ book_at opened log → takes_in (entries_in log) ≡ takes → HasGrown opened book takes

@@ -1,3 +1,4 @@
+pub mod Changing
 pub mod History
 pub mod Receipts
 pub mod Sharing

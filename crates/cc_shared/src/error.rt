@@ -1,6 +1,6 @@
 //! Why a shared book does not do what it is told.
 
-use cc_book::Book;
+use cc_book::{Book, ChangeRefusal};
 use cc_view::CcRequest;
 use thiserror::Error;
 
@@ -20,6 +20,20 @@ pub enum ServeRefusal {
 pub struct ServeError {
     pub why: ServeRefusal,
     pub request: CcRequest,
+}
+
+/// Why the terms of a shared book are not changed.
+#[derive(Clone, Copy, Debug, PartialEq, Eq, Error)]
+pub enum ChangeError {
+    /// The book refuses the change, and is as it was.
+    #[error("{0}")]
+    Refused(ChangeRefusal),
+    #[error("the book is closed")]
+    Closed,
+    /// The book was changed, and the change was not stored: whether it stands is not known. The book is closed, and the process is to
+    /// end.
+    #[error("the change cannot be stored: whether it stands is not known")]
+    NotStored,
 }
 
 /// Why a shared book was not finished. It is closed all the same, and handed back where it was not closed before.

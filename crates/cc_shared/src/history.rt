@@ -3,7 +3,7 @@
 
 ghost use Rattle.std.specs.Prelude.{◌≡◌, ◌<◌, ◌^◌, ◌++◌, ◌∷◌, ◌⊎◌, [], IfSome, None, MatchBool, length, true};
 ghost use mathlib.Core.List.{IsPrefix};
-ghost use Rattle.cc_book.specs.declared.entry.Entry.TheVariants.{Sweep, Take};
+ghost use Rattle.cc_book.specs.declared.entry.Entry.TheVariants.{ChangeTerms, Sweep, Take};
 ghost use Rattle.logbook.specs.Pages.{Book as LogName};
 ghost use Rattle.cc_shared.specs.declared.logged.Logged.{Logged as Record};
 ghost use Rattle.cc_shared.specs.declared.logged.Logged.TheVariants.{Closed, Entered};
@@ -11,6 +11,7 @@ ghost use Rattle.cc_shared.specs.History.{head_of, is_closed};
 
 use crate::logged::Logged;
 use crate::sharing::Sharing;
+use cc_book::TermsChange;
 use cc_view::CcRequest;
 use dia_base::Moment;
 use logbook::{Gain, Offer, Plain, Play, Rule, Seen, Start, Word};
@@ -86,6 +87,23 @@ impl Plain<Sweeping, Logged, u64> for Add {
     ghost ask = { λ sweeping. Entered (Sweep sweeping.moment) };
 
     ghost state = { λ sweeping. None };
+}
+
+/// A change of the terms that is to be added.
+#[derive(Clone, Copy)]
+pub struct Changing<'a> {
+    pub moment: Moment,
+    pub change: &'a TermsChange,
+}
+
+impl Plain<Changing<'_>, Logged, u64> for Add {
+    ghost use Rattle.std.specs.Prelude.{None};
+    ghost use Rattle.cc_book.specs.declared.entry.Entry.TheVariants.{ChangeTerms};
+    ghost use Rattle.cc_shared.specs.declared.logged.Logged.TheVariants.{Entered};
+
+    ghost ask = { λ changing. Entered (ChangeTerms changing.moment changing.change.now) };
+
+    ghost state = { λ changing. None };
 }
 
 /// The end of the history.
@@ -216,6 +234,16 @@ impl<L: Sharing> Beginning<L> {
         let mut offer = self
             .seen
             .plain::<Nothing, Sweeping, Add>(&Sweeping { moment });
+        self.add(word, &mut offer)
+    }
+
+    /// Adds a change of the terms, likewise.
+    pub fn add_change(&mut self, word: &Length<L>, moment: Moment, change: &TermsChange) -> bool
+        ensures { MatchBool result (self.new ≡ self.old ++ Entered (ChangeTerms moment change.now) ∷ []) (Unit {0}) }
+    {
+        let mut offer = self
+            .seen
+            .plain::<Nothing, Changing, Add>(&Changing { moment, change });
         self.add(word, &mut offer)
     }
 

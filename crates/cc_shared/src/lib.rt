@@ -3,6 +3,7 @@
 //! - [`SharedBook`]: a handle on the book. [`SharedBook::serve`] takes a request and answers a [`Receipt`];
 //!   [`SharedBook::serve_all`] takes several, one behind the other, while it holds the lock once; [`SharedBook::finish`] gives
 //!   the book back, once it has seen that every receipt stands in its one history.
+//! - [`SharedBook::sweep`] ends sessions that are due, and [`SharedBook::change_terms`] changes the terms (`specs/Changing`).
 //! - [`Seat`]: what a thread serves through. It counts its takes, in a ledger whose total stands beside the book.
 //! - [`Sharing`]: names one sharing.
 //!
@@ -45,10 +46,10 @@ mod sharing;
 mod untold;
 
 pub use asking::{Asked, Served};
-pub use error::{CloseError, ServeError, ServeRefusal};
+pub use error::{ChangeError, CloseError, ServeError, ServeRefusal};
 pub use history::{Beginning, BlankHistory, Length, OneHistory, SeenHistory};
 pub use logged::Logged;
-pub use looks::{ClosedBook, Snapshot, Swept};
+pub use looks::{ClosedBook, Snapshot, Swept, TermsChanged};
 pub use receipt::Receipt;
 pub use seat::Seat;
 pub use shared::SharedBook;

@@ -4,6 +4,7 @@ ghost use Rattle.std.specs.Prelude.{◌≡◌, ◌≤◌, ◌<◌, [], ◌∷◌
 ghost use Rattle.cc_shared.specs.Receipts.{IsEnteredAt, IsReceiptOf};
 ghost use Rattle.cc_shared.specs.Sharing.{IsSnapshot, IsSweep};
 ghost use Rattle.cc_shared.specs.Serving.{IsRefused, ServesAll, count_after, refused_closed};
+ghost use Rattle.cc_shared.specs.Changing.{IsChange, IsNoChange};
 ghost use Rattle.cc_shared.specs.Closing.{HasCause, IsFinished, IsWhole};
 ghost use Rattle.cc_shared.specs.History.{is_closed};
 ghost use Rattle.cc_shared.specs.declared.logged.Logged.TheVariants.{Closed};
@@ -11,10 +12,10 @@ ghost use Rattle.book_journal.specs.Kept.{IsKeptBy, IsSettled};
 
 use crate::asking::{Asked, Served};
 use crate::batching::Batching;
-use crate::error::{CloseError, ServeError, ServeRefusal};
-use crate::history::{BlankHistory, ClosedHistory, Length, SeenHistory};
+use crate::error::{ChangeError, CloseError, ServeError, ServeRefusal};
+use crate::history::{Beginning, BlankHistory, ClosedHistory, Length, SeenHistory};
 use crate::kept::KeptBook;
-use crate::looks::{ClosedBook, Snapshot, Swept};
+use crate::looks::{ClosedBook, Snapshot, Swept, TermsChanged};
 use crate::open::OpenBook;
 use crate::receipt::Receipt;
 use crate::seat::Seat;
@@ -22,7 +23,7 @@ use crate::sharing::Sharing;
 use crate::untold::Untold;
 use book_journal::Journal;
 use book_store::RowStore;
-use cc_book::{Book, BookRefusal};
+use cc_book::{Book, BookRefusal, TermsChange};
 use cc_view::CcRequest;
 use dia_base::Moment;
 use std::alloc::{AllocError, Global};
@@ -210,13 +211,18 @@ impl<L: Sharing, S: RowStore + Drop> LockedBook<L, S> {
                 Some(told)
             }
             Err(seen) => {
-                if let Some(closed) = seen.ended(&self.length) {
-                    *behind = Behind::Failed(closed);
-                }
-                self.failed.store(1, Ordering::SeqCst);
+                self.fail(seen, behind);
                 None
             }
         }
+    }
+
+    /// The book is gone, with this history: from now on it is closed, and the process is to end.
+    fn fail(&self, seen: Beginning<L>, behind: &mut Behind<L, S>) {
+        if let Some(closed) = seen.ended(&self.length) {
+            *behind = Behind::Failed(closed);
+        }
+        self.failed.store(1, Ordering::SeqCst);
     }
 
     /// Serves a request, and stores what the book has done. None where it was not stored. The batch ends as soon as the lock is
@@ -336,6 +342,35 @@ impl<L: Sharing, S: RowStore + Drop> LockedBook<L, S> {
         match self.settle(open, untold, &mut guard) {
             Some(swept) => swept,
             None => Err(BookRefusal::OutOfMemory),
+        }
+    }
+
+    /// Changes the terms by one entry of this moment, behind the lock, and stores that. A book that refuses the change is as it was. Where
+    /// the change was not stored the book is closed ([`LockedBook::has_failed`]).
+    pub fn change_terms<R: Wait>(
+        &self,
+        rt: &R,
+        alloc: Global,
+        moment: Moment,
+        change: TermsChange,
+    ) -> Result<TermsChanged, ChangeError>
+        ensures changed { IfOk result (IsChange L.shared moment change) }
+        ensures refused { IfErr result (IsNoChange L.shared change) }
+    {
+        let mut guard = self.lock.lock(rt);
+        let Some(open) = take_open(&mut guard) else {
+            return Err(ChangeError::Closed);
+        };
+        match open.change(alloc, &self.length, moment, change) {
+            Ok((open, untold)) => match self.settle(open, untold, &mut guard) {
+                Some(Ok(changed)) => Ok(changed),
+                Some(Err(refusal)) => Err(ChangeError::Refused(refusal)),
+                None => Err(ChangeError::NotStored),
+            },
+            Err(seen) => {
+                self.fail(seen, &mut guard);
+                Err(ChangeError::NotStored)
+            }
         }
     }
 

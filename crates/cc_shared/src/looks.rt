@@ -12,6 +12,15 @@ pub struct Swept {
     pub seen: SeenHistory,
 }
 
+/// A change of the terms of a shared book.
+#[derive(Drop)]
+pub struct TermsChanged {
+    /// The place of its entry in the history, from 0.
+    pub place: u64,
+    /// What was seen of the history behind it.
+    pub seen: SeenHistory,
+}
+
 /// All accounts of a shared book at one moment of its history.
 #[derive(Drop)]
 pub struct Snapshot {

@@ -1,7 +1,8 @@
 //! A book that is open, and does what it is asked: what it does waits to be stored.
 
-ghost use Rattle.std.specs.Prelude.{◌≡◌, ◌+◌, ◌≤◌, ◌<◌, ◌^◌, ◌++◌, ◌∷◌, [], IfErr, IfOk, length, sum, vec_capacity, vec_len, true, false, if◌then◌else◌};
-ghost use Rattle.cc_book.specs.declared.entry.Entry.TheVariants.{Take};
+ghost use Rattle.std.specs.Prelude.{◌≡◌, ◌+◌, ◌≤◌, ◌<◌, ◌^◌, ◌++◌, ◌∷◌, [], Err, IfErr, IfOk, Ok, length, sum, vec_capacity, vec_len, true, false, if◌then◌else◌};
+ghost use Rattle.cc_book.specs.declared.entry.Entry.TheVariants.{ChangeTerms, Take};
+ghost use Rattle.cc_book.specs.Changing.{ChangesWith, change_answer, with_change};
 ghost use Rattle.cc_book.specs.History.{IsLegal};
 ghost use Rattle.cc_book.specs.declared.book.BookRefusal.TheVariants.{OutOfMemory};
 ghost use Rattle.cc_book.specs.Planning.{IsGoodFor, after_plan, answer_planned};
@@ -9,21 +10,23 @@ ghost use Rattle.cc_book.specs.Taking.{AnswersWith, SweepsWith, answer_of, is_fr
 ghost use Rattle.cc_shared.specs.declared.logged.Logged.TheVariants.{Entered};
 ghost use Rattle.cc_shared.specs.Serving.{ServesEach, ServesOne, count_after, why_of};
 ghost use Rattle.cc_shared.specs.Sharing.{IsSweep, log_after_sweep};
+ghost use Rattle.cc_shared.specs.Changing.{IsChange, IsUnchanged};
 ghost use Rattle.cc_shared.specs.Closing.{FinishesWith};
 ghost use Rattle.cc_shared.specs.History.{book_at, is_closed};
+ghost use Rattle.book_journal.specs.Kept.{IsKeptBy};
 
 use crate::asking::{Asked, Served};
 use crate::error::{ServeError, ServeRefusal};
 use crate::history::{Beginning, Length};
 use crate::kept::KeptBook;
-use crate::looks::Swept;
+use crate::looks::{Swept, TermsChanged};
 use crate::receipt::Receipt;
 use crate::seat::Seat;
 use crate::sharing::Sharing;
 use crate::untold::Untold;
 use book_journal::Journal;
 use book_store::RowStore;
-use cc_book::{Answered, Book, BookRefusal, Plan};
+use cc_book::{Answered, Book, BookRefusal, ChangeRefusal, Plan, TermsChange};
 use cc_view::CcRequest;
 use dia_base::Moment;
 use std::alloc::Global;
@@ -265,6 +268,40 @@ impl<L: Sharing, S: RowStore + Drop> OpenBook<L, S> {
         Untold::new(swept, self.seen.again())
     }
 
+    /// Changes the terms by one entry of this moment, or refuses; that is told once the book is stored. Where the history is longer than
+    /// what was seen of it, as it never is for who has the lock, the book is gone, and its history is handed back.
+    pub fn change(
+        self,
+        alloc: Global,
+        word: &Length<L>,
+        moment: Moment,
+        change: TermsChange,
+    ) -> Result<(Self, Untold<L, Result<TermsChanged, ChangeRefusal>>), Beginning<L>>
+        ensures changed { IfOk result (λ made. IfOk made.1.told (IsChange L.shared moment change)) }
+        ensures refused { IfOk result (λ made. IfErr made.1.told (IsUnchanged L.shared change)) }
+        ensures behind { IfOk result (λ made. made.1.behind ≡ made.0) }
+        ensures seen { IfErr result (λ seen. seen ≡ self) }
+    {
+        let mut open = self;
+        let before = open.history().again();
+        match change_kept(alloc, &mut open.journal, &mut open.book, moment, change) {
+            Ok((place, entered)) => {
+                let mut seen = before.again();
+                if !seen.add_change(word, moment, &entered) {
+                    return Err(before);
+                }
+                let told = TermsChanged {
+                    place,
+                    seen: seen.seen(),
+                };
+                let behind = seen.again();
+                open.seen = seen;
+                Ok((open, Untold::new(Ok(told), behind)))
+            }
+            Err(refusal) => Ok((open, Untold::new(Err(refusal), before))),
+        }
+    }
+
     /// Stores all that waits, in one commit. What is stored is the whole history then. Without that whether it is stored is not
     /// known: the book is gone, and its history is handed back.
     pub fn settle(self) -> Result<KeptBook<L, S>, Beginning<L>>
@@ -293,6 +330,28 @@ impl<L: Sharing, S: RowStore + Drop> OpenBook<L, S> {
             Err(_) => Err(seen),
         }
     }
+}
+
+/// A book changes its terms by an entry of this moment, whose row waits to be stored. The place of the entry, and the change again. A
+/// book that refuses is as it was, and so is what is stored of it.
+fn change_kept<S: RowStore>(
+    alloc: Global,
+    journal: &mut Journal<S>,
+    book: &mut Book,
+    moment: Moment,
+    change: TermsChange,
+) -> Result<(u64, TermsChange), ChangeRefusal>
+    requires kept { IsKeptBy S.is_clean S.is_ready S.rows journal.old book.old }
+    ensures made { IfOk result (λ made. (made.1 ≡ change) × (change_answer book.old change ≡ Ok made.0) × (book.new ≡ with_change book.old moment change)) }
+    ensures refused { IfErr result (λ refusal. ChangesWith (change_answer book.old change) (Err refusal) × (book.new ≡ book.old)) }
+    ensures kept { IsKeptBy S.is_clean S.is_ready S.rows journal.new book.new }
+{
+    let place = book.quote_change(&change)?;
+    let again = change.copy(alloc)?;
+    let row = journal.row_of_change(place, moment, &change)?;
+    book.change_terms(alloc, moment, change)?;
+    journal.add(row);
+    Ok((place, again))
 }
 
 /// Why a request is not served that the book has refused.

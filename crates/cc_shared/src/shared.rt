@@ -4,20 +4,21 @@ ghost use Rattle.std.specs.Prelude.{◌≡◌, ◌≤◌, ◌<◌, IfErr, IfOk, 
 ghost use Rattle.cc_shared.specs.Receipts.{IsEnteredAt, IsReceiptOf};
 ghost use Rattle.cc_shared.specs.Sharing.{IsSnapshot, IsSweep};
 ghost use Rattle.cc_shared.specs.Serving.{IsRefused, ServesAll, count_after};
+ghost use Rattle.cc_shared.specs.Changing.{IsChange, IsNoChange};
 ghost use Rattle.cc_shared.specs.Closing.{FinishesWith, HasCause, IsFinished, IsWhole};
 ghost use Rattle.book_journal.specs.Kept.{IsKeptBy, IsSettled};
 
 use crate::asking::{Asked, Served};
-use crate::error::{CloseError, ServeError};
+use crate::error::{ChangeError, CloseError, ServeError};
 use crate::history::BlankHistory;
 use crate::locked::LockedBook;
-use crate::looks::{ClosedBook, Snapshot, Swept};
+use crate::looks::{ClosedBook, Snapshot, Swept, TermsChanged};
 use crate::receipt::Receipt;
 use crate::seat::Seat;
 use crate::sharing::Sharing;
 use book_journal::Journal;
 use book_store::RowStore;
-use cc_book::{Book, BookRefusal};
+use cc_book::{Book, BookRefusal, TermsChange};
 use cc_view::CcRequest;
 use dia_base::Moment;
 use std::alloc::{AllocError, Global};
@@ -153,6 +154,22 @@ impl<L: Sharing, S: RowStore + Drop> SharedBook<L, S> {
         ensures { IfOk result (IsSweep L.shared moment) }
     {
         self.locked.sweep(rt, moment)
+    }
+
+    /// Changes the terms by one entry of this moment, as [`Book::change_terms`] does, behind the lock, and stores that: all that the
+    /// change says, or nothing. A book that refuses it is as it was. Where the change was not stored the book is closed
+    /// ([`SharedBook::has_failed`]).
+    pub fn change_terms<R: Wait>(
+        &self,
+        rt: &R,
+        alloc: Global,
+        moment: Moment,
+        change: TermsChange,
+    ) -> Result<TermsChanged, ChangeError>
+        ensures changed { IfOk result (IsChange L.shared moment change) }
+        ensures refused { IfErr result (IsNoChange L.shared change) }
+    {
+        self.locked.change_terms(rt, alloc, moment, change)
     }
 
     /// Balance and reserved amount of each account, all at one moment. The empty list once the book is closed.

@@ -1,10 +1,11 @@
 //! The steps of a schedule.
 
+use cc_book::TermsChange;
 use dia_base::{Moment, NodeNo};
 use dia_message::Message;
 
 /// One step of the farm. A step that does not apply is skipped when the schedule is run.
-#[derive(Debug, Drop, PartialEq, Eq)]
+#[derive(Debug, Drop)]
 pub enum Step {
     /// A connection between two nodes comes up, and both know it: `Accept` and then `Opened`.
     Up {
@@ -83,5 +84,11 @@ pub enum Step {
     /// The book ends the sessions that are due at this moment (RFC 8506, section 13). It always applies.
     Sweep {
         moment: Moment,
+    },
+    /// The terms of the book change at this moment. It always applies: a change that the book refuses, for a fault or
+    /// because it is full, leaves all as it is.
+    ChangeTerms {
+        moment: Moment,
+        change: TermsChange,
     },
 }

@@ -15,7 +15,6 @@ use book_opening::{
     read_book,
 };
 use book_store::FIRST_SUM;
-use book_terms::says_nothing;
 use cc_book::{Terms, TermsChange};
 use dia_base::HISTORY_LIMIT;
 use farm_base::Site;
@@ -180,7 +179,7 @@ fn checked(
     ensures { IfOk result (λ text. text.items ≡ text_of BookTask.Check stored.now change.now) }
 {
     let mut text = summary_of(alloc, limit, stored)?;
-    if !says_nothing(change) {
+    if !change.says_nothing() {
         push_difference_line(alloc, &mut text, change)?;
     }
     Ok(text)

@@ -13,9 +13,12 @@ use Rattle.cc_view.specs.RequestView.{view_under}
 use Rattle.cc_view.specs.declared.request.CcRequest.{CcRequest}
 use Rattle.cc_book.specs.declared.entry.Entry.{Entry}
 use Rattle.cc_book.specs.declared.entry.Entry.TheVariants.{Take, Sweep, ChangeTerms}
-use Rattle.cc_book.specs.AccountMachine.{kept_reply}
+use Rattle.cc_book.specs.declared.terms_change.TermsChange.{TermsChange}
+use Rattle.cc_book.specs.AccountMachine.{kept_reply, terms_of}
+use Rattle.cc_book.specs.Changing.{with_change}
 use Rattle.cc_book.specs.History.{IsLegal, ended_sessions}
 use Rattle.cc_book.specs.Taking.{Ledger, with_take, with_sweep}
+use Rattle.cc_book.specs.TermsChange.{fault_of_change}
 use Rattle.front_core.specs.Counts.{is_with}
 use Rattle.farm_law.specs.Answers.{Answers}
 use Rattle.farm_law.specs.Counts.{Class, with_hop, with_both, item_in}
@@ -144,6 +147,14 @@ module _ (p : Parties) {has_ended : NodeNo → ConnId → Bool} {items : List It
       (all-end (IsTaken p sent) book.history (Sweep moment) v.taken tt)
       (l.legal_sweeps book.terms book.history moment v.legal ends)
       (omega (arith, room, length-append book.history (Sweep moment ∷ [])))
+
+  pub keep_changes : (l : Premises) (moment : Moment) (change : TermsChange) → fault_of_change (terms_of book.terms book.history) change ≡ None →
+      length book.history < book.limit → Keeps p has_ended items rows (with_change book moment change) refused sent received
+  keep_changes l moment change sound room = keep_grows (with_change book moment change) refused
+      (record { answered = λ site message answer a. l.answers_stay site book (ChangeTerms moment change ∷ []) message answer a; refused_still = λ at k. k })
+      (all-end (IsTaken p sent) book.history (ChangeTerms moment change) v.taken tt)
+      (l.legal_changes book.terms book.history moment change v.legal sound)
+      (omega (arith, room, length-append book.history (ChangeTerms moment change ∷ [])))
 
   with_items : {next : List Item} → ((class : Class) → count_by (item_in p class) next ≤ count_by (item_in p class) items) →
       ((item : Item) → Has item next → IsSound p has_ended rows book refused sent item) →

@@ -12,11 +12,13 @@ use Rattle.cc_view.specs.declared.refusal.Refusal.{Refusal}
 use Rattle.cc_view.specs.declared.reply.CcReply.{CcReply}
 use Rattle.cc_view.specs.declared.request.CcRequest.{CcRequest}
 use Rattle.cc_book.specs.declared.entry.Entry.{Entry}
-use Rattle.cc_book.specs.declared.entry.Entry.TheVariants.{Take, Sweep}
+use Rattle.cc_book.specs.declared.entry.Entry.TheVariants.{Take, Sweep, ChangeTerms}
 use Rattle.cc_book.specs.declared.terms.Terms.{Terms}
-use Rattle.cc_book.specs.AccountMachine.{kept_reply}
+use Rattle.cc_book.specs.declared.terms_change.TermsChange.{TermsChange}
+use Rattle.cc_book.specs.AccountMachine.{kept_reply, terms_of}
 use Rattle.cc_book.specs.History.{IsLegal, ended_sessions}
 use Rattle.cc_book.specs.Taking.{Ledger}
+use Rattle.cc_book.specs.TermsChange.{fault_of_change}
 use Rattle.front_core.specs.declared.site.FrontSite.{FrontSite}
 use Rattle.front_core.specs.Answered.{IsBookAnswer}
 use Rattle.relay_core.specs.Forwarding.{Descends}
@@ -26,6 +28,8 @@ pub record Premises : Type 0 where
       kept_reply terms history request ≡ None → IsLegal terms (history ++ Take moment request ∷ [])
   pub legal_sweeps : (terms : Terms) (history : List Entry) (moment : Moment) → IsLegal terms history →
       0 < ended_sessions terms history moment → IsLegal terms (history ++ Sweep moment ∷ [])
+  pub legal_changes : (terms : Terms) (history : List Entry) (moment : Moment) (change : TermsChange) → IsLegal terms history →
+      fault_of_change (terms_of terms history) change ≡ None → IsLegal terms (history ++ ChangeTerms moment change ∷ [])
   pub answers_stay : (site : FrontSite) (ledger : Ledger) (more : List Entry) (message answer : Message) →
       IsBookAnswer site ledger message answer → IsBookAnswer site (record ledger { history = ledger.history ++ more }) message answer
   pub descends_on : (request passed last : Message) → Descends request passed → Descends passed last → Descends request last

@@ -10,13 +10,13 @@ use Rattle.farm_law.specs.Answers.{by_itself, Answers, of_front, of_refusal}
 use Rattle.farm_law.specs.Farm.{Refused, Farm}
 use Rattle.farm_law.specs.Invariant.{IsTaken, IsKept, new_farm}
 use Rattle.farm_law.specs.Lists.{Has}
-use Rattle.farm_law.specs.Moves.{Move, sends, receives, loses, moves_on, answers, takes, sweeps, refuses, forwards}
+use Rattle.farm_law.specs.Moves.{Move, sends, receives, loses, moves_on, answers, takes, sweeps, changes_terms, refuses, forwards}
 use Rattle.farm_law.specs.Moves.{returns, forgets, orphans, drops, sends_again, gives_up, ends, Moves, done, next}
 use Rattle.farm_law.specs.Parties.{Parties}
 use Rattle.farm_law.proofs.Lists.{Has-last}
 use Rattle.farm_law.proofs.Premises.{Premises}
 use Rattle.farm_law.proofs.Answering.{identifiers}
-use Rattle.farm_law.proofs.Keeping.{keep_ends, keep_refused, keep_takes, keep_sweeps, keep_loses, keep_moves_on, keep_answers, keep_receives, keep_sends}
+use Rattle.farm_law.proofs.Keeping.{keep_ends, keep_refused, keep_takes, keep_sweeps, keep_changes, keep_loses, keep_moves_on, keep_answers, keep_receives, keep_sends}
 use Rattle.farm_law.proofs.Relaying.{keep_forwards}
 use Rattle.farm_law.proofs.Ending.{keep_orphans, keep_drops, keep_sends_again, keep_gives_up}
 use Rattle.farm_law.proofs.Returning.{keep_forgets, keep_returns}
@@ -38,6 +38,7 @@ keep l p (answers {f = f} {item = item} answer wo e is_front a wi) k =
     keep_answers p k answer wo e (identifiers told) told wi
 keep l p (takes moment request h e view new room) k = keep_takes p k l moment request h e view new room
 keep l p (sweeps moment due room) k = keep_sweeps p k l moment due room
+keep l p (changes_terms moment change sound room) k = keep_changes p k l moment change sound room
 keep l p (refuses {f = f} {item = item} refusal wo e wi) k =
     let at : Refused = record { node = item.to; conn = item.conn; request = item.message; refusal = refusal } in
     let told = refusal_told p f.book f.refused at in

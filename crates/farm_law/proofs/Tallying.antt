@@ -10,7 +10,7 @@ use Rattle.cc_view.specs.Answer.{answer_to}
 use Rattle.relay_hops.specs.PendingTable.{under, again}
 use Rattle.farm_law.specs.Farm.{Refused, Farm}
 use Rattle.farm_law.specs.Invariant.{IsKept}
-use Rattle.farm_law.specs.Moves.{Move, sends, receives, loses, moves_on, answers, takes, sweeps, refuses, forwards, returns}
+use Rattle.farm_law.specs.Moves.{Move, sends, receives, loses, moves_on, answers, takes, sweeps, changes_terms, refuses, forwards, returns}
 use Rattle.farm_law.specs.Moves.{forgets, orphans, drops, sends_again, gives_up, ends, Moves, done, next, forwarded}
 use Rattle.farm_law.specs.Parties.{Parties}
 use Rattle.farm_law.specs.Tally.{IsOfText, is_error_with, is_told_with, written_by, OwesEach}
@@ -83,6 +83,7 @@ module _ (p : Parties) (test : Message → Bool) (of_text : IsOfText test) where
       omega arith
   owed (takes moment request h r view new room) k e = e
   owed (sweeps moment due room) k e = e
+  owed (changes_terms moment change sound room) k e = e
   owed (refuses {f = f} {item = item} refusal wo r wi) k e =
       let at : Refused = record { node = item.to; conn = item.conn; request = item.message; refusal = refusal } in
       let answer = written_by p at in

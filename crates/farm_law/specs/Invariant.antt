@@ -76,13 +76,12 @@ pub data ComesFrom (sent : Traffic) (message : Message) : Type 0 where
   as_sent : (conn : ConnId) → Has (conn, message) sent → ComesFrom sent message
   on_its_way : HasDescended sent message → ComesFrom sent message
 
--- An entry takes what is read in a request that a client sent. A sweep takes nothing of any message. No step of the farm changes
--- the terms of its book.
+-- An entry takes what is read in a request that a client sent. A sweep takes nothing of any message, nor does a change of the terms.
 abbrev pub IsTaken : Parties → Traffic → Entry → Type 0
 IsTaken p sent (Take moment request) =
     (conn : ConnId) × (message : Message) × Has (conn, message) sent × (message.header.request ≡ true) × (view_under p.profile message ≡ Ok request)
 IsTaken p sent (Sweep moment) = Unit {0}
-IsTaken p sent (ChangeTerms moment change) = ⊥
+IsTaken p sent (ChangeTerms moment change) = Unit {0}
 
 -- ---- the whole
 

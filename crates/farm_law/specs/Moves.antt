@@ -11,9 +11,12 @@ use Rattle.cc_view.specs.declared.refusal.Refusal.{Refusal}
 use Rattle.cc_view.specs.declared.request.CcRequest.{CcRequest}
 use Rattle.cc_view.specs.Answer.{refusal_of}
 use Rattle.cc_view.specs.RequestView.{view_under}
-use Rattle.cc_book.specs.AccountMachine.{kept_reply}
+use Rattle.cc_book.specs.declared.terms_change.TermsChange.{TermsChange}
+use Rattle.cc_book.specs.AccountMachine.{kept_reply, terms_of}
+use Rattle.cc_book.specs.Changing.{with_change}
 use Rattle.cc_book.specs.History.{ended_sessions}
 use Rattle.cc_book.specs.Taking.{with_take, with_sweep}
+use Rattle.cc_book.specs.TermsChange.{fault_of_change}
 use Rattle.front_core.specs.Answered.{IsBookAnswer}
 use Rattle.relay_routes.specs.Routing.{record_of}
 use Rattle.relay_hops.specs.PendingTable.{under, again}
@@ -75,6 +78,9 @@ pub data Move (p : Parties) : Farm → Farm → Type 0 where
   -- the book ends sessions that are due (RFC 8506, section 13)
   sweeps : {f : Farm} (moment : Moment) → 0 < ended_sessions f.book.terms f.book.history moment → length f.book.history < f.book.limit →
       Move p f (record f { book = with_sweep f.book moment })
+  -- the terms of the book change, where nothing is wrong with the change
+  changes_terms : {f : Farm} (moment : Moment) (change : TermsChange) → fault_of_change (terms_of f.book.terms f.book.history) change ≡ None →
+      length f.book.history < f.book.limit → Move p f (record f { book = with_change f.book moment change })
   -- a node refuses a request
   refuses : {f : Farm} {item : Item} {rest items : List Item} (refusal : Refusal) → Without item f.items rest → item.message.header.request ≡ true →
       Without (reply_to item (refusal_of (p.name_of item.to) p.realm item.message refusal)) items rest →

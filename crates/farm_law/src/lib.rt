@@ -8,7 +8,7 @@
 //!
 //! - [`moves_keep_a_farm`]: whatever moves are made, no request is answered more often than a client sent it, each
 //!   answer is that of a front with the book's reply or the refusal of a node, no refusal answers twice, and the book's
-//!   entries are requests of clients and sweeps that end sessions.
+//!   entries are requests of clients, sweeps that end sessions, and changes of the terms with which nothing is wrong.
 //!
 //! The definitions are in `specs/`: `Parties` (what stays the same), `Farm` (what changes), `Moves`, `Counts`,
 //! `Answers`, `Invariant` and `Tally` (each error answer has a refusal of its own).

@@ -356,4 +356,11 @@ impl<N: Node + Drop + Booked> Source for View<'_, N> {
             tally: self.live.serving.tally(),
         })
     }
+
+    fn terms(&self) -> Result<String, AllocError> {
+        String::from_str(
+            self.rt.alloc(),
+            "the terms do not change while this node serves\n",
+        )
+    }
 }

@@ -12,7 +12,7 @@ use farm_clock::Timer;
 use farm_command::Process;
 use farm_loop::{Live, StatusPort};
 use farm_node::Node;
-use farm_status::Token;
+use farm_status::{Changing, Token};
 use log::{error, warn};
 use std::net::{IpAddr, Ipv4Addr, Net, SocketAddr};
 use std::random::RandomSource;
@@ -137,7 +137,7 @@ impl Watching {
             live,
             uptime,
         };
-        port.look(&view);
+        drop(port.look(&view, Changing::Never));
         match port.asked_to_end() {
             Some(millis) => Ok(millis >= GRACE || open_in(&live.serving) == 0),
             None => Ok(false),

@@ -1,8 +1,9 @@
-//! The status port of a process: who connects there reads what the node says of itself, or asks it to end.
+//! The status port of a process: who connects there reads what the node says of itself, asks it to end, or to change the terms of its
+//! book.
 
 use dia_base::Moment;
 use farm_clock::Timer;
-use farm_status::{Answering, Source, Token};
+use farm_status::{Answering, Changing, Source, Token};
 use http_server::{Config, Connection, Service};
 use mio::net::{TcpListener, TcpStream};
 use std::alloc::Global;
@@ -28,7 +29,7 @@ const CALL_LIMIT: u32 = 8;
 /// The octets of the head of a request, and of its body.
 const HEAD_LIMIT: usize = 8_192;
 
-const BODY_LIMIT: usize = 1_024;
+const BODY_LIMIT: usize = 524_288;
 
 /// A connection at the port.
 #[derive(Drop)]
@@ -54,6 +55,15 @@ pub struct StatusPort {
     looked: Moment,
     /// Since when it is asked to end.
     asked: Option<Moment>,
+}
+
+/// What a connection has asked for, by who has shown the token.
+#[derive(Drop)]
+struct Asked {
+    /// The node is to end.
+    stops: bool,
+    /// The terms of its book are to change so.
+    change: Option<Vec<u8>>,
 }
 
 /// What a connection may hold.
@@ -129,21 +139,35 @@ impl Caller {
     }
 }
 
-/// Answers a connection as far as may be done at once; whether it has asked for the node's end and has shown this token.
-fn asks_to_end<'a, S: Source>(
+/// Answers a connection as far as may be done at once; what it has asked for and has shown this token.
+fn asked_by<'a, S: Source>(
     alloc: Global,
     caller: &mut Caller,
     source: &'a S,
     token: Option<&'a Token>,
-) -> bool {
+    changing: Changing,
+) -> Asked {
     let mut answering = Answering {
         alloc,
         source,
         token,
         stops: false,
+        changing,
+        change: None,
     };
     caller.serve(&mut answering);
-    answering.stops
+    Asked {
+        stops: answering.stops,
+        change: answering.change,
+    }
+}
+
+/// Whether another change may be asked for in the same look, in which this one was.
+fn behind(changing: Changing, change: &Option<Vec<u8>>) -> Changing {
+    match change {
+        Some(_) => Changing::Busy,
+        None => changing,
+    }
 }
 
 impl StatusPort {
@@ -179,14 +203,20 @@ impl StatusPort {
         Ok(Some(moment.0.saturating_sub(self.began.0)))
     }
 
-    /// Takes who waits, and reads, answers and writes what may be done at once.
-    pub fn look<S: Source>(&mut self, source: &S) {
+    /// Takes who waits, and reads, answers and writes what may be done at once. It gives the change of the terms that somebody has asked for
+    /// who may, where the node may be asked for one.
+    pub fn look<S: Source>(&mut self, source: &S, changing: Changing) -> Option<Vec<u8>> {
         let moment = self.looked;
         self.take_all(moment);
+        let mut change = None;
         for at in 0..self.callers.len() {
-            self.serve_at(at, source, moment);
+            let may = behind(changing, &change);
+            if let Some(asked) = self.serve_at(at, source, may, moment) {
+                change = Some(asked);
+            }
         }
         self.callers.retain(|caller| !caller.gone);
+        change
     }
 
     /// How many milliseconds ago somebody who may has asked for the node's end first.
@@ -213,15 +243,23 @@ impl StatusPort {
         }
     }
 
-    fn serve_at<S: Source>(&mut self, at: usize, source: &S, moment: Moment) {
+    /// Serves one who is connected. The change of the terms that it has asked for, if it has.
+    fn serve_at<S: Source>(
+        &mut self,
+        at: usize,
+        source: &S,
+        changing: Changing,
+        moment: Moment,
+    ) -> Option<Vec<u8>> {
         let (alloc, token) = (self.alloc, self.token.as_ref());
-        if let Some(caller) = self.callers.get_mut(at) {
-            if asks_to_end(alloc, caller, source, token) {
-                caller.wait_for_end();
-                self.asked = Some(self.asked.unwrap_or(moment));
-            } else if caller.is_overdue(moment) {
-                caller.gone = true;
-            }
+        let caller = self.callers.get_mut(at)?;
+        let asked = asked_by(alloc, caller, source, token, changing);
+        if asked.stops {
+            caller.wait_for_end();
+            self.asked = Some(self.asked.unwrap_or(moment));
+        } else if caller.is_overdue(moment) {
+            caller.gone = true;
         }
+        asked.change
     }
 }

@@ -1,5 +1,6 @@
 -- Each step is some of the small moves, by which answers, refusals and their causes are accounted for.
 pub mod AsFarm
+pub mod Changing
 pub mod ClientSteps
 pub mod Connecting
 pub mod Deciding

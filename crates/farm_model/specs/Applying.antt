@@ -10,7 +10,7 @@ use Rattle.farm_base.specs.declared.site.Site.{Site}
 use Rattle.farm_model.specs.declared.state.Direction.{Direction}
 use Rattle.farm_base.specs.declared.step.Step.{Step}
 use Rattle.farm_base.specs.declared.step.Step.TheVariants.{Up, Accept, Opened, Send, Deliver, Lose, Cut, Drop}
-use Rattle.farm_base.specs.declared.step.Step.TheVariants.{Restart, Crash, Pick, Charge, Refuse, Emit, Sweep}
+use Rattle.farm_base.specs.declared.step.Step.TheVariants.{Restart, Crash, Pick, Charge, Refuse, Emit, Sweep, ChangeTerms}
 use Rattle.farm_model.specs.InFlight.{goes, knows_other}
 use Rattle.farm_base.specs.Nodes.{is_client, is_front, is_relay, is_linked}
 use Rattle.farm_model.specs.Run.{Past, Transition}
@@ -92,6 +92,8 @@ can_apply site w (Refuse node worker) = front_can (λ front held. has_picked hel
 can_apply site w (Emit node worker) = front_can (λ front held. is_done held) worker (front_at node w.fronts)
 -- always: also where no session is due, and where the book is full
 can_apply site w (Sweep moment) = true
+-- always: also where the book refuses the change
+can_apply site w (ChangeTerms moment change) = true
 
 -- What is promised of each step: it is told as applied exactly where it can apply.
 abbrev pub AppliesWhereItCan : Site → Transition → Type 0

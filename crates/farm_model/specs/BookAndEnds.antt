@@ -3,12 +3,13 @@ use Rattle.std.specs.Prelude.{◌≡◌, ℕ, ◌+◌, Bool, true, false, [], �
 use Rattle.dia_base.specs.declared.number.Moment.{Moment}
 use Rattle.dia_base.specs.declared.number.NodeNo.{NodeNo}
 use Rattle.cc_book.specs.Taking.{Ledger, after_sweep}
+use Rattle.front_core.specs.ChangingTerms.{after_change}
 use Rattle.front_core.specs.FrontRun.{after_event}
 use Rattle.front_core.specs.FrontState.{FrontState}
 use Rattle.farm_base.specs.declared.site.Site.{Site}
 use Rattle.farm_model.specs.declared.state.Direction.{Direction}
 use Rattle.farm_base.specs.declared.step.Step.{Step}
-use Rattle.farm_base.specs.declared.step.Step.TheVariants.{Up, Accept, Charge, Sweep}
+use Rattle.farm_base.specs.declared.step.Step.TheVariants.{Up, Accept, Charge, Sweep, ChangeTerms}
 use Rattle.farm_model.specs.RelayRuns.{connects}
 use Rattle.farm_model.specs.Run.{Transition}
 use Rattle.farm_model.specs.World.{Ends, WorldState, front_at}
@@ -22,6 +23,7 @@ charged_by (Some front) book worker moment =
 abbrev pub book_at : Step → WorldState → Ledger
 book_at (Charge front worker moment) w = charged_by (front_at front w.fronts) w.book worker moment
 book_at (Sweep moment) w = after_sweep w.book moment
+book_at (ChangeTerms moment change) w = after_change w.book moment change
 book_at step w = w.book
 
 -- the nodes of the connection that is made
@@ -49,7 +51,7 @@ pub data StandsAfter (site : Site) (t : Transition) (direction : Direction) : Ty
 
 -- What is promised of each step.
 pub record KeepsBookAndEnds (site : Site) (t : Transition) : Type 0 where
-  -- Charges and sweeps change the book as a front and the book itself do, and nothing else changes it.
+  -- Charges, sweeps and changes of the terms change the book as a front and the book itself do, and nothing else changes it.
   pub book : t.after.book ≡ book_at t.step t.before
   -- The connections that were made are told in their order, with their nodes.
   pub ends : t.after.ends ≡ t.before.ends ++ ends_made site t.step t.before

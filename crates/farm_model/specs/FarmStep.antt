@@ -7,7 +7,9 @@ use Rattle.dia_base.specs.declared.number.NodeNo.{NodeNo}
 use Rattle.dia_base.specs.declared.number.Moment.{Moment}
 use Rattle.dia_message.specs.declared.message.Message.{Message}
 use Rattle.dia_message.specs.Traffic.{Traffic}
+use Rattle.cc_book.specs.declared.terms_change.TermsChange.{TermsChange}
 use Rattle.cc_book.specs.Taking.{Ledger, after_sweep}
+use Rattle.front_core.specs.ChangingTerms.{after_change}
 use Rattle.front_core.specs.FrontState.{FrontState}
 use Rattle.front_core.specs.FrontStep.{with_connection, after_pick, after_charge, after_refusal, after_emit}
 use Rattle.relay_core.specs.declared.error.RelayError.{RelayError}
@@ -19,7 +21,7 @@ use Rattle.farm_model.specs.declared.state.FrontAt.{FrontAt}
 use Rattle.farm_model.specs.declared.state.RelayAt.{RelayAt}
 use Rattle.farm_base.specs.declared.step.Step.{Step}
 use Rattle.farm_base.specs.declared.step.Step.TheVariants.{Up, Accept, Opened, Send, Deliver, Lose, Cut, Drop}
-use Rattle.farm_base.specs.declared.step.Step.TheVariants.{Restart, Crash, Pick, Charge, Refuse, Emit, Sweep}
+use Rattle.farm_base.specs.declared.step.Step.TheVariants.{Restart, Crash, Pick, Charge, Refuse, Emit, Sweep, ChangeTerms}
 use Rattle.farm_model.specs.Arrival.{Arrives}
 use Rattle.farm_base.specs.Lists.{replace_first}
 use Rattle.farm_model.specs.Loss.{LossAt, EndGoes, end_with, CutsBoth, after_crash, peers_of, DropAll}
@@ -190,6 +192,11 @@ after_charge_at w node worker moment (Some front) = with_charge w node (after_ch
 abbrev pub after_sweep_at : WorldState → Moment → WorldState
 after_sweep_at w moment = record w { book = after_sweep w.book moment }
 
+-- ---- change of the terms: of the accounts that are there, and of the tariffs that hold
+
+abbrev pub after_change_at : WorldState → Moment → TermsChange → WorldState
+after_change_at w moment change = record w { book = after_change w.book moment change }
+
 -- ---- drop, cut, crash and restart: connections end, and one node after the other learns it
 
 abbrev pub DropsIt : WorldState → NodeNo → Option Direction → Bool → List LossAt → WorldState → Type 0
@@ -242,3 +249,4 @@ FarmStep site old (Refuse front worker) applied losses new = Outcome (after_refu
     (losses ≡ [])
 FarmStep site old (Emit front worker) applied losses new = Outcome (after_emit_at old front worker (front_at front old.fronts)) applied old new × (losses ≡ [])
 FarmStep site old (Sweep moment) applied losses new = Outcome (Some (after_sweep_at old moment)) applied old new × (losses ≡ [])
+FarmStep site old (ChangeTerms moment change) applied losses new = Outcome (Some (after_change_at old moment change)) applied old new × (losses ≡ [])

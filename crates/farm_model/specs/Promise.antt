@@ -17,6 +17,7 @@ use Rattle.cc_view.specs.RequestView.{view_under}
 use Rattle.cc_book.specs.declared.entry.Entry.{Entry}
 use Rattle.cc_book.specs.declared.entry.Entry.TheVariants.{Take, Sweep, ChangeTerms}
 use Rattle.cc_book.specs.declared.terms.Terms.{Terms}
+use Rattle.cc_book.specs.declared.terms_change.TermsChange.{TermsChange}
 use Rattle.cc_book.specs.AccountMachine.{code_alone, reply_to}
 use Rattle.cc_book.specs.Duplicate.{key_of, same_key}
 use Rattle.cc_book.specs.History.{IsLegal}
@@ -187,13 +188,17 @@ WasSwept past moment = Contains (steps_in past) (Rattle.farm_base.specs.declared
 abbrev pub WasCharged : Past → Moment → Type 0
 WasCharged past moment = (front : NodeNo) × (worker : ℕ) × Contains (steps_in past) (Charge front worker moment)
 
+-- the run has a step that changes the terms so at this moment
+abbrev pub WasChanged : Past → Moment → TermsChange → Type 0
+WasChanged past moment change = Contains (steps_in past) (Rattle.farm_base.specs.declared.step.Step.TheVariants.ChangeTerms moment change)
+
 -- An entry of the history takes, at the moment of a step of the run that charges, what is read in a request that a
--- client sent, or is a sweep of a step of the run. No step changes the terms.
+-- client sent, or is a sweep or a change of the terms of a step of the run.
 abbrev pub IsOfRun : Site → Past → Traffic → Entry → Type 0
 IsOfRun site past sent (Take moment request) = (conn : ConnId) × (message : Message) × WasRequested sent conn message ×
     (view_under (front_profile site) message ≡ Ok request) × WasCharged past moment
 IsOfRun site past sent (Sweep moment) = WasSwept past moment
-IsOfRun site past sent (ChangeTerms moment change) = ⊥
+IsOfRun site past sent (ChangeTerms moment change) = WasChanged past moment change
 
 -- ---- loops
 

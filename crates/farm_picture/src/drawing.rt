@@ -35,10 +35,10 @@ const BESIDE: usize = 12;
 
 /// The picture of a run, as the text of an SVG.
 pub fn draw(alloc: Global, site: &Site, timeline: &Timeline) -> Result<String, AllocError> {
-    let notes = notes_of(alloc, site, &timeline.rows)?;
+    let notes = notes_of(alloc, &timeline.accounts, &timeline.rows)?;
     let layout = layout_of(alloc, site, timeline, &notes)?;
     let ways = ways_of(alloc, &layout, timeline.flights())?;
-    let ending = ending_of(alloc, site, timeline, ways.left_out)?;
+    let ending = ending_of(alloc, timeline, ways.left_out)?;
     let bottom = ways.bottom(&layout);
     let width = width_of(ending.longest()).saturating_add(WORDS);
     let height = bottom.saturating_add(ending.height());

@@ -4,7 +4,7 @@ use crate::accounts::Purse;
 use crate::notes::account_name;
 use crate::svg::{Anchor, Class, Point, Svg};
 use crate::timeline::{Event, LeftOut, Row, Timeline};
-use farm_world::Site;
+use cc_book::Account;
 use std::alloc::{AllocError, Global};
 
 /// The most accounts that have a line.
@@ -69,7 +69,6 @@ impl Ending {
 /// What stands below a run of which so many messages that are still on their way have no line.
 pub fn ending_of(
     alloc: Global,
-    site: &Site,
     timeline: &Timeline,
     in_flight: usize,
 ) -> Result<Ending, AllocError> {
@@ -83,7 +82,7 @@ pub fn ending_of(
         Class::Name,
         format!(in alloc; "Book at the end: entries {entries}, open sessions {open}")?,
     )?;
-    push_accounts(alloc, &mut ending, site, &timeline.end.purses)?;
+    push_accounts(alloc, &mut ending, &timeline.accounts, &timeline.end.purses)?;
     ending.push(Class::Note, String::new(alloc))?;
     for line in LEGEND {
         ending.push(Class::Note, String::from_str(alloc, line)?)?;
@@ -133,22 +132,16 @@ fn push_left_out(
 fn push_accounts(
     alloc: Global,
     ending: &mut Ending,
-    site: &Site,
+    accounts: &[Account],
     purses: &[Purse],
 ) -> Result<(), AllocError> {
     let mut changed = 0usize;
-    for (place, (account, purse)) in site
-        .accounts
-        .as_slice()
-        .iter()
-        .zip(purses.iter())
-        .enumerate()
-    {
+    for (place, (account, purse)) in accounts.iter().zip(purses.iter()).enumerate() {
         let opening = i128::from(account.opening);
         if purse.balance != opening || purse.held != 0 {
             changed = changed.saturating_add(1);
             if changed <= ACCOUNT_LIMIT {
-                let mut words = account_name(alloc, site, place)?;
+                let mut words = account_name(alloc, accounts, place)?;
                 push_purse(&mut words, opening, *purse)?;
                 ending.push(Class::Money, words)?;
             }

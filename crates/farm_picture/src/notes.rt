@@ -3,8 +3,8 @@
 use crate::accounts::{Charge, Purse};
 use crate::svg::Class;
 use crate::timeline::{Deed, Event, Row};
+use cc_book::Account;
 use dia_base::NodeNo;
-use farm_world::Site;
 use std::alloc::{AllocError, Global};
 
 /// Words at a node's line, in a row.
@@ -16,8 +16,12 @@ pub struct Note {
     pub words: String,
 }
 
-/// The notes of the rows, in their order.
-pub fn notes_of(alloc: Global, site: &Site, rows: &[Row]) -> Result<Vec<Note>, AllocError> {
+/// The notes of the rows, in their order, where the book has these accounts in the end.
+pub fn notes_of(
+    alloc: Global,
+    accounts: &[Account],
+    rows: &[Row],
+) -> Result<Vec<Note>, AllocError> {
     let mut notes = Vec::new(alloc);
     for (place, row) in rows.iter().enumerate() {
         if let Event::At { node, deed } = &row.event {
@@ -25,7 +29,7 @@ pub fn notes_of(alloc: Global, site: &Site, rows: &[Row]) -> Result<Vec<Note>, A
                 node: *node,
                 row: place,
                 class: class_of(deed),
-                words: words_of(alloc, site, deed)?,
+                words: words_of(alloc, accounts, deed)?,
             })?;
         }
     }
@@ -41,9 +45,9 @@ fn class_of(deed: &Deed) -> Class {
     }
 }
 
-fn words_of(alloc: Global, site: &Site, deed: &Deed) -> Result<String, AllocError> {
+fn words_of(alloc: Global, accounts: &[Account], deed: &Deed) -> Result<String, AllocError> {
     let words = match deed {
-        Deed::Charged { charge, .. } => return charge_words(alloc, site, charge),
+        Deed::Charged { charge, .. } => return charge_words(alloc, accounts, charge),
         Deed::Restarted => "restarts",
         Deed::Crashed => "crashes",
         Deed::Picked => "takes a request",
@@ -54,13 +58,17 @@ fn words_of(alloc: Global, site: &Site, deed: &Deed) -> Result<String, AllocErro
     String::from_str(alloc, words)
 }
 
-fn charge_words(alloc: Global, site: &Site, charge: &Charge) -> Result<String, AllocError> {
+fn charge_words(
+    alloc: Global,
+    accounts: &[Account],
+    charge: &Charge,
+) -> Result<String, AllocError> {
     let words = match charge {
         Charge::Moved {
             account,
             before,
             after,
-        } => return move_words(alloc, site, *account, *before, *after),
+        } => return move_words(alloc, accounts, *account, *before, *after),
         Charge::Kept => "no account changes",
         Charge::Unchanged => "nothing charged",
         Charge::Repeated => "a repeat: nothing charged",
@@ -72,12 +80,12 @@ fn charge_words(alloc: Global, site: &Site, charge: &Charge) -> Result<String, A
 /// The account's name, and what has changed of its balance and of what is held.
 fn move_words(
     alloc: Global,
-    site: &Site,
+    accounts: &[Account],
     account: usize,
     before: Purse,
     after: Purse,
 ) -> Result<String, AllocError> {
-    let mut words = account_name(alloc, site, account)?;
+    let mut words = account_name(alloc, accounts, account)?;
     words.push(':')?;
     if before.balance != after.balance {
         let old = before.balance;
@@ -99,8 +107,12 @@ fn move_words(
 
 /// The text of the Subscription-Id of the account at this place, with each octet as the character of its
 /// number.
-pub fn account_name(alloc: Global, site: &Site, account: usize) -> Result<String, AllocError> {
-    match site.accounts.as_slice().get(account) {
+pub fn account_name(
+    alloc: Global,
+    accounts: &[Account],
+    account: usize,
+) -> Result<String, AllocError> {
+    match accounts.get(account) {
         Some(account) => account
             .id
             .as_slice()

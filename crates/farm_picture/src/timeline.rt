@@ -6,6 +6,7 @@ use crate::accounts::{Accounts, Charge, accounts_of, charge_between};
 use crate::flights::{Ended, Flight, FlightEnd, Flights};
 use crate::labels::MessageKind;
 use crate::part::Part;
+use cc_book::Account;
 use dia_avp::Wire;
 use dia_base::NodeNo;
 use farm_world::{Site, Step, World};
@@ -70,6 +71,8 @@ pub struct Timeline {
     pub rows: Vec<Row>,
     flights: Flights,
     pub left_out: LeftOut,
+    /// The accounts at the end of the run, in their order: those of the site, and behind them those that have joined.
+    pub accounts: Vec<Account>,
     /// The book at the end of the run.
     pub end: Accounts,
     pub open_sessions: u64,
@@ -120,6 +123,7 @@ pub fn timeline_of<W: Wire>(
             behind: behind.len(),
             next: first.saturating_add(drawn.len()),
         },
+        accounts: world.book().accounts().to_vec(alloc)?,
         end: accounts_of(alloc, world.book())?,
         open_sessions: world.book().open_sessions(),
     })
@@ -294,5 +298,6 @@ fn word_of(step: &Step) -> &'static str {
         Step::Refuse { .. } => "refuse",
         Step::Emit { .. } => "emit",
         Step::Sweep { .. } => "sweep",
+        Step::ChangeTerms { .. } => "terms",
     }
 }

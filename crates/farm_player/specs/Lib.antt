@@ -1,3 +1,4 @@
+pub mod ChangeWords
 pub mod Counting
 pub mod PlayedRun
 pub mod StepLines

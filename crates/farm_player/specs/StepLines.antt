@@ -1,7 +1,5 @@
 -- The lines of steps, as a schedule has them.
 use Rattle.std.specs.Prelude.{ℕ, List, [], ◌∷◌, ◌++◌, codes, Option, Some, None, slice_get}
-use Rattle.std.specs.List.{concat, flat_map}
-use Rattle.std.specs.Fmt.{decimal}
 use Rattle.hex.specs.Hex.{encode_lower}
 use Rattle.dia_base.specs.declared.number.NodeNo.{NodeNo}
 use Rattle.dia_message.specs.declared.message.Message.{Message}
@@ -10,7 +8,8 @@ use Rattle.farm_base.specs.declared.site.Node.{Node}
 use Rattle.farm_base.specs.declared.site.Site.{Site}
 use Rattle.farm_base.specs.declared.step.Step.{Step}
 use Rattle.farm_base.specs.declared.step.Step.TheVariants.{Up, Accept, Opened, Send, Deliver, Lose, Cut, Drop}
-use Rattle.farm_base.specs.declared.step.Step.TheVariants.{Restart, Crash, Pick, Charge, Refuse, Emit, Sweep}
+use Rattle.farm_base.specs.declared.step.Step.TheVariants.{Restart, Crash, Pick, Charge, Refuse, Emit, Sweep, ChangeTerms}
+use Rattle.farm_player.specs.ChangeWords.{change_words, number_word}
 
 -- ---- words, each behind a space
 
@@ -24,9 +23,6 @@ name_at site node = name_in (slice_get site.nodes node.0)
 
 abbrev pub word_of_name : Site → NodeNo → List ℕ
 word_of_name site node = 32 ∷ name_at site node
-
-abbrev pub number_word : ℕ → List ℕ
-number_word number = 32 ∷ decimal number
 
 -- in small letters
 abbrev pub message_word : Message → List ℕ
@@ -57,6 +53,7 @@ words_of_step site (Charge front worker moment) = about_one site (codes "charge"
 words_of_step site (Refuse front worker) = about_one site (codes "refuse") front ++ number_word worker
 words_of_step site (Emit front worker) = about_one site (codes "emit") front ++ number_word worker
 words_of_step site (Sweep moment) = codes "sweep" ++ number_word moment.0
+words_of_step site (ChangeTerms moment change) = codes "terms" ++ number_word moment.0 ++ change_words change
 
 -- with its line feed
 abbrev pub step_line : Site → Step → List ℕ

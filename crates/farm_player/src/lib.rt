@@ -5,6 +5,7 @@
 //! - The lines are those of a schedule (`specs/StepLines`), as `farm_script` reads them.
 #![tactic(auto)]
 
+mod change;
 mod farm;
 mod steps;
 

@@ -1,8 +1,11 @@
 //! The lines of steps.
 
 ghost use Rattle.std.specs.Prelude.{◌≡◌, ◌++◌, OnOk};
-ghost use Rattle.farm_player.specs.StepLines.{name_at, word_of_name, about_one, about_two, number_word, message_word, words_of_step, step_line};
+ghost use Rattle.farm_player.specs.ChangeWords.{change_words, number_word};
+ghost use Rattle.farm_player.specs.StepLines.{name_at, word_of_name, about_one, about_two, message_word, words_of_step, step_line};
 
+use crate::change::{push_change, push_number};
+use cc_book::TermsChange;
 use dia_base::{Moment, NodeNo};
 use dia_message::{Message, spell_message};
 use farm_base::{Site, Step};
@@ -23,15 +26,6 @@ fn push_name(out: &mut Vec<u8>, site: &Site, node: NodeNo) -> Result<(), AllocEr
 {
     out.push(b' ')?;
     out.extend_from_slice(name_at(site, node))
-}
-
-/// A number, behind a space.
-fn push_number(alloc: Global, out: &mut Vec<u8>, number: u64) -> Result<(), AllocError>
-    ensures { OnOk result (out.new.items ≡ out.old.items ++ number_word number) }
-{
-    let text = format!(in alloc; "{number}")?;
-    out.push(b' ')?;
-    out.extend_from_slice(text.as_bytes())
 }
 
 /// A message in hexadecimal, behind a space.
@@ -142,6 +136,20 @@ fn push_moment(
     push_number(alloc, out, moment.0)
 }
 
+/// A word, a moment, and how the terms change then.
+fn push_terms(
+    alloc: Global,
+    out: &mut Vec<u8>,
+    word: &str,
+    moment: Moment,
+    change: &TermsChange,
+) -> Result<(), AllocError>
+    ensures { OnOk result (out.new.items ≡ out.old.items ++ word.now ++ number_word moment.0 ++ change_words change.now) }
+{
+    push_moment(alloc, out, word, moment)?;
+    push_change(alloc, out, change)
+}
+
 /// The words of a step.
 fn push_words(alloc: Global, out: &mut Vec<u8>, site: &Site, step: &Step) -> Result<(), AllocError>
     ensures { OnOk result (out.new.items ≡ out.old.items ++ words_of_step site.now step.now) }
@@ -176,6 +184,7 @@ fn push_words(alloc: Global, out: &mut Vec<u8>, site: &Site, step: &Step) -> Res
         }
         Step::Emit { front, worker } => push_worker(alloc, out, site, "emit", *front, *worker),
         Step::Sweep { moment } => push_moment(alloc, out, "sweep", *moment),
+        Step::ChangeTerms { moment, change } => push_terms(alloc, out, "terms", *moment, change),
     }
 }
 

@@ -1,6 +1,10 @@
 -- The definitions of a schedule, computed on examples.
-use Rattle.std.proofs.Common.{◌≡◌, ℕ, List, [], ◌∷◌, ◌++◌, codes, Result, Ok, Err, refl}
+use Rattle.std.proofs.Common.{◌≡◌, ℕ, List, [], ◌∷◌, ◌++◌, codes, Option, Some, None, Result, Ok, Err, refl}
+use Rattle.std.specs.Prelude.{pos, negsuc}
 use Rattle.std.specs.Str.Lines.{lines}
+use Rattle.cc_book.specs.declared.account.Account.{Account}
+use Rattle.cc_rating.specs.declared.tariff.Tariff.{Tariff}
+use Rattle.cc_rating.specs.declared.tariff.UnitKind.TheVariants.{Time, Octets}
 use Rattle.farm_script.specs.Schedule.{steps_of}
 use Rattle.farm_base.specs.RowSite.{the_row_site, r1, r2, c1, c2, f1, f2}
 use Rattle.farm_script.specs.Words.{words_of, number_of}
@@ -9,7 +13,7 @@ use Rattle.farm_script.specs.declared.fault.LineFault.TheVariants.{UnknownWord, 
 use Rattle.farm_script.specs.declared.fault.ScriptFault.{ScriptFault}
 use Rattle.farm_script.specs.declared.fault.ScriptFault.TheVariants.{Line}
 use Rattle.farm_base.specs.declared.step.Step.{Step}
-use Rattle.farm_base.specs.declared.step.Step.TheVariants.{Up, Accept, Opened, Deliver, Lose, Cut, Drop, Restart, Crash, Pick, Charge, Refuse, Emit, Sweep}
+use Rattle.farm_base.specs.declared.step.Step.TheVariants.{Up, Accept, Opened, Deliver, Lose, Cut, Drop, Restart, Crash, Pick, Charge, Refuse, Emit, Sweep, ChangeTerms}
 
 -- a carriage return before a line feed is no part of the line, one at the end of the text is
 returns : lines (codes "a" ++ 13 ∷ 10 ∷ codes "b" ++ 13 ∷ []) ≡ codes "a" ∷ (codes "b" ++ 13 ∷ []) ∷ []
@@ -267,3 +271,76 @@ first_word-longer = refl
 
 first_word-shorter : spelled_by (codes "restar r1.example") ≡ one_fault UnknownWord
 first_word-shorter = refl
+
+-- ---- terms
+
+abbrev changed : List Account → Option (List Tariff) → Step
+changed joining tariffs = ChangeTerms (record { 0 = 1000 }) (record { joining = joining; tariffs = tariffs })
+
+by_octets : Tariff
+by_octets = record { group = Some 10; ident = None; kind = Octets; block = 1000; price = 7; quantum = 5000; greatest = 10000 }
+
+by_seconds : Tariff
+by_seconds = record { group = None; ident = Some 7; kind = Time; block = 60; price = 0; quantum = 60; greatest = 4294967295 }
+
+terms-nothing : spelled_by (codes "terms 1000") ≡ one_step (changed [] None)
+terms-nothing = refl
+
+-- an id may be the word of an item
+terms-accounts :
+    spelled_by (codes "terms 1000 account 0 account 5 account 4 tariffs -5")
+    ≡ one_step (changed (record { id_kind = 0; id = codes "account"; opening = pos 5 } ∷ record { id_kind = 4; id = codes "tariffs"; opening = negsuc 4 } ∷ []) None)
+terms-accounts = refl
+
+-- no tariff holds from here on
+terms-no_tariffs : spelled_by (codes "terms 1000 tariffs") ≡ one_step (changed [] (Some []))
+terms-no_tariffs = refl
+
+terms-tariffs :
+    spelled_by (codes "terms 1000 account 0 6 0 tariffs tariff 10 - octets 1000 7 5000 10000 tariff - 7 time 60 0 60 4294967295")
+    ≡ one_step (changed (record { id_kind = 0; id = codes "6"; opening = pos 0 } ∷ []) (Some (by_octets ∷ by_seconds ∷ [])))
+unfolding by_octets by_seconds
+terms-tariffs = refl
+
+-- the form of all items before their numbers
+terms-unknown_word : spelled_by (codes "terms now account 9 6 1 accounts") ≡ one_fault UnknownWord
+terms-unknown_word = refl
+
+terms-tariff_first : spelled_by (codes "terms 1000 tariff 10 - octets 1000 7 5000 10000") ≡ one_fault UnknownWord
+terms-tariff_first = refl
+
+terms-account_last : spelled_by (codes "terms 1000 tariffs account 0 6 1") ≡ one_fault UnknownWord
+terms-account_last = refl
+
+terms-no_moment : spelled_by (codes "terms") ≡ one_fault WrongCount
+terms-no_moment = refl
+
+terms-cut_off : spelled_by (codes "terms now account 9 6 1 account 0 6") ≡ one_fault WrongCount
+terms-cut_off = refl
+
+terms-moment : spelled_by (codes "terms now") ≡ one_fault BadNumber
+terms-moment = refl
+
+terms-kind : spelled_by (codes "terms 1000 account 5 6 1") ≡ one_fault BadNumber
+terms-kind = refl
+
+terms-id : spelled_by (codes "terms 1000 account 0 " ++ 127 ∷ codes " 1") ≡ one_fault BadNumber
+terms-id = refl
+
+terms-opening : spelled_by (codes "terms 1000 account 0 6 -4611686018427387905") ≡ one_fault BadNumber
+terms-opening = refl
+
+terms-no_digits : spelled_by (codes "terms 1000 account 0 6 -") ≡ one_fault BadNumber
+terms-no_digits = refl
+
+terms-both_keys : spelled_by (codes "terms 1000 tariffs tariff 10 7 octets 1000 7 5000 10000") ≡ one_fault BadNumber
+terms-both_keys = refl
+
+terms-no_key : spelled_by (codes "terms 1000 tariffs tariff - - octets 1000 7 5000 10000") ≡ one_fault BadNumber
+terms-no_key = refl
+
+terms-units : spelled_by (codes "terms 1000 tariffs tariff 10 - octet 1000 7 5000 10000") ≡ one_fault BadNumber
+terms-units = refl
+
+terms-twice : spelled_by (codes "terms 1000 tariffs tariff 10 - octets 1 7 1 1 tariff 10 - octets 1 7 1 1") ≡ one_fault BadNumber
+terms-twice = refl

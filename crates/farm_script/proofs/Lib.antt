@@ -2,4 +2,5 @@ mod Digits
 mod Examples
 mod Lines
 mod Readings
+mod TermsReading
 mod WordLists

@@ -11,15 +11,10 @@ use Rattle.farm_script.specs.declared.fault.ScriptFault.TheVariants.{Line, TooLo
 use Rattle.farm_base.specs.declared.site.Site.{Site}
 use Rattle.farm_base.specs.declared.step.Step.{Step}
 use Rattle.farm_base.specs.declared.step.Step.TheVariants.{Up, Accept, Opened, Send, Deliver, Lose, Cut, Drop, Restart, Crash, Pick, Charge, Refuse, Emit, Sweep}
-use Rattle.farm_script.specs.Words.{words_of, says_nothing, node_of, number_of, message_of}
+use Rattle.farm_script.specs.TermsWords.{terms_of}
+use Rattle.farm_script.specs.Words.{words_of, says_nothing, node_of, number_of, message_of, ◌>>=◌}
 
 -- ---- the step that words spell
-
--- the first fault, or what follows
-infixl 10 ◌>>=◌
-abbrev pub ◌>>=◌ : {A B : Type 0} → Result A LineFault → (A → Result B LineFault) → Result B LineFault
-Ok x >>= f = f x
-Err fault >>= f = Err fault
 
 abbrev pub up_of : Site → List (List ℕ) → Result Step LineFault
 up_of site (a ∷ b ∷ []) = do
@@ -146,6 +141,7 @@ step_of site (verb ∷ words) =
     else if bytes_eq verb (codes "refuse") then refuse_of site words
     else if bytes_eq verb (codes "emit") then emit_of site words
     else if bytes_eq verb (codes "sweep") then sweep_of words
+    else if bytes_eq verb (codes "terms") then terms_of words
     else Err UnknownWord
 
 -- ---- the steps that a text spells

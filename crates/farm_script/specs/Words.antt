@@ -13,6 +13,12 @@ use Rattle.farm_script.specs.declared.fault.LineFault.TheVariants.{UnknownName, 
 use Rattle.farm_base.specs.declared.site.Node.{Node}
 use Rattle.farm_base.specs.declared.site.Site.{Site}
 
+-- the first fault, or what follows
+infixl 10 ◌>>=◌
+abbrev pub ◌>>=◌ : {A B : Type 0} → Result A LineFault → (A → Result B LineFault) → Result B LineFault
+Ok x >>= f = f x
+Err fault >>= f = Err fault
+
 -- the words: the longest runs of octets that are no spaces
 abbrev pub words_of : List ℕ → List (List ℕ)
 words_of line = filter (λ word. not (length word == 0)) (slice_split (λ octet. octet == 32) line)

@@ -16,6 +16,16 @@
 //! refuse F W             worker W of front F refuses its job without the book
 //! emit F W               worker W of front F sends its answer
 //! sweep MOMENT           the book ends the sessions that are due at this moment
+//! terms MOMENT ITEMS     the terms of the book change at this moment: the accounts of ITEMS join, and its tariffs hold
+//! ```
+//!
+//! The items of `terms` are any number of accounts, and then, where the tariffs change, the word `tariffs` and all of them that
+//! hold from then on:
+//!
+//! ```text
+//! account TYPE ID OPENING
+//! tariffs
+//! tariff GROUP IDENT UNITS BLOCK PRICE QUANTUM GREATEST
 //! ```
 //!
 //! Places and workers count from 0. The words are in small letters. Nodes have their whole names,
@@ -28,9 +38,9 @@
 //!   read other lines in the same words.
 //! - [`LineFault`], [`ScriptFault`]: why a text is no schedule, with the words that are printed.
 //!
-//! What a text spells stands in `specs/Schedule` (a step for each line, the first fault of all) and
-//! `specs/Words` (the words of a line, and what each stands for). Inside, `line` parts the text,
-//! `reading` has a function for each form of line, and `word` one for each kind of word.
+//! What a text spells stands in `specs/Schedule` (a step for each line, the first fault of all), `specs/TermsWords` (the items of
+//! `terms`) and `specs/Words` (the words of a line, and what each stands for). Inside, `line` parts the text,
+//! `reading` has a function for each form of line, `terms` those of `terms`, and `word` one for each kind of word.
 //!
 //! ```text
 //! use farm_base::Site;
@@ -53,6 +63,7 @@ ghost use Rattle.farm_script.specs.Words.{Answers, words_of};
 mod fault;
 mod line;
 mod reading;
+mod terms;
 mod word;
 
 use dia_base::{SCHEDULE_LIMIT, STEP_LIMIT};

@@ -5,6 +5,7 @@ ghost use Rattle.farm_script.specs.Words.{Answers};
 ghost use Rattle.farm_script.specs.Schedule.{step_of, up_of, accept_of, opened_of, send_of, deliver_of, lose_of, cut_of, drop_of, restart_of, crash_of, pick_of, charge_of, refuse_of, emit_of, sweep_of};
 
 use crate::fault::LineFault;
+use crate::terms::terms_of;
 use crate::word::{message_of, node_of, number_of};
 use dia_base::Moment;
 use farm_base::{Site, Step};
@@ -39,6 +40,8 @@ const REFUSE: &[u8] = b"refuse";
 const EMIT: &[u8] = b"emit";
 
 const SWEEP: &[u8] = b"sweep";
+
+const TERMS: &[u8] = b"terms";
 
 /// The step that the words of a line spell, or the line's first fault.
 pub fn step_of(alloc: Global, words: &[&[u8]], site: &Site) -> Result<Step, LineFault>
@@ -78,6 +81,8 @@ pub fn step_of(alloc: Global, words: &[&[u8]], site: &Site) -> Result<Step, Line
         emit_of(words, site)
     } else if verb == SWEEP {
         sweep_of(words)
+    } else if verb == TERMS {
+        terms_of(alloc, words)
     } else {
         Err(LineFault::UnknownWord)
     }

@@ -10,8 +10,10 @@ use Rattle.http_header.specs.FieldValue.{FieldValue}
 use Rattle.farm_status.specs.declared.health.Health.{Health as HealthState}
 use Rattle.farm_status.specs.declared.token.Token.{Token}
 use Rattle.farm_status.specs.Health.{status_of_health}
+use Rattle.farm_status.specs.declared.reply.Changing.{Changing}
+use Rattle.farm_status.specs.declared.reply.Changing.TheVariants as may_change
 use Rattle.farm_status.specs.declared.reply.Reply.{Reply}
-use Rattle.farm_status.specs.declared.reply.Reply.TheVariants.{Page, Metrics, Json, Health, Stops, Forbidden, NotFound, OnlyRead, OnlyPost}
+use Rattle.farm_status.specs.declared.reply.Reply.TheVariants.{Page, Metrics, Json, Health, Terms, Stops, Changes, Busy, Forbidden, NotFound, OnlyRead, OnlyPost, ReadOrPost}
 
 -- two texts are the same
 abbrev pub is_text : List ℕ → List ℕ → Bool
@@ -39,20 +41,40 @@ abbrev pub reply_of_read : Option Reply → List ℕ → List ℕ → Bool → R
 reply_of_read (Some reply) method path shows_token = if is_read method then reply else OnlyRead
 reply_of_read None method path shows_token = reply_with method path shows_token
 
+-- To change the terms of its book a node is posted to, by somebody who shows its token, while no other change is under way. Whoever reads
+-- is told what came of the last one.
+abbrev pub reply_on_terms : List ℕ → Bool → Bool → Reply
+reply_on_terms method shows_token is_busy =
+    if is_read method then Terms
+    else if is_text method (codes "POST") then (if shows_token then (if is_busy then Busy else Changes) else Forbidden)
+    else ReadOrPost
+
+-- a node without a book has no such path
+abbrev pub reply_at_terms : List ℕ → Bool → Changing → Reply
+reply_at_terms method shows_token may_change.Never = NotFound
+reply_at_terms method shows_token may_change.Busy = reply_on_terms method shows_token true
+reply_at_terms method shows_token may_change.Free = reply_on_terms method shows_token false
+
 -- what is read at the path, or what is done there
-abbrev pub reply_for : List ℕ → List ℕ → Bool → Reply
-reply_for method path shows_token = reply_of_read (read_at path) method path shows_token
+abbrev pub reply_for : List ℕ → List ℕ → Bool → Changing → Reply
+reply_for method path shows_token changing =
+    if is_text path (codes "/terms") then reply_at_terms method shows_token changing
+    else reply_of_read (read_at path) method path shows_token
 
 abbrev pub status_for : Reply → ℕ
 status_for Page = 200
 status_for Metrics = 200
 status_for Json = 200
 status_for Health = 200
+status_for Terms = 200
 status_for Stops = 202
+status_for Changes = 202
+status_for Busy = 409
 status_for Forbidden = 403
 status_for NotFound = 404
 status_for OnlyRead = 405
 status_for OnlyPost = 405
+status_for ReadOrPost = 405
 
 abbrev pub is_stop : Reply → Bool
 is_stop Stops = true
@@ -60,10 +82,33 @@ is_stop Page = false
 is_stop Metrics = false
 is_stop Json = false
 is_stop Health = false
+is_stop Terms = false
+is_stop Changes = false
+is_stop Busy = false
 is_stop Forbidden = false
 is_stop NotFound = false
 is_stop OnlyRead = false
 is_stop OnlyPost = false
+is_stop ReadOrPost = false
+
+abbrev pub is_change : Reply → Bool
+is_change Changes = true
+is_change Page = false
+is_change Metrics = false
+is_change Json = false
+is_change Health = false
+is_change Terms = false
+is_change Stops = false
+is_change Busy = false
+is_change Forbidden = false
+is_change NotFound = false
+is_change OnlyRead = false
+is_change OnlyPost = false
+is_change ReadOrPost = false
+
+-- the change of the terms that is asked for by a request with this body
+abbrev pub change_by : Reply → List ℕ → Option (List ℕ)
+change_by reply body = if is_change reply then Some body else None
 
 -- the status of an answer: where it is asked whether the node can do its work, that of how it is
 abbrev pub HasStatus : Reply → ℕ → Type 0
@@ -71,11 +116,15 @@ HasStatus Health status = (health : HealthState) × (status ≡ status_of_health
 HasStatus Page status = status ≡ 200
 HasStatus Metrics status = status ≡ 200
 HasStatus Json status = status ≡ 200
+HasStatus Terms status = status ≡ 200
 HasStatus Stops status = status ≡ 202
+HasStatus Changes status = status ≡ 202
+HasStatus Busy status = status ≡ 409
 HasStatus Forbidden status = status ≡ 403
 HasStatus NotFound status = status ≡ 404
 HasStatus OnlyRead status = status ≡ 405
 HasStatus OnlyPost status = status ≡ 405
+HasStatus ReadOrPost status = status ≡ 405
 
 -- the token that a value of Authorization shows: what stands behind `Bearer `
 abbrev pub token_in : List ℕ → Option (List ℕ)
@@ -95,9 +144,9 @@ is_of (Some token) (Some shown) = is_text shown token.octets.items
 is_of (Some token) None = false
 is_of None shown = false
 
--- by its method and its path, and by whether it shows the token of the node
-abbrev pub reply_by : Option Token → Request (List ℕ) → Reply
-reply_by token request = reply_for (head_of request).method (uri_path (head_of request).uri) (is_of token (token_of request))
+-- by its method and its path, by whether it shows the token of the node, and by whether the terms may be changed
+abbrev pub reply_by : Option Token → Changing → Request (List ℕ) → Reply
+reply_by token changing request = reply_for (head_of request).method (uri_path (head_of request).uri) (is_of token (token_of request)) changing
 
 -- the type of its text
 abbrev pub type_for : Reply → List ℕ
@@ -105,11 +154,15 @@ type_for Page = codes "text/html; charset=utf-8"
 type_for Metrics = codes "text/plain; version=0.0.4; charset=utf-8"
 type_for Json = codes "application/json"
 type_for Health = codes "text/plain; charset=utf-8"
+type_for Terms = codes "text/plain; charset=utf-8"
 type_for Stops = codes "text/plain; charset=utf-8"
+type_for Changes = codes "text/plain; charset=utf-8"
+type_for Busy = codes "text/plain; charset=utf-8"
 type_for Forbidden = codes "text/plain; charset=utf-8"
 type_for NotFound = codes "text/plain; charset=utf-8"
 type_for OnlyRead = codes "text/plain; charset=utf-8"
 type_for OnlyPost = codes "text/plain; charset=utf-8"
+type_for ReadOrPost = codes "text/plain; charset=utf-8"
 
 -- the methods that a path takes, where another one was used (RFC 9110, section 15.5.6)
 abbrev pub methods_for : Reply → Option (List ℕ)
@@ -117,11 +170,15 @@ methods_for Page = None
 methods_for Metrics = None
 methods_for Json = None
 methods_for Health = None
+methods_for Terms = None
 methods_for Stops = None
+methods_for Changes = None
+methods_for Busy = None
 methods_for Forbidden = None
 methods_for NotFound = None
 methods_for OnlyRead = Some (codes "GET, HEAD")
 methods_for OnlyPost = Some (codes "POST")
+methods_for ReadOrPost = Some (codes "GET, HEAD, POST")
 
 abbrev pub allow_line : Option (List ℕ) → List (List ℕ × List ℕ)
 allow_line None = []
@@ -133,7 +190,7 @@ lines_for reply =
     (codes "content-type", type_for reply) ∷ (codes "cache-control", codes "no-store") ∷ (codes "connection", codes "close") ∷ allow_line (methods_for reply)
 
 -- The answer has the status and the lines of its reply, and the node is to end from then on where that reply says so.
-pub record IsAnswered (token : Option Token) (stopped : Bool) (request : Request (List ℕ)) (status : ℕ) (lines : List (List ℕ × List ℕ)) (stops : Bool) : Type 0 where
-  pub status_is : HasStatus (reply_by token request) status
-  pub lines_are : lines ≡ lines_for (reply_by token request)
-  pub stops_is : stops ≡ (stopped || is_stop (reply_by token request))
+pub record IsAnswered (token : Option Token) (changing : Changing) (stopped : Bool) (request : Request (List ℕ)) (status : ℕ) (lines : List (List ℕ × List ℕ)) (stops : Bool) : Type 0 where
+  pub status_is : HasStatus (reply_by token changing request) status
+  pub lines_are : lines ≡ lines_for (reply_by token changing request)
+  pub stops_is : stops ≡ (stopped || is_stop (reply_by token changing request))

@@ -1,15 +1,17 @@
 //! What a request over HTTP is answered.
 
 ghost use Rattle.std.specs.Prelude.{◌≡◌, IfOk, option_copied, option_map};
+ghost use Rattle.std.specs.Option.{option_or};
+ghost use Rattle.http.specs.Request.{body_of};
 ghost use Rattle.http_header.specs.FieldValue.{plain_value};
 ghost use Rattle.http_server.specs.Response.{fields_of};
-ghost use Rattle.farm_status.specs.Replies.{HasStatus, IsAnswered, is_of, methods_for, reply_by, token_of, type_for};
+ghost use Rattle.farm_status.specs.Replies.{HasStatus, IsAnswered, change_by, is_of, methods_for, reply_by, token_of, type_for};
 
 use crate::health::health_of;
 use crate::json::push_json;
 use crate::metrics::push_metrics;
 use crate::page::push_page;
-use crate::reply::{Reply, reply_to};
+use crate::reply::{Changing, Reply, reply_to};
 use crate::status::Status;
 use crate::token::Token;
 use bytes::Bytes;
@@ -21,6 +23,9 @@ use std::alloc::{AllocError, Global};
 /// Who knows what a node says of itself. It is asked only where somebody wants to read it.
 pub trait Source {
     fn status(&self) -> Result<Status<'_>, AllocError>;
+
+    /// What the last change of the terms has come to, on a line.
+    fn terms(&self) -> Result<String, AllocError>;
 }
 
 /// Answers requests for a node.
@@ -32,6 +37,10 @@ pub struct Answering<'a, S> {
     pub token: Option<&'a Token>,
     /// Somebody has asked for the node's end and has shown the token.
     pub stops: bool,
+    /// Whether the node may be asked to change the terms of its book.
+    pub changing: Changing,
+    /// The change of the terms that somebody has asked for who has shown the token.
+    pub change: Option<Vec<u8>>,
 }
 
 /// The token that a request shows: `Authorization: Bearer TOKEN` (RFC 6750, section 2.1).
@@ -53,14 +62,30 @@ fn shows_token(token: Option<&Token>, request: &Request<Bytes>) -> bool
 }
 
 /// What a request is answered, and whether the node is to end.
-fn reply_of(token: Option<&Token>, request: &Request<Bytes>) -> Reply
-    ensures { result ≡ reply_by (option_copied token.entry) request.now }
+fn reply_of(token: Option<&Token>, changing: Changing, request: &Request<Bytes>) -> Reply
+    ensures { result ≡ reply_by (option_copied token.entry) changing request.now }
 {
     reply_to(
         request.method().as_str(),
         request.uri().path(),
         shows_token(token, request),
+        changing,
     )
+}
+
+/// The change of the terms that a request asks for, if its reply is that it is made.
+fn change_by(
+    alloc: Global,
+    reply: Reply,
+    request: &Request<Bytes>,
+) -> Result<Option<Vec<u8>>, AllocError>
+    ensures { IfOk result (λ change. option_map (λ octets. octets.items) change ≡ change_by reply (body_of request.now)) }
+{
+    if !reply.changes() {
+        return Ok(None);
+    }
+    let text = Vec::from_slice(alloc, request.body().as_slice())?;
+    Ok(Some(text))
 }
 
 /// The type of the text that a reply has.
@@ -72,11 +97,15 @@ fn type_of(reply: Reply) -> HeaderValue
         Reply::Metrics => HeaderValue::from_static("text/plain; version=0.0.4; charset=utf-8"),
         Reply::Json => HeaderValue::from_static("application/json"),
         Reply::Health
+        | Reply::Terms
         | Reply::Stops
+        | Reply::Changes
+        | Reply::Busy
         | Reply::Forbidden
         | Reply::NotFound
         | Reply::OnlyRead
-        | Reply::OnlyPost => HeaderValue::from_static("text/plain; charset=utf-8"),
+        | Reply::OnlyPost
+        | Reply::ReadOrPost => HeaderValue::from_static("text/plain; charset=utf-8"),
     }
 }
 
@@ -87,11 +116,15 @@ fn allowed_by(reply: Reply) -> Option<HeaderValue>
     match reply {
         Reply::OnlyRead => Some(HeaderValue::from_static("GET, HEAD")),
         Reply::OnlyPost => Some(HeaderValue::from_static("POST")),
+        Reply::ReadOrPost => Some(HeaderValue::from_static("GET, HEAD, POST")),
         Reply::Page
         | Reply::Metrics
         | Reply::Json
         | Reply::Health
+        | Reply::Terms
         | Reply::Stops
+        | Reply::Changes
+        | Reply::Busy
         | Reply::Forbidden
         | Reply::NotFound => None,
     }
@@ -101,17 +134,21 @@ fn allowed_by(reply: Reply) -> Option<HeaderValue>
 fn text_of<S: Source>(alloc: Global, source: &S, reply: Reply) -> Result<String, AllocError> {
     let mut text = String::new(alloc);
     match reply {
+        Reply::Terms => return source.terms(),
         Reply::Page => push_page(&mut text, &source.status()?)?,
         Reply::Metrics => push_metrics(&mut text, &source.status()?)?,
         Reply::Json => push_json(&mut text, &source.status()?)?,
         Reply::Health => {}
         Reply::Stops => text.push_str("the node ends\n")?,
+        Reply::Changes => text.push_str("/terms tells what comes of it\n")?,
+        Reply::Busy => text.push_str("another change of the terms is under way\n")?,
         Reply::Forbidden => text.push_str("the token of the node is missing\n")?,
         Reply::NotFound => text.push_str(
             "there is /, /metrics, /status.json and /health to read, and /stop to post to\n",
         )?,
         Reply::OnlyRead => text.push_str("this is there to be read\n")?,
         Reply::OnlyPost => text.push_str("this is there to be posted to\n")?,
+        Reply::ReadOrPost => text.push_str("this is there to be read and to be posted to\n")?,
     }
     Ok(text)
 }
@@ -133,14 +170,15 @@ fn told<S: Source>(
 }
 
 impl<S: Source> Service for Answering<'_, S> {
-    ghost answers = { λ old request response new. IsAnswered (option_copied old.token) old.stops request response.status (fields_of response) new.stops };
+    ghost answers = { λ old request response new. IsAnswered (option_copied old.token) old.changing old.stops request response.status (fields_of response) new.stops
+        × (option_map (λ octets. octets.items) new.change ≡ option_or (change_by (reply_by (option_copied old.token) old.changing request) (body_of request)) (option_map (λ octets. octets.items) old.change)) };
 
     fn call(
         &mut self,
         request: &Request<Bytes>,
         response: &mut Response,
     ) -> Result<(), AllocError> {
-        let reply = reply_of(self.token, request);
+        let reply = reply_of(self.token, self.changing, request);
         let (status, text) = told(self.alloc, self.source, reply)?;
         response.add_header(CONTENT_TYPE, type_of(reply))?;
         response.add_header(CACHE_CONTROL, HeaderValue::from_static("no-store"))?;
@@ -150,6 +188,10 @@ impl<S: Source> Service for Answering<'_, S> {
         }
         response.body.push(Bytes::from_string(text)?)?;
         response.status = status;
+        let change = change_by(self.alloc, reply, request)?;
+        if change.is_some() {
+            self.change = change;
+        }
         self.stops = self.stops || reply.stops();
         Ok(())
     }

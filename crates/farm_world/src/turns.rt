@@ -2,7 +2,7 @@
 
 ghost use Rattle.std.specs.Prelude.{◌≡◌, List, Some, IfOk, OnOk, OnErr};
 ghost use Rattle.farm_model.specs.Arrival.{Arrives};
-ghost use Rattle.farm_model.specs.FarmStep.{Outcome, can_connect, after_accept, after_opened, after_up, after_send, flight_at, loss_at, Delivers, after_lost_message, FarmStep, after_sweep_at};
+ghost use Rattle.farm_model.specs.FarmStep.{Outcome, can_connect, after_accept, after_opened, after_up, after_send, flight_at, loss_at, Delivers, after_lost_message, FarmStep, after_sweep_at, after_change_at};
 ghost use Rattle.farm_model.specs.Loss.{LossAt};
 ghost use Rattle.farm_model.specs.Run.{TellsSame};
 
@@ -14,7 +14,7 @@ use crate::fronts::{self, place_of_front};
 use crate::nodes::{is_client, is_linked};
 use crate::world::World;
 use crate::{events, relays};
-use cc_book::BookRefusal;
+use cc_book::{BookRefusal, ChangeRefusal, TermsChange};
 use dia_avp::Wire;
 use dia_base::{ConnId, Moment, NodeNo};
 use dia_message::Message;
@@ -176,6 +176,28 @@ impl World {
         }
     }
 
+    /// The terms of the book change. Where the book refuses the change, nothing changes.
+    pub(crate) fn change_terms(
+        &mut self,
+        alloc: Global,
+        moment: Moment,
+        change: &TermsChange,
+    ) -> Result<bool, AllocError>
+        ensures ok { IfOk result (λ applied. Outcome (Some (after_change_at self.old moment change.now)) applied self.old self.new) }
+        ensures err { OnErr result (TellsSame self.old self.new) }
+    {
+        match self.book.change_terms(alloc, moment, change.copy(alloc)?) {
+            Ok(_)
+            | Err(
+                ChangeRefusal::Nothing
+                | ChangeRefusal::AlreadyThere { .. }
+                | ChangeRefusal::Twice { .. }
+                | ChangeRefusal::Full { .. },
+            ) => Ok(true),
+            Err(ChangeRefusal::OutOfMemory) => Err(AllocError),
+        }
+    }
+
     /// One step. The answer is whether it applied; where not, nothing has changed. After an error, which is
     /// want of memory, what clients sent and received, the book and the ends of connections are as they
     /// were, and nothing is known of the rest.
@@ -212,6 +234,7 @@ impl World {
             Step::Refuse { front, worker } => self.refuse::<W>(alloc, *front, *worker),
             Step::Emit { front, worker } => self.emit(alloc, *front, *worker),
             Step::Sweep { moment } => self.sweep(*moment),
+            Step::ChangeTerms { moment, change } => self.change_terms(alloc, *moment, change),
         }
     }
 }

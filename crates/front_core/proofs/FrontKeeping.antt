@@ -12,11 +12,15 @@ use Rattle.cc_view.specs.declared.refusal.Refusal.{Refusal}
 use Rattle.cc_view.specs.Answer.{refusal_of}
 use Rattle.cc_view.specs.Refusal.{refusal_with}
 use Rattle.cc_book.specs.declared.entry.Entry.{Entry}
-use Rattle.cc_book.specs.declared.entry.Entry.TheVariants.{Take, Sweep}
+use Rattle.cc_book.specs.declared.entry.Entry.TheVariants.{Take, Sweep, ChangeTerms}
 use Rattle.cc_book.specs.History.{IsLegal}
 use Rattle.cc_book.specs.declared.book.BookRefusal.{BookRefusal}
+use Rattle.cc_book.specs.declared.terms_change.ChangeRefusal.{ChangeRefusal}
+use Rattle.cc_book.specs.declared.terms_change.TermsChange.{TermsChange}
+use Rattle.cc_book.specs.Changing.{after_change_with, change_answer}
 use Rattle.cc_book.specs.Taking.{Ledger, after_sweep, sweep_answer, after_sweep_with}
-use Rattle.cc_book.proofs.Keys.{IsLegal-push, IsLegal-sweep, new-without_reply}
+use Rattle.cc_book.proofs.Changing.{made-change}
+use Rattle.cc_book.proofs.Keys.{IsLegal-change, IsLegal-push, IsLegal-sweep, new-without_reply}
 use Rattle.cc_book.proofs.Sweeps.{sweep-ends}
 use Rattle.front_core.specs.declared.event.FrontEvent.{FrontEvent}
 use Rattle.front_core.specs.declared.event.FrontEvent.TheVariants.{Up, Pick, Charge, Refuse, Emit, Lost, Restart}
@@ -27,6 +31,7 @@ use Rattle.front_core.specs.declared.worker.Worker.TheVariants.{Idle, Picked, Do
 use Rattle.front_core.specs.Answered.{IsBookAnswer, IsRefusedAtCharge, IsRefusedAtArrival}
 use Rattle.front_core.specs.Cause.{ArrivalCause, ChargeCause, queue_full}
 use Rattle.front_core.specs.ChargeCases.{IsCharge, refuses, repeats, has_no_room, takes}
+use Rattle.front_core.specs.ChangingTerms.{after_change}
 use Rattle.front_core.specs.Charging.{answer_in, book_after}
 use Rattle.front_core.specs.FrontRun.{Turn, silent_turn, sending_turn, after_event}
 use Rattle.front_core.specs.FrontState.{FrontState, is_among}
@@ -180,6 +185,23 @@ book_swept site book past ledger moment (Ok (suc n)) e told g legal = record {
   keeps = answered-stays site ledger (Sweep moment ∷ []);
 }
 
+-- ---- a change of the terms, and the book
+
+book_changed : (site : FrontSite) (book : Ledger) (past : List FrontEvent) (ledger : Ledger) (moment : Moment) (change : TermsChange) (answer : Result ℕ ChangeRefusal) → change_answer ledger change ≡ answer
+    → Contains past (FrontEvent.ChangeTerms moment change) → GrowsByRequests site past book ledger → IsLegal ledger.terms ledger.history → BookGrows site book past ledger (after_change_with ledger moment change answer)
+book_changed site book past ledger moment change (Err refusal) e told g legal = book_same site book past ledger g legal
+book_changed site book past ledger moment change (Ok place) e told g legal = record {
+  grown = record {
+    more = g.more ++ ChangeTerms moment change ∷ [];
+    grown =
+        ap (λ (l : Ledger). let grown : Ledger = record l { history = l.history ++ ChangeTerms moment change ∷ [] } in grown) g.grown
+        ∙ ap (λ (h : List Entry). let grown : Ledger = record book { history = h } in grown) (append_assoc book.history g.more (ChangeTerms moment change ∷ []));
+    taken = All-push (IsOfRequest site past) g.more (ChangeTerms moment change) g.taken told;
+  };
+  legal = IsLegal-change ledger.terms ledger.history moment change legal (made-change ledger change place e).0;
+  keeps = answered-stays site ledger (ChangeTerms moment change ∷ []);
+}
+
 -- ---- events at which the book, or the list of events, counts
 
 module _ (site : FrontSite) (book : Ledger) (past : List FrontEvent) (ledger : Ledger) (grown : GrowsByRequests site past book ledger) (legal : IsLegal ledger.terms ledger.history) where
@@ -292,6 +314,21 @@ module _ (site : FrontSite) (book : Ledger) (past : List FrontEvent) (ledger : L
         keeps = b.keeps;
       }
 
+  -- ---- a change of the terms
+
+  change_turn : (front : FrontState) (moment : Moment) (change : TermsChange) → Contains past (FrontEvent.ChangeTerms moment change) → Stood front → After front (silent_turn front (after_change ledger moment change))
+  change_turn front moment change told s =
+      let next = after_change ledger moment change in
+      let b = book_changed site book past ledger moment change (change_answer ledger change) refl told grown legal in
+      record {
+        front = FrontStands-grows site book past past ledger next (fuller site book past ledger next b.keeps) front s;
+        sent = All-nil (IsRightAnswer site book past next);
+        up = All-nil _;
+        grown = b.grown;
+        legal = b.legal;
+        keeps = b.keeps;
+      }
+
   -- ---- any event
 
   emit_turn : (front : FrontState) (worker : ℕ) → Stood front → After front (sending_turn (unwrap_or (after_emit front worker) (front, [])) ledger)
@@ -307,5 +344,6 @@ module _ (site : FrontSite) (book : Ledger) (past : List FrontEvent) (ledger : L
   event_turn front (Refuse worker) asked told shows s = refusal_turn front worker (slice_get front.workers worker) refl shows s
   event_turn front (Emit worker) asked told shows s = emit_turn front worker s
   event_turn front (FrontEvent.Sweep moment) asked told shows s = sweep_turn front moment told s
+  event_turn front (FrontEvent.ChangeTerms moment change) asked told shows s = change_turn front moment change told s
   event_turn front (Lost conn) asked told shows s = quiet_turn front (without_connection front conn) (record { of_site = s.of_site; waiting = s.waiting; working = s.working })
   event_turn front Restart asked told shows s = quiet_turn front (after_restart front) (restart_stands site book past ledger front s)

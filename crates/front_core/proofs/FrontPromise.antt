@@ -73,6 +73,7 @@ module _ (conn : ConnId) (hop end : ℕ) where
   event_le front ledger (Refuse worker) = omega (arith, refusal_le front worker (after_refusal front worker) refl)
   event_le front ledger (Emit worker) = omega (arith, emit_le front worker (after_emit front worker) refl)
   event_le front ledger (FrontEvent.Sweep moment) = omega arith
+  event_le front ledger (FrontEvent.ChangeTerms moment change) = omega arith
   event_le front ledger (Lost c) = omega arith
   event_le front ledger Restart = omega (arith, restart-is conn hop end front)
 

@@ -129,7 +129,7 @@ module _ (site : FrontSite) (book : Ledger) (past later : List FrontEvent) (ledg
   entry_grows : (entry : Entry) → IsOfRequest site past entry → IsOfRequest site later entry
   entry_grows (Take moment request) s = (s.0, s.1, g.asked s.0 s.1 s.2, s.3)
   entry_grows (Sweep moment) s = g.told (FrontEvent.Sweep moment) s
-  entry_grows (ChangeTerms moment change) s = s
+  entry_grows (ChangeTerms moment change) s = g.told (FrontEvent.ChangeTerms moment change) s
 
   pub GrowsByRequests-grows : (end : Ledger) → GrowsByRequests site past book end → GrowsByRequests site later book end
   GrowsByRequests-grows end b = record { more = b.more; grown = b.grown; taken = All-weaker (IsOfRequest site past) (IsOfRequest site later) entry_grows b.more b.taken }

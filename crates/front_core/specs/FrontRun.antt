@@ -4,8 +4,9 @@ use Rattle.std.specs.List.{fold}
 use Rattle.dia_message.specs.Traffic.{Traffic}
 use Rattle.cc_book.specs.Taking.{Ledger, after_sweep}
 use Rattle.front_core.specs.declared.event.FrontEvent.{FrontEvent}
-use Rattle.front_core.specs.declared.event.FrontEvent.TheVariants.{Up, Message, Pick, Charge, Refuse, Emit, Sweep, Lost, Restart}
+use Rattle.front_core.specs.declared.event.FrontEvent.TheVariants.{Up, Message, Pick, Charge, Refuse, Emit, Sweep, ChangeTerms, Lost, Restart}
 use Rattle.front_core.specs.declared.site.FrontSite.{FrontSite}
+use Rattle.front_core.specs.ChangingTerms.{after_change}
 use Rattle.front_core.specs.FrontState.{FrontState, new_front, is_among}
 use Rattle.front_core.specs.FrontStep.{with_connection, without_connection, after_arrival, sent_at_arrival, after_pick, after_charge, after_refusal, after_emit, after_restart}
 
@@ -24,7 +25,7 @@ abbrev pub sending_turn : FrontState × Traffic → Ledger → Turn
 sending_turn turn ledger = record { front = turn.0; ledger = ledger; sent = turn.1 }
 
 -- A step that does not apply changes nothing, nor does a message on a connection that is not up. Nor does a sweep that
--- ends nothing, or that meets the limit of the history.
+-- ends nothing, or that meets the limit of the history, or a change of the terms that the book refuses.
 abbrev pub after_event : FrontState → Ledger → FrontEvent → Turn
 after_event front ledger (Up conn) = silent_turn (with_connection front conn) ledger
 after_event front ledger (Message conn message) =
@@ -35,6 +36,7 @@ after_event front ledger (Charge worker moment) =
 after_event front ledger (Refuse worker) = silent_turn (unwrap_or (after_refusal front worker) front) ledger
 after_event front ledger (Emit worker) = sending_turn (unwrap_or (after_emit front worker) (front, [])) ledger
 after_event front ledger (Sweep moment) = silent_turn front (after_sweep ledger moment)
+after_event front ledger (ChangeTerms moment change) = silent_turn front (after_change ledger moment change)
 after_event front ledger (Lost conn) = silent_turn (without_connection front conn) ledger
 after_event front ledger Restart = silent_turn (after_restart front) ledger
 

@@ -1,5 +1,6 @@
 pub mod Answered
 pub mod Cause
+pub mod ChangingTerms
 pub mod ChargeCases
 pub mod Charging
 pub mod Counts

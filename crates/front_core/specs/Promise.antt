@@ -33,6 +33,7 @@ message_at (Charge worker moment) = None
 message_at (Refuse worker) = None
 message_at (FrontEvent.Emit worker) = None
 message_at (FrontEvent.Sweep moment) = None
+message_at (FrontEvent.ChangeTerms moment change) = None
 message_at (FrontEvent.Lost conn) = None
 message_at FrontEvent.Restart = None
 
@@ -89,13 +90,13 @@ pub record RefusesRequest (site : FrontSite) (book : Ledger) (events : List Fron
 abbrev pub IsRightAnswer : FrontSite → Ledger → List FrontEvent → Ledger → ConnId × Message → Type 0
 IsRightAnswer site book events end item = AnswersRequest site events end item.0 item.1 ⊎ RefusesRequest site book events item.0 item.1
 
--- An entry takes what is read in a request that came, or is the sweep of an event. No event of a front changes the terms.
+-- An entry takes what is read in a request that came, or is the sweep or the change of the terms of an event.
 abbrev pub IsOfRequest : FrontSite → List FrontEvent → Entry → Type 0
 IsOfRequest site events (Take moment request) = (conn : ConnId) × (message : Message) × IsAsked events conn message × (view_under site.profile message ≡ Ok request)
 IsOfRequest site events (Sweep moment) = Contains events (FrontEvent.Sweep moment)
-IsOfRequest site events (ChangeTerms moment change) = ⊥
+IsOfRequest site events (ChangeTerms moment change) = Contains events (FrontEvent.ChangeTerms moment change)
 
--- the book grows by requests that came and by sweeps of the list, and by nothing else
+-- the book grows by requests that came and by sweeps and changes of the list, and by nothing else
 pub record GrowsByRequests (site : FrontSite) (events : List FrontEvent) (book end : Ledger) : Type 0 where
   pub more : List Entry
   pub grown : end ≡ record book { history = book.history ++ more }
@@ -113,7 +114,7 @@ abbrev pub EachSent : (ℕ → ConnId × Message → Type 0) → List Traffic �
 EachSent P sent = (place : ℕ) (items : Traffic) → slice_get sent place ≡ Some items → All (P place) items
 
 -- What is promised of a run, from no connection and the book that is handed in: all that is sent is a right
--- answer, no more often than it was asked for, and the book grows by what was asked, and by sweeps.
+-- answer, no more often than it was asked for, and the book grows by what was asked, by sweeps and by changes of the terms.
 pub record KeepsPromise (site : FrontSite) (book : Ledger) (events : List FrontEvent) (sent : List Traffic) (end : Ledger) : Type 0 where
   pub answers : EachSent (IsSentRightly site book events end) sent
   pub not_more : (conn : ConnId) (hop end : ℕ) → answers_with (all_sent sent) conn hop end ≤ requests_with (traffic_of events) conn hop end

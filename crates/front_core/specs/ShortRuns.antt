@@ -1,6 +1,6 @@
 -- Worked examples: a front over short lists of events, where the first debit comes to it. Numbers are octets, an AVP a
 -- line.
-use Rattle.std.specs.Prelude.{ℕ, List, [], ◌∷◌, ◌++◌, length, replicate, true, negsuc}
+use Rattle.std.specs.Prelude.{ℕ, List, [], ◌∷◌, ◌++◌, length, replicate, true, negsuc, Some, None}
 use Rattle.dia_base.specs.declared.number.ConnId.{ConnId}
 use Rattle.dia_message.specs.declared.message.Message.{Message}
 use Rattle.dia_message.specs.Traffic.{Traffic}
@@ -58,6 +58,14 @@ second_emits = event.Emit 1
 -- at the last moment there is
 abbrev pub sweep : FrontEvent
 sweep = event.Sweep (record { 0 = 18446744073709551615 })
+
+-- tariffs, of which there are none, hold from this moment on
+abbrev pub change : FrontEvent
+change = event.ChangeTerms (record { 0 = 2000 }) (record { joining = []; tariffs = Some [] })
+
+-- a change that says nothing, and is refused
+abbrev pub no_change : FrontEvent
+no_change = event.ChangeTerms (record { 0 = 2000 }) (record { joining = []; tariffs = None })
 
 abbrev pub restart : FrontEvent
 restart = event.Restart

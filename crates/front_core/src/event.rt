@@ -1,5 +1,6 @@
 //! What happens at a front.
 
+use cc_book::TermsChange;
 use dia_base::{ConnId, Moment};
 use dia_message::Message;
 
@@ -20,6 +21,8 @@ pub enum FrontEvent {
     Emit { worker: u64 },
     /// The book ends the sessions that are due at this moment (RFC 8506, section 13).
     Sweep { moment: Moment },
+    /// The terms of the book change at this moment.
+    ChangeTerms { moment: Moment, change: TermsChange },
     /// A connection is lost.
     Lost { conn: ConnId },
     /// The front restarts.

@@ -15,7 +15,7 @@ ghost use Rattle.front_core.specs.Charging.{answer_in, book_after};
 ghost use Rattle.front_core.specs.Counts.{answers_with, requests_with, unanswered_with};
 ghost use Rattle.front_core.specs.FrontState.{FrontState, is_among};
 ghost use Rattle.front_core.specs.FrontStep.{after_arrival, after_charge, after_emit, after_pick, after_refusal, preparation_at, sent_at_arrival};
-ghost use Rattle.front_core.specs.ShortRuns.{busy_front, charge, debit, emit, lost, pick, refuse, restart, second_emits, second_picks, second_up, sent_after, silence, sweep, told, unknown_user, up};
+ghost use Rattle.front_core.specs.ShortRuns.{busy_front, change, charge, debit, emit, lost, no_change, pick, refuse, restart, second_emits, second_picks, second_up, sent_after, silence, sweep, told, unknown_user, up};
 
 use cc_view::first_debit;
 
@@ -67,6 +67,8 @@ pub fn requests_wait_for_their_answers()
 pub fn fronts_answer_what_they_charge()
     // A sweep between the charge and its answer changes neither.
     ensures charged { told 1 1 (up ∷ debit ∷ pick ∷ charge ∷ sweep ∷ emit ∷ []) ≡ (sent_after 5 unknown_user, 1) }
+    // Nor does a change of the terms, which is an entry of the book where it is made.
+    ensures changed { told 1 1 (up ∷ debit ∷ pick ∷ charge ∷ change ∷ no_change ∷ emit ∷ []) ≡ (sent_after 6 unknown_user, 2) }
     ensures full { told 1 1 (up ∷ debit ∷ debit ∷ []) ≡ (sent_after 2 busy_front, 0) }
     // What is refused by order is not charged.
     ensures ordered { told 1 1 (up ∷ debit ∷ pick ∷ refuse ∷ charge ∷ emit ∷ []) ≡ (sent_after 5 busy_front, 0) }

@@ -2,6 +2,7 @@
 
 ghost use Rattle.std.specs.Prelude.{◌≡◌, [], map, IfOk, IsOkUnless, OnOk, if◌then◌else◌};
 ghost use Rattle.cc_book.specs.Taking.{after_sweep};
+ghost use Rattle.front_core.specs.ChangingTerms.{after_change};
 ghost use Rattle.front_core.specs.FrontRun.{after_event, run_of};
 ghost use Rattle.front_core.specs.FrontState.{new_front, is_among};
 ghost use Rattle.front_core.specs.FrontStep.{after_arrival, sent_at_arrival};
@@ -11,7 +12,7 @@ use crate::error::FrontError;
 use crate::event::FrontEvent;
 use crate::front::Front;
 use crate::site::FrontSite;
-use cc_book::{Book, BookRefusal};
+use cc_book::{Book, BookRefusal, ChangeRefusal, TermsChange};
 use dia_avp::Wire;
 use dia_base::{ConnId, Moment};
 use dia_message::{Message, Out};
@@ -59,6 +60,28 @@ fn sweep(book: &mut Book, moment: Moment) -> Result<(), FrontError>
     }
 }
 
+/// A change of the terms of the book. One that the book refuses changes nothing.
+fn change_terms(
+    alloc: Global,
+    book: &mut Book,
+    moment: Moment,
+    change: &TermsChange,
+) -> Result<(), FrontError>
+    ensures book { OnOk result (book.new ≡ after_change book.old moment change.now) }
+    ensures memory { IsOkUnless result FrontError.OutOfMemory }
+{
+    match book.change_terms(alloc, moment, change.copy(alloc)?) {
+        Ok(_)
+        | Err(
+            ChangeRefusal::Nothing
+            | ChangeRefusal::AlreadyThere { .. }
+            | ChangeRefusal::Twice { .. }
+            | ChangeRefusal::Full { .. },
+        ) => Ok(()),
+        Err(ChangeRefusal::OutOfMemory) => Err(FrontError::OutOfMemory),
+    }
+}
+
 /// What is sent at an event. A step that does not apply sends nothing.
 fn on_event<W: Wire>(
     alloc: Global,
@@ -91,6 +114,7 @@ fn on_event<W: Wire>(
             }
         }
         FrontEvent::Sweep { moment } => sweep(book, *moment)?,
+        FrontEvent::ChangeTerms { moment, change } => change_terms(alloc, book, *moment, change)?,
         FrontEvent::Lost { conn } => front.conn_lost(*conn),
         FrontEvent::Restart => front.restart(),
     }

@@ -1,6 +1,6 @@
 -- What happens to a front that is a pool is a step of the farm, or none.
 use Rattle.std.proofs.Common.{◌≡◌, ℕ, ◌<◌, ◌≤◌, Bool, true, false, cond, ◌&&◌, ◌||◌, List, [], ◌∷◌, ◌++◌, length, map, Option, Some, None, refl, sym, subst, ap, ◌∙◌}
-use Rattle.std.proofs.Common.{arith, MatchBool, nat_lt, lt-ltb, le-ltb, replicate}
+use Rattle.std.proofs.Common.{arith, MatchBool, Ok, nat_lt, lt-ltb, le-ltb, replicate}
 use Rattle.std.specs.Prelude.{slice_get, slice_set}
 use Rattle.std.proofs.lemmas.Bool.{or_right}
 use Rattle.std.proofs.lemmas.List.{length-map}
@@ -11,6 +11,8 @@ use Rattle.dia_base.specs.declared.number.Moment.{Moment}
 use Rattle.dia_base.specs.declared.number.NodeNo.{NodeNo}
 use Rattle.dia_message.specs.declared.message.Message.{Message}
 use Rattle.dia_message.specs.Traffic.{Traffic}
+use Rattle.cc_book.specs.declared.terms_change.TermsChange.{TermsChange}
+use Rattle.cc_book.specs.Changing.{after_change_with}
 use Rattle.cc_book.specs.Taking.{Ledger}
 use Rattle.front_core.specs.declared.worker.Job.{Job}
 use Rattle.front_core.specs.declared.worker.Worker.{Worker}
@@ -22,7 +24,7 @@ use Rattle.front_core.specs.FrontStep.{after_charge, after_charge_by, preparatio
 use Rattle.front_pool.specs.declared.job.Job.{Job as PoolJob}
 use Rattle.farm_base.specs.declared.site.Site.{Site}
 use Rattle.farm_base.specs.declared.step.Step.{Step}
-use Rattle.farm_base.specs.declared.step.Step.TheVariants.{Deliver, Crash, Pick, Charge, Refuse, Emit, Sweep}
+use Rattle.farm_base.specs.declared.step.Step.TheVariants.{Deliver, Crash, Pick, Charge, Refuse, Emit, Sweep, ChangeTerms}
 use Rattle.farm_base.specs.Nodes.{is_client, is_front, is_relay, kind_at, means_client, means_front}
 use Rattle.farm_model.specs.declared.state.FrontAt.{FrontAt}
 use Rattle.farm_model.specs.Arrival.{ArrivesAtServer, after_arrival_at_client, after_arrival_at_front, after_arrival_by}
@@ -33,9 +35,9 @@ use Rattle.farm_model.specs.Run.{Past, Run, steps_in}
 use Rattle.farm_model.specs.World.{WorldState, with_front, front_at, with_traffic_from}
 use Rattle.pool_law.specs.PoolRun.{AllApply}
 use Rattle.pool_law.specs.ServedFarm.{PoolNow, ServedFarm, Work, nothing, in_hand, finished, new_pool, with_pool, with_waiting, with_work, job_of, sent_for}
-use Rattle.pool_law.specs.ServedFarm.{Charges, Comes, Dies, FindsBusy, GoesUnanswered, HandsOut, HandsOver, HappensElsewhere, Ignores, Sweeps, Takes}
+use Rattle.pool_law.specs.ServedFarm.{ChangesTerms, Charges, Comes, Dies, FindsBusy, GoesUnanswered, HandsOut, HandsOver, HappensElsewhere, Ignores, Sweeps, Takes}
 use Rattle.pool_law.specs.ServedFarm.{TurnsAway, Happening, Follows, elsewhere, ignores, hands_over, turns_away, takes, charges, finds_busy, hands_out}
-use Rattle.pool_law.specs.ServedFarm.{goes_unanswered, sweeps, dies}
+use Rattle.pool_law.specs.ServedFarm.{goes_unanswered, sweeps, changes_terms, dies}
 use Rattle.pool_law.specs.AsFarm.{IsBelow, as_front, steps_at, waiting, with_workers, worker_of}
 use Rattle.pool_law.proofs.Booking.{has_answer, has_left, sweep_left}
 use Rattle.pool_law.proofs.Elsewhere.{goes_alike, showing}
@@ -373,6 +375,13 @@ module _ (site : Site) (workers : ℕ) where
         subst (GoesOn old shows (Sweep moment ∷ [])) (sym h.is) (by_step old after shows shows (Sweep moment) []
         ((refl, ap (λ (b : Ledger). record w { fronts = shows; book = b }) (sym (sweep_left w.book moment h.shared h.swept h.has_swept h.book))), refl) are)
 
+    changes_goes : (moment : Moment) (change : TermsChange) (new : ServedFarm) → ChangesTerms old moment change new →
+        GoesOn old shows (ChangeTerms moment change ∷ []) new
+    changes_goes moment change new h =
+        let after : ServedFarm = record old { world = record w { book = after_change_with w.book moment change (Ok h.place) } } in
+        subst (GoesOn old shows (ChangeTerms moment change ∷ [])) (sym h.is) (by_step old after shows shows (ChangeTerms moment change) []
+        ((refl, ap (λ (b : Ledger). record w { fronts = shows; book = b }) (sym (ap (after_change_with w.book moment change) h.answer))), refl) are)
+
     dies_goes : (node : NodeNo) (new : ServedFarm) → Dies site old node new → GoesOn old shows (Crash node ∷ []) new
     dies_goes node new h =
         let pool = old.pools node in
@@ -421,4 +430,5 @@ module _ (site : Site) (workers : ℕ) where
     follows_goes (hands_out node number) new below h = hands_out_goes node number new below h
     follows_goes (goes_unanswered node number) new below h = unanswered_goes node number new h
     follows_goes (sweeps moment) new below h = sweeps_goes moment new h
+    follows_goes (changes_terms moment change) new below h = changes_goes moment change new h
     follows_goes (dies node) new below h = dies_goes node new h

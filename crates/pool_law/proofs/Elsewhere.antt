@@ -12,7 +12,7 @@ use Rattle.relay_core.specs.RelayState.{RelayState}
 use Rattle.farm_base.specs.declared.site.Site.{Site}
 use Rattle.farm_base.specs.declared.step.Step.{Step}
 use Rattle.farm_base.specs.declared.step.Step.TheVariants.{Up, Accept, Opened, Send, Deliver, Lose, Cut, Drop}
-use Rattle.farm_base.specs.declared.step.Step.TheVariants.{Restart, Crash, Pick, Charge, Refuse, Emit, Sweep}
+use Rattle.farm_base.specs.declared.step.Step.TheVariants.{Restart, Crash, Pick, Charge, Refuse, Emit, Sweep, ChangeTerms}
 use Rattle.farm_base.specs.Nodes.{is_client}
 use Rattle.farm_model.specs.declared.state.Direction.{Direction}
 use Rattle.farm_model.specs.declared.state.FrontAt.{FrontAt}
@@ -419,3 +419,4 @@ module _ (site : Site) (workers : ℕ) (pools : NodeNo → PoolNow) where
   goes_alike w next shows (Refuse front worker) losses are of s = absurd of
   goes_alike w next shows (Emit front worker) losses are of s = absurd of
   goes_alike w next shows (Sweep moment) losses are of s = absurd of
+  goes_alike w next shows (ChangeTerms moment change) losses are of s = absurd of

@@ -7,13 +7,17 @@ use Rattle.std.proofs.lemmas.List.{length-take-le}
 use Rattle.dia_base.specs.declared.number.Moment.{Moment}
 use Rattle.cc_book.specs.declared.book.BookRefusal.TheVariants.{Full}
 use Rattle.cc_book.specs.declared.entry.Entry.{Entry}
-use Rattle.cc_book.specs.declared.entry.Entry.TheVariants.{Sweep}
+use Rattle.cc_book.specs.declared.entry.Entry.TheVariants.{Sweep, ChangeTerms}
 use Rattle.cc_book.specs.declared.terms.Terms.{Terms}
+use Rattle.cc_book.specs.declared.terms_change.TermsChange.{TermsChange}
+use Rattle.cc_book.specs.Changing.{after_change_with}
 use Rattle.cc_book.specs.History.{IsLegal, ended_sessions}
 use Rattle.cc_book.specs.Taking.{Ledger, after_sweep, after_sweep_with, answer_to_sweep, with_sweep}
 use Rattle.cc_shared.specs.declared.receipt.Receipt.{Receipt}
 use Rattle.cc_shared.specs.Receipts.{Fits, Tells}
+use Rattle.cc_book.proofs.Changing.{change-made}
 use Rattle.cc_shared.proofs.Truth.{legal_front}
+use Rattle.front_core.specs.ChangingTerms.{after_change}
 use Rattle.front_pool.specs.Charging.{as_of}
 
 -- what stands around an entry of a list
@@ -61,6 +65,20 @@ sweep_goes book place moment legal within at =
     let room : length before < book.limit = omega (arith, inside, long, within) in
     let more : take (place + 1) book.history ≡ before ++ Sweep moment ∷ [] = rw add-one a.next in
     sweep_of (as_of book place) moment (ended_sessions book.terms before moment) (legal.sweeps before a.after moment a.is) room
+    ∙ ap (λ (h : List Entry). record book { history = h }) (sym more)
+
+-- ---- a change of the terms
+
+pub change_goes : (book : Ledger) (place : ℕ) (moment : Moment) (change : TermsChange) → IsLegal book.terms book.history → length book.history ≤ book.limit →
+    slice_get book.history place ≡ Some (ChangeTerms moment change) → after_change (as_of book place) moment change ≡ as_of book (place + 1)
+change_goes book place moment change legal within at =
+    let a = around book.history place (ChangeTerms moment change) at in
+    let before = take place book.history in
+    let inside = a.within in
+    let long : length before ≡ place = length-take-le place book.history (omega (arith, inside)) in
+    let room : length before < book.limit = omega (arith, inside, long, within) in
+    let more : take (place + 1) book.history ≡ before ++ ChangeTerms moment change ∷ [] = rw add-one a.next in
+    ap (after_change_with (as_of book place) moment change) (change-made (as_of book place) change (legal.changes before a.after moment change a.is) room)
     ∙ ap (λ (h : List Entry). record book { history = h }) (sym more)
 
 -- ---- a receipt that stands in a history stands in each beginning of it that is long enough

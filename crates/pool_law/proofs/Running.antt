@@ -12,6 +12,7 @@ use Rattle.cc_book.specs.declared.entry.Entry.TheVariants.{Take}
 use Rattle.cc_book.specs.History.{IsLegal}
 use Rattle.cc_book.specs.Taking.{Ledger, after_sweep}
 use Rattle.cc_shared.specs.declared.receipt.Receipt.{Receipt}
+use Rattle.front_core.specs.ChangingTerms.{after_change}
 use Rattle.front_core.specs.declared.worker.Job.{Job}
 use Rattle.front_core.specs.declared.worker.Worker.TheVariants.{Idle}
 use Rattle.front_core.specs.ChargeCases.{IsCharge}
@@ -21,11 +22,11 @@ use Rattle.front_pool.specs.Charging.{answer_with, as_of}
 use Rattle.front_pool.proofs.Charges.{fresh_is_charged, repeat_is_charged}
 use Rattle.farm_base.specs.declared.site.Site.{Site}
 use Rattle.farm_base.specs.declared.step.Step.{Step}
-use Rattle.farm_base.specs.declared.step.Step.TheVariants.{Pick, Charge, Emit, Sweep}
+use Rattle.farm_base.specs.declared.step.Step.TheVariants.{Pick, Charge, Emit, Sweep, ChangeTerms}
 use Rattle.farm_model.specs.declared.state.Direction.{Direction}
 use Rattle.farm_model.specs.World.{WorldState, front_at, with_message_from, with_traffic_from}
-use Rattle.pool_law.specs.PoolRun.{AreInOrder, BookEvent, HasReceipt, Leads, queue_of, sent_of, steps_of, takes, repeats, sweeps}
-use Rattle.pool_law.proofs.Prefixes.{fits_before, legal_before, sweep_goes}
+use Rattle.pool_law.specs.PoolRun.{AreInOrder, BookEvent, HasReceipt, Leads, queue_of, sent_of, steps_of, takes, repeats, sweeps, changes}
+use Rattle.pool_law.proofs.Prefixes.{change_goes, fits_before, legal_before, sweep_goes}
 use Rattle.pool_law.proofs.Turns.{after_charge, after_emit, after_pick, charge_goes, emit_goes, looked_after, others_after, pick_goes, sent}
 
 more_traffic : (node : NodeNo) (directions : List Direction) (one two : Traffic) →
@@ -157,6 +158,27 @@ module _ (site : Site) (node : NodeNo) (worker : ℕ) (front : FrontState) (idle
         new = rest.new;
         run = (refl, ((refl, ap (λ (b : Ledger). record w { book = b }) swept), refl), rest.run);
         steps_are = ap (λ (s : List Step). Sweep moment ∷ s) rest.steps_are;
+        all_apply = (refl, rest.all_apply);
+        book_is = rest.book_is;
+        front_is = rest.front_is;
+        flight_is = rest.flight_is;
+        others = rest.others;
+        relays_are = rest.relays_are;
+        sent_is = rest.sent_is;
+        received_is = rest.received_is;
+        ends_are = rest.ends_are;
+      }
+  leads (changes moment change ∷ more) place w order is looked =
+      let left = as_of book (place + 1) in
+      let next : WorldState = record w { book = left } in
+      let rest = leads more (place + 1) next order.1 refl looked in
+      let changed : left ≡ after_change w.book moment change =
+      sym (change_goes book place moment change legal within order.0) ∙ ap (λ (b : Ledger). after_change b moment change) (sym is) in
+      record {
+        past = record { step = ChangeTerms moment change; before = w; applied = true; losses = []; after = next } ∷ rest.past;
+        new = rest.new;
+        run = (refl, ((refl, ap (λ (b : Ledger). record w { book = b }) changed), refl), rest.run);
+        steps_are = ap (λ (s : List Step). ChangeTerms moment change ∷ s) rest.steps_are;
         all_apply = (refl, rest.all_apply);
         book_is = rest.book_is;
         front_is = rest.front_is;

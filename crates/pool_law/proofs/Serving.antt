@@ -26,7 +26,7 @@ use Rattle.farm_model.specs.Run.{IsTrace}
 use Rattle.farm_model.specs.SoundSite.{IsSound}
 use Rattle.pool_law.specs.PoolRun.{AllApply}
 use Rattle.pool_law.specs.ServedFarm.{Happening, ServedFarm, Serves, new_pool, new_served}
-use Rattle.pool_law.specs.ServedFarm.{elsewhere, ignores, hands_over, turns_away, takes, charges, finds_busy, hands_out, goes_unanswered, sweeps, dies}
+use Rattle.pool_law.specs.ServedFarm.{elsewhere, ignores, hands_over, turns_away, takes, charges, finds_busy, hands_out, goes_unanswered, sweeps, changes_terms, dies}
 use Rattle.pool_law.specs.AsFarm.{AreBelow, IsBelow, RunsAsFarm, ServesAsPromised, as_front, steps_at, steps_for, with_workers}
 use Rattle.pool_law.proofs.AtFronts.{GoesOn, follows_goes}
 use Rattle.pool_law.proofs.Elsewhere.{showing}
@@ -168,6 +168,7 @@ number_in (finds_busy node number written) = number
 number_in (hands_out node number) = number
 number_in (goes_unanswered node number) = 0
 number_in (sweeps moment) = 0
+number_in (changes_terms moment change) = 0
 number_in (dies node) = 0
 
 pub workers_for : List Happening → ℕ
@@ -185,6 +186,7 @@ is_below workers (finds_busy node number written) less = less
 is_below workers (hands_out node number) less = less
 is_below workers (goes_unanswered node number) less = tt
 is_below workers (sweeps moment) less = tt
+is_below workers (changes_terms moment change) less = tt
 is_below workers (dies node) less = tt
 
 all_below : (workers : ℕ) (happenings : List Happening) → workers_for happenings ≤ workers → AreBelow workers happenings

@@ -23,7 +23,7 @@ use Rattle.farm_model.proofs.Wiring.WorldLemmas.{front_among, the_front}
 use Rattle.front_core.specs.FrontStep.{too_busy}
 use Rattle.pool_law.specs.ServedFarm.{Follows, Happening, PoolNow, ServedFarm, Serves, new_pool, new_served, with_pool, with_waiting, with_work}
 use Rattle.pool_law.specs.ServedFarm.{in_hand, finished, nothing}
-use Rattle.pool_law.specs.ServedFarm.{elsewhere, ignores, hands_over, turns_away, takes, charges, finds_busy, hands_out, goes_unanswered, sweeps, dies}
+use Rattle.pool_law.specs.ServedFarm.{elsewhere, ignores, hands_over, turns_away, takes, charges, finds_busy, hands_out, goes_unanswered, sweeps, changes_terms, dies}
 use Rattle.pool_law.specs.AsFarm.{RunsAsFarm, as_front, with_workers}
 
 abbrev Keeps : Type 0
@@ -75,6 +75,7 @@ module _ (site : Site) (old new : ServedFarm) (rooms : HaveRoom site old) (fits 
   follows_fits (hands_out node number) h = subst Then (sym h.is) (one_fits site.queue old.pools node (with_work (old.pools node) number nothing) (fits node) fits)
   follows_fits (goes_unanswered node number) h = subst Then (sym h.is) fits
   follows_fits (sweeps moment) h = subst Then (sym h.is) fits
+  follows_fits (changes_terms moment change) h = subst Then (sym h.is) fits
   follows_fits (dies node) h = subst Then (sym h.is) (one_fits site.queue old.pools node new_pool (omega arith) fits)
 
 -- ---- as the site says

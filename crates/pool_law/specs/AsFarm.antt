@@ -8,14 +8,14 @@ use Rattle.front_core.specs.FrontState.{FrontState}
 use Rattle.front_pool.specs.declared.job.Job.{Job as PoolJob}
 use Rattle.farm_base.specs.declared.site.Site.{Site}
 use Rattle.farm_base.specs.declared.step.Step.{Step}
-use Rattle.farm_base.specs.declared.step.Step.TheVariants.{Deliver, Crash, Pick, Charge, Refuse, Emit, Sweep}
+use Rattle.farm_base.specs.declared.step.Step.TheVariants.{Deliver, Crash, Pick, Charge, Refuse, Emit, Sweep, ChangeTerms}
 use Rattle.farm_model.specs.declared.state.Trace.{Trace}
 use Rattle.farm_model.specs.Promise.{KeepsPromise}
 use Rattle.farm_model.specs.Run.{Past, Run, start, steps_in}
 use Rattle.farm_model.specs.World.{WorldState, front_at}
 use Rattle.pool_law.specs.PoolRun.{AllApply}
 use Rattle.pool_law.specs.ServedFarm.{Happening, PoolNow, ServedFarm, Work, nothing, in_hand, finished}
-use Rattle.pool_law.specs.ServedFarm.{elsewhere, ignores, hands_over, turns_away, takes, charges, finds_busy, hands_out, goes_unanswered, sweeps, dies}
+use Rattle.pool_law.specs.ServedFarm.{elsewhere, ignores, hands_over, turns_away, takes, charges, finds_busy, hands_out, goes_unanswered, sweeps, changes_terms, dies}
 
 -- ---- a front
 
@@ -59,6 +59,7 @@ steps_at (finds_busy node number written) = Refuse node number ∷ []
 steps_at (hands_out node number) = Emit node number ∷ []
 steps_at (goes_unanswered node number) = []
 steps_at (sweeps moment) = Sweep moment ∷ []
+steps_at (changes_terms moment change) = ChangeTerms moment change ∷ []
 steps_at (dies node) = Crash node ∷ []
 
 abbrev pub steps_for : List Happening → List Step
@@ -76,6 +77,7 @@ IsBelow workers (finds_busy node number written) = number < workers
 IsBelow workers (hands_out node number) = number < workers
 IsBelow workers (goes_unanswered node number) = Unit {0}
 IsBelow workers (sweeps moment) = Unit {0}
+IsBelow workers (changes_terms moment change) = Unit {0}
 IsBelow workers (dies node) = Unit {0}
 
 -- so do all of these

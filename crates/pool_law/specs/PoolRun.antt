@@ -4,6 +4,7 @@ use Rattle.dia_base.specs.declared.number.Moment.{Moment}
 use Rattle.dia_base.specs.declared.number.NodeNo.{NodeNo}
 use Rattle.dia_message.specs.Traffic.{Traffic}
 use Rattle.cc_book.specs.declared.entry.Entry.TheVariants.{Take}
+use Rattle.cc_book.specs.declared.terms_change.TermsChange.{TermsChange}
 use Rattle.cc_book.specs.Taking.{Ledger}
 use Rattle.cc_shared.specs.declared.receipt.Receipt.{Receipt}
 use Rattle.cc_shared.specs.History.{SharedLedger}
@@ -22,11 +23,12 @@ use Rattle.farm_model.specs.Run.{Past, Run, steps_in}
 use Rattle.farm_model.specs.World.{WorldState, front_at, with_traffic_from}
 
 -- What came before the book: a job whose request was taken, one whose reply was kept already, each with its receipt and a
--- moment, and a look at the clock.
+-- moment, a look at the clock, and a change of the terms.
 pub data BookEvent : Type 0 where
   takes : Finished → Receipt → Moment → BookEvent
   repeats : Finished → Receipt → Moment → BookEvent
   sweeps : Moment → BookEvent
+  changes : Moment → TermsChange → BookEvent
 
 -- A finished job has this receipt, which stands in the history, and is answered by it.
 pub record HasReceipt (site : FrontSite) (book : Ledger) (finished : Finished) (receipt : Receipt) : Type 0 where
@@ -36,7 +38,7 @@ pub record HasReceipt (site : FrontSite) (book : Ledger) (finished : Finished) (
   pub fits : Fits book.terms book.history receipt
 
 -- These are all that came before the book from a place of its history on, in the order of the receipts: each entry is that of
--- one fresh receipt, at its place, or a sweep's; and a receipt that is not fresh stands behind the entry that it repeats.
+-- one fresh receipt, at its place, or a sweep's or a change's; and a receipt that is not fresh stands behind the entry that it repeats.
 abbrev pub AreInOrder : FrontSite → Ledger → ℕ → List BookEvent → Type 0
 AreInOrder site book place [] = place ≡ length book.history
 AreInOrder site book place (takes finished receipt moment ∷ more) =
@@ -46,6 +48,9 @@ AreInOrder site book place (repeats finished receipt moment ∷ more) =
     HasReceipt site book finished receipt × (receipt.fresh ≡ false) × (receipt.place < place) × AreInOrder site book place more
 AreInOrder site book place (sweeps moment ∷ more) =
     (slice_get book.history place ≡ Some (Rattle.cc_book.specs.declared.entry.Entry.TheVariants.Sweep moment)) × AreInOrder site book (place + 1) more
+AreInOrder site book place (changes moment change ∷ more) =
+    (slice_get book.history place ≡ Some (Rattle.cc_book.specs.declared.entry.Entry.TheVariants.ChangeTerms moment change))
+    × AreInOrder site book (place + 1) more
 
 -- ---- what the front does
 
@@ -59,6 +64,7 @@ queue_of [] = []
 queue_of (takes finished receipt moment ∷ more) = waiting finished ∷ queue_of more
 queue_of (repeats finished receipt moment ∷ more) = waiting finished ∷ queue_of more
 queue_of (sweeps moment ∷ more) = queue_of more
+queue_of (changes moment change ∷ more) = queue_of more
 
 -- the steps: each request is picked, charged and answered before the next
 abbrev pub steps_of : NodeNo → ℕ → List BookEvent → List Step
@@ -68,6 +74,8 @@ steps_of node worker (takes finished receipt moment ∷ more) =
 steps_of node worker (repeats finished receipt moment ∷ more) =
     Pick node worker ∷ Charge node worker moment ∷ Emit node worker ∷ steps_of node worker more
 steps_of node worker (sweeps moment ∷ more) = Rattle.farm_base.specs.declared.step.Step.TheVariants.Sweep moment ∷ steps_of node worker more
+steps_of node worker (changes moment change ∷ more) =
+    Rattle.farm_base.specs.declared.step.Step.TheVariants.ChangeTerms moment change ∷ steps_of node worker more
 
 -- the answers, each with the reply of its receipt
 abbrev pub answers_of : FrontSite → List BookEvent → Traffic
@@ -75,6 +83,7 @@ answers_of site [] = []
 answers_of site (takes finished receipt moment ∷ more) = (finished.conn, answer_with site finished.request receipt) ∷ answers_of site more
 answers_of site (repeats finished receipt moment ∷ more) = (finished.conn, answer_with site finished.request receipt) ∷ answers_of site more
 answers_of site (sweeps moment ∷ more) = answers_of site more
+answers_of site (changes moment change ∷ more) = answers_of site more
 
 -- those on connections that the front has
 abbrev pub sent_of : FrontState → List BookEvent → Traffic

@@ -11,6 +11,8 @@ use Rattle.cc_view.specs.declared.refusal.Refusal.{Refusal}
 use Rattle.cc_view.specs.declared.request.CcRequest.{CcRequest}
 use Rattle.cc_view.specs.Answer.{refusal_of}
 use Rattle.cc_view.specs.RequestView.{view_under}
+use Rattle.cc_book.specs.declared.terms_change.TermsChange.{TermsChange}
+use Rattle.cc_book.specs.Changing.{ChangesWith, after_change_with, change_answer}
 use Rattle.cc_book.specs.Taking.{Ledger}
 use Rattle.cc_shared.specs.declared.error.ServeError.{ServeError}
 use Rattle.cc_shared.specs.declared.error.ServeRefusal.TheVariants.{Full}
@@ -28,7 +30,7 @@ use Rattle.front_pool.specs.Charging.{answer_with}
 use Rattle.farm_base.specs.declared.site.Site.{Site}
 use Rattle.farm_base.specs.declared.step.Step.{Step}
 use Rattle.farm_base.specs.declared.step.Step.TheVariants.{Up, Accept, Opened, Send, Deliver, Lose, Cut, Drop}
-use Rattle.farm_base.specs.declared.step.Step.TheVariants.{Restart, Crash, Pick, Charge, Refuse, Emit, Sweep}
+use Rattle.farm_base.specs.declared.step.Step.TheVariants.{Restart, Crash, Pick, Charge, Refuse, Emit, Sweep, ChangeTerms}
 use Rattle.farm_base.specs.Nodes.{is_front, is_node}
 use Rattle.farm_model.specs.declared.state.Direction.{Direction}
 use Rattle.farm_model.specs.FarmStep.{FarmStep, Flight, flight_at}
@@ -109,6 +111,8 @@ pub data Happening : Type 0 where
   goes_unanswered : NodeNo → ℕ → Happening
   -- The book is swept at this moment.
   sweeps : Moment → Happening
+  -- The terms of the book change at this moment.
+  changes_terms : Moment → TermsChange → Happening
   -- The process of this front dies, and another one goes on with its book.
   dies : NodeNo → Happening
 
@@ -131,6 +135,7 @@ IsElsewhere w (Charge front worker moment) = ⊥
 IsElsewhere w (Refuse front worker) = ⊥
 IsElsewhere w (Emit front worker) = ⊥
 IsElsewhere w (Sweep moment) = ⊥
+IsElsewhere w (ChangeTerms moment change) = ⊥
 
 -- A step that applies. Where a connection comes up or ends at a front, that has the connection more, or no more
 -- (`PoolFront::conn_up`, `conn_lost`), and its jobs stay as they are.
@@ -269,7 +274,7 @@ pub record GoesUnanswered (old : ServedFarm) (node : NodeNo) (number : ℕ) (new
   pub done : IsFinished old node number false
   pub is : new ≡ old
 
--- ---- the book is swept, and processes die
+-- ---- the book is swept, its terms change, and processes die
 
 -- `SharedBook::sweep`: `IsSweep` of an open book
 pub record Sweeps (old : ServedFarm) (moment : Moment) (new : ServedFarm) : Type 0 where
@@ -278,6 +283,14 @@ pub record Sweeps (old : ServedFarm) (moment : Moment) (new : ServedFarm) : Type
   pub has_swept : HasSwept shared.opened moment swept
   pub book : old.world.book ≡ book_at shared.opened has_swept.before
   pub is : new ≡ with_book old (book_at shared.opened swept.seen.log)
+
+-- `Book::change_terms`, which has answered the place of the entry. It may come while a process serves, as long as no request is with
+-- the book, and between the death of a process and the start of the next. A change that is refused leaves the book as it was, so
+-- nothing happens.
+pub record ChangesTerms (old : ServedFarm) (moment : Moment) (change : TermsChange) (new : ServedFarm) : Type 0 where
+  pub place : ℕ
+  pub answer : ChangesWith (change_answer old.world.book change) (Ok place)
+  pub is : new ≡ with_book old (after_change_with old.world.book moment change (Ok place))
 
 -- All that the front held is gone: its jobs, and its ends of connections with what was on its way to it. The book stays: what was told
 -- was stored before, and what is opened is what was stored (`Journal`, `book_opening`). A process that dies is each of its fronts,
@@ -300,6 +313,7 @@ Follows site old (finds_busy node number written) new = FindsBusy old node numbe
 Follows site old (hands_out node number) new = HandsOut old node number new
 Follows site old (goes_unanswered node number) new = GoesUnanswered old node number new
 Follows site old (sweeps moment) new = Sweeps old moment new
+Follows site old (changes_terms moment change) new = ChangesTerms old moment change new
 Follows site old (dies node) new = Dies site old node new
 
 -- the thing may happen

@@ -38,8 +38,8 @@ use farm_model::sound_sites_keep_the_promise;
 
 /// Where a front of the farm stands with the book as it was at some place of its history, with an idle worker, and its queue
 /// holds what a pool has finished from that place on, in the order of the receipts, then a run of the farm leads to the book as
-/// the pool has left it: the worker picks, charges and answers each, at the moment of its entry, and the book is swept where its
-/// history was. What the front sends is each receipt's answer, in that order.
+/// the pool has left it: the worker picks, charges and answers each, at the moment of its entry, and the book is swept, and its terms
+/// change, where its history was. What the front sends is each receipt's answer, in that order.
 pub fn pools_run_as_fronts()
     ensures { (site : Site) (node : NodeNo) (worker : ℕ) (front : FrontState) (book : Ledger) (place : ℕ) (events : List BookEvent) (old : WorldState) →
         IsLegal book.terms book.history → length book.history ≤ book.limit → AreInOrder front.site book place events →
@@ -61,8 +61,8 @@ pub fn each_key_has_one_place()
 /// What serves is a run of the farm: from the start of a site's farm, whatever happens to its clients, relays and connections, to the
 /// pools of its fronts, to their book and to their processes, is a row of steps, all of which apply. A message that comes is a
 /// `deliver`, also one that is turned away, at a front whose queue is full; a job that is taken a `pick`, one that the book has a
-/// `charge`, one for which memory, the time or an open book is missing a `refuse`, an answer that is handed out an `emit`; a death is a
-/// `crash` that the book outlives. Behind each, the same is in flight, in the same order, the same was sent and received, and the
+/// `charge`, one for which memory, the time or an open book is missing a `refuse`, an answer that is handed out an `emit`; a change of
+/// the terms is `terms`, and a death a `crash` that the book outlives. Behind each, the same is in flight, in the same order, the same was sent and received, and the
 /// book is the same. Each job has a worker of its own in that farm: there are more than any number of a job.
 pub fn what_serves_runs_as_a_farm()
     ensures { (site : Site) (workers : ℕ) (happenings : List Happening) (served : ServedFarm) → AreBelow workers happenings →

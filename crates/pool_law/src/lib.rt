@@ -2,7 +2,7 @@
 //!
 //! - [`pools_run_as_fronts`]: jobs that workers have finished in parallel, on one book behind a lock, are told by their receipts
 //!   as a run of the farm: each is picked, charged and answered by one worker of one front, in the order of the receipts, with
-//!   the sweeps between them. Of that run all holds that `farm_model` says of runs.
+//!   the sweeps and changes of the terms between them. Of that run all holds that `farm_model` says of runs.
 //! - [`each_key_has_one_place`]: where receipts stand in one history: each fresh one at a place of its own, repeats at that of
 //!   their first.
 //! - [`what_serves_runs_as_a_farm`]: all fronts of a site, over their pools, with all that happens around them and with deaths of their

@@ -20,7 +20,7 @@ use Rattle.farm_base.specs.declared.site.Site.{Site}
 use Rattle.farm_model.specs.declared.state.Direction.{Direction}
 use Rattle.farm_base.specs.declared.step.Step.{Step}
 use Rattle.farm_base.specs.declared.step.Step.TheVariants.{Up, Accept, Opened, Send, Deliver, Lose, Cut, Drop}
-use Rattle.farm_base.specs.declared.step.Step.TheVariants.{Restart, Crash, Pick, Charge, Refuse, Emit, Sweep}
+use Rattle.farm_base.specs.declared.step.Step.TheVariants.{Restart, Crash, Pick, Charge, Refuse, Emit, Sweep, ChangeTerms}
 use Rattle.farm_model.specs.Applying.{has_place, is_idle, has_picked, is_done, is_waiting, front_can, can_apply}
 use Rattle.farm_model.specs.Applying.{AppliesWhereItCan, could_not_apply}
 use Rattle.farm_model.specs.FarmStep.{FarmStep, Outcome, Flight, Delivers, can_cut, flight_of, flight_in, flight_where, flight_at, loss_at, can_connect}
@@ -258,6 +258,7 @@ module _ (site : Site) (old new : WorldState) (applied : Bool) (losses : List Lo
   step_told (Emit node worker) made = outcome_told (after_emit_at old node worker (front_at node old.fronts)) made.0 ∙ emits old node worker
       (front_at node old.fronts)
   step_told (Sweep moment) made = made.0.0
+  step_told (ChangeTerms moment change) made = made.0.0
 
 -- ---- how many are skipped
 

@@ -6,10 +6,10 @@ use Rattle.farm_base.specs.declared.site.Site.{Site}
 use Rattle.farm_model.specs.declared.state.Direction.{Direction}
 use Rattle.farm_base.specs.declared.step.Step.{Step}
 use Rattle.farm_base.specs.declared.step.Step.TheVariants.{Up, Accept, Opened, Send, Deliver, Lose, Cut, Drop}
-use Rattle.farm_base.specs.declared.step.Step.TheVariants.{Restart, Crash, Pick, Charge, Refuse, Emit, Sweep}
+use Rattle.farm_base.specs.declared.step.Step.TheVariants.{Restart, Crash, Pick, Charge, Refuse, Emit, Sweep, ChangeTerms}
 use Rattle.farm_model.specs.FarmStep.{FarmStep, Outcome, Flight, Delivers, DropsIt, can_cut, flight_at, loss_at}
 use Rattle.farm_model.specs.FarmStep.{after_accept, after_opened, after_up, after_send, after_lost_message, after_pick_at}
-use Rattle.farm_model.specs.FarmStep.{after_charge_at, after_refusal_at, after_emit_at, after_sweep_at, can_restart, after_crash_at}
+use Rattle.farm_model.specs.FarmStep.{after_charge_at, after_refusal_at, after_emit_at, after_sweep_at, after_change_at, can_restart, after_crash_at}
 use Rattle.farm_model.specs.Loss.{LossAt, end_with, CutsBoth, after_crash, peers_of, DropAll}
 use Rattle.farm_model.specs.World.{WorldState, front_at}
 
@@ -55,3 +55,4 @@ module _ (site : Site) (old new : WorldState) (applied : Bool) (losses : List Lo
   step_skips (Refuse node worker) made = outcome_skips (after_refusal_at old node worker (front_at node old.fronts)) made.0
   step_skips (Emit node worker) made = outcome_skips (after_emit_at old node worker (front_at node old.fronts)) made.0
   step_skips (Sweep moment) made = outcome_skips (Some (after_sweep_at old moment)) made.0
+  step_skips (ChangeTerms moment change) made = outcome_skips (Some (after_change_at old moment change)) made.0

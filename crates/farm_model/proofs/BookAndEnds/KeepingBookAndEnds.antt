@@ -1,4 +1,4 @@
--- At each step the book changes by charges and sweeps alone, and a connection that is made is told and stands both ways.
+-- At each step the book changes by charges, sweeps and changes of the terms alone, and a connection that is made is told and stands both ways.
 use Rattle.std.proofs.Common.{◌≡◌, ℕ, Bool, true, false, cond, not, List, [], ◌∷◌, ◌++◌, Option}
 use Rattle.std.proofs.Common.{Some, None, inl, inr, refl, sym, subst, ap, ◌∙◌, append-nil, true≢false}
 use Rattle.std.specs.Prelude.{MatchBool, IfSome, unwrap_or, ◌&&◌}
@@ -19,7 +19,7 @@ use Rattle.farm_base.specs.declared.site.Site.{Site}
 use Rattle.farm_model.specs.declared.state.Direction.{Direction}
 use Rattle.farm_base.specs.declared.step.Step.{Step}
 use Rattle.farm_base.specs.declared.step.Step.TheVariants.{Up, Accept, Opened, Send, Deliver, Lose, Cut, Drop}
-use Rattle.farm_base.specs.declared.step.Step.TheVariants.{Restart, Crash, Pick, Charge, Refuse, Emit, Sweep}
+use Rattle.farm_base.specs.declared.step.Step.TheVariants.{Restart, Crash, Pick, Charge, Refuse, Emit, Sweep, ChangeTerms}
 use Rattle.farm_model.specs.Arrival.{after_arrival_at_client, after_arrival_at_front, ArrivesAtServer}
 use Rattle.farm_model.specs.BookAndEnds.{charged_by, book_at, ends_made, next_way, KeepsBookAndEnds}
 use Rattle.farm_model.specs.FarmStep.{FarmStep, Outcome, Flight, flight_at, loss_at, Delivers, after_lost_message, can_connect, with_new_connection}
@@ -253,6 +253,8 @@ module _ (site : Site) (old new : WorldState) (applied : Bool) (losses : List Lo
   step_makes (Emit node worker) made = same_made old new (outcome_same old (after_emit_at old node worker (front_at node old.fronts)) applied new
       (emit_same old node worker (front_at node old.fronts)) made.0)
   step_makes (Sweep moment) made = (ap (λ (w : WorldState). w.book) made.0.1, ap (λ (w : WorldState). w.ends) made.0.1 ∙ sym (append-nil old.ends))
+  step_makes (ChangeTerms moment change) made =
+      (ap (λ (w : WorldState). w.book) made.0.1, ap (λ (w : WorldState). w.ends) made.0.1 ∙ sym (append-nil old.ends))
 
   -- a new connection
   connection_accepted : (a b : NodeNo) → (c : Bool) → c ≡ true → Outcome (cond c (Some (with_new_connection old a b)) None) applied old new → Has

@@ -13,14 +13,14 @@ use Rattle.farm_model.specs.SoundSite.{IsSound}
 use Rattle.farm_model.specs.declared.state.Direction.{Direction}
 use Rattle.farm_base.specs.declared.step.Step.{Step}
 use Rattle.farm_base.specs.declared.step.Step.TheVariants.{Up, Accept, Opened, Send, Deliver, Lose, Cut, Drop}
-use Rattle.farm_base.specs.declared.step.Step.TheVariants.{Restart, Crash, Pick, Charge, Refuse, Emit, Sweep}
+use Rattle.farm_base.specs.declared.step.Step.TheVariants.{Restart, Crash, Pick, Charge, Refuse, Emit, Sweep, ChangeTerms}
 use Rattle.farm_base.specs.Lists.{replace_first}
 use Rattle.farm_model.specs.Arrival.{after_arrival_at_client, ArrivesAtServer}
 use Rattle.farm_model.specs.BookAndEnds.{next_way, StandsAfter, stood, first_made, second_made, first_accepted, second_accepted}
 use Rattle.farm_model.specs.FarmStep.{FarmStep, Outcome, Flight, flight_at, loss_at, Delivers, after_lost_message, can_connect, with_new_connection}
 use Rattle.farm_model.specs.FarmStep.{next_conn, after_accept, after_opened_on}
 use Rattle.farm_model.specs.FarmStep.{opened_if, after_up, can_cut, Cuts}
-use Rattle.farm_model.specs.FarmStep.{after_send, after_send_on, after_pick_at, after_refusal_at, after_emit_at, after_charge_at, after_sweep_at, can_restart}
+use Rattle.farm_model.specs.FarmStep.{after_send, after_send_on, after_pick_at, after_refusal_at, after_emit_at, after_charge_at, after_sweep_at, after_change_at, can_restart}
 use Rattle.farm_model.specs.InFlight.{goes}
 use Rattle.farm_model.specs.Loss.{LossAt, LearnLosses, EndGoes, end_with, CutsBoth, after_end}
 use Rattle.farm_model.specs.Loss.{after_losing_all, after_crash, peers_of, DropAll, all_dropped, drops_too}
@@ -299,5 +299,7 @@ step_stands {site} t checked apart made direction h = go t.step refl made
     go (Emit node worker) is m = none_new (quiet site old t.after t.applied t.losses apart
         (outcome_goes_on always old (after_emit_at old node worker (front_at node old.fronts)) t.applied t.after
         (emit_goes_on always old node (λ side e. refl) worker (front_at node old.fronts)) m.0))
+    go (ChangeTerms moment change) is m = let changed = same_goes_on always (after_change_at old moment change) t.after m.0.1 in none_new
+        (same_sides old.directions t.after.directions changed.directions.same)
     go (Sweep moment) is m = let swept = same_goes_on always (after_sweep_at old moment) t.after m.0.1 in none_new
         (same_sides old.directions t.after.directions swept.directions.same)

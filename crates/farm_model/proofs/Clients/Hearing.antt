@@ -1,4 +1,5 @@
--- What clients have sent and received stands on connections of one client, and the book is the site's, with sweeps of steps of the run.
+-- What clients have sent and received stands on connections of one client, and the book is the site's, with sweeps and changes of steps of
+-- the run.
 use Rattle.std.proofs.Common.{◌≡◌, ℕ, zero, suc, Bool, true, false, cond, List, [], ◌∷◌, ◌++◌, Option, Some, None, Result, Ok, Err, ◌⊎◌, inl, inr}
 use Rattle.std.proofs.Common.{refl, sym, subst, ap, ◌∙◌}
 use Rattle.std.specs.Prelude.{MatchBool, slice_get, unwrap_or}
@@ -13,7 +14,10 @@ use Rattle.dia_message.specs.Traffic.{Traffic}
 use Rattle.cc_view.specs.declared.request.CcRequest.{CcRequest}
 use Rattle.cc_book.specs.declared.book.BookRefusal.{BookRefusal}
 use Rattle.cc_book.specs.declared.entry.Entry.{Entry}
-use Rattle.cc_book.specs.declared.entry.Entry.TheVariants.{Take, Sweep}
+use Rattle.cc_book.specs.declared.entry.Entry.TheVariants.{Take, Sweep, ChangeTerms}
+use Rattle.cc_book.specs.declared.terms_change.ChangeRefusal.{ChangeRefusal}
+use Rattle.cc_book.specs.declared.terms_change.TermsChange.{TermsChange}
+use Rattle.cc_book.specs.Changing.{after_change_with, change_answer}
 use Rattle.cc_book.specs.Taking.{Ledger, answer_of, is_fresh, with_take, sweep_answer, after_sweep_with}
 use Rattle.front_core.specs.declared.preparing.Prepared.{Prepared}
 use Rattle.front_core.specs.declared.preparing.Prepared.TheVariants.{Refused, Ask}
@@ -30,13 +34,13 @@ use Rattle.farm_law.proofs.Lists.{all-end}
 use Rattle.farm_base.specs.declared.site.Site.{Site}
 use Rattle.farm_model.specs.declared.state.Direction.{Direction}
 use Rattle.farm_base.specs.declared.step.Step.{Step}
-use Rattle.farm_base.specs.declared.step.Step.TheVariants.{Charge as ChargeStep, Sweep as SweepStep}
+use Rattle.farm_base.specs.declared.step.Step.TheVariants.{Charge as ChargeStep, Sweep as SweepStep, ChangeTerms as ChangeStep}
 use Rattle.farm_model.specs.Arrival.{AtRelay}
 use Rattle.farm_model.specs.SoundSite.{IsSound}
 use Rattle.farm_model.specs.FarmStep.{Outcome, Flight, after_lost_message, after_up, with_new_connection, can_connect, after_send, after_send_on}
 use Rattle.farm_model.specs.FarmStep.{after_accept, after_opened_on, after_opened, opened_if, can_restart, after_crash_at}
 use Rattle.farm_model.specs.FarmStep.{with_pick, after_pick_at, after_refusal_at, with_emit, after_emit_at, with_charge, after_charge_at}
-use Rattle.farm_model.specs.FarmStep.{after_sweep_at}
+use Rattle.farm_model.specs.FarmStep.{after_sweep_at, after_change_at}
 use Rattle.farm_model.specs.Loss.{Loss, LearnsLoss, LossAt, LearnLosses, all_know, learns, after_end as without_its_end, EndGoes, end_with, after_losing_all}
 use Rattle.farm_model.specs.Loss.{CutsBoth, after_crash, DropAll, all_dropped, drops_too}
 use Rattle.farm_base.specs.Nodes.{is_client}
@@ -60,6 +64,7 @@ pub record Heard (site : Site) (all : Ends) (steps : List Step) (sent received :
   pub terms : book.terms ≡ (empty_book site).terms
   pub limit : book.limit ≡ site.limit
   pub sweeps : (moment : Moment) → Has (Sweep moment) book.history → Has (SweepStep moment) steps
+  pub changes : (moment : Moment) (change : TermsChange) → Has (ChangeTerms moment change) book.history → Has (ChangeStep moment change) steps
   pub takes : (moment : Moment) (request : CcRequest) → Has (Take moment request) book.history → IsChargedIn steps moment
 
 abbrev pub HeardIn : Site → Ends → List Step → WorldState → Type 0
@@ -75,11 +80,15 @@ heard_on w on h = record {
   limit = h.limit;
   sweeps = λ moment among. on (SweepStep moment)
       (h.sweeps moment among);
+  changes = λ moment change among. on (ChangeStep moment change) (h.changes moment change among);
   takes = λ moment request among. let c = h.takes moment request among in (c.0, c.1, on (ChargeStep c.0 c.1 moment) c.2);
 }
 
 same_moment : (one other : Moment) → Sweep one ≡ Sweep other → one ≡ other
 same_moment one other e = cc
+
+same_change : (one other : Moment) (x y : TermsChange) → ChangeTerms one x ≡ ChangeTerms other y → ChangeStep other y ≡ ChangeStep one x
+same_change one other x y e = cc
 
 taken_moment : (one other : Moment) (x y : CcRequest) → Take one x ≡ Take other y → one ≡ other
 taken_moment one other x y e = cc
@@ -170,6 +179,7 @@ module _ (site : Site) (all : Ends) (steps : List Step) (checked : IsSound site)
     terms = heard.terms;
     limit = heard.limit;
     sweeps = heard.sweeps;
+    changes = heard.changes;
     takes = heard.takes;
   })
 
@@ -230,6 +240,7 @@ module _ (site : Site) (all : Ends) (steps : List Step) (checked : IsSound site)
             terms = heard.terms;
             limit = heard.limit;
             sweeps = heard.sweeps;
+            changes = heard.changes;
             takes = heard.takes;
           })
 
@@ -241,12 +252,12 @@ module _ (site : Site) (all : Ends) (steps : List Step) (checked : IsSound site)
   pub lose_heard : (flight : Option Flight) → Outcome (after_lost_message old flight) applied old new → HeardIn site all steps new
   lose_heard None out = same_state new out.1
   lose_heard (Some flight) out = subst (HeardIn site all steps) (sym out.1)
-      (record { senders = heard.senders; receivers = heard.receivers; terms = heard.terms; limit = heard.limit; sweeps = heard.sweeps; takes = heard.takes })
+      (record { senders = heard.senders; receivers = heard.receivers; terms = heard.terms; limit = heard.limit; sweeps = heard.sweeps; changes = heard.changes; takes = heard.takes })
 
   pick_heard : (node : NodeNo) (front : Option FrontState) → Outcome (with_pick old node front) applied old new → HeardIn site all steps new
   pick_heard node None out = same_state new out.1
   pick_heard node (Some front) out = subst (HeardIn site all steps) (sym out.1)
-      (record { senders = heard.senders; receivers = heard.receivers; terms = heard.terms; limit = heard.limit; sweeps = heard.sweeps; takes = heard.takes })
+      (record { senders = heard.senders; receivers = heard.receivers; terms = heard.terms; limit = heard.limit; sweeps = heard.sweeps; changes = heard.changes; takes = heard.takes })
 
   pub pick_at_heard : (node : NodeNo) (worker : ℕ) (front : Option FrontState) → Outcome (after_pick_at old node worker front) applied old new → HeardIn site
       all steps new
@@ -261,16 +272,17 @@ module _ (site : Site) (all : Ends) (steps : List Step) (checked : IsSound site)
   emit_heard : (node : NodeNo) (turn : Option (FrontState × Traffic)) → Outcome (with_emit old node turn) applied old new → HeardIn site all steps new
   emit_heard node None out = same_state new out.1
   emit_heard node (Some turn) out = subst (HeardIn site all steps) (sym out.1)
-      (record { senders = heard.senders; receivers = heard.receivers; terms = heard.terms; limit = heard.limit; sweeps = heard.sweeps; takes = heard.takes })
+      (record { senders = heard.senders; receivers = heard.receivers; terms = heard.terms; limit = heard.limit; sweeps = heard.sweeps; changes = heard.changes; takes = heard.takes })
 
   pub emit_at_heard : (node : NodeNo) (worker : ℕ) (front : Option FrontState) → Outcome (after_emit_at old node worker front) applied old new → HeardIn site
       all steps new
   emit_at_heard node worker None out = same_state new out.1
   emit_at_heard node worker (Some front) out = emit_heard node (after_emit front worker) out
 
-  -- the book keeps its terms and its limit, and gets no sweep
+  -- the book keeps its terms and its limit, and gets no sweep and no change of the terms
   abbrev SameButTakes : Ledger → Ledger → Type 0
   SameButTakes book next = (next.terms ≡ book.terms) × (next.limit ≡ book.limit) × ((at : Moment) → Has (Sweep at) next.history → Has (Sweep at) book.history)
+      × ((at : Moment) (change : TermsChange) → Has (ChangeTerms at change) next.history → Has (ChangeTerms at change) book.history)
 
   no_sweep : (history : List Entry) (moment at : Moment) (request : CcRequest) → Has (Sweep at) (history ++ Take moment request ∷ []) → Has (Sweep at) history
   no_sweep history moment at request among = elim (Has-parts history among) [
@@ -278,13 +290,20 @@ module _ (site : Site) (all : Ends) (steps : List Step) (checked : IsSound site)
     | inr new ↦ absurd (elim (Has-cons new) [ inl is ↦ (let clash : Sweep at ≡ Take moment request = is in cc) | inr none ↦ elim none [ ] ])
   ]
 
+  no_change : (history : List Entry) (moment at : Moment) (change : TermsChange) (request : CcRequest) →
+      Has (ChangeTerms at change) (history ++ Take moment request ∷ []) → Has (ChangeTerms at change) history
+  no_change history moment at change request among = elim (Has-parts history among) [
+    | inl old ↦ old
+    | inr new ↦ absurd (elim (Has-cons new) [ inl is ↦ (let clash : ChangeTerms at change ≡ Take moment request = is in cc) | inr none ↦ elim none [ ] ])
+  ]
+
   same_book : (book : Ledger) (moment : Moment) (prepared : Prepared) → SameButTakes book (book_after book moment prepared)
-  same_book book moment (Refused refusal) = (refl, refl, λ at among. among)
+  same_book book moment (Refused refusal) = (refl, refl, λ at among. among, λ at change among. among)
   same_book book moment (Ask request) = go (is_fresh (answer_of book request))
     where
       go : (b : Bool) → SameButTakes book (cond b (with_take book moment request) book)
-      go true = (refl, refl, λ at among. no_sweep book.history moment at request among)
-      go false = (refl, refl, λ at among. among)
+      go true = (refl, refl, λ at among. no_sweep book.history moment at request among, λ at change among. no_change book.history moment at change request among)
+      go false = (refl, refl, λ at among. among, λ at change among. among)
 
   -- what it takes more is taken at the moment
   new_take : (history : List Entry) (moment at : Moment) (request other : CcRequest) → Has (Take at other) (history ++ Take moment request ∷ []) → Has
@@ -317,6 +336,7 @@ module _ (site : Site) (all : Ends) (steps : List Step) (checked : IsSound site)
         limit = same.1 ∙
             heard.limit;
         sweeps = λ at among. heard.sweeps at (same.2 at among);
+        changes = λ at change among. heard.changes at change (same.3 at change among);
         takes = λ at other among. elim
             (takes_of old.book moment (preparation_at front.site message) at other among)
             [ inl before ↦ heard.takes at other before | inr is ↦ subst (IsChargedIn steps) (sym is) is_step ];
@@ -344,6 +364,10 @@ module _ (site : Site) (all : Ends) (steps : List Step) (checked : IsSound site)
         | inr none ↦ elim none [ ]
       ]
     ];
+    changes = λ at change among. elim (Has-parts old.book.history among) [
+      | inl before ↦ heard.changes at change before
+      | inr new ↦ absurd (elim (Has-cons new) [ inl is ↦ (let clash : ChangeTerms at change ≡ Sweep moment = is in cc) | inr none ↦ elim none [ ] ])
+    ];
     takes = λ at other among. elim (Has-parts old.book.history among) [
       | inl before ↦ heard.takes at other before
       | inr new ↦ absurd (elim (Has-cons new) [ inl is ↦ (let clash : Take at other ≡ Sweep moment = is in cc) | inr none ↦ elim none [ ] ])
@@ -352,3 +376,33 @@ module _ (site : Site) (all : Ends) (steps : List Step) (checked : IsSound site)
 
   pub sweep_heard : (moment : Moment) → Has (SweepStep moment) steps → Outcome (Some (after_sweep_at old moment)) applied old new → HeardIn site all steps new
   sweep_heard moment is_step out = subst (HeardIn site all steps) (sym out.1) (swept_heard moment is_step (sweep_answer old.book moment))
+
+  -- a change of the terms is one of the run
+  changed_heard : (moment : Moment) (change : TermsChange) → Has (ChangeStep moment change) steps → (answer : Result ℕ ChangeRefusal) →
+      Heard site all steps old.sent old.received (after_change_with old.book moment change answer)
+  changed_heard moment change is_step (Err refusal) = heard
+  changed_heard moment change is_step (Ok place) = record {
+    senders = heard.senders;
+    receivers = heard.receivers;
+    terms = heard.terms;
+    limit = heard.limit;
+    sweeps = λ at among. elim (Has-parts old.book.history among) [
+      | inl before ↦ heard.sweeps at before
+      | inr new ↦ absurd (elim (Has-cons new) [ inl is ↦ (let clash : Sweep at ≡ ChangeTerms moment change = is in cc) | inr none ↦ elim none [ ] ])
+    ];
+    changes = λ at other among. elim (Has-parts old.book.history among) [
+      | inl before ↦ heard.changes at other before
+      | inr new ↦ elim (Has-cons new) [
+        | inl is ↦ subst (λ (s : Step). Has s steps) (same_change at moment other change is) is_step
+        | inr none ↦ elim none [ ]
+      ]
+    ];
+    takes = λ at other among. elim (Has-parts old.book.history among) [
+      | inl before ↦ heard.takes at other before
+      | inr new ↦ absurd (elim (Has-cons new) [ inl is ↦ (let clash : Take at other ≡ ChangeTerms moment change = is in cc) | inr none ↦ elim none [ ] ])
+    ];
+  }
+
+  pub change_heard : (moment : Moment) (change : TermsChange) → Has (ChangeStep moment change) steps →
+      Outcome (Some (after_change_at old moment change)) applied old new → HeardIn site all steps new
+  change_heard moment change is_step out = subst (HeardIn site all steps) (sym out.1) (changed_heard moment change is_step (change_answer old.book change))

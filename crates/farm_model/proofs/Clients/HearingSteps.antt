@@ -15,7 +15,7 @@ use Rattle.farm_base.specs.declared.site.Site.{Site}
 use Rattle.farm_model.specs.declared.state.Direction.{Direction}
 use Rattle.farm_base.specs.declared.step.Step.{Step}
 use Rattle.farm_base.specs.declared.step.Step.TheVariants.{Up, Accept, Opened, Send, Deliver, Lose, Cut, Drop}
-use Rattle.farm_base.specs.declared.step.Step.TheVariants.{Restart, Crash, Pick, Charge, Refuse, Emit, Sweep}
+use Rattle.farm_base.specs.declared.step.Step.TheVariants.{Restart, Crash, Pick, Charge, Refuse, Emit, Sweep, ChangeTerms}
 use Rattle.farm_model.specs.Arrival.{ArrivesAtServer, after_arrival_at_front}
 use Rattle.farm_model.specs.SoundSite.{IsSound}
 use Rattle.farm_model.specs.FarmStep.{FarmStep, Outcome, Flight, flight_at, Delivers, after_lost_message, after_up, with_new_connection, can_connect}
@@ -29,7 +29,7 @@ use Rattle.farm_model.specs.Run.{TellsSame}
 use Rattle.farm_model.specs.World.{Ends, WorldState, is_unheard, conn_known, front_at, relay_at}
 use Rattle.farm_model.proofs.Clients.Hearing.{HeardIn, tells_heard, at_relay_tells, end_tells, cut_tells, all_drop_tell, up_heard}
 use Rattle.farm_model.proofs.Clients.Hearing.{accept_heard, opened_heard, crash_heard, send_heard, lose_heard, pick_at_heard}
-use Rattle.farm_model.proofs.Clients.Hearing.{refusal_at_heard, emit_at_heard, charge_at_heard, sweep_heard}
+use Rattle.farm_model.proofs.Clients.Hearing.{refusal_at_heard, emit_at_heard, charge_at_heard, sweep_heard, change_heard}
 use Rattle.farm_model.proofs.Wiring.Joined.{Joins-turned, one_client}
 use Rattle.farm_model.proofs.Wiring.Linked.{client_beside}
 use Rattle.farm_model.proofs.Wiring.Taken.{taken}
@@ -61,6 +61,7 @@ module _ (site : Site) (all : Ends) (steps : List Step) (checked : IsSound site)
     terms = heard.terms;
     limit = heard.limit;
     sweeps = heard.sweeps;
+    changes = heard.changes;
     takes = heard.takes;
   })
 
@@ -71,7 +72,7 @@ module _ (site : Site) (all : Ends) (steps : List Step) (checked : IsSound site)
       let t = taken site all old from to place wired flight e in
       arrives_heard (record old { directions = flight.directions }) from to flight.conn flight.message new (is_client site to) refl
       (λ is. one_client (Joins-turned t.joins) is (client_beside site checked from to t.linked is))
-      (record { senders = heard.senders; receivers = heard.receivers; terms = heard.terms; limit = heard.limit; sweeps = heard.sweeps; takes = heard.takes })
+      (record { senders = heard.senders; receivers = heard.receivers; terms = heard.terms; limit = heard.limit; sweeps = heard.sweeps; changes = heard.changes; takes = heard.takes })
       d.1
 
   -- ---- connections end
@@ -89,7 +90,7 @@ module _ (site : Site) (all : Ends) (steps : List Step) (checked : IsSound site)
       → MatchBool b ((applied ≡ true) × DropAll node (peers_of node old.directions) (after_crash old node) losses new)
       ((applied ≡ false) × (losses ≡ []) × (new ≡ old)) → HeardIn site all steps new
   restart_heard old new node applied losses true heard c = tells_heard (after_crash old node) new (all_drop_tell c.1)
-      (record { senders = heard.senders; receivers = heard.receivers; terms = heard.terms; limit = heard.limit; sweeps = heard.sweeps; takes = heard.takes })
+      (record { senders = heard.senders; receivers = heard.receivers; terms = heard.terms; limit = heard.limit; sweeps = heard.sweeps; changes = heard.changes; takes = heard.takes })
   restart_heard old new node applied losses false heard c = subst (HeardIn site all steps) (sym c.2) heard
 
   -- ---- any step
@@ -118,6 +119,8 @@ module _ (site : Site) (all : Ends) (steps : List Step) (checked : IsSound site)
   step_heard old new (Emit front worker) applied losses s is_step wired heard = emit_at_heard site all steps checked old new applied wired heard front worker
       (front_at front old.fronts) s.0
   step_heard old new (Sweep moment) applied losses s is_step wired heard = sweep_heard site all steps checked old new applied wired heard moment is_step s.0
+  step_heard old new (ChangeTerms moment change) applied losses s is_step wired heard =
+      change_heard site all steps checked old new applied wired heard moment change is_step s.0
 
 -- ---- connections that were made stay
 
@@ -273,3 +276,4 @@ step_ends site checked old new (Charge front worker moment) applied losses s = c
 step_ends site checked old new (Refuse front worker) applied losses s = refusal_at_ends site old new applied front worker (front_at front old.fronts) s.0
 step_ends site checked old new (Emit front worker) applied losses s = emit_at_ends site old new applied front worker (front_at front old.fronts) s.0
 step_ends site checked old new (Sweep moment) applied losses s = same_ends old.ends new.ends (ap (λ (w : WorldState). w.ends) s.0.1)
+step_ends site checked old new (ChangeTerms moment change) applied losses s = same_ends old.ends new.ends (ap (λ (w : WorldState). w.ends) s.0.1)

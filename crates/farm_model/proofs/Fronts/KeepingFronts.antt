@@ -21,7 +21,7 @@ use Rattle.farm_base.specs.declared.site.Site.{Site}
 use Rattle.farm_model.specs.declared.state.Direction.{Direction}
 use Rattle.farm_base.specs.declared.step.Step.{Step}
 use Rattle.farm_base.specs.declared.step.Step.TheVariants.{Up, Accept, Opened, Send, Deliver, Lose, Cut, Drop}
-use Rattle.farm_base.specs.declared.step.Step.TheVariants.{Restart, Crash, Pick, Charge, Refuse, Emit, Sweep}
+use Rattle.farm_base.specs.declared.step.Step.TheVariants.{Restart, Crash, Pick, Charge, Refuse, Emit, Sweep, ChangeTerms}
 use Rattle.farm_model.specs.FarmStep.{FarmStep, Outcome, Flight, flight_at, loss_at, Delivers, after_lost_message, can_connect, next_conn, with_connection_at}
 use Rattle.farm_model.specs.FarmStep.{with_new_connection, after_accept, after_opened_on, opened_if}
 use Rattle.farm_model.specs.FarmStep.{after_up, after_send, after_send_on, with_pick, after_pick_at}
@@ -460,6 +460,10 @@ module _ (site : Site) (ends : Ends) (checked : IsSound site) (old new : WorldSt
       (worker_turns node (refuses worker) (refusal_changes node worker (front_at node old.fronts) refl made.0))
   front_steps (Emit node worker) made = stepped (Emit node worker) old refl (λ direction h stands. h)
       (worker_turns node (emits worker) (emit_changes node worker (front_at node old.fronts) refl made.0))
+  front_steps (ChangeTerms moment change) made =
+      stepped (ChangeTerms moment change) old refl (λ direction h stands. h)
+      (same_front k book old new (ap (λ (w : WorldState). front_at k w.fronts) made.0.1)
+      (all_untouched k old.directions new.directions (ap (λ (w : WorldState). w.directions) made.0.1)))
   front_steps (Sweep moment) made =
       stepped (Sweep moment) old refl (λ direction h stands. h)
       (same_front k book old new (ap (λ (w : WorldState). front_at k w.fronts) made.0.1)

@@ -27,7 +27,7 @@ use Rattle.farm_base.specs.declared.site.Site.{Site}
 use Rattle.farm_model.specs.declared.state.Direction.{Direction}
 use Rattle.farm_base.specs.declared.step.Step.{Step}
 use Rattle.farm_base.specs.declared.step.Step.TheVariants.{Up, Accept, Opened, Send, Deliver, Lose, Cut, Drop}
-use Rattle.farm_base.specs.declared.step.Step.TheVariants.{Restart, Crash, Pick, Charge, Refuse, Emit, Sweep}
+use Rattle.farm_base.specs.declared.step.Step.TheVariants.{Restart, Crash, Pick, Charge, Refuse, Emit, Sweep, ChangeTerms}
 use Rattle.farm_model.specs.FarmStep.{FarmStep, Outcome, Flight, flight_where, flight_at, loss_at, Delivers, after_lost_message, can_connect, next_conn}
 use Rattle.farm_model.specs.FarmStep.{with_link_at, with_new_connection, after_accept, after_opened_on}
 use Rattle.farm_model.specs.FarmStep.{opened_if, after_up, after_send, after_send_on, with_pick}
@@ -492,6 +492,10 @@ module _ (site : Site) (ends : Ends) (checked : IsSound site) (old new : WorldSt
       step_turned site (Emit node worker) k old old new refl (λ direction h stands. h)
       (quiet_turns (after_emit_at old node worker (front_at node old.fronts))
       (emit_passes site old kinds k relay_is node worker (front_at node old.fronts) refl) made.0)
+  step_turns (ChangeTerms moment change) made =
+      step_turned site (ChangeTerms moment change) k old old new refl (λ direction h stands. h)
+      (same_relay k old new (ap (λ (w : WorldState). relay_at k w.relays) made.0.1)
+      (all_untouched k old.directions new.directions (ap (λ (w : WorldState). w.directions) made.0.1)))
   step_turns (Sweep moment) made =
       step_turned site (Sweep moment) k old old new refl (λ direction h stands. h)
       (same_relay k old new (ap (λ (w : WorldState). relay_at k w.relays) made.0.1)

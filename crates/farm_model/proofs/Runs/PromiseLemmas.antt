@@ -142,7 +142,7 @@ module _ (site : Site) (all : Ends) (past : Past) (w : WorldState) (h : RunHolds
       go (Take moment request) there_is t = let c = h.heard.takes moment request there_is in
           (t.0, t.1, (Contains-has t.2, t.3), t.4, (c.0, c.1, Contains-has c.2))
       go (Sweep moment) there_is t = Contains-has (h.heard.sweeps moment there_is)
-      go (ChangeTerms moment change) there_is t = t
+      go (ChangeTerms moment change) there_is t = Contains-has (h.heard.changes moment change there_is)
 
   -- the entry with the key of a request is this very request, or another content
   by_entry : (request : CcRequest) (reply : CcReply) (t : RepliesToEntry w.book.terms w.book.history request reply) (same : Bool)

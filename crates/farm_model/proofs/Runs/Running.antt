@@ -17,7 +17,7 @@ use Rattle.farm_base.specs.declared.site.Site.{Site}
 use Rattle.farm_model.specs.declared.state.Trace.{Trace}
 use Rattle.farm_base.specs.declared.step.Step.{Step}
 use Rattle.farm_base.specs.declared.step.Step.TheVariants.{Up, Accept, Opened, Send, Deliver, Lose, Cut, Drop}
-use Rattle.farm_base.specs.declared.step.Step.TheVariants.{Restart, Crash, Pick, Charge, Refuse, Emit, Sweep}
+use Rattle.farm_base.specs.declared.step.Step.TheVariants.{Restart, Crash, Pick, Charge, Refuse, Emit, Sweep, ChangeTerms}
 use Rattle.farm_model.specs.Arrival.{AtRelay}
 use Rattle.farm_model.specs.Applying.{AppliesWhereItCan}
 use Rattle.farm_model.specs.BookAndEnds.{KeepsBookAndEnds}
@@ -75,6 +75,7 @@ use Rattle.farm_model.proofs.Runs.SmallSteps.{goes_in_small_steps}
 use Rattle.farm_model.proofs.Applied.Skipping.{step_skips}
 use Rattle.farm_model.proofs.Runs.Starting.{start_wired, start_heard, start_moves}
 use Rattle.farm_model.proofs.Moves.StepGoes.{Goes, Reason}
+use Rattle.farm_model.proofs.Moves.Changing.{change_goes}
 use Rattle.farm_model.proofs.Moves.Sweeping.{sweep_goes}
 use Rattle.farm_model.proofs.Wiring.Wired.{IsWired}
 
@@ -145,6 +146,8 @@ module _ (premises : Premises) (site : Site) (all : Ends) (checked : IsSound sit
       (emit_goes site all t refused front worker is s.0 wired requests)
   step_shows t refused (Sweep moment) is s kept wired apart requests more = shown site all t wired s.1 refused
       (sweep_goes site all t refused moment s.0 wired requests)
+  step_shows t refused (ChangeTerms moment change) is s kept wired apart requests more = shown site all t wired s.1 refused
+      (change_goes site all t refused moment change s.0 wired requests)
 
   -- ---- what comes back is a loop
 

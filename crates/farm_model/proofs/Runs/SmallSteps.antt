@@ -14,7 +14,7 @@ use Rattle.farm_base.specs.Nodes.{is_node}
 use Rattle.farm_base.specs.declared.site.Site.{Site}
 use Rattle.farm_base.specs.declared.step.Step.{Step}
 use Rattle.farm_base.specs.declared.step.Step.TheVariants.{Up, Accept, Opened, Send, Deliver, Lose, Cut, Drop}
-use Rattle.farm_base.specs.declared.step.Step.TheVariants.{Restart, Crash, Pick, Charge, Refuse, Emit, Sweep}
+use Rattle.farm_base.specs.declared.step.Step.TheVariants.{Restart, Crash, Pick, Charge, Refuse, Emit, Sweep, ChangeTerms}
 use Rattle.farm_model.specs.declared.state.Direction.{Direction}
 use Rattle.farm_model.specs.FarmStep.{FarmStep, Outcome, Flight, flight_in, flight_of, loss_at, after_lost_message, after_accept}
 use Rattle.farm_model.specs.FarmStep.{after_opened, opened_if, can_cut, can_restart, after_crash_at}
@@ -380,3 +380,4 @@ goes_in_small_steps site ends t wired apart made applied = go t.step refl made
     go (Refuse front worker) is made = in_row (Refuse front worker) is (alone (Refuse front worker) made)
     go (Emit front worker) is made = in_row (Emit front worker) is (alone (Emit front worker) made)
     go (Sweep moment) is made = in_row (Sweep moment) is (alone (Sweep moment) made)
+    go (ChangeTerms moment change) is made = in_row (ChangeTerms moment change) is (alone (ChangeTerms moment change) made)

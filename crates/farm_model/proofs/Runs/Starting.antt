@@ -195,6 +195,7 @@ start_heard site all = record {
   terms = refl;
   limit = refl;
   sweeps = λ moment h. elim h [ ];
+  changes = λ moment change h. elim h [ ];
   takes = λ moment request h. elim h [ ];
 }
 

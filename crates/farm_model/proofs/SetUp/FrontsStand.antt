@@ -14,7 +14,7 @@ use Rattle.dia_base.specs.declared.number.NodeNo.{NodeNo}
 use Rattle.dia_message.specs.declared.message.Message.{Message as DiaMessage}
 use Rattle.cc_book.specs.Taking.{Ledger}
 use Rattle.front_core.specs.declared.event.FrontEvent.{FrontEvent}
-use Rattle.front_core.specs.declared.event.FrontEvent.TheVariants.{Up, Message, Pick, Charge, Refuse, Emit, Sweep, Lost, Restart}
+use Rattle.front_core.specs.declared.event.FrontEvent.TheVariants.{Up, Message, Pick, Charge, Refuse, Emit, Sweep, ChangeTerms, Lost, Restart}
 use Rattle.front_core.specs.declared.worker.Job.{Job}
 use Rattle.front_core.specs.declared.worker.Worker.{Worker}
 use Rattle.front_core.specs.declared.worker.Worker.TheVariants.{Idle, Picked, Done}
@@ -95,6 +95,7 @@ module _ (front : FrontState) (book : Ledger) where
   as_many (Refuse worker) = refused worker (slice_get front.workers worker)
   as_many (Emit worker) = emitted worker (slice_get front.workers worker)
   as_many (Sweep moment) = refl
+  as_many (ChangeTerms moment change) = refl
   as_many (Lost conn) = refl
   as_many Restart = length-replicate (length front.workers) Idle
 

@@ -4,9 +4,9 @@ use Rattle.std.specs.List.{find}
 use Rattle.farm_base.specs.declared.site.Site.{Site}
 use Rattle.farm_base.specs.declared.step.Step.{Step}
 use Rattle.farm_base.specs.declared.step.Step.TheVariants.{Up, Accept, Opened, Send, Deliver, Lose, Cut, Drop}
-use Rattle.farm_base.specs.declared.step.Step.TheVariants.{Restart, Crash, Pick, Charge, Refuse, Emit, Sweep}
+use Rattle.farm_base.specs.declared.step.Step.TheVariants.{Restart, Crash, Pick, Charge, Refuse, Emit, Sweep, ChangeTerms}
 use Rattle.farm_model.specs.SoundSite.{IsSound}
-use Rattle.farm_model.specs.FarmStep.{FarmStep, flight_at, loss_at, after_pick_at, after_charge_at, after_refusal_at, after_emit_at, after_sweep_at}
+use Rattle.farm_model.specs.FarmStep.{FarmStep, flight_at, loss_at, after_pick_at, after_charge_at, after_refusal_at, after_emit_at, after_sweep_at, after_change_at}
 use Rattle.farm_model.specs.InFlight.{KeepsTraffic}
 use Rattle.farm_model.specs.Loss.{LossAt}
 use Rattle.farm_base.specs.Nodes.{is_node}
@@ -60,6 +60,10 @@ step_carries checked old new (Sweep moment) applied losses wired made apart =
     let swept = same_goes_on none_grow (after_sweep_at old moment) new made.0.1 in
     quiet_carries none_grow (record { leaves = λ _. refl; may_grow = λ _. refl; knows = λ _. refl; ends = λ _ _. refl; receives = λ _. refl })
     apart refl (record { directions = swept.directions; sent = swept.sent; received = swept.received })
+step_carries checked old new (ChangeTerms moment change) applied losses wired made apart =
+    let changed = same_goes_on none_grow (after_change_at old moment change) new made.0.1 in
+    quiet_carries none_grow (record { leaves = λ _. refl; may_grow = λ _. refl; knows = λ _. refl; ends = λ _ _. refl; receives = λ _. refl })
+    apart refl (record { directions = changed.directions; sent = changed.sent; received = changed.received })
 
 -- what is promised of the step, and what the next one stands on
 pub step_keeps_traffic : {site : Site} {ends : Ends} → IsSound site → (t : Transition) → IsWired site ends t.before → FarmStep site t.before t.step t.applied

@@ -17,12 +17,12 @@ use Rattle.farm_base.specs.declared.site.Site.{Site}
 use Rattle.farm_model.specs.declared.state.Direction.{Direction}
 use Rattle.farm_base.specs.declared.step.Step.{Step}
 use Rattle.farm_base.specs.declared.step.Step.TheVariants.{Up, Accept, Opened, Send, Deliver, Lose, Cut, Drop}
-use Rattle.farm_base.specs.declared.step.Step.TheVariants.{Restart, Crash, Pick, Charge, Refuse, Emit, Sweep}
+use Rattle.farm_base.specs.declared.step.Step.TheVariants.{Restart, Crash, Pick, Charge, Refuse, Emit, Sweep, ChangeTerms}
 use Rattle.farm_model.specs.Arrival.{AtRelay, after_relay_turn, after_arrival_at_front, after_arrival_at_client, ArrivesAtServer, Arrives}
 use Rattle.farm_model.specs.SoundSite.{IsSound}
 use Rattle.farm_model.specs.FarmStep.{Flight, FarmStep, Outcome, Delivers, DropsIt, can_cut, flight_at, loss_at, after_lost_message, after_send_on, after_send}
 use Rattle.farm_model.specs.FarmStep.{can_connect, with_new_connection, after_accept, after_opened_on, after_opened, opened_if, after_up, with_pick}
-use Rattle.farm_model.specs.FarmStep.{after_pick_at, after_refusal_at, with_emit, after_emit_at, with_charge, after_charge_at, after_sweep_at}
+use Rattle.farm_model.specs.FarmStep.{after_pick_at, after_refusal_at, with_emit, after_emit_at, with_charge, after_charge_at, after_sweep_at, after_change_at}
 use Rattle.farm_model.specs.FarmStep.{can_restart, after_crash_at}
 use Rattle.farm_model.specs.Loss.{Loss, LossAt, LearnLosses, all_know, learns, after_end, EndGoes, end_with, after_losing_all, CutsBoth, after_crash, peers_of}
 use Rattle.farm_model.specs.Loss.{DropAll, all_dropped, drops_too}
@@ -326,5 +326,7 @@ step_knows checked old new (Refuse node worker) applied losses wired apart made 
     (after_refusal_at old node worker (front_at node old.fronts)) applied new (refuse_knows old known node worker (front_at node old.fronts)) made.0
 step_knows checked old new (Emit node worker) applied losses wired apart made known = outcome_knows old known
     (after_emit_at old node worker (front_at node old.fronts)) applied new (emit_knows old known node worker (front_at node old.fronts)) made.0
+step_knows checked old new (ChangeTerms moment change) applied losses wired apart made known = outcome_knows old known (Some (after_change_at old moment change)) applied
+    new (same_directions_know old (after_change_at old moment change) refl refl known) made.0
 step_knows checked old new (Sweep moment) applied losses wired apart made known = outcome_knows old known (Some (after_sweep_at old moment)) applied new
     (same_directions_know old (after_sweep_at old moment) refl refl known) made.0

@@ -1,7 +1,7 @@
 //! A request over HTTP, in memory.
 
 use crate::status::fronts::status_of;
-use farm_status::{Answering, Source, Status, Token};
+use farm_status::{Answering, Changing, Source, Status, Token};
 use farm_tally::Tally;
 use http_server::{Config, Connection};
 use std::alloc::{AllocError, Global};
@@ -19,6 +19,10 @@ impl Source for Fronts<'_> {
     fn status(&self) -> Result<Status<'_>, AllocError> {
         status_of(self.alloc, self.tally)
     }
+
+    fn terms(&self) -> Result<String, AllocError> {
+        String::from_str(self.alloc, "nothing was changed\n")
+    }
 }
 
 /// Prints the first line that a request is answered with, and whether the node is to end then.
@@ -28,6 +32,7 @@ fn print<S: Source>(
     keys: RandomState,
     source: &S,
     token: &Token,
+    changing: Changing,
     request: &str,
 ) -> anyhow::Result<()> {
     let mut answering = Answering {
@@ -35,6 +40,8 @@ fn print<S: Source>(
         source,
         token: Some(token),
         stops: false,
+        changing,
+        change: None,
     };
     let mut connection = Connection::new(alloc, keys, Config::default());
     let mut input = request.as_bytes();
@@ -43,8 +50,12 @@ fn print<S: Source>(
     let text = std::str::from_utf8(connection.output())?;
     let (first, _) = text.split_once("\r\n").unwrap_or(("nothing", ""));
     let (asked, _) = request.split_once(" HTTP").unwrap_or(("nothing", ""));
-    let stops = answering.stops;
+    let (stops, change) = (answering.stops, answering.change);
     println!(rt; "{asked}: {first}, ends: {stops}")?;
+    if let Some(change) = &change {
+        let text = std::str::from_utf8(change)?;
+        println!(rt; "  changes: {text}")?;
+    }
     Ok(())
 }
 
@@ -66,6 +77,14 @@ const REQUESTS: [&str; 14] = [
     "POST /stop HTTP/1.1\r\nHost: localhost\r\nAuthorization: Bearer 0123456789abcdef\r\nContent-Length: 0\r\n\r\n",
 ];
 
+/// Requests at the path of the terms: read, asked for with and without the token, and by another method.
+const TERMS: [&str; 4] = [
+    "GET /terms HTTP/1.1\r\nHost: localhost\r\n\r\n",
+    "POST /terms HTTP/1.1\r\nHost: localhost\r\nContent-Length: 20\r\n\r\naccount 0 49170 1000",
+    "POST /terms HTTP/1.1\r\nHost: localhost\r\nAuthorization: Bearer 0123456789abcdef\r\nContent-Length: 20\r\n\r\naccount 0 49170 1000",
+    "DELETE /terms HTTP/1.1\r\nHost: localhost\r\nAuthorization: Bearer 0123456789abcdef\r\n\r\n",
+];
+
 /// Prints what each request is answered, by a node that has a token.
 pub fn print_all(rt: &(impl Print + RandomSource), alloc: Global) -> anyhow::Result<()> {
     let tally = Tally::nothing(alloc);
@@ -76,7 +95,12 @@ pub fn print_all(rt: &(impl Print + RandomSource), alloc: Global) -> anyhow::Res
     let token = Token::read(alloc, b"0123456789abcdef\n")?;
     let keys = RandomState::new(rt)?;
     for request in REQUESTS {
-        print(rt, alloc, keys, &source, &token, request)?;
+        print(rt, alloc, keys, &source, &token, Changing::Free, request)?;
+    }
+    for changing in [Changing::Never, Changing::Busy, Changing::Free] {
+        for request in TERMS {
+            print(rt, alloc, keys, &source, &token, changing, request)?;
+        }
     }
     Ok(())
 }

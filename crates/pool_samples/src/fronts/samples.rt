@@ -12,6 +12,7 @@ use cc_book::Book;
 use cc_shared::{BlankHistory, SharedBook};
 use dia_avp::ViewWire;
 use dia_base::Identity;
+use dia_message::Message;
 use farm_base::Site;
 use farm_clock::Timer;
 use farm_record::Recorder;
@@ -58,7 +59,14 @@ fn answers<L: Pooling, R: Threads + Wait + Clock + Print + Copy>(
     running.print_figures(rt)
 }
 
-/// As many debits at once as may wait at a front.
+/// A debit that has the flag T where it is asked for: it may have been sent before.
+fn debit_with(alloc: Global, number: u32, resent: bool) -> anyhow::Result<Message> {
+    let mut request = debit(alloc, number)?;
+    request.header.resent = resent;
+    Ok(request)
+}
+
+/// As many debits at once as may wait at a front. One of them may have been sent before, and is charged like the others.
 fn many<L: Pooling, R: Threads + Wait + Clock + Print + Copy>(
     rt: &R,
     alloc: Global,
@@ -66,7 +74,8 @@ fn many<L: Pooling, R: Threads + Wait + Clock + Print + Copy>(
 ) -> anyhow::Result<()> {
     running.come_up(rt, alloc, FIRST, 1)?;
     for number in 0..8 {
-        running.hear(rt, alloc, 1, debit(alloc, number)?)?;
+        let request = debit_with(alloc, number, number == 3)?;
+        running.hear(rt, alloc, 1, request)?;
     }
     running.wake(rt, alloc, 8)?;
     running.print_figures(rt)

@@ -62,6 +62,8 @@ pub enum Hold {
     Together,
     /// All jobs before the book, until the door is open.
     Door,
+    /// Each job, once it is answered, until the door is open.
+    Answered,
     /// Each job before the book, for a while.
     Slowly,
 }
@@ -83,7 +85,7 @@ impl Gate for Holding {
             Hold::FirstLast if job == 1 => self.signs.hold(rt, &self.signs.answered, 1),
             Hold::Door => self.signs.hold(rt, &self.signs.door, 1),
             Hold::Slowly => thread::sleep(rt, Duration::from_millis(SLOW)),
-            Hold::Nothing | Hold::FirstLast | Hold::Together => {}
+            Hold::Nothing | Hold::FirstLast | Hold::Together | Hold::Answered => {}
         }
     }
 
@@ -91,6 +93,7 @@ impl Gate for Holding {
         self.signs.answered.fetch_add(1, Ordering::SeqCst);
         match self.hold {
             Hold::Together => self.signs.hold(rt, &self.signs.answered, 2),
+            Hold::Answered => self.signs.hold(rt, &self.signs.door, 1),
             Hold::Nothing | Hold::FirstLast | Hold::Door | Hold::Slowly => {}
         }
     }

@@ -147,6 +147,15 @@ impl<L: Pooling> Running<L> {
         Ok(())
     }
 
+    /// Takes a finished job out, if one is there; whether one was.
+    pub fn take_one<R: Wait>(&mut self, rt: &R) -> anyhow::Result<bool> {
+        let Some(next) = self.pool.collect(rt) else {
+            return Ok(false);
+        };
+        self.finished.push(next)?;
+        Ok(true)
+    }
+
     /// Takes so many finished jobs out, or fewer, where no more come.
     pub fn collect<R: Wait + Clock>(&mut self, rt: &R, count: usize) -> anyhow::Result<()> {
         for _ in 0..LOOKS {

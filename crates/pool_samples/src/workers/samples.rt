@@ -26,6 +26,7 @@ use std::thread::Threads;
 pub enum Sample {
     Jobs { places: bool },
     Woken,
+    Told,
     Crowded,
     Stopped,
     Repeated,
@@ -60,6 +61,22 @@ fn woken<L: Pooling, R: Threads + Wait + Clock + Print>(
     running.submit(rt, alloc, 1)?;
     signs.hold(rt, &signs.wakes, 2);
     running.collect(rt, 2)?;
+    print_late(rt, signs)
+}
+
+/// A worker that tells of its answer stands still as it does: the answer is there to be collected.
+fn told<L: Pooling, R: Threads + Wait + Clock + Print>(
+    rt: &R,
+    alloc: Global,
+    running: &mut Running<L>,
+    signs: &Signs,
+) -> anyhow::Result<()> {
+    running.submit(rt, alloc, 0)?;
+    signs.hold(rt, &signs.answered, 1);
+    let is_there = running.take_one(rt)?;
+    println!(rt; "there when it is told {is_there}")?;
+    signs.door.store(1, Ordering::SeqCst);
+    running.collect(rt, 1)?;
     print_late(rt, signs)
 }
 
@@ -148,6 +165,7 @@ fn perform<L: Pooling, R: Threads + Wait + Clock + Print>(
     match sample {
         Sample::Jobs { places } => jobs(rt, alloc, running, signs, places),
         Sample::Woken => woken(rt, alloc, running, signs),
+        Sample::Told => told(rt, alloc, running, signs),
         Sample::Crowded => crowded(rt, alloc, running, signs),
         Sample::Stopped => stopped(rt, alloc, running),
         Sample::Repeated => repeated(rt, alloc, running),
@@ -168,7 +186,11 @@ fn print_ended<L: Pooling, R: Print>(
         Sample::Woken => print_wakes(rt, signs, ended.count()),
         Sample::Crowded | Sample::Held => print_counts(rt, ended.count(), ended.unserved.len()),
         Sample::Stopped => print_times(rt, &ended.finished, &ended.unserved),
-        Sample::Jobs { places: _ } | Sample::Repeated | Sample::Refused | Sample::Session => Ok(()),
+        Sample::Jobs { places: _ }
+        | Sample::Told
+        | Sample::Repeated
+        | Sample::Refused
+        | Sample::Session => Ok(()),
     }
 }
 
@@ -301,7 +323,7 @@ where
 /// Prints what becomes of jobs.
 ///
 /// Job 1 waits before the book until job 2 is answered: only another worker can answer it. Then each job waits, once it is
-/// answered, until both are: the book's lock is free while a worker waits.
+/// answered, until both are: the book's lock is free while a worker waits. A job that waits once it is answered can be collected.
 pub fn print_all<R>(rt: &R, alloc: Global) -> anyhow::Result<()>
 where
     R: Threads + Wait + Clock + Print + Copy + Send + 'static,
@@ -313,6 +335,7 @@ where
     print_held(rt, alloc, 2, 8, Hold::FirstLast, overtaken)?;
     print_held(rt, alloc, 2, 8, Hold::Together, together)?;
     print_woken(rt, alloc)?;
+    print_held(rt, alloc, 1, 8, Hold::Answered, Sample::Told)?;
     print_held(rt, alloc, 1, 1, Hold::Door, Sample::Crowded)?;
     print_held(rt, alloc, 1, 8, Hold::Nothing, Sample::Stopped)?;
     print_held(rt, alloc, 1, 8, Hold::Nothing, Sample::Repeated)?;

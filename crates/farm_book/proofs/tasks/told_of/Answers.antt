@@ -17,7 +17,7 @@ returns-in-Ok c =
     let stored = c.in_ok-stored.stored in
     let change = c.in-Ok.change in
     let P : Terms → Type 0 = λ wanted. IsNeeded (now_in stored.book) wanted change in
-    let leads = subst P c.in_ok-wanted.ensures c.in-Ok.ensures in
+    let leads = subst P c.in_ok-wanted.ensures c.in-Ok.ensures.needed in
     of_value c.text_of.result
     (λ text says. record { stored = stored; is_for = c.in_ok-stored.ensures; change = change; leads = leads; says = says })
     c.text_of.ensures

@@ -9,6 +9,7 @@ pub returns-clause-moves : goal.returns-clause-moves
 returns-clause-moves c = moves_keep (record {
   legal_grows = c.legal_histories_grow.ensures.by_request;
   legal_sweeps = c.legal_histories_grow.ensures.by_sweep;
+  legal_changes = c.legal_histories_grow.ensures.by_change;
   answers_stay = c.answers_stay.ensures;
   descends_on = c.descending_goes_on.ensures;
   same_view = c.descendants_read_alike.ensures.view;
@@ -20,6 +21,7 @@ pub returns-clause-owed : goal.returns-clause-owed
 returns-clause-owed c = moves_owe (record {
   legal_grows = c.legal_histories_grow.ensures.by_request;
   legal_sweeps = c.legal_histories_grow.ensures.by_sweep;
+  legal_changes = c.legal_histories_grow.ensures.by_change;
   answers_stay = c.answers_stay.ensures;
   descends_on = c.descending_goes_on.ensures;
   same_view = c.descendants_read_alike.ensures.view;

@@ -15,6 +15,12 @@ returns-clause-charged c =
     let viewed : view_under (strict []) debit_message ≡ Ok debit_request = c.first_debit.ensures.viewed in
     rw viewed refl
 
+pub returns-clause-changed : goal.returns-clause-changed
+unfolding view_of run_of kept_reply postings_of reply_to answer_to split_of split_from
+returns-clause-changed c =
+    let viewed : view_under (strict []) debit_message ≡ Ok debit_request = c.first_debit.ensures.viewed in
+    rw viewed refl
+
 pub returns-clause-full : goal.returns-clause-full
 unfolding run_of split_of split_from refusal_of
 returns-clause-full c = refl
