@@ -192,8 +192,8 @@ WasCharged past moment = (front : NodeNo) × (worker : ℕ) × Contains (steps_i
 abbrev pub WasChanged : Past → Moment → TermsChange → Type 0
 WasChanged past moment change = Contains (steps_in past) (Rattle.farm_base.specs.declared.step.Step.TheVariants.ChangeTerms moment change)
 
--- An entry of the history takes, at the moment of a step of the run that charges, what is read in a request that a
--- client sent, or is a sweep or a change of the terms of a step of the run.
+-- An entry of the history takes what is read in a request that a client sent, at the moment of a step of the run that charges. Or it is
+-- a sweep or a change of the terms of a step of the run.
 abbrev pub IsOfRun : Site → Past → Traffic → Entry → Type 0
 IsOfRun site past sent (Take moment request) = (conn : ConnId) × (message : Message) × WasRequested sent conn message ×
     (view_under (front_profile site) message ≡ Ok request) × WasCharged past moment
