@@ -1,5 +1,5 @@
 #!/usr/bin/env python3
-"""That what was answered stands however the process dies: bench/book_kill.py [--rounds 300] [--seed N] [PROGRAM] [BOOK PROGRAM]
+"""That what was answered stands however the process dies: bench/book_kill.py [--rounds 300] [--seed N] [--changes] [PROGRAM] [BOOK PROGRAM]
 
 It makes a book on disk and starts the fronts on it. A client debits two accounts, 32 requests unanswered at a time, until the
 process is killed (SIGKILL) at a moment by chance; then they are started again, and the client sends again what was not answered,
@@ -7,6 +7,8 @@ and some of what was. So it goes on for as many rounds as asked. In the end ever
 - each answer that was ever had to one request says the same;
 - what a client works out by its answers is what `farm book report` says: each debit was made once, and none that was not sent;
 - `farm book check` is content, and `farm book export` has each request once.
+With --changes the terms change meanwhile, by the status port: accounts join, close and open again, and tariffs change that charge
+nobody otherwise. Each change that was told as made stands at the place that was told, and no account joins twice.
 
 The accounts hold less than all debits take, so some answers refuse. Status 1 where something is otherwise. It needs the programs
 (./farm prove front, ./farm prove book) and takes about a second a round. Not part of the gate.
@@ -14,12 +16,15 @@ The accounts hold less than all debits take, so some answers refuse. Status 1 wh
 import argparse
 import random
 import signal
+import re
 import socket
 import subprocess
 import sys
 import tempfile
+import threading
 import time
 from collections import Counter
+from http.client import HTTPConnection, HTTPException
 from pathlib import Path
 
 sys.dont_write_bytecode = True
@@ -35,6 +40,7 @@ COST, OCTETS = 20, 3200
 DEBITS = {"491700000001": 10 ** 6, "491700000002": 300}
 # Of what was answered, one in so many is sent again in each round.
 AGAIN = 50
+MADE = "the terms were changed by the entry at place "
 
 
 def site(port):
@@ -162,10 +168,84 @@ class Client:
         return paid
 
 
+class Changer:
+    """Who changes the terms of the book while it is charged on: how many changes it has asked for, and where those stand that were made."""
+
+    def __init__(self, port, token):
+        self.port, self.token, self.count, self.made, self.faults = port, token, 0, {}, []
+        # accounts that have joined and are open, and that are closed, as far as is known
+        self.open, self.closed = [], []
+
+    def ask(self, method, text=""):
+        connection = HTTPConnection("127.0.0.1", self.port, timeout=PATIENCE)
+        try:
+            connection.request(method, "/terms", text, {"Authorization": f"Bearer {self.token.read_text().strip()}"})
+            answer = connection.getresponse()
+            return answer.status, answer.read().decode().strip()
+        finally:
+            connection.close()
+
+    def next_of(self):
+        """A change, how the book's export tells it, and the list that an account goes into once it is made."""
+        self.count += 1
+        turn = self.count % 4
+        if turn == 3 and self.open:
+            name = self.open.pop()
+            return f"account 0 {name} closed", f'change accounts 0 account 0 "{name}" closed tariffs -', (self.closed, name)
+        if turn == 0 and self.closed:
+            name = self.closed.pop()
+            return f"account 0 {name} open", f'change accounts 0 account 0 "{name}" open tariffs -', ([], name)
+        if turn % 2:
+            name = f"77{self.count:08}"
+            return f"account 0 {name} 5", f'change accounts 1 account 0 "{name}" opening 5 tariffs -', (self.open, name)
+        tariff = f"tariff 10 - octets 1000 5 5000 {10_000 + self.count}"
+        return f"tariffs {tariff}", f"change accounts 0 tariffs 1 {tariff}", ([], "")
+
+    def outcome(self):
+        """What has come of the change that is under way, once it is done."""
+        while True:
+            _, said = self.ask("GET")
+            if said != "a change of the terms is under way":
+                return said
+            time.sleep(0.01)
+
+    def change(self):
+        text, told, (known, name) = self.next_of()
+        status, said = self.ask("POST", text)
+        if status == 202:
+            said = self.outcome()
+        if not said.startswith(MADE):
+            self.faults.append(f"the change {text} is answered {status} {said}")
+            return
+        self.made[int(said.removeprefix(MADE))] = told
+        known.append(name)
+
+    def run(self, process):
+        """Changes the terms, one change after the other, until the process has ended."""
+        try:
+            while process.poll() is None:
+                self.change()
+        except (OSError, HTTPException, ValueError):
+            pass
+
+    def check(self, entries):
+        if self.faults:
+            raise Otherwise(self.faults[0])
+        for place, told in self.made.items():
+            if not entries[place].endswith(told):
+                raise Otherwise(f"the entry at place {place} is not the change that was made: {entries[place]}")
+        joined = Counter(re.findall(r'account 0 "(77\d+)" opening', "\n".join(entry for entry in entries if " change " in entry)))
+        if twice := [name for name, count in joined.items() if count > 1]:
+            raise Otherwise(f"accounts have joined twice: {twice}")
+
+
 class Run:
     def __init__(self, words, room):
-        self.words, self.port, self.dice = words, free_ports(1)[0], random.Random(words.seed)
+        self.words, self.dice = words, random.Random(words.seed)
+        self.port, self.status = free_ports(2)
         self.site, self.book, self.client = room / "site.toml", room / "farm.book", Client(self.dice)
+        self.token = room / "token"
+        self.changer = Changer(self.status, self.token)
         self.site.write_text(site(self.port))
 
     def ask(self, task):
@@ -175,9 +255,13 @@ class Run:
         return done.stdout
 
     def round(self, is_last):
-        process = subprocess.Popen([self.words.program, "front", "--site", self.site, "--book", self.book, "--log", "error"])
+        asked = ["--status", str(self.status), "--token", self.token, "--change-terms"] if self.words.changes else []
+        process = subprocess.Popen([self.words.program, "front", "--site", self.site, "--book", self.book, "--log", "error", *asked])
+        changing = threading.Thread(target=self.changer.run, args=(process,))
         try:
             link = Link(self.port, process)
+            if self.words.changes and not is_last:
+                changing.start()
             if not is_last:
                 signal.setitimer(signal.ITIMER_REAL, self.dice.uniform(0.01, 0.6))
                 signal.signal(signal.SIGALRM, lambda *_: process.kill())
@@ -185,6 +269,8 @@ class Run:
         finally:
             process.kill()
             process.wait()
+            if changing.ident:
+                changing.join()
 
     def check(self):
         client = self.client
@@ -196,8 +282,10 @@ class Run:
             line = f"{account} balance {DEBITS[account] * COST - paid} reserved 0"
             if line not in report:
                 raise Otherwise(f"the report has not what is left: {line}")
-        if len(entries) != client.serial:
-            raise Otherwise(f"the book has {len(entries)} entries, and {client.serial} requests were sent")
+        self.changer.check(entries)
+        charges = sum(" change " not in entry for entry in entries)
+        if charges != client.serial:
+            raise Otherwise(f"the book has {charges} charges, and {client.serial} requests were sent")
 
 
 def main():
@@ -206,6 +294,7 @@ def main():
     parser.add_argument("book", nargs="?", default=BOOK_PROGRAM)
     parser.add_argument("--rounds", type=int, default=300)
     parser.add_argument("--seed", type=int, default=1)
+    parser.add_argument("--changes", action="store_true")
     words = parser.parse_args()
     end_when_told()
     with tempfile.TemporaryDirectory() as room:
@@ -215,7 +304,8 @@ def main():
             run.round(place == words.rounds)
         run.check()
         told = ", ".join(f"{count:,} {what}" for what, count in sorted(run.client.count.items()))
-        print(f"{words.rounds} times killed: {run.client.serial:,} requests, {told}; each was charged once, and each answer stands")
+        changed = f", {run.changer.count:,} changes asked for and {len(run.changer.made):,} told as made" if words.changes else ""
+        print(f"{words.rounds} times killed: {run.client.serial:,} requests, {told}{changed}; each was charged once, and each answer stands")
 
 
 if __name__ == "__main__":

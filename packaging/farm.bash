@@ -2,7 +2,7 @@
 _farm() {
   local word=${COMP_WORDS[COMP_CWORD]} before=${COMP_WORDS[COMP_CWORD - 1]} site i
   if [ "$COMP_CWORD" -eq 1 ]; then
-    mapfile -t COMPREPLY < <(compgen -W 'relay front send stop check book audit schedule replay report words picture --help --version' -- "$word")
+    mapfile -t COMPREPLY < <(compgen -W 'relay front send topup stop check book audit schedule replay report words picture --help --version' -- "$word")
     return
   fi
   case $before in
@@ -30,6 +30,7 @@ _farm() {
     relay) mapfile -t COMPREPLY < <(compgen -W '--site --name --answers --status --token --record --log --log-format' -- "$word") ;;
     front) mapfile -t COMPREPLY < <(compgen -W '--site --book --clock-behind --change-terms --answers --status --token --record --log --log-format' -- "$word") ;;
     send) mapfile -t COMPREPLY < <(compgen -W '--site --client --peer --record --log --log-format' -- "$word") ;;
+    topup) mapfile -t COMPREPLY < <(compgen -W '--site --client --peer --type --id --key --ident --group --unit --count' -- "$word") ;;
     stop) mapfile -t COMPREPLY < <(compgen -W '--at --token' -- "$word") ;;
     audit | schedule)
       mapfile -t COMPREPLY < <(compgen -W '--site' -- "$word"; compgen -f -- "$word")
@@ -37,7 +38,9 @@ _farm() {
     picture) mapfile -t COMPREPLY < <(compgen -W '--site --from --to' -- "$word") ;;
     book)
       if [ "$COMP_CWORD" -eq 2 ]; then
-        mapfile -t COMPREPLY < <(compgen -W 'create check report export change-terms backup' -- "$word")
+        mapfile -t COMPREPLY < <(compgen -W 'create check report export change-terms backup add-accounts close-accounts open-accounts tariffs' -- "$word")
+      elif [[ ${COMP_WORDS[2]} == *-accounts || ${COMP_WORDS[2]} == tariffs ]]; then
+        mapfile -t COMPREPLY < <(compgen -W '--at --token' -- "$word"; compgen -f -- "$word")
       else
         mapfile -t COMPREPLY < <(compgen -W '--site' -- "$word"; compgen -f -- "$word")
       fi

@@ -15,8 +15,9 @@ What the RFC leaves open is this farm's choice:
 - A session is due twice its validity after the moment of its last entry that is no EVENT, whatever its outcome and
   however moments run. A sweep ends the sessions that are due at its moment, with what they hold. It is an entry where
   it ends one, and does nothing where there is no room for that entry.
-- A change of the terms is an entry: accounts join with their openings, and tariffs hold from then on. It moves no balance
-  and nothing that is held.
+- A change of the terms is an entry: accounts join with their openings, accounts close and open again, and tariffs hold from then
+  on. It moves no balance and nothing that is held. A closed account has no name: a request goes to the next Subscription-Id, or
+  is answered 5030. Its open sessions go on to pay what was used; what they ask is answered 4012.
 """
 from dataclasses import dataclass
 
@@ -50,6 +51,7 @@ class Book:
     def __init__(self, site):
         self.site, self.balances, self.sessions, self.kept = site, dict(site.accounts), {}, {}
         self.openings = dict(site.accounts)
+        self.closed = set()
         self.tariffs = site.group_tariffs, site.ident_tariffs
         self.sweeps = self.changes = 0
 
@@ -88,22 +90,27 @@ class Book:
             for name in due:
                 del self.sessions[name]
 
-    def change_terms(self, joining, tariffs):
-        """Accounts join, each with its opening, and these tariffs hold from now on; none where those stay that hold. Nothing
-        changes where no account joins and the tariffs stay, where an account is there already or joins twice, and where there
-        is no room for the entry."""
+    def change_terms(self, joining, tariffs, closing=(), reopening=()):
+        """Accounts join, each with its opening, close, and open again, and these tariffs hold from now on; none where those stay
+        that hold. Nothing changes where nothing is said, where an account is there already or joins twice, where one is to close
+        that is not there or closed, where one is to open again that is not closed, where one is named twice for either, and where
+        there is no room for the entry."""
         names = [account for account, _ in joining]
         there = len({*names, *self.balances}) < len(names) + len(self.balances)
-        if there or not names and tariffs is None or self.entries >= self.site.limit:
+        twice = any(len(set(them)) < len(them) for them in (closing, reopening))
+        strange = any(it not in self.balances or it in self.closed for it in closing) or any(it not in self.closed for it in reopening)
+        says_nothing = not names and not closing and not reopening and tariffs is None
+        if there or twice or strange or says_nothing or self.entries >= self.site.limit:
             return
         self.changes += 1
         self.balances.update(joining)
         self.openings.update(joining)
+        self.closed = self.closed - set(reopening) | set(closing)
         if tariffs is not None:
             self.tariffs = tariffs
 
     def account_of(self, request):
-        return next((subscriber for subscriber in request.subscribers if subscriber in self.balances), None)
+        return next((it for it in request.subscribers if it in self.balances and it not in self.closed), None)
 
     def tariff(self, service):
         return self.tariff_named(service.group, service.identifier)
@@ -151,6 +158,8 @@ class Book:
             return ServiceReply(*service.name, service.bare, RATING_FAILED)
         if service.asked is None or request.kind == TERMINATION:
             return ServiceReply(*service.name, service.bare, SUCCESS)
+        if session.account in self.closed:
+            return ServiceReply(*service.name, service.bare, CREDIT_LIMIT_REACHED)
         units, last = tariff.grant(self.free(session.account), asked_units(service, tariff))
         if last and units == 0:
             return ServiceReply(*service.name, service.bare, CREDIT_LIMIT_REACHED)

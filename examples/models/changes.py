@@ -11,6 +11,8 @@ from terms import Change
 
 DEARER = 10, None, Tariff(CC_TOTAL_OCTETS, block=1000, price=7, quantum=5000, greatest=10_000)
 JOINER = (0, "491700000006"), 100
+# The account of the row site that opens with 1000.
+FIRST = 0, "491700000001"
 
 
 def asked(script, message, moment):
@@ -57,8 +59,35 @@ def refused_as_a_whole():
     return asked(script, replace(of_session(DEBIT, "c1;1;2"), hop=8), 3000)
 
 
+def closed_with_a_session_open():
+    script = Script("""A session is granted 5000 octets at 5 for a block of 1000, and 25 are reserved of 1000. Then its account closes. The
+        UPDATE reports 4000 used octets: four blocks, 20, which leaves 980; what it asks is answered CREDIT_LIMIT_REACHED, and nothing
+        is reserved. A debit with another Session-Id finds no account, and is answered USER_UNKNOWN. The INITIAL, sent again, is
+        answered as then. The TERMINATION reports 1000 used octets, 5, which leaves 975. The account opens again, and a debit of 3200
+        octets pays four blocks, 20, which leaves 955.""")
+    asked(script.up((C1, F1)), OPENING, 1000).step("terms", 2000, Change(closing=(FIRST,)))
+    asked(script, update(1, units(REQUESTED_UNITS), units(USED_UNITS, 4000)), 3000)
+    asked(script, replace(of_session(DEBIT, "c1;1;2"), hop=9), 4000)
+    asked(script, again(OPENING, 10), 5000)
+    asked(script, termination(2, units(USED_UNITS, 1000)), 6000).step("terms", 7000, Change(reopening=(FIRST,)))
+    return asked(script, replace(of_session(DEBIT, "c1;1;3"), hop=12), 8000)
+
+
+def closing_refused():
+    script = Script("""The book refuses to close an account that is not there, one that is closed, and one twice; and to open one again
+        that is not closed. Each time nothing of the change holds. There are two entries: the change that closes the first account, and
+        a debit, which is answered USER_UNKNOWN.""")
+    script.up((C1, F1)).step("terms", 1000, Change(closing=(JOINER[0],))).step("terms", 1000, Change(reopening=(FIRST,)))
+    script.step("terms", 1000, Change(closing=(FIRST, FIRST))).step("terms", 1000, Change(closing=(FIRST,)))
+    script.step("terms", 1000, Change(joining=(JOINER,), closing=(FIRST,)))
+    script.step("terms", 1000, Change(reopening=(FIRST, FIRST)))
+    return asked(script, DEBIT, 2000)
+
+
 # Each by the folder that it stands in, and its name.
 CHANGES = {
+    "terms/closed-with-a-session-open": closed_with_a_session_open,
+    "terms/closing-refused": closing_refused,
     "terms/dearer-behind-the-grant": dearer_behind_the_grant,
     "terms/joined-between": joined_between,
     "terms/repeated-behind-a-change": repeated_behind_a_change,

@@ -1,5 +1,5 @@
-"""Changes of the terms chosen at random: of accounts that join, some are there already, and of tariffs some have the names of those
-that hold."""
+"""Changes of the terms chosen at random: of accounts that join, some are there already; of those that close and open again, some are
+not there, or are so already; and of tariffs some have the names of those that hold."""
 from random_sites import BLOCKS, COUNTS, OPENINGS, PRICES, SERVICES, SUBSCRIBERS
 from site_data import Tariff
 from site_file import CC_TIME, I64, U32, UNITS
@@ -14,7 +14,14 @@ class RandomChanges:
 
     def next(self):
         joining = tuple(self.joiner() for _ in range(self.dice.one_of([0, 1, 1, 1, 2, 3])))
-        return Change(joining, tuple(self.tariffs()) if self.dice.one_in(2) else None)
+        tariffs = tuple(self.tariffs()) if self.dice.one_in(2) else None
+        return Change(joining, tariffs, self.some_of(set(self.book.balances) - self.book.closed), self.some_of(self.book.closed))
+
+    def some_of(self, fitting):
+        """Seldom more than one account; mostly of those that fit."""
+        count = self.dice.one_of([0, 0, 1, 1, 2])
+        return tuple(self.dice.one_of(sorted(fitting)) if fitting and not self.dice.one_in(6) else (0, self.dice.one_of(JOINERS))
+                     for _ in range(count))
 
     def joiner(self):
         """Mostly one that is not there."""

@@ -67,18 +67,18 @@ STORY = [
 
 
 class Change:
-    """A change of the terms: the accounts that join, with their openings, and the tariffs of Rating-Groups, none where those
-    stay that hold."""
+    """A change of the terms: the accounts that join, with their openings, those that close, those that open again, and the tariffs
+    of Rating-Groups, none where those stay that hold."""
 
-    def __init__(self, joining, tariffs=None):
-        self.joining, self.tariffs = joining, tariffs
+    def __init__(self, joining, tariffs=None, closing=(), reopening=()):
+        self.joining, self.tariffs, self.closing, self.reopening = joining, tariffs, closing, reopening
 
 
 SIXTH = [(0, "491700000006")]
 DEARER = Tariff(CC_TOTAL_OCTETS, block=1000, price=7, quantum=5000, greatest=10_000)
 
-# Two changes behind it: an account is refused, joins, and is charged; a session is granted at 5 a block, pays that when 7 holds, is granted
-# at 7 and pays that.
+# Four changes behind it: an account is refused, joins, and is charged; a session is granted at 5 a block, pays that when 7 holds, is granted
+# at 7 and pays that; the first account closes with a session open, which pays what it used and is granted nothing, and opens again.
 CHANGES = [
     (1_204_000, event(10, DIRECT_DEBITING, SIXTH, 3200)),
     (1_205_000, Change({SIXTH[0]: 50, (1, 'a "%'): -3})),
@@ -88,6 +88,12 @@ CHANGES = [
     (1_209_000, Request("c1;4", 1, UPDATE, None, [], [of(4000, 3200)])),
     (1_210_000, event(12, DIRECT_DEBITING, SECOND, 1000)),
     (1_211_000, Request("c1;4", 2, TERMINATION, None, [], [of(None, 2500)])),
+    (1_212_000, Request("c1;5", 0, INITIAL, None, FIRST, [of(3200)])),
+    (1_213_000, Change({}, closing=FIRST)),
+    (1_214_000, Request("c1;5", 1, UPDATE, None, [], [of(4000, 1000)])),
+    (1_215_000, event(13, DIRECT_DEBITING, FIRST, 1000)),
+    (1_216_000, Change({(1, "7"): 0}, closing=[(1, 'a "%')], reopening=FIRST)),
+    (1_217_000, event(14, DIRECT_DEBITING, FIRST, 1000)),
 ]
 
 
@@ -101,7 +107,7 @@ class Entry:
             book.sweep(moment)
             return
         if isinstance(request, Change):
-            book.change_terms(list(request.joining.items()), request.tariffs and (request.tariffs, {}))
+            book.change_terms(list(request.joining.items()), request.tariffs and (request.tariffs, {}), request.closing, request.reopening)
             return
         opener = book.sessions[request.session].account if request.session in book.sessions else None
         self.account = opener if request.kind in (UPDATE, TERMINATION) else book.account_of(request)
@@ -135,7 +141,8 @@ def step_of(entry):
     if isinstance(entry.request, Change):
         change = entry.request
         return rows.changed([rows.account(kind, text.encode(), opening) for (kind, text), opening in change.joining.items()],
-                            change.tariffs and [rows.tariff(*words) for words in tariffs_of(change)])
+                            change.tariffs and [rows.tariff(*words) for words in tariffs_of(change)],
+                            *([rows.subscription(kind, text.encode()) for kind, text in them] for them in (change.closing, change.reopening)))
     request, reply = entry.request, entry.reply
     services = [rows.service(*service.name, service.bare,
                              None if service.asked is None else [service.asked.get(code) for code in COUNTS],
@@ -172,6 +179,8 @@ def quoted(text):
 def line_of_change(change):
     words = [f" accounts {len(change.joining)}"]
     words += [f"account {kind} {quoted(text)} opening {opening}" for (kind, text), opening in change.joining.items()]
+    words += [f"account {kind} {quoted(text)} {said}" for said, them in (("closed", change.closing), ("open", change.reopening))
+              for kind, text in them]
     words += ["tariffs", "-" if change.tariffs is None else str(len(change.tariffs))]
     for group, ident, kind, *numbers in tariffs_of(change) if change.tariffs else []:
         words += ["tariff", optional(group), optional(ident), UNITS[kind], *map(str, numbers)]
@@ -291,7 +300,7 @@ def main():
     CHANGED = sys.argv[1:2] == ["changed"]
     task, path, *more = sys.argv[2:] if CHANGED else sys.argv[1:]
     if task == "fill-twice":
-        CHANGES.append((1_212_000, CHANGES[1][1]))
+        CHANGES.append((1_218_000, CHANGES[1][1]))
         task = "fill"
     if task in ("fill", "harm", "cut"):
         {"fill": fill, "harm": harm, "cut": cut}[task](path, *map(int, more))

@@ -44,7 +44,7 @@ def service(group, ident, bare, asked, used):
 
 def request(session, count, kind, action, subscriptions, services):
     return (text(session) + number(count, 4) + number(kind, 1) + optional(action, 1)
-            + listed([number(kind, 4) + text(owner) for kind, owner in subscriptions]) + listed(services))
+            + listed([subscription(*it) for it in subscriptions]) + listed(services))
 
 
 def service_reply(group, ident, bare, code, unit, granted, validity, last):
@@ -70,8 +70,13 @@ def tariff(group, ident, kind, block, price, quantum, greatest):
             + b"".join(number(it, 8) for it in (block, price, quantum, greatest)))
 
 
-def changed(joining, tariffs):
-    return b"\2" + listed(joining) + (b"\0" if tariffs is None else b"\1" + listed(tariffs))
+def subscription(kind, owner):
+    return number(kind, 4) + text(owner)
+
+
+def changed(joining, tariffs, closing=(), reopening=()):
+    return (b"\2" + listed(joining) + listed(list(closing)) + listed(list(reopening))
+            + (b"\0" if tariffs is None else b"\1" + listed(tariffs)))
 
 
 def chained(before, place, moment, step):
@@ -194,6 +199,8 @@ class Reader:
             self.signed()
         if kind == 2:
             self.listed(self.account)
+            for _ in range(2):
+                self.listed(lambda: (self.number(4), self.text()))
             self.optional(self.tariffs)
         total = self.take(16)
         if self.octets:
@@ -255,7 +262,8 @@ STEPS = [
     ("PRICE_ENQUIRY", taken(request(b"smsc;1;1", 10, 4, 3, OWNER, [ASKING]), reply(2001, cost=(-2 ** 63, -2, 978)), 0)),
     ("EVENT without an action", taken(request(b"smsc;1;1", 11, 4, None, OWNER, []), reply(5012), -2 ** 127)),
     ("sweep", b"\0"),
-    ("change of terms", changed([account(0, b"491700000001", -2 ** 63)], [tariff(10, None, 1, 1000, 7, 5000, 2 ** 63 - 1)])),
+    ("change of terms", changed([account(0, b"491700000001", -2 ** 63)], [tariff(10, None, 1, 1000, 7, 5000, 2 ** 63 - 1)],
+                                [subscription(0, b"491700000002")], [subscription(0, b"491700000003")])),
 ]
 # So many of them stand in the stores.
 STORED = 9
@@ -271,7 +279,7 @@ def rows_of(steps):
 
 # ---- what is printed
 
-CHANGES = [(8, 16, 3), (9, 49, 2), (9, 50, 1), (9, 66, 2), (9, 81, 3), (9, 94, 1), (9, 97, 0),
+CHANGES = [(8, 16, 3), (9, 49, 2), (9, 50, 1), (9, 130, 2), (9, 145, 3), (9, 158, 1), (9, 161, 0),
            (3, 37, 5), (3, 38, 2), (3, 39, 4), (1, 103, 62), (1, 103, 64), (2, 50, 1), (2, 62, 127), (2, 62, 128)]
 FLIPPED = [(0, 7), (1, 15), (3, 40), (5, 100), (8, 16), (8, 32)]
 

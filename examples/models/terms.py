@@ -1,6 +1,7 @@
-"""A change of the terms as a line of a schedule has it: accounts that join, and the tariffs that hold from then on.
+"""A change of the terms as a line of a schedule has it: accounts that join, close and open again, and the tariffs that hold from
+then on.
 
-    terms MOMENT [account TYPE ID OPENING].. [tariffs [tariff GROUP IDENT UNITS BLOCK PRICE QUANTUM GREATEST]..]
+    terms MOMENT [account TYPE ID OPENING|closed|open].. [tariffs [tariff GROUP IDENT UNITS BLOCK PRICE QUANTUM GREATEST]..]
 
 All tariffs that hold from then on are named; without the word `tariffs` those stay that hold. A line has the first of
 these faults: an unknown word where an item begins, a wrong count of words, a bad number. A number that is out of range is
@@ -16,6 +17,8 @@ from site_file import I64, U32, UNITS, is_visible
 
 # How many words follow that of an item.
 ITEMS = {"account": 3, "tariff": 7}
+# What is said of an account that closes, and of one that opens again, in place of an opening.
+CLOSED, OPEN = "closed", "open"
 ID_KIND_LIMIT, ID_LIMIT, OPENING_LIMIT = 4, 64, 2**62
 
 
@@ -25,15 +28,19 @@ class BadSchedule(Exception):
 
 @dataclass(frozen=True)
 class Change:
-    """`joining` has accounts, each as type and id, with their openings; `tariffs` a group or none, an identifier or none, and the
-    tariff, for each that holds from then on, or is None where those stay that hold."""
+    """`joining` has accounts, each as type and id, with their openings, `closing` and `reopening` accounts alone; `tariffs` a group or
+    none, an identifier or none, and the tariff, for each that holds from then on, or is None where those stay that hold."""
 
     joining: tuple = ()
     tariffs: tuple | None = None
+    closing: tuple = ()
+    reopening: tuple = ()
 
     def __str__(self):
         """As words behind the moment."""
         words = [f"account {kind} {subscriber} {opening}" for (kind, subscriber), opening in self.joining]
+        words += [f"account {kind} {subscriber} closed" for kind, subscriber in self.closing]
+        words += [f"account {kind} {subscriber} open" for kind, subscriber in self.reopening]
         words += ["tariffs"] if self.tariffs is not None else []
         return " ".join(words + [tariff_words(*it) for it in self.tariffs or ()])
 
@@ -71,10 +78,11 @@ def amount_of(word):
     return -size if minus else size
 
 
-def account_of(kind, subscriber, opening):
+def account_of(kind, subscriber, said):
+    """An account, and its opening or the word that says that it is closed or open again."""
     if not is_visible(subscriber, ID_LIMIT):
         raise BadSchedule("bad number")
-    return (within(0, number_of(kind), ID_KIND_LIMIT), subscriber), amount_of(opening)
+    return (within(0, number_of(kind), ID_KIND_LIMIT), subscriber), said if said in (CLOSED, OPEN) else amount_of(said)
 
 
 def key_of(word):
@@ -115,10 +123,12 @@ def terms_of(words):
         raise BadSchedule("wrong count")
     accounts, tariffs = items_of(words[1:])
     moment = number_of(words[0])
-    joining = tuple(account_of(*it) for it in accounts)
+    said = [account_of(*it) for it in accounts]
+    joining = tuple(it for it in said if it[1] not in (CLOSED, OPEN))
+    closing, reopening = (tuple(account for account, word in said if word == state) for state in (CLOSED, OPEN))
     if tariffs is not None:
         tariffs = tuple(tariff_of(*it) for it in tariffs)
         keys = [it[:2] for it in tariffs]
         if len(set(keys)) < len(keys):
             raise BadSchedule("bad number")
-    return moment, Change(joining, tariffs)
+    return moment, Change(joining, tariffs, closing, reopening)

@@ -218,7 +218,7 @@ class World:
 
     def terms(self, moment, change):
         """The terms change; it applies though the book refuses the change."""
-        self.book.change_terms(change.joining, change.by_name)
+        self.book.change_terms(change.joining, change.by_name, change.closing, change.reopening)
         return True
 
     def output(self):

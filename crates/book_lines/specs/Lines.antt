@@ -6,6 +6,7 @@ use Rattle.dia_base.specs.declared.number.Moment.{Moment}
 use Rattle.cc_view.specs.declared.reply.CcReply.{CcReply}
 use Rattle.cc_view.specs.declared.reply.Cost.{Cost}
 use Rattle.cc_view.specs.declared.request.CcRequest.{CcRequest}
+use Rattle.cc_view.specs.declared.request.Subscription.{Subscription}
 use Rattle.cc_view.specs.ResultNumber.{number_of}
 use Rattle.cc_rating.specs.declared.tariff.Tariff.{Tariff}
 use Rattle.cc_book.specs.declared.account.Account.{Account}
@@ -96,9 +97,16 @@ abbrev pub tariffs_text : Option (List Tariff) → List ℕ
 tariffs_text None = codes " tariffs -"
 tariffs_text (Some tariffs) = concat (codes " tariffs" ∷ count_text (length tariffs) ∷ flat_map tariff_text tariffs ∷ [])
 
--- the accounts that join by a change, and how many, and the tariffs
+-- `account TYPE "ID" closed`, and with `open` one that opens again
+unfoldable pub standing_text : List ℕ → Subscription → List ℕ
+standing_text said subscription = concat (codes " account " ∷ decimal subscription.kind ∷ codes " " ∷ quoted subscription.text ∷ said ∷ [])
+
+-- the accounts that join by a change, and how many, those that close and those that open again, and the tariffs
 unfoldable pub change_text : TermsChange → List ℕ
-change_text change = concat (codes " accounts" ∷ count_text (length change.joining) ∷ flat_map joining_text change.joining ∷ tariffs_text change.tariffs ∷ [])
+change_text change = concat (
+    codes " accounts" ∷ count_text (length change.joining) ∷ flat_map joining_text change.joining
+    ∷ flat_map (standing_text (codes " closed")) change.closing ∷ flat_map (standing_text (codes " open")) change.reopening
+    ∷ tariffs_text change.tariffs ∷ [])
 
 -- a change of the terms
 unfoldable pub change_line : ℕ → Moment → TermsChange → List ℕ

@@ -2,13 +2,14 @@
 
 ghost use Rattle.std.specs.Prelude.{◌≡◌, ◌++◌, IfOk, OnOk, string_bytes};
 ghost use Rattle.std.specs.List.{flat_map};
-ghost use Rattle.book_lines.specs.Lines.{change_line, change_text, difference_line, joining_text, look_text, opening_text, tariff_text, tariffs_text};
+ghost use Rattle.book_lines.specs.Lines.{change_line, change_text, difference_line, joining_text, look_text, opening_text, standing_text, tariff_text, tariffs_text};
 
 use crate::charge::{push_head, push_known};
 use crate::services::{push_name, push_sum, push_sums};
-use crate::words::unit_word;
+use crate::words::{push_quoted, unit_word};
 use cc_book::{Account, TermsChange};
 use cc_rating::{Tariff, Tariffs};
+use cc_view::Subscription;
 use dia_base::Moment;
 use std::alloc::{AllocError, Global};
 
@@ -39,6 +40,37 @@ fn push_all_joining(
 {
     for account in accounts {
         push_joining(alloc, out, account)?;
+    }
+    Ok(())
+}
+
+/// Adds an account of which this is said, and not its opening.
+#[tactic(auto, unfolding(crate::specs::Lines::standing_text))]
+fn push_standing(
+    alloc: Global,
+    out: &mut Vec<u8>,
+    subscription: &Subscription,
+    said: &[u8],
+) -> Result<(), AllocError>
+    ensures { OnOk result (out.new.items ≡ out.old.items ++ standing_text said.now subscription.now) }
+{
+    let kind = subscription.kind;
+    let text = format!(in alloc; " account {kind} ")?;
+    out.extend_from_slice(text.as_bytes())?;
+    push_quoted(out, subscription.text.as_slice())?;
+    out.extend_from_slice(said)
+}
+
+fn push_all_standing(
+    alloc: Global,
+    out: &mut Vec<u8>,
+    subscriptions: &[Subscription],
+    said: &[u8],
+) -> Result<(), AllocError>
+    ensures { OnOk result (out.new.items ≡ out.old.items ++ flat_map (standing_text said.now) subscriptions.now) }
+{
+    for subscription in subscriptions {
+        push_standing(alloc, out, subscription, said)?;
     }
     Ok(())
 }
@@ -86,7 +118,7 @@ fn push_tariffs(
     push_all_tariffs(alloc, out, tariffs)
 }
 
-/// Adds the accounts that join by a change, and the tariffs.
+/// Adds the accounts that join, close and open again by a change, and the tariffs.
 #[tactic(auto, unfolding(crate::specs::Lines::change_text))]
 fn push_change_text(
     alloc: Global,
@@ -99,6 +131,8 @@ fn push_change_text(
     out.extend_from_slice(b" accounts")?;
     push_sum(alloc, out, joining.len() as u128)?;
     push_all_joining(alloc, out, joining)?;
+    push_all_standing(alloc, out, change.closing.as_slice(), b" closed")?;
+    push_all_standing(alloc, out, change.reopening.as_slice(), b" open")?;
     push_tariffs(alloc, out, &change.tariffs)
 }
 

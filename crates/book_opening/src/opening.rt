@@ -64,13 +64,7 @@ pub fn empty_under(alloc: Global, terms: Terms, limit: u64) -> Result<Book, Allo
     requires { limit ≤ HISTORY_LIMIT }
     ensures { IfOk result (λ book. book ≡ record { terms = terms; limit = limit; history = [] }) }
 {
-    let Terms {
-        accounts,
-        tariffs,
-        validity,
-        money,
-    } = terms;
-    Book::new(alloc, accounts.into_vec(), tariffs, validity, money, limit)
+    Book::under(alloc, terms, limit)
 }
 
 /// A book with no entry, under the terms that the octets of a book say it was made under.
@@ -283,9 +277,11 @@ pub fn change_book(
     Ok(read)
 }
 
-/// Makes a book under these terms in a file, with no entry, and gives the identity that it was drawn. The file is made too if it is
-/// missing.
-pub fn create_book(rt: &HostRuntime, path: &str, terms: &Terms) -> Result<Identity, BookFault> {
+/// Makes a book under these terms, by which no account is closed, in a file, with no entry, and gives the identity that it was drawn.
+/// The file is made too if it is missing.
+pub fn create_book(rt: &HostRuntime, path: &str, terms: &Terms) -> Result<Identity, BookFault>
+    requires { terms.now.closed ≡ [] }
+{
     let octets = spell_terms(rt.alloc(), terms)?;
     let about = About {
         identity: drawn(rt)?,

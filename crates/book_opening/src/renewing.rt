@@ -129,6 +129,8 @@ pub fn copy_of_terms(alloc: Global, terms: &Terms) -> Result<Terms, AllocError>
 {
     let nothing = TermsChange {
         joining: Listing::empty(alloc),
+        closing: Listing::empty(alloc),
+        reopening: Listing::empty(alloc),
         tariffs: None,
     };
     terms.changed(alloc, &nothing)

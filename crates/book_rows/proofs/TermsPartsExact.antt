@@ -6,10 +6,10 @@ use Rattle.cc_rating.specs.declared.tariffs.TariffFault.{TariffFault}
 use Rattle.cc_rating.specs.Tariffs.{fault_of}
 use Rattle.book_rows.specs.declared.fault.Fault.TheVariants.{BadFlag, OutOfRange, UnknownKind}
 use Rattle.book_rows.specs.Form.{both, counted, listed, number, optional}
-use Rattle.book_rows.specs.Parts.{is_small, signed}
+use Rattle.book_rows.specs.Parts.{is_small, signed, subscription}
 use Rattle.book_rows.specs.TermsParts.{account, account_of, account_parts, change, change_of, change_parts, kind, kind_number, kind_of, kinds, small, small_of, tariff, tariff_of, tariff_parts, tariffs, tariffs_by, tariffs_of, the_number, the_tariffs}
 use Rattle.book_rows.proofs.Exact.{IsExact, both_exact, checked_exact, counted_exact, listed_exact, number_exact, numbered_inverse, ok_is, optional_exact, test_ok}
-use Rattle.book_rows.proofs.PartsExact.{signed_exact}
+use Rattle.book_rows.proofs.PartsExact.{signed_exact, subscription_exact}
 
 small_inverse : (limit : ℕ) (x z : ℤ) → small_of limit x ≡ Ok z → x ≡ the_number z
 small_inverse limit x z e = (test_ok (is_small limit x) OutOfRange x z e).1
@@ -63,7 +63,12 @@ account_exact =
 pub change_exact : IsExact change
 unfolding change
 change_exact =
-    let said = optional BadFlag tariffs in
-    let p : IsExact said = optional_exact BadFlag tariffs tariffs_exact in
-    checked_exact (both (listed account) said) change_of change_parts (both_exact (listed account) said (listed_exact account account_exact) p)
-    (λ x c e. ap change_parts (ok_is (record { joining = x.0; tariffs = x.1 }) c e))
+    let named = listed_exact subscription subscription_exact in
+    let f3 = optional BadFlag tariffs in
+    let p3 : IsExact f3 = optional_exact BadFlag tariffs tariffs_exact in
+    let f2 = both (listed subscription) f3 in
+    let p2 : IsExact f2 = both_exact (listed subscription) f3 named p3 in
+    let f1 = both (listed subscription) f2 in
+    let p1 : IsExact f1 = both_exact (listed subscription) f2 named p2 in
+    checked_exact (both (listed account) f1) change_of change_parts (both_exact (listed account) f1 (listed_exact account account_exact) p1)
+    (λ x c e. ap change_parts (ok_is (record { joining = x.0; closing = x.1.0; reopening = x.1.1.0; tariffs = x.1.1.1 }) c e))

@@ -9,7 +9,7 @@ use Rattle.cc_rating.specs.declared.tariff.UnitKind.TheVariants.{Time, Octets, U
 use Rattle.cc_rating.specs.Tariffs.{fault_of}
 use Rattle.book_rows.specs.declared.fault.Fault.TheVariants.{BadFlag}
 use Rattle.book_rows.specs.Form.{Adds, AddsAll, both, counted, listed, number, optional}
-use Rattle.book_rows.specs.Parts.{is_small, signed}
+use Rattle.book_rows.specs.Parts.{is_small, signed, subscription}
 use Rattle.book_rows.specs.TermsParts.{account, account_of, account_parts, change, change_of, change_parts, kind, kind_number, kind_of, small, small_of, tariff, tariff_of, tariff_parts, tariffs, tariffs_by, tariffs_of, the_number, the_tariffs}
 use Rattle.book_rows.proofs.Repeated.{listed_added}
 use Rattle.book_rows.proofs.Written.{both_added, checked_added}
@@ -40,7 +40,9 @@ unfolding account
 account_added value {old = old} {new = new} p q r =
     checked_added (both (number 4) (both counted (small (2 ^ 63)))) account_of account_parts value old new refl (both_added p (both_added q r))
 
-pub change_added : (value : TermsChange) {old mid new : List ℕ} → Adds (listed account) value.joining old mid → Adds (optional BadFlag tariffs) value.tariffs mid new → Adds change value old new
+pub change_added : (value : TermsChange) {old a b c new : List ℕ} → Adds (listed account) value.joining old a → Adds (listed subscription) value.closing a b
+    → Adds (listed subscription) value.reopening b c → Adds (optional BadFlag tariffs) value.tariffs c new → Adds change value old new
 unfolding change
-change_added value {old = old} {new = new} p q =
-    checked_added (both (listed account) (optional BadFlag tariffs)) change_of change_parts value old new refl (both_added p q)
+change_added value {old = old} {new = new} p q r s =
+    checked_added (both (listed account) (both (listed subscription) (both (listed subscription) (optional BadFlag tariffs)))) change_of change_parts value old new refl
+    (both_added p (both_added q (both_added r s)))

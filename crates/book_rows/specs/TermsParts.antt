@@ -10,7 +10,8 @@ use Rattle.cc_rating.specs.Tariffs.{fault_of}
 use Rattle.book_rows.specs.declared.fault.Fault.{Fault}
 use Rattle.book_rows.specs.declared.fault.Fault.TheVariants.{BadFlag, BadTariffs, OutOfRange, UnknownKind}
 use Rattle.book_rows.specs.Form.{Form, both, checked, counted, listed, number, numbered, optional}
-use Rattle.book_rows.specs.Parts.{is_small, signed}
+use Rattle.cc_view.specs.declared.request.Subscription.{Subscription}
+use Rattle.book_rows.specs.Parts.{is_small, signed, subscription}
 
 -- ---- signed numbers of fewer bits
 
@@ -87,12 +88,13 @@ account = checked (both (number 4) (both counted (small (2 ^ 63)))) account_of a
 
 -- ---- a change of terms
 
-abbrev pub change_of : List Account × Option (List Tariff) → Result TermsChange Fault
-change_of x = Ok (record { joining = x.0; tariffs = x.1 })
+abbrev pub change_of : List Account × (List Subscription × (List Subscription × Option (List Tariff))) → Result TermsChange Fault
+change_of x = Ok (record { joining = x.0; closing = x.1.0; reopening = x.1.1.0; tariffs = x.1.1.1 })
 
-abbrev pub change_parts : TermsChange → List Account × Option (List Tariff)
-change_parts c = (c.joining, c.tariffs)
+abbrev pub change_parts : TermsChange → List Account × (List Subscription × (List Subscription × Option (List Tariff)))
+change_parts c = (c.joining, (c.closing, (c.reopening, c.tariffs)))
 
--- the accounts that join, and the tariffs that hold from then on, where the change says any
+-- the accounts that join, the Subscription-Ids of those that close and of those that open again, and the tariffs that hold from
+-- then on, where the change says any
 unfoldable pub change : Form TermsChange
-change = checked (both (listed account) (optional BadFlag tariffs)) change_of change_parts
+change = checked (both (listed account) (both (listed subscription) (both (listed subscription) (optional BadFlag tariffs)))) change_of change_parts

@@ -133,8 +133,12 @@ fn so_many_subscriptions_at(
     Ok((values, rest))
 }
 
+/// The Subscription-Ids that octets tell first, and the octets behind them.
 #[tactic(auto, unfolding(crate::specs::Form::listed))]
-fn subscriptions_at(alloc: Global, octets: &[u8]) -> Result<(Vec<Subscription>, &[u8]), ReadError>
+pub fn subscriptions_at(
+    alloc: Global,
+    octets: &[u8],
+) -> Result<(Vec<Subscription>, &[u8]), ReadError>
     ensures { Gives (λ x. (x.0.items, x.1.now)) result ((listed subscription).read octets.now) }
 {
     let (count, rest) = u64_at(octets)?;
@@ -150,7 +154,8 @@ fn push_all_subscriptions(out: &mut Vec<u8>, values: &[Subscription]) -> Result<
     Ok(())
 }
 
-fn push_subscriptions(out: &mut Vec<u8>, values: &[Subscription]) -> Result<(), AllocError>
+/// Adds how many Subscription-Ids there are, and each of them.
+pub fn push_subscriptions(out: &mut Vec<u8>, values: &[Subscription]) -> Result<(), AllocError>
     ensures { OnOk result (Adds (listed subscription) values.now out.old.items out.new.items) }
 {
     push_u64(out, values.len() as u64)?;

@@ -25,7 +25,7 @@ terms_exact =
     let f1 = both (small (2 ^ 31)) f2 in
     let p1 : IsExact f1 = both_exact (small (2 ^ 31)) f2 (small_exact (2 ^ 31)) p2 in
     checked_exact (both (number 4) f1) terms_of terms_parts (both_exact (number 4) f1 (number_exact 4) p1)
-    (λ x t e. ap terms_parts (ok_is (record { accounts = x.1.1.1.1; tariffs = x.1.1.1.0; validity = x.1.1.0; money = record { currency = x.0; exponent = x.1.0 } }) t e))
+    (λ x t e. ap terms_parts (ok_is (record { accounts = x.1.1.1.1; closed = []; tariffs = x.1.1.1.0; validity = x.1.1.0; money = record { currency = x.0; exponent = x.1.0 } }) t e))
 
 pub terms_again : (t : Terms) → terms.Fits t → whole terms (terms.spell t) ≡ Ok t
 terms_again = whole_again terms terms_exact

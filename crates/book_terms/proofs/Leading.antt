@@ -11,7 +11,7 @@ use Rattle.cc_rating.specs.declared.tariff.Tariff.{Tariff}
 use Rattle.cc_book.specs.declared.account.Account.{Account}
 use Rattle.cc_book.specs.declared.terms.Terms.{Terms}
 use Rattle.cc_book.specs.declared.terms_change.TermsChange.{TermsChange}
-use Rattle.cc_book.specs.TermsChange.{changed_terms, no_accounts, same_owner, says_nothing}
+use Rattle.cc_book.specs.TermsChange.{changed_terms, no_accounts, no_subscriptions, same_owner, says_nothing}
 use Rattle.book_terms.specs.declared.key.TermsKey.{TermsKey}
 use Rattle.book_terms.specs.declared.key.TermsKey.TheVariants as keys
 use Rattle.book_terms.specs.Difference.{DiffersIn, Hold, IsNeeded, SaysTariffs, has_other_opening, is_known, is_there, joining_of, same_account}
@@ -150,9 +150,10 @@ lead_there now wanted change needed = record {
 
 pub need_nothing : (now wanted : Terms) (change : TermsChange) → Hold now wanted → IsNeeded now wanted change → says_nothing change ≡ true
 need_nothing now wanted change hold needed =
-    both (no_accounts change.joining) (is_none change.tariffs)
-    (ap no_accounts (needed.joining ∙ none_joins now.accounts wanted.accounts hold.accounts))
-    (no_tariffs now.tariffs wanted.tariffs change.tariffs needed.tariffs hold.tariffs)
+    both (no_accounts change.joining) _ (ap no_accounts (needed.joining ∙ none_joins now.accounts wanted.accounts hold.accounts))
+    (both (no_subscriptions change.closing) _ (ap no_subscriptions needed.closing)
+    (both (no_subscriptions change.reopening) (is_none change.tariffs) (ap no_subscriptions needed.reopening)
+    (no_tariffs now.tariffs wanted.tariffs change.tariffs needed.tariffs hold.tariffs)))
 
 pub differ_in_none : (key : TermsKey) (now wanted : Terms) → Hold now wanted → DiffersIn key now wanted → ⊥
 differ_in_none keys.Currency now wanted hold differs = differs hold.numbers.currency
@@ -173,9 +174,10 @@ no_account (account ∷ accounts) e = absurd cc
 pub hold_already : (now wanted : Terms) (change : TermsChange) → IsNeeded now wanted change → says_nothing change ≡ true → Hold now wanted
 hold_already now wanted change needed nothing = record {
   numbers = needed.numbers;
-  tariffs = said_by_none now.tariffs wanted.tariffs change.tariffs needed.tariffs (both_right (no_accounts change.joining) (is_none change.tariffs) nothing);
+  tariffs = said_by_none now.tariffs wanted.tariffs change.tariffs needed.tariffs (both_right (no_subscriptions change.reopening) (is_none change.tariffs)
+      (both_right (no_subscriptions change.closing) _ (both_right (no_accounts change.joining) _ nothing)));
   accounts =
-      let none : joining_of now.accounts wanted.accounts ≡ [] = sym needed.joining ∙ no_account change.joining (both_left (no_accounts change.joining) (is_none change.tariffs) nothing) in
+      let none : joining_of now.accounts wanted.accounts ≡ [] = sym needed.joining ∙ no_account change.joining (both_left (no_accounts change.joining) _ nothing) in
       let P : List Account → Type 0 = λ l. list_all (is_there l) wanted.accounts ≡ true in
       subst P (ap (λ (l : List Account). now.accounts ++ l) none ∙ append-nil now.accounts) (stand now.accounts [] wanted.accounts needed.openings);
 }

@@ -1,5 +1,5 @@
 -- What a site's terms have that the terms of a book have not: what a change brings, and what no change can bring.
-use Rattle.std.specs.Prelude.{◌≡◌, ◌≢◌, ℕ, ◌<◌, List, length, take, slice_get, Bool, true, false, not, ◌&&◌, Option, None, Some}
+use Rattle.std.specs.Prelude.{◌≡◌, ◌≢◌, ℕ, ◌<◌, List, [], length, take, slice_get, Bool, true, false, not, ◌&&◌, Option, None, Some}
 use Rattle.std.specs.List.{filter, list_all, list_any, position}
 use Rattle.std.specs.Ordering.{int_eq}
 use Rattle.cc_book.specs.declared.account.Account.{Account}
@@ -75,11 +75,13 @@ SaysTariffs now wanted None = now ≡ wanted
 SaysTariffs now wanted (Some tariffs) = (tariffs ≡ wanted) × (now ≢ wanted)
 
 -- The change that leads from the terms that hold to those that are wanted: accounts that are not there join, and the tariffs hold.
--- An account that is there and not wanted stays.
+-- An account that is there and not wanted stays, and so does one that is closed.
 pub record IsNeeded (now wanted : Terms) (change : TermsChange) : Type 0 where
   pub numbers : AgreeInNumbers now wanted
   pub openings : list_any (has_other_opening now.accounts) wanted.accounts ≡ false
   pub joining : change.joining ≡ joining_of now.accounts wanted.accounts
+  pub closing : change.closing ≡ []
+  pub reopening : change.reopening ≡ []
   pub tariffs : SaysTariffs now.tariffs wanted.tariffs change.tariffs
 
 -- The terms that are wanted hold: money, validity and tariffs, and each account is there with its opening. There may be others.

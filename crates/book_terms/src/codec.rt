@@ -1,6 +1,6 @@
 //! Terms as octets: how they are written, and read again.
 
-ghost use Rattle.std.specs.Prelude.{◌≡◌, IfOk, OnOk};
+ghost use Rattle.std.specs.Prelude.{◌≡◌, [], IfOk, OnOk};
 ghost use Rattle.book_rows.specs.About.{whole};
 ghost use Rattle.book_rows.specs.Form.{Adds, Gives};
 ghost use Rattle.book_terms.specs.Terms.{terms as terms_form};
@@ -25,6 +25,7 @@ fn terms_at(alloc: Global, octets: &[u8]) -> Result<(Terms, &[u8]), ReadError>
     Ok((
         Terms {
             accounts: Listing::from_vec(accounts),
+            closed: Listing::empty(alloc),
             tariffs,
             validity,
             money: Money { currency, exponent },
@@ -55,6 +56,7 @@ pub fn read_terms(alloc: Global, octets: &[u8]) -> Result<Terms, ReadError>
 }
 
 fn push_terms(out: &mut Vec<u8>, value: &Terms) -> Result<(), AllocError>
+    requires { value.now.closed ≡ [] }
     ensures { OnOk result (Adds terms_form value.now out.old.items out.new.items) }
 {
     push_u32(out, value.money.currency)?;
@@ -65,8 +67,9 @@ fn push_terms(out: &mut Vec<u8>, value: &Terms) -> Result<(), AllocError>
     Ok(())
 }
 
-/// The octets of the terms.
+/// The octets of the terms that a book begins with: no account is closed then.
 pub fn spell_terms(alloc: Global, terms: &Terms) -> Result<Vec<u8>, AllocError>
+    requires { terms.now.closed ≡ [] }
     ensures octets { IfOk result (λ octets. octets.items ≡ terms_form.spell terms.now) }
     ensures fits { OnOk result (terms_form.Fits terms.now) }
 {

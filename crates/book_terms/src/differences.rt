@@ -44,6 +44,8 @@ pub fn needed_change(alloc: Global, now: &Terms, wanted: &Terms) -> Result<Terms
     let joining = joining_of(alloc, now.accounts.as_slice(), wanted.accounts.as_slice())?;
     Ok(TermsChange {
         joining: Listing::from_vec(joining),
+        closing: Listing::empty(alloc),
+        reopening: Listing::empty(alloc),
         tariffs: needed_tariffs(alloc, &now.tariffs, &wanted.tariffs)?,
     })
 }

@@ -15,7 +15,7 @@ use Rattle.cc_book.specs.declared.entry.Entry.{Entry}
 use Rattle.cc_book.specs.declared.entry.Entry.TheVariants.{Take, Sweep, ChangeTerms}
 use Rattle.cc_book.specs.declared.session.Hold.{Hold}
 use Rattle.cc_book.specs.declared.terms.Terms.{Terms}
-use Rattle.cc_book.specs.AccountMachine.{account_by, account_of, charged_account, free_to_grant, grants_by, grants_with, holds_from, opener_account, post, posting_of, postings_of, reply_after, settles_after, settles_by, terms_at, terms_of}
+use Rattle.cc_book.specs.AccountMachine.{account_by, account_of, charged_account, free_to_grant, grants_by, grants_with, holds_from, holds_on, opener_account, post, posting_of, postings_of, reply_after, settles_after, settles_by, terms_at, terms_of}
 use Rattle.cc_book.specs.Balance.{balance_of, debit_of, reserved_of}
 use Rattle.cc_book.specs.Duplicate.{same_session}
 use Rattle.cc_book.specs.Posting.{Posting, is_account}
@@ -81,9 +81,9 @@ granted-own terms before moment request = by (settles_after terms before request
       (Some opened)) (session_of terms.validity request.session before)))
       ≡ charged_account terms before request)
   by true settles =
-      belongs_by terms.validity moment.0 (account_of terms.accounts request.subscriptions) (session_of terms.validity request.session before)
-      (is_some (account_of terms.accounts request.subscriptions))
-      (same_session request.session request.session) (holds_from terms.tariffs (free_to_grant terms before request) request.services) request.kind
+      belongs_by terms.validity moment.0 (account_of terms request.subscriptions) (session_of terms.validity request.session before)
+      (is_some (account_of terms request.subscriptions))
+      (same_session request.session request.session) (holds_on terms (charged_account terms before request) (free_to_grant terms before request) request.services) request.kind
       (reply_after terms before request).code settles (own_session request.session)
   by false settles = inl refl
 
@@ -101,7 +101,7 @@ belongs terms before session (Take moment request) = record {
   by : (opens (posting_of terms before (Take moment request)) && same_session request.session session) ≡ true → is_open terms.validity session before ≡ false
   by own =
       subst (λ (id : List ℕ). is_open terms.validity id before ≡ false) (is_own own)
-      (closed_by (is_open terms.validity request.session before) (is_some (account_of terms.accounts request.subscriptions))
+      (closed_by (is_open terms.validity request.session before) (is_some (account_of terms request.subscriptions))
       (is_success (reply_after terms before request).code) (same_session request.session session) request.kind own)
 belongs terms before session (Sweep moment) = record { closed = λ own. absurd cc; account = λ own. absurd cc }
 belongs terms before session (ChangeTerms moment change) = record { closed = λ own. absurd cc; account = λ own. absurd cc }
@@ -237,12 +237,12 @@ module _ (terms : Terms) (before : List Posting) (moment : Moment) (request : Cc
         ap (λ (id : List ℕ). is_open terms.validity id before) same ∙ sym (ap (λ (o : Option Opened). is_some o) lasts.ends) ∙ lives.0 in
         let opener : opener_account terms.validity before request.session ≡ account_in lasts.now =
         ap (λ (id : List ℕ). opener_account terms.validity before id) same ∙ sym (ap account_in lasts.ends) ∙ lives.1 in
-        ap (λ (b : Bool). not (settles_by request.kind b (is_some (account_of terms.accounts request.subscriptions))
+        ap (λ (b : Bool). not (settles_by request.kind b (is_some (account_of terms request.subscriptions))
         && (same_session request.session r.session && list_any (has_name name) request.services))
         && not (same_session request.session r.session && is_ending request.kind)) is_on
-        ∙ spared request.kind (is_some (account_of terms.accounts request.subscriptions)) (same_session request.session r.session)
+        ∙ spared request.kind (is_some (account_of terms request.subscriptions)) (same_session request.session r.session)
         (list_any (has_name name) request.services) account
-        (account_of terms.accounts request.subscriptions) (opener_account terms.validity before request.session) (ap (is_account account) opener ∙ lasts.own)
+        (account_of terms request.subscriptions) (opener_account terms.validity before request.session) (ap (is_account account) opener ∙ lasts.own)
         other
 
   alive-same : (m : Moment) (r : CcRequest) (name : ServiceName) (after : List Posting) → Lasts m r after
@@ -345,7 +345,7 @@ module _ (terms : Terms) (history : List Entry) (moment : Moment) (request : CcR
 module _ (terms : Terms) (before : List Posting) (moment : Moment) (request : CcRequest) (event : request.kind ≡ Event) where
   settles-none : settles_after terms before request ≡ false
   settles-none =
-      ap (λ (kind : RequestKind). settles_by kind (is_open terms.validity request.session before) (is_some (account_of terms.accounts request.subscriptions)))
+      ap (λ (kind : RequestKind). settles_by kind (is_open terms.validity request.session before) (is_some (account_of terms request.subscriptions)))
       event
 
   event-spares : (id : List ℕ) (name : ServiceName) → survives request (settles_after terms before request) id name ≡ true

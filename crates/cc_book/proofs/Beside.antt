@@ -109,7 +109,7 @@ module _ (terms : Terms) (before : List Posting) (moment : Moment) (request : Cc
   event-alone : (session : List ℕ) → request.kind ≡ Event → LeavesAlone terms.validity session own
   event-alone session event =
       let none : settles_after terms before request ≡ false =
-      ap (λ (kind : RequestKind). settles_by kind (is_open terms.validity request.session before) (is_some (account_of terms.accounts request.subscriptions)))
+      ap (λ (kind : RequestKind). settles_by kind (is_open terms.validity request.session before) (is_some (account_of terms request.subscriptions)))
       event in
       record {
         unopened = ap (λ (b : Bool). (b && (is_initial_kind request.kind && is_success (reply_after terms before request).code))

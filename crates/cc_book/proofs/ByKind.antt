@@ -17,7 +17,7 @@ use Rattle.cc_book.specs.declared.entry.Entry.TheVariants.{Take}
 use Rattle.cc_book.specs.declared.session.Hold.{Hold}
 use Rattle.cc_book.specs.declared.session.OpenSession.{OpenSession}
 use Rattle.cc_book.specs.declared.terms.Terms.{Terms}
-use Rattle.cc_book.specs.AccountMachine.{account_by, account_of, action_debit, charged_account, closing_reply, code_alone, debit_after, debit_by, event_after, event_reply, free_for, free_to_grant, granting_reply, grants_after, grants_by, grants_with, holds_from, opener_account, posting_of, reply_after, reply_by, settles_after, settles_by, total_of, unsettled_code, price_by}
+use Rattle.cc_book.specs.AccountMachine.{account_by, account_of, action_debit, charged_account, closing_reply, code_alone, debit_after, debit_by, event_after, event_reply, free_for, free_to_grant, granting_reply, grants_after, grants_by, grants_with, holds_on, opener_account, posting_of, price_by, reply_after, reply_by, settles_after, settles_by, total_of, unsettled_code}
 use Rattle.cc_book.specs.Posting.{Posting}
 use Rattle.cc_book.specs.ServiceRating.{used_total, tariff_of}
 use Rattle.cc_book.specs.Session.{Opened, is_initial_kind, is_open, is_success, opens}
@@ -32,10 +32,10 @@ use Rattle.cc_view.specs.Request.ServiceLimits.{name_of}
 
 settles-by : (terms : Terms) (before : List Posting) (request : CcRequest) (kind : RequestKind) (opened known : Bool) → request.kind ≡ kind
     → is_open terms.validity request.session before ≡ opened
-    → is_some (account_of terms.accounts request.subscriptions) ≡ known → settles_after terms before request ≡ settles_by kind opened known
+    → is_some (account_of terms request.subscriptions) ≡ known → settles_after terms before request ≡ settles_by kind opened known
 settles-by terms before request kind opened known is one other =
-    ap (λ (k : RequestKind). settles_by k (is_open terms.validity request.session before) (is_some (account_of terms.accounts request.subscriptions))) is
-    ∙ ap (λ (b : Bool). settles_by kind b (is_some (account_of terms.accounts request.subscriptions))) one
+    ap (λ (k : RequestKind). settles_by k (is_open terms.validity request.session before) (is_some (account_of terms request.subscriptions))) is
+    ∙ ap (λ (b : Bool). settles_by kind b (is_some (account_of terms request.subscriptions))) one
     ∙ ap (settles_by kind opened) other
 
 opens-unsettled : (terms : Terms) (before : List Posting) (moment : Moment) (request : CcRequest) → settles_after terms before request ≡ false
@@ -50,11 +50,11 @@ grants-unsettled terms before request none =
 
 grants-by : (terms : Terms) (before : List Posting) (request : CcRequest) (kind : RequestKind) → request.kind ≡ kind → settles_after terms before request ≡ true
     → grants_after terms before request ≡ grants_with kind (reply_after terms before request).code
-    (holds_from terms.tariffs (free_to_grant terms before request) request.services)
+    (holds_on terms (charged_account terms before request) (free_to_grant terms before request) request.services)
 grants-by terms before request kind is settled =
     ap (grants_by terms before request) settled
     ∙ ap (λ (k : RequestKind). grants_with k (reply_after terms before request).code
-    (holds_from terms.tariffs (free_to_grant terms before request) request.services)) is
+    (holds_on terms (charged_account terms before request) (free_to_grant terms before request) request.services)) is
 
 -- ---- its session
 
@@ -109,10 +109,10 @@ module _ {terms : Terms} {before : List Posting} {balances : List ℤ} {sessions
   opened place session at there = ap is_some (open-stands s request.session place session at there).0
 
   charged : (kind : RequestKind) → request.kind ≡ kind
-      → charged_account terms before request ≡ account_by kind (account_of terms.accounts request.subscriptions)
+      → charged_account terms before request ≡ account_by kind (account_of terms request.subscriptions)
       (opener_account terms.validity before request.session)
   charged kind is =
-      ap (λ (k : RequestKind). account_by k (account_of terms.accounts request.subscriptions) (opener_account terms.validity before request.session)) is
+      ap (λ (k : RequestKind). account_by k (account_of terms request.subscriptions) (opener_account terms.validity before request.session)) is
 
   opener-closed : place_in sessions request.session ≡ None → opener_account terms.validity before request.session ≡ None
   opener-closed none = ap (λ (o : Option Opened). option_and_then (λ (now : Opened). now.account) o) (closed-stands s request.session none)
@@ -124,20 +124,20 @@ module _ {terms : Terms} {before : List Posting} {balances : List ℤ} {sessions
 
   -- the account that a request charges, by what stands
   pub charged-own : (kind : RequestKind) → request.kind ≡ kind
-      → account_by kind (account_of terms.accounts request.subscriptions) (opener_account terms.validity before request.session)
-      ≡ account_of terms.accounts request.subscriptions
-      → account_of terms.accounts request.subscriptions ≡ charged_account terms before request
+      → account_by kind (account_of terms request.subscriptions) (opener_account terms.validity before request.session)
+      ≡ account_of terms request.subscriptions
+      → account_of terms request.subscriptions ≡ charged_account terms before request
   charged-own kind is own = sym (charged kind is ∙ own)
 
   pub charged-closed : (kind : RequestKind) → request.kind ≡ kind → place_in sessions request.session ≡ None
-      → account_by kind (account_of terms.accounts request.subscriptions) (opener_account terms.validity before request.session)
+      → account_by kind (account_of terms request.subscriptions) (opener_account terms.validity before request.session)
       ≡ opener_account terms.validity before request.session
       → None ≡ charged_account terms before request
   charged-closed kind is none of_opener = sym (charged kind is ∙ of_opener ∙ opener-closed none)
 
   pub charged-open : (kind : RequestKind) (place : ℕ) (session : OpenSession) → request.kind ≡ kind → place_in sessions request.session ≡ Some place
       → slice_get sessions place ≡ Some session
-      → account_by kind (account_of terms.accounts request.subscriptions) (opener_account terms.validity before request.session)
+      → account_by kind (account_of terms request.subscriptions) (opener_account terms.validity before request.session)
       ≡ opener_account terms.validity before request.session
       → Some session.account ≡ charged_account terms before request
   charged-open kind place session is at there of_opener = sym (charged kind is ∙ of_opener ∙ opener-open place session at there)
@@ -147,31 +147,31 @@ module _ {terms : Terms} {before : List Posting} {balances : List ℤ} {sessions
       → slice_get sessions place ≡ Some session
       → IsOutcome terms before sessions moment request
       (record {
-        account = account_of terms.accounts request.subscriptions;
+        account = account_of terms request.subscriptions;
         debit = pos 0;
         reply = code_alone UnableToComply;
         change =
             GoesOn place (prolonged session moment session.holds session.prices);
       })
   initial-open place session is at there =
-      let known = is_some (account_of terms.accounts request.subscriptions) in
+      let known = is_some (account_of terms request.subscriptions) in
       let none : settles_after terms before request ≡ false = settles-by terms before request Initial true known is (opened place session at there) refl in
       let found = (open-stands s request.session place session at there).1 in
-      unsettled Initial (account_of terms.accounts request.subscriptions) UnableToComply (GoesOn place (prolonged session moment session.holds session.prices)) is none
+      unsettled Initial (account_of terms request.subscriptions) UnableToComply (GoesOn place (prolonged session moment session.holds session.prices)) is none
       (sym (charged Initial is)) refl
-      (ap (λ (b : Bool). cond b (granting_reply terms (free_to_grant terms before request) request.services)
+      (ap (λ (b : Bool). cond b (granting_reply terms (charged_account terms before request) (free_to_grant terms before request) request.services)
       (code_alone (unsettled_code Initial (is_open terms.validity request.session before)))) none
       ∙ ap (λ (b : Bool). code_alone (unsettled_code Initial b)) (opened place session at there))
       (sym (change-open sessions request moment (posting_of terms before (Take moment request)) Initial place session is at found))
 
   -- an INITIAL without an account
-  pub initial-unknown : request.kind ≡ Initial → place_in sessions request.session ≡ None → account_of terms.accounts request.subscriptions ≡ None
+  pub initial-unknown : request.kind ≡ Initial → place_in sessions request.session ≡ None → account_of terms request.subscriptions ≡ None
       → IsOutcome terms before sessions moment request (record { account = None; debit = pos 0; reply = code_alone UserUnknown; change = Stays })
   initial-unknown is shut unknown =
       let none : settles_after terms before request ≡ false = settles-by terms before request Initial false false is (closed shut) (ap is_some unknown) in
       unsettled Initial None UserUnknown Stays is none
       (sym (charged Initial is ∙ unknown)) refl
-      (ap (λ (b : Bool). cond b (granting_reply terms (free_to_grant terms before request) request.services)
+      (ap (λ (b : Bool). cond b (granting_reply terms (charged_account terms before request) (free_to_grant terms before request) request.services)
       (code_alone (unsettled_code Initial (is_open terms.validity request.session before)))) none
       ∙ ap (λ (b : Bool). code_alone (unsettled_code Initial b)) (closed shut))
       (change-unsettled sessions request moment (posting_of terms before (Take moment request)) shut (opens-unsettled terms before moment request none))
@@ -180,17 +180,17 @@ module _ {terms : Terms} {before : List Posting} {balances : List ℤ} {sessions
   pub update-closed : request.kind ≡ Update → place_in sessions request.session ≡ None
       → IsOutcome terms before sessions moment request (record { account = None; debit = pos 0; reply = code_alone UnknownSessionId; change = Stays })
   update-closed is shut =
-      let known = is_some (account_of terms.accounts request.subscriptions) in
+      let known = is_some (account_of terms request.subscriptions) in
       let none : settles_after terms before request ≡ false = settles-by terms before request Update false known is (closed shut) refl in
       unsettled Update None UnknownSessionId Stays is none
       (sym (charged Update is ∙ opener-closed shut)) refl
-      (ap (λ (b : Bool). cond b (granting_reply terms (free_to_grant terms before request) request.services) (code_alone UnknownSessionId)) none)
+      (ap (λ (b : Bool). cond b (granting_reply terms (charged_account terms before request) (free_to_grant terms before request) request.services) (code_alone UnknownSessionId)) none)
       (change-unsettled sessions request moment (posting_of terms before (Take moment request)) shut (opens-unsettled terms before moment request none))
 
   pub termination-closed : request.kind ≡ Termination → place_in sessions request.session ≡ None
       → IsOutcome terms before sessions moment request (record { account = None; debit = pos 0; reply = code_alone UnknownSessionId; change = Stays })
   termination-closed is shut =
-      let known = is_some (account_of terms.accounts request.subscriptions) in
+      let known = is_some (account_of terms request.subscriptions) in
       let none : settles_after terms before request ≡ false = settles-by terms before request Termination false known is (closed shut) refl in
       unsettled Termination None UnknownSessionId Stays is none
       (sym (charged Termination is ∙ opener-closed shut)) refl
@@ -226,7 +226,7 @@ module _ {terms : Terms} {before : List Posting} {balances : List ℤ} {sessions
         change = Ends place;
       })
   termination-open place session is at there small =
-      let known = is_some (account_of terms.accounts request.subscriptions) in
+      let known = is_some (account_of terms request.subscriptions) in
       let settled : settles_after terms before request ≡ true =
       settles-by terms before request Termination true known is (opened place session at there) refl in
       let found = (open-stands s request.session place session at there).1 in
@@ -245,35 +245,40 @@ module _ {terms : Terms} {before : List Posting} {balances : List ℤ} {sessions
   -- the reply of a request that is granted what is free
   granted-reply : (kind : RequestKind) → request.kind ≡ kind → settles_after terms before request ≡ true
       → reply_by terms before request kind
-      ≡ cond (settles_after terms before request) (granting_reply terms (free_to_grant terms before request) request.services)
+      ≡ cond (settles_after terms before request) (granting_reply terms (charged_account terms before request) (free_to_grant terms before request) request.services)
       (code_alone (unsettled_code kind (is_open terms.validity request.session before)))
-      → granting_reply terms (free_to_grant terms before request) request.services ≡ reply_after terms before request
+      → granting_reply terms (charged_account terms before request) (free_to_grant terms before request) request.services ≡ reply_after terms before request
   granted-reply kind is settled replies =
       sym (ap (reply_by terms before request) is ∙ replies
-      ∙ ap (λ (b : Bool). cond b (granting_reply terms (free_to_grant terms before request) request.services)
+      ∙ ap (λ (b : Bool). cond b (granting_reply terms (charged_account terms before request) (free_to_grant terms before request) request.services)
       (code_alone (unsettled_code kind (is_open terms.validity request.session before)))) settled)
 
   pub update-open : (place : ℕ) (session : OpenSession) (free : ℤ) (holds : List Hold) → request.kind ≡ Update
       → place_in sessions request.session ≡ Some place → slice_get sessions place ≡ Some session
       → used_total (price_by terms before request Update) request.services ≤ 2 ^ 103 → free ≡ free_to_grant terms before request
-      → holds ≡ holds_from terms.tariffs free request.services → held_in holds ≤ 2 ^ 89
+      → holds ≡ holds_on terms (Some session.account) free request.services → held_in holds ≤ 2 ^ 89
       → IsOutcome terms before sessions moment request (record {
         account = Some session.account;
         debit = pos (used_total (price_by terms before request Update) request.services);
-        reply = granting_reply terms free request.services;
+        reply = granting_reply terms (Some session.account) free request.services;
         change = GoesOn place (prolonged session moment (holds_beside request.services session.holds ++ holds)
             (prices_after terms.tariffs session.prices holds));
       })
   update-open place session free holds is at there small same held few =
-      let known = is_some (account_of terms.accounts request.subscriptions) in
+      let known = is_some (account_of terms request.subscriptions) in
       let settled : settles_after terms before request ≡ true = settles-by terms before request Update true known is (opened place session at there) refl in
       let found = (open-stands s request.session place session at there).1 in
+      let own : Some session.account ≡ charged_account terms before request = sym (charged Update is ∙ opener-open place session at there) in
       let grants : holds ≡ grants_after terms before request =
-      held ∙ ap (λ (z : ℤ). holds_from terms.tariffs z request.services) same ∙ sym (grants-by terms before request Update is settled) in
+      held ∙ ap (λ (z : ℤ). holds_on terms (Some session.account) z request.services) same
+      ∙ ap (λ (a : Option ℕ). holds_on terms a (free_to_grant terms before request) request.services) own
+      ∙ sym (grants-by terms before request Update is settled) in
       record {
-        account = sym (charged Update is ∙ opener-open place session at there);
+        account = own;
         debit = settled-debit Update is settled refl;
-        reply = ap (λ (z : ℤ). granting_reply terms z request.services) same ∙ granted-reply Update is settled refl;
+        reply = ap (λ (z : ℤ). granting_reply terms (Some session.account) z request.services) same
+            ∙ ap (λ (a : Option ℕ). granting_reply terms a (free_to_grant terms before request) request.services) own
+            ∙ granted-reply Update is settled refl;
         change = ap (λ (hs : List Hold). GoesOn place (prolonged session moment (holds_beside request.services session.holds ++ hs)
             (prices_after terms.tariffs session.prices hs))) grants
             ∙ sym (change-open sessions request moment (posting_of terms before (Take moment request)) Update place session is at found);
@@ -296,27 +301,30 @@ module _ {terms : Terms} {before : List Posting} {balances : List ℤ} {sessions
   opening-few false holds few = omega arith
 
   pub initial-closed : (account : ℕ) (free : ℤ) (holds : List Hold) (change : Change) → request.kind ≡ Initial → place_in sessions request.session ≡ None
-      → account_of terms.accounts request.subscriptions ≡ Some account
+      → account_of terms request.subscriptions ≡ Some account
       → used_total (price_by terms before request Initial) request.services ≤ 2 ^ 103 → free ≡ free_to_grant terms before request
-      → holds ≡ holds_from terms.tariffs free request.services → held_in holds ≤ 2 ^ 89
-      → change ≡ opening-change (is_success (granting_reply terms free request.services).code) account holds
+      → holds ≡ holds_on terms (Some account) free request.services → held_in holds ≤ 2 ^ 89
+      → change ≡ opening-change (is_success (granting_reply terms (Some account) free request.services).code) account holds
       → IsOutcome terms before sessions moment request (record {
         account = Some account;
         debit = pos (used_total (price_by terms before request Initial) request.services);
-        reply = granting_reply terms free request.services;
+        reply = granting_reply terms (Some account) free request.services;
         change = change;
       })
   initial-closed account free holds change is shut own small same held few changed =
       let settled : settles_after terms before request ≡ true = settles-by terms before request Initial false true is (closed shut) (ap is_some own) in
       let posting = posting_of terms before (Take moment request) in
-      let reply : granting_reply terms free request.services ≡ reply_after terms before request = ap (λ (z : ℤ). granting_reply terms z request.services) same
+      let account_is : charged_account terms before request ≡ Some account = charged Initial is ∙ own in
+      let reply : granting_reply terms (Some account) free request.services ≡ reply_after terms before request =
+      ap (λ (z : ℤ). granting_reply terms (Some account) z request.services) same
+      ∙ ap (λ (a : Option ℕ). granting_reply terms a (free_to_grant terms before request) request.services) (sym account_is)
       ∙ granted-reply Initial is settled refl in
       let success : Bool = is_success (reply_after terms before request).code in
-      let all : holds ≡ holds_from terms.tariffs (free_to_grant terms before request) request.services = held
-      ∙ ap (λ (z : ℤ). holds_from terms.tariffs z request.services) same in
+      let all : holds ≡ holds_on terms (charged_account terms before request) (free_to_grant terms before request) request.services = held
+      ∙ ap (λ (z : ℤ). holds_on terms (Some account) z request.services) same
+      ∙ ap (λ (a : Option ℕ). holds_on terms a (free_to_grant terms before request) request.services) (sym account_is) in
       let grants : grants_after terms before request ≡ cond success holds [] =
       grants-by terms before request Initial is settled ∙ sym (ap (λ (hs : List Hold). cond success hs []) all) in
-      let account_is : charged_account terms before request ≡ Some account = charged Initial is ∙ own in
       let opens_is : opens posting ≡ success =
       ap (λ (b : Bool). b && (is_initial_kind request.kind && success)) settled ∙ ap (λ (k : RequestKind). is_initial_kind k && success) is in
       record {
@@ -344,7 +352,7 @@ module _ {terms : Terms} {before : List Posting} {balances : List ℤ} {sessions
       (used_total (price_by terms before request Update) request.services)
       → free ≡ free_to_grant terms before request
   free-update place session free ended is at there parts value =
-      let known = is_some (account_of terms.accounts request.subscriptions) in
+      let known = is_some (account_of terms request.subscriptions) in
       let settled : settles_after terms before request ≡ true = settles-by terms before request Update true known is (opened place session at there) refl in
       let debit = settled-debit Update is settled refl in
       let account = free-stands s session.account (open-stands s request.session place session at there).3 in
@@ -352,7 +360,7 @@ module _ {terms : Terms} {before : List Posting} {balances : List ℤ} {sessions
       omega (arith, ints)
 
   pub free-initial : (account : ℕ) (free : ℤ) → request.kind ≡ Initial → place_in sessions request.session ≡ None
-      → account_of terms.accounts request.subscriptions ≡ Some account → account < length terms.accounts
+      → account_of terms request.subscriptions ≡ Some account → account < length terms.accounts
       → free ≡ ((slice_index_or balances account (pos 0) -ℤ pos (reserved_in account sessions)) +ℤ pos 0) -ℤ pos (used_total (price_by terms before request Initial) request.services)
       → free ≡ free_to_grant terms before request
   free-initial account free is shut own within value =
@@ -369,7 +377,7 @@ module _ {terms : Terms} {before : List Posting} {balances : List ℤ} {sessions
   free-event None within = refl
   free-event (Some account) within = sym (free-stands s account within)
 
-  pub event-outcome : (account : Option ℕ) (total : Option ℕ) → request.kind ≡ Event → account ≡ account_of terms.accounts request.subscriptions
+  pub event-outcome : (account : Option ℕ) (total : Option ℕ) → request.kind ≡ Event → account ≡ account_of terms request.subscriptions
       → IfSome account (λ place. place < length terms.accounts)
       → total ≡ total_of terms.tariffs request.services
       → negsuc (2 ^ 103 - 1) ≤ℤ action_debit (unwrap_or total 0)
@@ -385,7 +393,7 @@ module _ {terms : Terms} {before : List Posting} {balances : List ℤ} {sessions
       })
   event-outcome account total is own within costs least most =
       let none : settles_after terms before request ≡ false =
-      settles-by terms before request Event (is_open terms.validity request.session before) (is_some (account_of terms.accounts request.subscriptions)) is
+      settles-by terms before request Event (is_open terms.validity request.session before) (is_some (account_of terms request.subscriptions)) is
       refl refl in
       let reply : event_reply terms request.services account (free_in balances sessions account) request.action ≡ event_after terms before request =
       ap (λ (z : ℤ). event_reply terms request.services account z request.action) (free-event account within)

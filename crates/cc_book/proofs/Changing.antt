@@ -1,6 +1,6 @@
 -- What stands after a change of the terms, and what a book answers to one.
 use Rattle.std.proofs.Common.{◌≡◌, ℕ, suc, ◌+◌, ◌-◌, ◌<◌, ◌≤◌, ◌^◌, Bool, true, false, cond, not, ◌&&◌, ◌||◌, List, [], ◌∷◌, ◌++◌, All, length, length-append, map, Option, Some, None, Result, Ok, Err, is_some, inl, inr, refl, sym, ap, subst, ◌∙◌, arith, rules, slice_index_or}
-use Rattle.std.specs.Prelude.{ℤ, pos, negsuc, ◌-ℤ◌, ◌≤ℤ◌, IsOk, is_ok, nat_abs, nat_le, sum_by, IfSome, find}
+use Rattle.std.specs.Prelude.{ℤ, pos, negsuc, ◌-ℤ◌, ◌≤ℤ◌, IsOk, is_none, is_ok, nat_abs, nat_le, sum_by, IfSome, find}
 use Rattle.std.specs.List.{AllByRecursion, fold, list_any}
 use Rattle.std.specs.Option.{option_or}
 use Rattle.std.proofs.Math.ListN.{get_or-append}
@@ -12,6 +12,7 @@ use Rattle.std.proofs.lemmas.List.Sums.{fold-append}
 use Rattle.dia_base.specs.declared.number.Moment.{Moment}
 use Rattle.cc_view.specs.declared.reply.CcReply.{CcReply}
 use Rattle.cc_view.specs.declared.request.ServiceName.{ServiceName}
+use Rattle.cc_view.specs.declared.request.Subscription.{Subscription}
 use Rattle.cc_book.specs.declared.account.Account.{Account}
 use Rattle.cc_book.specs.declared.entry.Entry.{Entry}
 use Rattle.cc_book.specs.declared.entry.Entry.TheVariants.{Take, Sweep, ChangeTerms}
@@ -19,7 +20,7 @@ use Rattle.cc_book.specs.declared.session.Hold.{Hold}
 use Rattle.cc_book.specs.declared.session.OpenSession.{OpenSession}
 use Rattle.cc_book.specs.declared.terms.Terms.{Terms}
 use Rattle.cc_book.specs.declared.terms_change.ChangeRefusal.{ChangeRefusal}
-use Rattle.cc_book.specs.declared.terms_change.ChangeRefusal.TheVariants.{Nothing, AlreadyThere, Twice, Full, OutOfMemory}
+use Rattle.cc_book.specs.declared.terms_change.ChangeRefusal.TheVariants.{Nothing, AlreadyThere, Twice, NotThere, ClosedAlready, ClosedTwice, NotClosed, ReopenedTwice, Full, OutOfMemory}
 use Rattle.cc_book.specs.declared.terms_change.TermsChange.{TermsChange}
 use Rattle.cc_book.specs.AccountMachine.{opening_at, postings_of, terms_of}
 use Rattle.cc_book.specs.Balance.{open_sessions_of, reserved_of}
@@ -30,7 +31,7 @@ use Rattle.cc_book.specs.Reservation.{held_by, is_alive, replaces, reserved_by, 
 use Rattle.cc_book.specs.Session.{Opened, is_of, left_after, next_session, open_count, opened_at, opens, outlasts, session_in, session_of}
 use Rattle.cc_book.specs.Standing.{Stands, alive_weight, grants_weight, open_weight, openings_of, reserved_in, sessions_after, is_session}
 use Rattle.cc_book.specs.Taking.{IsBook, Ledger}
-use Rattle.cc_book.specs.TermsChange.{account_fault, changed_terms, fault_of_change, joining_fault, same_owner, says_nothing}
+use Rattle.cc_book.specs.TermsChange.{account_fault, account_with, changed_terms, closing_fault, fault_of_change, first_fault, is_among, joining_fault, reopening_fault, same_owner, says_nothing, standing_fault}
 use Rattle.cc_book.proofs.Alive.{Weight, any-push}
 use Rattle.cc_book.proofs.Books.{opens-push, replies-push, sessions_after-push, stands-push}
 use Rattle.cc_book.proofs.Bounds.{bounded-empty, opens-small}
@@ -297,18 +298,58 @@ no_memory_by accounts before (account ∷ after) e =
     by false true later e = cc
     by false false later e = later e
 
+closing-no_memory : (terms : Terms) (before : List Subscription) (s : Subscription) → closing_fault terms before s ≡ Some OutOfMemory → ⊥
+closing-no_memory terms before s = by (is_none (account_with terms.accounts s)) (is_among terms.closed s) (is_among before s) where
+  by : (strange shut twice : Bool)
+      → cond strange (Some (NotThere (length before))) (cond shut (Some (ClosedAlready (length before))) (cond twice (Some (ClosedTwice (length before))) None))
+      ≡ Some OutOfMemory → ⊥
+  by true shut twice e = cc
+  by false true twice e = cc
+  by false false true e = cc
+  by false false false e = cc
+
+reopening-no_memory : (terms : Terms) (before : List Subscription) (s : Subscription) → reopening_fault terms before s ≡ Some OutOfMemory → ⊥
+reopening-no_memory terms before s = by (not (is_among terms.closed s)) (is_among before s) where
+  by : (free twice : Bool)
+      → cond free (Some (NotClosed (length before))) (cond twice (Some (ReopenedTwice (length before))) None) ≡ Some OutOfMemory → ⊥
+  by true twice e = cc
+  by false true e = cc
+  by false false e = cc
+
+or-no_memory : (first second : Option ChangeRefusal) → (first ≡ Some OutOfMemory → ⊥) → (second ≡ Some OutOfMemory → ⊥)
+    → option_or first second ≡ Some OutOfMemory → ⊥
+or-no_memory None second one other e = other e
+or-no_memory (Some fault) second one other e = one e
+
+no_memory_among : (fault : List Subscription → Subscription → Option ChangeRefusal)
+    → ((before : List Subscription) (s : Subscription) → fault before s ≡ Some OutOfMemory → ⊥)
+    → (before after : List Subscription) → first_fault fault before after ≡ Some OutOfMemory → ⊥
+no_memory_among fault each before [] e = cc
+no_memory_among fault each before (s ∷ after) e =
+    or-no_memory (fault before s) (first_fault fault (before ++ s ∷ []) after) (each before s)
+    (no_memory_among fault each (before ++ s ∷ []) after) e
+
 -- memory is no fault of a change
 pub fault-no_memory : (terms : Terms) (change : TermsChange) → fault_of_change terms change ≡ Some OutOfMemory → ⊥
 fault-no_memory terms change = by (says_nothing change) where
-  by : (b : Bool) → cond b (Some Nothing) (joining_fault terms.accounts [] change.joining) ≡ Some OutOfMemory → ⊥
+  by : (b : Bool) → cond b (Some Nothing) (option_or (joining_fault terms.accounts [] change.joining) (standing_fault terms change)) ≡ Some OutOfMemory → ⊥
   by true e = cc
-  by false e = no_memory_by terms.accounts [] change.joining e
+  by false e =
+      or-no_memory (joining_fault terms.accounts [] change.joining) (standing_fault terms change) (no_memory_by terms.accounts [] change.joining)
+      (or-no_memory (first_fault (closing_fault terms) [] change.closing) (first_fault (reopening_fault terms) [] change.reopening)
+      (no_memory_among (closing_fault terms) (closing-no_memory terms) [] change.closing)
+      (no_memory_among (reopening_fault terms) (reopening-no_memory terms) [] change.reopening)) e
 
 refused-with : (expected : Result ℕ ChangeRefusal) (refusal : ChangeRefusal) → (refusal ≡ OutOfMemory → ⊥) → expected ≡ Err refusal
     → ChangesWith expected (Err refusal)
 refused-with expected Nothing other is = is
 refused-with expected (AlreadyThere place) other is = is
 refused-with expected (Twice place) other is = is
+refused-with expected (NotThere place) other is = is
+refused-with expected (ClosedAlready place) other is = is
+refused-with expected (ClosedTwice place) other is = is
+refused-with expected (NotClosed place) other is = is
+refused-with expected (ReopenedTwice place) other is = is
 refused-with expected (Full limit) other is = is
 refused-with expected OutOfMemory other is = absurd (other refl)
 

@@ -16,7 +16,7 @@ use Rattle.cc_book.specs.declared.entry.Entry.{Entry}
 use Rattle.cc_book.specs.declared.entry.Entry.TheVariants.{Take, Sweep, ChangeTerms}
 use Rattle.cc_book.specs.declared.session.Hold.{Hold}
 use Rattle.cc_book.specs.declared.terms.Terms.{Terms}
-use Rattle.cc_book.specs.AccountMachine.{account_of, charged_account, free_to_grant, grants_by, grants_with, holds_from, post, posting_of, postings_of, reply_after, settles_after, settles_by, terms_at}
+use Rattle.cc_book.specs.AccountMachine.{account_of, charged_account, free_to_grant, grants_by, grants_with, holds_from, holds_on, post, posting_of, postings_of, reply_after, settles_after, settles_by, terms_at}
 use Rattle.cc_book.specs.Duplicate.{same_session}
 use Rattle.cc_book.specs.Balance.{open_sessions_of, reserved_of}
 use Rattle.cc_book.specs.Posting.{Posting, is_account}
@@ -130,8 +130,8 @@ keeps_own terms before moment request = by (settles_after terms before request) 
       (Some opened)) (session_of terms.validity request.session before)))
   by true settles =
       keeps_by terms.validity moment.0 (charged_account terms before request) (session_of terms.validity request.session before)
-      (is_some (account_of terms.accounts request.subscriptions)) (same_session request.session request.session)
-      (holds_from terms.tariffs (free_to_grant terms before request) request.services) request.kind (reply_after terms before request).code settles
+      (is_some (account_of terms request.subscriptions)) (same_session request.session request.session)
+      (holds_on terms (charged_account terms before request) (free_to_grant terms before request) request.services) request.kind (reply_after terms before request).code settles
       (own_session request.session)
   by false settles = inl refl
 

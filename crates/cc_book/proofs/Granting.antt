@@ -25,7 +25,7 @@ use Rattle.cc_book.specs.declared.entry.Entry.{Entry}
 use Rattle.cc_book.specs.declared.entry.Entry.TheVariants.{Take, Sweep, ChangeTerms}
 use Rattle.cc_book.specs.declared.session.Hold.{Hold}
 use Rattle.cc_book.specs.declared.terms.Terms.{Terms}
-use Rattle.cc_book.specs.AccountMachine.{charged_account, free_after, free_behind, free_for, free_to_grant, grant_to, grants_after, grants_by, grants_with, hold_of, holds_from, is_refused, made_grant, posting_of, postings_of, reply_after, settles_after, settling_posting, terms_of}
+use Rattle.cc_book.specs.AccountMachine.{charged_account, free_after, free_behind, free_for, free_to_grant, grant_to, grants_after, grants_by, grants_with, hold_of, holds_from, holds_on, is_closed, is_refused, made_grant, posting_of, postings_of, reply_after, settles_after, settling_posting, terms_of}
 use Rattle.cc_book.specs.Duplicate.{same_session}
 use Rattle.cc_book.specs.Posting.{Posting, is_account}
 use Rattle.cc_book.specs.Reservation.{held_after, is_alive, replaces, reserved_by}
@@ -81,6 +81,14 @@ holds-free tariffs free (service ∷ services) good =
     hold-free free service grant (holds_from tariffs (free_behind free grant) services) (grant-free tariffs free service good)
     (holds-free tariffs (free_behind free grant) services good)
 
+-- and of a closed account none
+holds_on-free : (terms : Terms) (account : Option ℕ) (free : ℤ) (services : List Service) → AreInRange terms.tariffs
+    → pos (held_in (holds_on terms account free services)) ≤ℤ int_max free (pos 0)
+holds_on-free terms account free services good = by (is_closed terms account) where
+  by : (b : Bool) → pos (held_in (cond b [] (holds_from terms.tariffs free services))) ≤ℤ int_max free (pos 0)
+  by true = none_free free
+  by false = holds-free terms.tariffs free services good
+
 -- ---- what a request reserves
 
 grants_with-free : (free : ℤ) (kind : RequestKind) (code : ResultCode) (holds : List Hold) → pos (held_in holds) ≤ℤ int_max free (pos 0)
@@ -99,8 +107,8 @@ grants_after-free terms before request good = by (settles_after terms before req
   by : (b : Bool) → pos (held_in (grants_by terms before request b)) ≤ℤ int_max (free_to_grant terms before request) (pos 0)
   by true =
       grants_with-free (free_to_grant terms before request) request.kind (reply_after terms before request).code
-      (holds_from terms.tariffs (free_to_grant terms before request) request.services)
-      (holds-free terms.tariffs (free_to_grant terms before request) request.services good)
+      (holds_on terms (charged_account terms before request) (free_to_grant terms before request) request.services)
+      (holds_on-free terms (charged_account terms before request) (free_to_grant terms before request) request.services good)
   by false = none_free (free_to_grant terms before request)
 
 pub grants-free : (terms : Terms) (history : List Entry) (request : CcRequest) → fault_of (terms_of terms history).tariffs ≡ None

@@ -26,7 +26,7 @@ use Rattle.cc_book.specs.declared.entry.Entry.{Entry}
 use Rattle.cc_book.specs.declared.entry.Entry.TheVariants.{Take, Sweep, ChangeTerms}
 use Rattle.cc_book.specs.declared.session.Hold.{Hold}
 use Rattle.cc_book.specs.declared.terms.Terms.{Terms}
-use Rattle.cc_book.specs.AccountMachine.{free_behind, free_to_grant, grant_to, grants_by, grants_with, hold_of, holds_from, is_refused, made_grant, posting_of, postings_of, reply_after, settles_after, terms_of}
+use Rattle.cc_book.specs.AccountMachine.{charged_account, free_behind, free_to_grant, grant_to, grants_by, grants_with, hold_of, holds_from, holds_on, is_closed, is_refused, made_grant, posting_of, postings_of, reply_after, settles_after, terms_of}
 use Rattle.cc_book.specs.Laws.{GrantsAtMost, HasLimits, KeepsTerms, grants_alive}
 use Rattle.cc_book.specs.Posting.{Posting}
 use Rattle.cc_book.specs.Reservation.{held_by, is_alive, same_name}
@@ -111,6 +111,13 @@ holds-most name most tariffs free (service ∷ services) limits =
     (λ same. made-most most grant (limited-most name most tariffs free service limits same))
     (holds-most name most tariffs (free_behind free grant) services limits)
 
+holds_on-most : (name : ServiceName) (most : ℕ) (terms : Terms) (account : Option ℕ) (free : ℤ) (services : List Service)
+    → GrantsAtMost terms.tariffs name most → CostsAtMost name most (holds_on terms account free services)
+holds_on-most name most terms account free services limits = by (is_closed terms account) where
+  by : (b : Bool) → CostsAtMost name most (cond b [] (holds_from terms.tariffs free services))
+  by true = tt
+  by false = holds-most name most terms.tariffs free services limits
+
 with-most : (name : ServiceName) (most : ℕ) (kind : RequestKind) (code : ResultCode) (holds : List Hold) → CostsAtMost name most holds
     → CostsAtMost name most (grants_with kind code holds)
 with-most name most Initial code holds all = by (is_success code) where
@@ -129,8 +136,8 @@ posting-most terms before (Take moment request) name most limits = by (settles_a
   by : (b : Bool) → CostsAtMost name most (grants_by terms before request b)
   by true =
       with-most name most request.kind (reply_after terms before request).code
-      (holds_from terms.tariffs (free_to_grant terms before request) request.services)
-      (holds-most name most terms.tariffs (free_to_grant terms before request) request.services limits)
+      (holds_on terms (charged_account terms before request) (free_to_grant terms before request) request.services)
+      (holds_on-most name most terms (charged_account terms before request) (free_to_grant terms before request) request.services limits)
   by false = tt
 
 -- each entry of a history, under the terms of its place

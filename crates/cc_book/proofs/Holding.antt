@@ -21,7 +21,7 @@ use Rattle.cc_book.specs.declared.entry.Entry.{Entry}
 use Rattle.cc_book.specs.declared.entry.Entry.TheVariants.{Take, Sweep, ChangeTerms}
 use Rattle.cc_book.specs.declared.session.Hold.{Hold}
 use Rattle.cc_book.specs.declared.terms.Terms.{Terms}
-use Rattle.cc_book.specs.AccountMachine.{free_behind, free_to_grant, grant_to, grants_by, grants_with, hold_of, grants_after, holds_from, made_grant, posting_of, postings_of, reply_after, settles_after, terms_at}
+use Rattle.cc_book.specs.AccountMachine.{charged_account, free_behind, free_to_grant, grant_to, grants_after, grants_by, grants_with, hold_of, holds_from, holds_on, is_closed, made_grant, posting_of, postings_of, reply_after, settles_after, terms_at}
 use Rattle.cc_book.specs.Duplicate.{same_session}
 use Rattle.cc_book.specs.Laws.{HasLimits, grants_alive}
 use Rattle.cc_book.specs.Posting.{Posting}
@@ -106,6 +106,15 @@ holds-named name tariffs free (service ∷ services) =
     let more = holds-named name tariffs (free_behind free grant) services in
     omega (arith, count-cons (has_name name) service services)
 
+-- and those on an account that may be closed
+holds_on-named : (name : ServiceName) (terms : Terms) (account : Option ℕ) (free : ℤ) (services : List Service)
+    → held name (holds_on terms account free services) ≤ count_by (has_name name) services
+unfolding held
+holds_on-named name terms account free services = by (is_closed terms account) where
+  by : (b : Bool) → held name (cond b [] (holds_from terms.tariffs free services)) ≤ count_by (has_name name) services
+  by true = omega arith
+  by false = holds-named name terms.tariffs free services
+
 -- a posting of a session holds a service at most once, and ends its earlier grants where it does
 record HoldsOnce (session : List ℕ) (name : ServiceName) (posting : Posting) : Type 0 where
   pub once : is_of session posting.entry ≡ true → held name posting.grants ≤ 1
@@ -128,8 +137,8 @@ grants-named terms before request name = by (settles_after terms before request)
   by : (b : Bool) → count_by (λ (hold : Hold). same_name hold.service name) (grants_by terms before request b) ≤ count_by (has_name name) request.services
   by true =
       let part = with-le name request.kind (reply_after terms before request).code
-      (holds_from terms.tariffs (free_to_grant terms before request) request.services) in
-      let all = holds-named name terms.tariffs (free_to_grant terms before request) request.services in
+      (holds_on terms (charged_account terms before request) (free_to_grant terms before request) request.services) in
+      let all = holds_on-named name terms (charged_account terms before request) (free_to_grant terms before request) request.services in
       omega arith
   by false = omega arith
 

@@ -1,5 +1,6 @@
 mod Accounts
 mod Beside
+mod Closing
 mod Due
 pub mod Fitting
 mod Ending

@@ -13,7 +13,7 @@ use Rattle.cc_book.specs.declared.outcome.Outcome.{Outcome}
 use Rattle.cc_book.specs.declared.entry.Entry.TheVariants.{Take}
 use Rattle.cc_book.specs.declared.session.OpenSession.{OpenSession}
 use Rattle.cc_book.specs.declared.terms.Terms.{Terms}
-use Rattle.cc_book.specs.AccountMachine.{account_by, account_of, charged_account, free_to_grant, grants_after, grants_by, grants_with, holds_from, opener_account, post, posting_of, reply_after, settles_after, settles_by}
+use Rattle.cc_book.specs.AccountMachine.{account_by, account_of, charged_account, free_to_grant, grants_after, grants_by, grants_with, holds_from, holds_on, opener_account, post, posting_of, reply_after, settles_after, settles_by}
 use Rattle.cc_book.specs.Posting.{Posting, debit_to, is_account}
 use Rattle.cc_book.specs.Session.{Opened, is_initial_kind, is_open, is_success, next_session, opens, session_by}
 use Rattle.cc_book.specs.Standing.{IsOutcome, Stands, after_change, after_debit, change_at, change_closed, change_of, change_open, grants_weight, holds_beside, holds_weight, is_session, opened_as, place_in, opened_session}
@@ -89,22 +89,22 @@ module _ (terms : Terms) (before : List Posting) (moment : Moment) (request : Cc
     by : (b : Bool) → grants_by terms before request b ≡ []
     by true =
         ap (λ (k : RequestKind). grants_with k (reply_after terms before request).code
-        (holds_from terms.tariffs (free_to_grant terms before request) request.services)) kind
+        (holds_on terms (charged_account terms before request) (free_to_grant terms before request) request.services)) kind
     by false = refl
 
   -- what does not open its session, where that is not open, is granted nothing
   none-unopened : is_open terms.validity request.session before ≡ false → opens q ≡ false → grants_after terms before request ≡ []
   none-unopened closed unopened = by request.kind refl settles (ap (λ (b : Bool). settles_by request.kind b known) closed) unopened where
     known : Bool
-    known = is_some (account_of terms.accounts request.subscriptions)
+    known = is_some (account_of terms request.subscriptions)
 
     by : (kind : RequestKind) → request.kind ≡ kind → (b : Bool) → b ≡ settles_by kind false known
         → (b && (is_initial_kind kind && is_success (reply_after terms before request).code)) ≡ false → grants_by terms before request b ≡ []
     by kind is false settled none = refl
     by Initial is true settled none =
         ap (λ (k : RequestKind). grants_with k (reply_after terms before request).code
-        (holds_from terms.tariffs (free_to_grant terms before request) request.services)) is
-        ∙ ap (λ (b : Bool). cond b (holds_from terms.tariffs (free_to_grant terms before request) request.services) []) none
+        (holds_on terms (charged_account terms before request) (free_to_grant terms before request) request.services)) is
+        ∙ ap (λ (b : Bool). cond b (holds_on terms (charged_account terms before request) (free_to_grant terms before request) request.services) []) none
     by Update is true settled none = absurd cc
     by Termination is true settled none = absurd cc
     by Event is true settled none = absurd cc
@@ -115,10 +115,10 @@ module _ (terms : Terms) (before : List Posting) (moment : Moment) (request : Cc
       let parts = and_parts settles (is_initial_kind request.kind && is_success (reply_after terms before request).code) does in
       let kind = initial_kind request.kind (and_parts (is_initial_kind request.kind) (is_success (reply_after terms before request).code) parts.1).0 in
       let opened = is_open terms.validity request.session before in
-      let own = account_of terms.accounts request.subscriptions in
+      let own = account_of terms request.subscriptions in
       let settled : (not opened && is_some own) ≡ true = sym (ap (λ (k : RequestKind). settles_by k opened (is_some own)) kind) ∙ parts.0 in
       let known = known_account (length terms.accounts) own (and_parts (not opened) (is_some own) settled).1
-      (account_of-within terms.accounts request.subscriptions) in
+      (account_of-within terms request.subscriptions) in
       (known.0, ap (λ (k : RequestKind). account_by k own (opener_account terms.validity before request.session)) kind ∙ known.1, known.2)
 
 -- ---- the sessions after a request
@@ -167,10 +167,10 @@ module _ {terms : Terms} {before : List Posting} {balances : List ℤ} {sessions
     at = is_at_place request.session sessions place session some there s.own_ids
 
     settled-by : (kind : RequestKind) → request.kind ≡ kind
-        → settles_after terms before request ≡ settles_by kind true (is_some (account_of terms.accounts request.subscriptions))
+        → settles_after terms before request ≡ settles_by kind true (is_some (account_of terms request.subscriptions))
     settled-by kind is =
-        ap (λ (k : RequestKind). settles_by k (is_open terms.validity request.session before) (is_some (account_of terms.accounts request.subscriptions))) is
-        ∙ ap (λ (b : Bool). settles_by kind b (is_some (account_of terms.accounts request.subscriptions)))
+        ap (λ (k : RequestKind). settles_by k (is_open terms.validity request.session before) (is_some (account_of terms request.subscriptions))) is
+        ∙ ap (λ (b : Bool). settles_by kind b (is_some (account_of terms request.subscriptions)))
         (ap is_some (open-stands s request.session place session some there).0)
 
     -- an INITIAL is refused, and yet prolongs its session

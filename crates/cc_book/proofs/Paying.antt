@@ -25,7 +25,7 @@ use Rattle.cc_book.specs.declared.account.Money.{Money}
 use Rattle.cc_book.specs.declared.entry.Entry.{Entry}
 use Rattle.cc_rating.specs.declared.tariff.Tariff.{Tariff}
 use Rattle.cc_book.specs.declared.terms.Terms.{Terms}
-use Rattle.cc_book.specs.AccountMachine.{account_of, action_debit, action_reply, add, check_reply, closing_reply, code_alone, debit_after, debit_by, event_reply, free_after, free_behind, free_for, free_to_grant, grant_to, granted, granted_all, granting_reply, needs_account, postings_of, price_reply, rated_reply, replies_from, reply_after, reply_by, reply_to, service_cost, settled_reply, settles_after, sum_of_costs, total_of, unsettled_code, terms_of}
+use Rattle.cc_book.specs.AccountMachine.{account_of, action_debit, action_reply, add, charged_account, check_reply, closing_reply, code_alone, debit_after, debit_by, event_reply, free_after, free_behind, free_for, free_to_grant, grant_to, granted, granted_all, granting_reply, is_closed, needs_account, postings_of, price_reply, rated_reply, refusal_to, replies_from, replies_on, reply_after, reply_by, reply_to, service_cost, settled_reply, settles_after, sum_of_costs, terms_of, total_of, unsettled_code}
 use Rattle.cc_book.specs.Balance.{debit_of}
 use Rattle.cc_book.specs.Laws.{cost_of_reply, granted_cost}
 use Rattle.cc_book.specs.Posting.{Posting}
@@ -91,8 +91,8 @@ paid-account terms services (Some account) free = paid-total terms services free
 -- the reply to an EVENT with this action
 replied : Terms → List Posting → CcRequest → Option RequestedAction → CcReply
 replied terms before request action =
-    event_reply terms request.services (account_of terms.accounts request.subscriptions)
-    (free_for terms before (account_of terms.accounts request.subscriptions)) action
+    event_reply terms request.services (account_of terms request.subscriptions)
+    (free_for terms before (account_of terms request.subscriptions)) action
 
 debit_of-event : (terms : Terms) (before : List Posting) (request : CcRequest) (action : Option RequestedAction) → request.kind ≡ Event
     → request.action ≡ action
@@ -112,7 +112,7 @@ pub paid : (terms : Terms) (history : List Entry) (request : CcRequest) → requ
 unfolding debit_of reply_to replied
 paid terms history request event debits =
     let before = postings_of terms history in
-    let account = account_of (terms_of terms history).accounts request.subscriptions in
+    let account = account_of (terms_of terms history) request.subscriptions in
     debit_of-event (terms_of terms history) before request (Some DirectDebiting) event debits
     ∙ paid-account (terms_of terms history) request.services account (free_for (terms_of terms history) before account)
     ∙ sym (ap (λ (r : CcReply). pos (cost_of_reply (terms_of terms history).tariffs r)) (reply-event (terms_of terms history) before request (Some DirectDebiting) event debits))
@@ -133,7 +133,7 @@ covered-total terms services free None e = absurd cc
 covered-total terms services free (Some total) e = test_le (pos total) free (covered-room terms.tariffs services (int_le (pos total) free) e)
 
 pub covered : (terms : Terms) (history : List Entry) (request : CcRequest) (account : ℕ) → request.kind ≡ Event → request.action ≡ Some DirectDebiting
-    → account_of (terms_of terms history).accounts request.subscriptions ≡ Some account
+    → account_of (terms_of terms history) request.subscriptions ≡ Some account
     → (reply_to terms history request).code ≡ Success → debit_of terms history request ≤ℤ free_after (terms_of terms history) (postings_of terms history) account
 unfolding debit_of reply_to replied
 covered terms history request account event debits is_account e =
@@ -162,7 +162,7 @@ test_no a b h = grind (arith, ints)
 -- the reply to an EVENT on a known account whose services have a cost
 answered : (terms : Terms) (before : List Posting) (request : CcRequest) (action : RequestedAction) (account total : ℕ) → request.kind ≡ Event
     → request.action ≡ Some action
-    → account_of terms.accounts request.subscriptions ≡ Some account → total_of terms.tariffs request.services ≡ Some total
+    → account_of terms request.subscriptions ≡ Some account → total_of terms.tariffs request.services ≡ Some total
     → reply_after terms before request ≡ action_reply terms request.services total (free_after terms before account) action
 unfolding replied
 answered terms before request action account total event is is_account is_total =
@@ -174,7 +174,7 @@ answered terms before request action account total event is is_account is_total 
     ∙ ap (λ (t : Option ℕ). rated_reply terms request.services t (free_after terms before account) action) is_total
 
 module _ (terms : Terms) (history : List Entry) (request : CcRequest) (account total : ℕ) (event : request.kind ≡ Event)
-    (is_account : account_of (terms_of terms history).accounts request.subscriptions ≡ Some account) (is_total : total_of (terms_of terms history).tariffs request.services ≡ Some total) where
+    (is_account : account_of (terms_of terms history) request.subscriptions ≡ Some account) (is_total : total_of (terms_of terms history).tariffs request.services ≡ Some total) where
   abbrev room : ℤ
   room = free_after (terms_of terms history) (postings_of terms history) account
 
@@ -336,9 +336,36 @@ closed-units terms [] = All-nil HasUnits
 closed-units terms (service ∷ services) =
     All-cons HasUnits (closed terms service) (map (closed terms) services) (granted-code (tariff_of terms.tariffs service)) (closed-units terms services)
 
-fits-granting : (terms : Terms) (free : ℤ) (services : List Service) → length services ≤ 32 → GrantsFew (granting_reply terms free services)
-fits-granting terms free services few =
-    record { few = subst (λ (n : ℕ). n ≤ 32) (sym (replies_from-length terms free services)) few; units = replies_from-units terms free services }
+-- a service of a closed account is refused
+shut : Terms → Service → ServiceReply
+shut terms service = settled_reply terms service (refusal_to terms.tariffs service)
+
+shut-units : (terms : Terms) (services : List Service) → All HasUnits (map (shut terms) services)
+unfolding shut
+shut-units terms [] = All-nil HasUnits
+shut-units terms (service ∷ services) =
+    All-cons HasUnits (shut terms service) (map (shut terms) services) (granted-code (tariff_of terms.tariffs service)) (shut-units terms services)
+
+replies_on-length : (terms : Terms) (account : Option ℕ) (free : ℤ) (services : List Service) → length (replies_on terms account free services) ≡ length services
+unfolding shut
+replies_on-length terms account free services = by (is_closed terms account) where
+  by : (b : Bool) → length (cond b (map (shut terms) services) (replies_from terms free services)) ≡ length services
+  by true = length-map services (shut terms)
+  by false = replies_from-length terms free services
+
+replies_on-units : (terms : Terms) (account : Option ℕ) (free : ℤ) (services : List Service) → All HasUnits (replies_on terms account free services)
+unfolding shut
+replies_on-units terms account free services = by (is_closed terms account) where
+  by : (b : Bool) → All HasUnits (cond b (map (shut terms) services) (replies_from terms free services))
+  by true = shut-units terms services
+  by false = replies_from-units terms free services
+
+fits-granting : (terms : Terms) (account : Option ℕ) (free : ℤ) (services : List Service) → length services ≤ 32
+    → GrantsFew (granting_reply terms account free services)
+fits-granting terms account free services few = record {
+  few = subst (λ (n : ℕ). n ≤ 32) (sym (replies_on-length terms account free services)) few;
+  units = replies_on-units terms account free services;
+}
 
 fits-closing : (terms : Terms) (services : List Service) → length services ≤ 32 → GrantsFew (closing_reply terms services)
 unfolding closed
@@ -351,14 +378,14 @@ grants_few terms history request limits = by request.kind where
   before = postings_of terms history
 
   granting : (code : ResultCode)
-      → GrantsFew (cond (settles_after (terms_of terms history) before request) (granting_reply (terms_of terms history) (free_to_grant (terms_of terms history) before request) request.services) (code_alone code))
+      → GrantsFew (cond (settles_after (terms_of terms history) before request) (granting_reply (terms_of terms history) (charged_account (terms_of terms history) before request) (free_to_grant (terms_of terms history) before request) request.services) (code_alone code))
   granting code =
-      fits-test (settles_after (terms_of terms history) before request) (granting_reply (terms_of terms history) (free_to_grant (terms_of terms history) before request) request.services) (code_alone code)
-      (fits-granting (terms_of terms history) (free_to_grant (terms_of terms history) before request) request.services limits.few) (fits-alone code)
+      fits-test (settles_after (terms_of terms history) before request) (granting_reply (terms_of terms history) (charged_account (terms_of terms history) before request) (free_to_grant (terms_of terms history) before request) request.services) (code_alone code)
+      (fits-granting (terms_of terms history) (charged_account (terms_of terms history) before request) (free_to_grant (terms_of terms history) before request) request.services limits.few) (fits-alone code)
 
   by : (kind : RequestKind) → GrantsFew (reply_by (terms_of terms history) before request kind)
-  by Event = fits-event (terms_of terms history) request.services (account_of (terms_of terms history).accounts request.subscriptions)
-      (free_for (terms_of terms history) before (account_of (terms_of terms history).accounts request.subscriptions)) request.action limits.few
+  by Event = fits-event (terms_of terms history) request.services (account_of (terms_of terms history) request.subscriptions)
+      (free_for (terms_of terms history) before (account_of (terms_of terms history) request.subscriptions)) request.action limits.few
   by Initial = granting (unsettled_code Initial (is_open terms.validity request.session before))
   by Update = granting UnknownSessionId
   by Termination =

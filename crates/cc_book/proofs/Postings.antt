@@ -8,17 +8,18 @@ use Rattle.std.proofs.lemmas.List.Elements.{All-head, All-tail}
 use Rattle.std.proofs.lemmas.List.Sums.{fold-append}
 use Rattle.dia_base.specs.declared.number.Moment.{Moment}
 use Rattle.cc_view.specs.declared.request.CcRequest.{CcRequest}
+use Rattle.cc_view.specs.declared.request.Subscription.{Subscription}
 use Rattle.cc_book.specs.declared.entry.Entry.{Entry}
 use Rattle.cc_book.specs.declared.entry.Entry.TheVariants.{Take, Sweep, ChangeTerms}
 use Rattle.cc_book.specs.declared.account.Account.{Account}
 use Rattle.cc_book.specs.declared.terms.Terms.{Terms}
 use Rattle.cc_book.specs.declared.terms_change.TermsChange.{TermsChange}
 use Rattle.cc_rating.specs.declared.tariff.Tariff.{Tariff}
-use Rattle.cc_book.specs.AccountMachine.{accounts_at, charged_account, post, posting_of, postings_of, opening_at, tariffs_at, terms_at, terms_of}
+use Rattle.cc_book.specs.AccountMachine.{accounts_at, charged_account, closed_at, post, posting_of, postings_of, opening_at, tariffs_at, terms_at, terms_of}
 use Rattle.cc_book.specs.Balance.{debit_of, balance_of, spent_by}
 use Rattle.cc_book.specs.Posting.{Posting, is_account, debit_to, debits_to}
 use Rattle.cc_book.specs.Laws.{KeepsTerms}
-use Rattle.cc_book.specs.TermsChange.{accounts_with, changed_terms, tariffs_with, terms_with}
+use Rattle.cc_book.specs.TermsChange.{accounts_with, changed_terms, closed_with, tariffs_with, terms_with}
 
 pub postings_of-push : (terms : Terms) (history : List Entry) (entry : Entry)
     → postings_of terms (history ++ entry ∷ []) ≡ post terms (postings_of terms history) entry
@@ -41,7 +42,9 @@ terms_at-push terms before posting =
     fold-append (λ (known : List Account) (p : Posting). accounts_with known p.entry) terms.accounts before (posting ∷ []) in
     let tariffs : tariffs_at terms.tariffs (before ++ posting ∷ []) ≡ tariffs_with (tariffs_at terms.tariffs before) posting.entry =
     fold-append (λ (known : List Tariff) (p : Posting). tariffs_with known p.entry) terms.tariffs before (posting ∷ []) in
-    λ i. record { accounts = accounts i; tariffs = tariffs i; validity = terms.validity; money = terms.money }
+    let closed : closed_at terms.closed (before ++ posting ∷ []) ≡ closed_with (closed_at terms.closed before) posting.entry =
+    fold-append (λ (known : List Subscription) (p : Posting). closed_with known p.entry) terms.closed before (posting ∷ []) in
+    λ i. record { accounts = accounts i; closed = closed i; tariffs = tariffs i; validity = terms.validity; money = terms.money }
 
 -- the terms after one more entry
 pub terms_at-post : (terms : Terms) (before : List Posting) (entry : Entry) → terms_at terms (post terms before entry) ≡ terms_with (terms_at terms before) entry

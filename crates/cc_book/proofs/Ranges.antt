@@ -29,7 +29,7 @@ use Rattle.cc_book.specs.declared.entry.Entry.{Entry}
 use Rattle.cc_book.specs.declared.entry.Entry.TheVariants.{Take, Sweep, ChangeTerms}
 use Rattle.cc_book.specs.declared.session.Hold.{Hold}
 use Rattle.cc_book.specs.declared.terms.Terms.{Terms}
-use Rattle.cc_book.specs.AccountMachine.{accounts_at, action_debit, add, debit_by, event_after, free_behind, free_to_grant, grant_to, grants_by, grants_with, hold_of, holds_from, made_grant, opening_at, posting_of, postings_of, reply_after, service_cost, settles_after, sum_of_costs, tariffs_at, terms_at, terms_of, total_of}
+use Rattle.cc_book.specs.AccountMachine.{accounts_at, action_debit, add, charged_account, debit_by, event_after, free_behind, free_to_grant, grant_to, grants_by, grants_with, hold_of, holds_from, holds_on, is_closed, made_grant, opening_at, posting_of, postings_of, reply_after, service_cost, settles_after, sum_of_costs, tariffs_at, terms_at, terms_of, total_of}
 use Rattle.cc_book.specs.Bounds.{AsksSmall, IsInRange, MovesLittle, OpensSmall}
 use Rattle.cc_book.specs.Posting.{Posting}
 use Rattle.cc_book.specs.ServiceRating.{asked_of, asking_cost, count_place, tariff_of, used_cost, used_of, used_total}
@@ -169,6 +169,13 @@ module _ (tariffs : List Tariff) (ranges : IsTrue (list_all in_range tariffs)) w
       let parts = held_in-append (hold_of service (made_grant grant)) (holds_from tariffs (free_behind free grant) services) in
       omega arith
 
+pub holds_on-most : (terms : Terms) → IsTrue (list_all in_range terms.tariffs) → (account : Option ℕ) (free : ℤ) (services : List Service)
+    → held_in (holds_on terms account free services) ≤ length services * 2 ^ 84
+holds_on-most terms ranges account free services = by (is_closed terms account) where
+  by : (b : Bool) → held_in (cond b [] (holds_from terms.tariffs free services)) ≤ length services * 2 ^ 84
+  by true = omega arith
+  by false = holds-most terms.tariffs ranges free services
+
 -- ---- an entry
 
 action-most : (total : ℕ) (code : ResultCode) (action : Option RequestedAction) → nat_abs (action_debit total code action) ≤ total
@@ -247,8 +254,8 @@ module _ (terms : Terms) (ranges : IsTrue (list_all in_range terms.tariffs)) (be
 
   grants-most : (b : Bool) → held_in (grants_by terms before request b) ≤ 2 ^ 89
   grants-most true =
-      let less = with-most request.kind (reply_after terms before request).code (holds_from terms.tariffs (free_to_grant terms before request) request.services) in
-      let most = holds-most terms.tariffs ranges (free_to_grant terms before request) request.services in
+      let less = with-most request.kind (reply_after terms before request).code (holds_on terms (charged_account terms before request) (free_to_grant terms before request) request.services) in
+      let most = holds_on-most terms ranges (charged_account terms before request) (free_to_grant terms before request) request.services in
       let few = limits.few in
       omega arith
   grants-most false = omega arith

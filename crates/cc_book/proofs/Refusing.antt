@@ -11,7 +11,7 @@ use Rattle.cc_view.specs.declared.request.Service.{Service}
 use Rattle.cc_rating.specs.declared.tariff.Tariff.{Tariff}
 use Rattle.cc_book.specs.declared.entry.Entry.{Entry}
 use Rattle.cc_book.specs.declared.terms.Terms.{Terms}
-use Rattle.cc_book.specs.AccountMachine.{account_of, closing_reply, code_alone, debit_by, free_to_grant, granting_reply, grants_by, postings_of, reply_by, reply_to, settles_after, settles_by, unsettled_code, terms_of, price_by}
+use Rattle.cc_book.specs.AccountMachine.{account_of, charged_account, closing_reply, code_alone, debit_by, free_to_grant, granting_reply, grants_by, postings_of, price_by, reply_by, reply_to, settles_after, settles_by, terms_of, unsettled_code}
 use Rattle.cc_book.specs.Balance.{debit_of}
 use Rattle.cc_book.specs.Laws.{IsRefused}
 use Rattle.cc_book.specs.ServiceRating.{used_cost, used_total, tariff_of}
@@ -23,7 +23,7 @@ opened : Terms → List Entry → CcRequest → Bool
 opened terms history request = is_open terms.validity request.session (postings_of terms history)
 
 known : Terms → CcRequest → Bool
-known terms request = is_some (account_of terms.accounts request.subscriptions)
+known terms request = is_some (account_of terms request.subscriptions)
 
 settles-kind : (terms : Terms) (history : List Entry) (request : CcRequest) (kind : RequestKind) → request.kind ≡ kind
     → settles_after (terms_of terms history) (postings_of terms history) request ≡ settles_by kind (opened terms history request) (known (terms_of terms history) request)
@@ -53,11 +53,11 @@ used-kind terms history request kind is used settles =
 
 pub used-initial : (terms : Terms) (history : List Entry) (request : CcRequest) (account : ℕ) → request.kind ≡ Initial
     → is_open terms.validity request.session (postings_of terms history) ≡ false
-    → account_of (terms_of terms history).accounts request.subscriptions ≡ Some account → debit_of terms history request ≡ pos (used_total (tariff_of (terms_of terms history).tariffs) request.services)
+    → account_of (terms_of terms history) request.subscriptions ≡ Some account → debit_of terms history request ≡ pos (used_total (tariff_of (terms_of terms history).tariffs) request.services)
 unfolding opened known
 used-initial terms history request account is closed named =
     used-kind terms history request Initial is refl
-    (ap (λ (b : Bool). not b && is_some (account_of (terms_of terms history).accounts request.subscriptions)) closed ∙ ap (λ (a : Option ℕ). is_some a) named)
+    (ap (λ (b : Bool). not b && is_some (account_of (terms_of terms history) request.subscriptions)) closed ∙ ap (λ (a : Option ℕ). is_some a) named)
 
 pub used-update : (terms : Terms) (history : List Entry) (request : CcRequest) → request.kind ≡ Update
     → is_open terms.validity request.session (postings_of terms history) ≡ true
@@ -92,16 +92,16 @@ nothing_used price request settles e = ap (λ (b : Bool). cond b (pos (used_tota
 
 refused-initial : (terms : Terms) (history : List Entry) (request : CcRequest) (b : Bool)
     → is_open terms.validity request.session (postings_of terms history) ≡ b → request.kind ≡ Initial
-    → settles_by Initial b (is_some (account_of (terms_of terms history).accounts request.subscriptions)) ≡ false
+    → settles_by Initial b (is_some (account_of (terms_of terms history) request.subscriptions)) ≡ false
     → IsRefused terms history request (cond b UnableToComply UserUnknown)
 unfolding opened known
 refused-initial terms history request b lasts is unsettled =
     refused-kind terms history request Initial (cond b UnableToComply UserUnknown) is
-    (λ e. ap (λ (s : Bool). cond s (granting_reply (terms_of terms history) (free_to_grant (terms_of terms history) (postings_of terms history) request) request.services)
+    (λ e. ap (λ (s : Bool). cond s (granting_reply (terms_of terms history) (charged_account (terms_of terms history) (postings_of terms history) request) (free_to_grant (terms_of terms history) (postings_of terms history) request) request.services)
     (code_alone (unsettled_code Initial (is_open terms.validity request.session (postings_of terms history))))) e
     ∙ ap (λ (o : Bool). code_alone (cond o UnableToComply UserUnknown)) lasts)
     (nothing_used (price_by (terms_of terms history) (postings_of terms history) request Initial) request (settles_after (terms_of terms history) (postings_of terms history) request))
-    (ap (λ (o : Bool). settles_by Initial o (is_some (account_of (terms_of terms history).accounts request.subscriptions))) lasts ∙ unsettled)
+    (ap (λ (o : Bool). settles_by Initial o (is_some (account_of (terms_of terms history) request.subscriptions))) lasts ∙ unsettled)
 
 pub refused-open : (terms : Terms) (history : List Entry) (request : CcRequest) → request.kind ≡ Initial
     → is_open terms.validity request.session (postings_of terms history) ≡ true → IsRefused terms history request UnableToComply
@@ -109,7 +109,7 @@ refused-open terms history request is lasts = refused-initial terms history requ
 
 pub refused-stranger : (terms : Terms) (history : List Entry) (request : CcRequest) → request.kind ≡ Initial
     → is_open terms.validity request.session (postings_of terms history) ≡ false
-    → account_of (terms_of terms history).accounts request.subscriptions ≡ None → IsRefused terms history request UserUnknown
+    → account_of (terms_of terms history) request.subscriptions ≡ None → IsRefused terms history request UserUnknown
 refused-stranger terms history request is closed none = refused-initial terms history request false closed is (ap (λ (a : Option ℕ). is_some a) none)
 
 pub refused-update : (terms : Terms) (history : List Entry) (request : CcRequest) → request.kind ≡ Update
@@ -117,7 +117,7 @@ pub refused-update : (terms : Terms) (history : List Entry) (request : CcRequest
 unfolding opened
 refused-update terms history request is closed =
     refused-kind terms history request Update UnknownSessionId is
-    (λ e. ap (λ (s : Bool). cond s (granting_reply (terms_of terms history) (free_to_grant (terms_of terms history) (postings_of terms history) request) request.services)
+    (λ e. ap (λ (s : Bool). cond s (granting_reply (terms_of terms history) (charged_account (terms_of terms history) (postings_of terms history) request) (free_to_grant (terms_of terms history) (postings_of terms history) request) request.services)
     (code_alone UnknownSessionId)) e)
     (nothing_used (price_by (terms_of terms history) (postings_of terms history) request Update) request (settles_after (terms_of terms history) (postings_of terms history) request)) closed
 

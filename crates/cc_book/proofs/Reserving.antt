@@ -17,7 +17,7 @@ use Rattle.cc_rating.proofs.Grants.{held-is}
 use Rattle.cc_book.specs.declared.entry.Entry.{Entry}
 use Rattle.cc_book.specs.declared.session.Hold.{Hold}
 use Rattle.cc_book.specs.declared.terms.Terms.{Terms}
-use Rattle.cc_book.specs.AccountMachine.{closing_reply, code_alone, free_behind, free_to_grant, grant_to, granting_reply, grants_after, grants_by, grants_with, hold_of, holds_from, is_refused, made_grant, postings_of, replies_from, reply_after, reply_by, reply_to, settled_reply, settles_after, unsettled_code, terms_of}
+use Rattle.cc_book.specs.AccountMachine.{charged_account, closing_reply, code_alone, free_behind, free_to_grant, grant_to, granting_reply, grants_after, grants_by, grants_with, hold_of, holds_from, holds_on, is_closed, is_refused, made_grant, postings_of, refusal_to, replies_from, replies_on, reply_after, reply_by, reply_to, settled_reply, settles_after, terms_of, unsettled_code}
 use Rattle.cc_book.specs.Laws.{cost_of_reply, granted_cost}
 use Rattle.cc_book.specs.Posting.{Posting}
 use Rattle.cc_book.specs.ServiceRating.{asked_of, tariff_of}
@@ -87,11 +87,45 @@ closed-services terms (service ∷ services) =
     (map (λ (other : Service). settled_reply terms other None) services) in
     omega (arith, here, more, sum)
 
+-- a service of a closed account is granted nothing
+abbrev no_units : Grant
+no_units = record { units = 0; held = 0; last = true }
+
+none-refused : (terms : Terms) (service : Service) → granted_cost terms.tariffs (settled_reply terms service (refusal_to terms.tariffs service)) ≡ 0
+none-refused terms service = by (tariff_of terms.tariffs service) where
+  asked-none : (tariff : Tariff) (asked : Option ℕ) → made_cost (Some tariff) (option_map (λ (units : ℕ). no_units) asked) ≡ 0
+  asked-none tariff None = refl
+  asked-none tariff (Some units) = refl
+
+  by : (found : Option Tariff)
+      → made_cost found (option_and_then (λ (tariff : Tariff). option_map (λ (units : ℕ). no_units) (asked_of tariff service)) found) ≡ 0
+  by None = refl
+  by (Some tariff) = asked-none tariff (asked_of tariff service)
+
+refused-services : (terms : Terms) (services : List Service)
+    → sum_by (granted_cost terms.tariffs) (map (λ (service : Service). settled_reply terms service (refusal_to terms.tariffs service)) services) ≡ 0
+refused-services terms [] = refl
+refused-services terms (service ∷ services) =
+    let here = none-refused terms service in
+    let more = refused-services terms services in
+    let sum = sum_by-cons (granted_cost terms.tariffs) (settled_reply terms service (refusal_to terms.tariffs service))
+    (map (λ (other : Service). settled_reply terms other (refusal_to terms.tariffs other)) services) in
+    omega (arith, here, more, sum)
+
+held-on : (terms : Terms) (account : Option ℕ) (free : ℤ) (services : List Service)
+    → held_in (holds_on terms account free services) ≡ sum_by (granted_cost terms.tariffs) (replies_on terms account free services)
+held-on terms account free services = by (is_closed terms account) where
+  by : (b : Bool) → held_in (cond b [] (holds_from terms.tariffs free services))
+      ≡ sum_by (granted_cost terms.tariffs)
+      (cond b (map (λ (service : Service). settled_reply terms service (refusal_to terms.tariffs service)) services) (replies_from terms free services))
+  by true = sym (refused-services terms services)
+  by false = held-services terms free services
+
 -- ---- a request
 
 -- what a request of a kind reserves, where it is settled or not, and with which code
 abbrev reserves : Terms → List Posting → CcRequest → RequestKind → ResultCode → Bool → List Hold
-reserves terms before request kind code true = grants_with kind code (holds_from terms.tariffs (free_to_grant terms before request) request.services)
+reserves terms before request kind code true = grants_with kind code (holds_on terms (charged_account terms before request) (free_to_grant terms before request) request.services)
 reserves terms before request kind code false = []
 
 reserves-is : (terms : Terms) (before : List Posting) (request : CcRequest) (settled : Bool)
@@ -104,16 +138,16 @@ abbrev Reserved : Terms → CcReply → List Hold → Type 0
 Reserved terms reply holds = held_in holds ≡ cost_of_reply terms.tariffs reply
 
 reserved-update : (terms : Terms) (before : List Posting) (request : CcRequest) (code : ResultCode) (opened settled : Bool)
-    → Reserved terms (cond settled (granting_reply terms (free_to_grant terms before request) request.services) (code_alone (unsettled_code Update opened)))
+    → Reserved terms (cond settled (granting_reply terms (charged_account terms before request) (free_to_grant terms before request) request.services) (code_alone (unsettled_code Update opened)))
     (reserves terms before request Update code settled)
-reserved-update terms before request code opened true = held-services terms (free_to_grant terms before request) request.services
+reserved-update terms before request code opened true = held-on terms (charged_account terms before request) (free_to_grant terms before request) request.services
 reserved-update terms before request code opened false = refl
 
 reserved-opening : (terms : Terms) (before : List Posting) (request : CcRequest) (opened settled : Bool)
-    → (cond settled (granting_reply terms (free_to_grant terms before request) request.services) (code_alone (unsettled_code Initial opened))).code ≡ Success
-    → Reserved terms (cond settled (granting_reply terms (free_to_grant terms before request) request.services) (code_alone (unsettled_code Initial opened)))
+    → (cond settled (granting_reply terms (charged_account terms before request) (free_to_grant terms before request) request.services) (code_alone (unsettled_code Initial opened))).code ≡ Success
+    → Reserved terms (cond settled (granting_reply terms (charged_account terms before request) (free_to_grant terms before request) request.services) (code_alone (unsettled_code Initial opened)))
     (reserves terms before request Initial Success settled)
-reserved-opening terms before request opened true success = held-services terms (free_to_grant terms before request) request.services
+reserved-opening terms before request opened true success = held-on terms (charged_account terms before request) (free_to_grant terms before request) request.services
 reserved-opening terms before request opened false success = refl
 
 -- what a request reserves, by its kind and the code of its reply

@@ -163,9 +163,9 @@ module _ {terms : Terms} {before : List Posting} {balances : List ℤ} {sessions
       → session_of terms.validity request.session before ≡ Some (opened_as terms.validity session)
       → (charged_account terms before request ≡ Some session.account) × (settles_after terms before request ≡ true)
   update_settles request session kind opened = (
-    ap (λ (k : RequestKind). account_by k (account_of terms.accounts request.subscriptions) (opener_account terms.validity before request.session)) kind
+    ap (λ (k : RequestKind). account_by k (account_of terms request.subscriptions) (opener_account terms.validity before request.session)) kind
         ∙ ap (option_and_then (λ (o : Opened). o.account)) opened,
-    ap (λ (k : RequestKind). settles_by k (is_open terms.validity request.session before) (is_some (account_of terms.accounts request.subscriptions))) kind
+    ap (λ (k : RequestKind). settles_by k (is_open terms.validity request.session before) (is_some (account_of terms request.subscriptions))) kind
         ∙ ap is_some opened,
   )
 

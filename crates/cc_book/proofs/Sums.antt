@@ -183,9 +183,9 @@ session-place terms before session all = session_of-place (length terms.accounts
 pub charged_account-within : (terms : Terms) (before : List Posting) (request : CcRequest) → AllByRecursion (Placed (length terms.accounts)) before
     → IsWithin (length terms.accounts) (charged_account terms before request)
 charged_account-within terms before request all =
-    account_by-within (length terms.accounts) request.kind (account_of terms.accounts request.subscriptions)
+    account_by-within (length terms.accounts) request.kind (account_of terms request.subscriptions)
     (opener_account terms.validity before request.session)
-    (account_of-within terms.accounts request.subscriptions)
+    (account_of-within terms request.subscriptions)
     (opener-place (length terms.accounts) (session_of terms.validity request.session before) (session-place terms before request.session all))
 
 -- ---- a request without an account does nothing
@@ -223,7 +223,7 @@ debit-none terms before request none unsettled = by request.kind none where
   used : (price : Service → Option Tariff) → cond (settles_after terms before request) (pos (used_total price request.services)) (pos 0) ≡ pos 0
   used price = ap (λ (b : Bool). cond b (pos (used_total price request.services)) (pos 0)) unsettled
 
-  by : (kind : RequestKind) → account_by kind (account_of terms.accounts request.subscriptions) (opener_account terms.validity before request.session) ≡ None
+  by : (kind : RequestKind) → account_by kind (account_of terms request.subscriptions) (opener_account terms.validity before request.session) ≡ None
       → debit_by terms before request kind ≡ pos 0
   by Event none =
       let amount : ℕ = unwrap_or (total_of terms.tariffs request.services) 0 in
@@ -250,7 +250,7 @@ placed terms before (Take moment request) all =
         → (debit_after terms before request ≡ pos 0) × (opens (posting_of terms before (Take moment request)) ≡ false)
     nothing none =
         let unsettled : settles_after terms before request ≡ false =
-        settles-none (length terms.accounts) request.kind (account_of terms.accounts request.subscriptions) (session_of terms.validity request.session before)
+        settles-none (length terms.accounts) request.kind (account_of terms request.subscriptions) (session_of terms.validity request.session before)
         (session-place terms before request.session all) none in (
           debit-none terms before request none unsettled,
           ap (λ (b : Bool). b && (is_initial_kind request.kind && is_success (reply_after terms before request).code)) unsettled,

@@ -3,7 +3,7 @@
 -- them at the place of the request. A request of a session first ends the reservations of the services that it
 -- names and debits what they used; then grants are made in order. An EVENT touches no session.
 use Rattle.std.specs.Prelude.{ℕ, zero, suc, ◌+◌, ◌^◌, List, [], ◌∷◌, ◌++◌, find, map, Bool, true, false, not, if◌then◌else◌, Option, Some, None, is_none, is_some, unwrap_or, ℤ, pos, ◌-ℤ◌, int_le, nat_lt, ◌&&◌, ◌==◌}
-use Rattle.std.specs.List.{fold, position}
+use Rattle.std.specs.List.{fold, list_any}
 use Rattle.std.specs.Option.{option_map, option_map_or, option_or, option_and_then}
 use Rattle.cc_view.specs.declared.code.ResultCode.{ResultCode}
 use Rattle.cc_view.specs.declared.code.ResultCode.TheVariants.{Success, CreditLimitReached, UnknownSessionId, UnableToComply, UserUnknown, RatingFailed}
@@ -33,21 +33,28 @@ use Rattle.cc_book.specs.Pricing.{price_at}
 use Rattle.cc_book.specs.ServiceRating.{asked_of, asking_cost, tariff_of, unit_code, used_total}
 use Rattle.cc_book.specs.Reservation.{reserved_by}
 use Rattle.cc_book.specs.Session.{is_open, is_success, session_of}
-use Rattle.cc_book.specs.TermsChange.{accounts_with, tariffs_with}
+use Rattle.cc_book.specs.TermsChange.{account_with, accounts_with, closed_with, is_among, owns, tariffs_with}
 
 -- ---- the account
 
--- whether a Subscription-Id is that of an account, by type and text
-abbrev pub owns : Subscription → Account → Bool
-owns subscription account = account.id_kind == subscription.kind && same_session account.id subscription.text
+-- the account of a Subscription-Id, none where it is closed
+abbrev pub open_account : Terms → Subscription → Option ℕ
+open_account terms subscription = if is_among terms.closed subscription then None else account_with terms.accounts subscription
 
-abbrev pub account_with : List Account → Subscription → Option ℕ
-account_with accounts subscription = position (owns subscription) accounts
+-- the account of the first Subscription-Id that has one which is not closed
+abbrev pub account_of : Terms → List Subscription → Option ℕ
+account_of terms [] = None
+account_of terms (subscription ∷ more) = option_or (open_account terms subscription) (account_of terms more)
 
--- the account of the first Subscription-Id that has one
-abbrev pub account_of : List Account → List Subscription → Option ℕ
-account_of accounts [] = None
-account_of accounts (subscription ∷ more) = option_or (account_with accounts subscription) (account_of accounts more)
+-- whether the account at a place is closed
+abbrev pub is_closed_at : List Account → List Subscription → ℕ → Bool
+is_closed_at [] closed account = false
+is_closed_at (first ∷ accounts) closed zero = list_any (λ subscription. owns subscription first) closed
+is_closed_at (first ∷ accounts) closed (suc account) = is_closed_at accounts closed account
+
+abbrev pub is_closed : Terms → Option ℕ → Bool
+is_closed terms None = false
+is_closed terms (Some account) = is_closed_at terms.accounts terms.closed account
 
 -- the account of the request that opened a session, none where the session is not open
 abbrev pub opener_account : ℕ → List Posting → List ℕ → Option ℕ
@@ -62,7 +69,7 @@ account_by _ own opener = own
 -- the account of the request that opened their session, whatever they name.
 abbrev pub charged_account : Terms → List Posting → CcRequest → Option ℕ
 charged_account terms before request =
-    account_by request.kind (account_of terms.accounts request.subscriptions) (opener_account terms.validity before request.session)
+    account_by request.kind (account_of terms request.subscriptions) (opener_account terms.validity before request.session)
 
 -- the opening amount of the account at a place
 abbrev pub opening_at : List Account → ℕ → ℤ
@@ -174,8 +181,8 @@ action_debit total _ _ = pos 0
 -- the reply to an EVENT after postings
 abbrev pub event_after : Terms → List Posting → CcRequest → CcReply
 event_after terms before request =
-    event_reply terms request.services (account_of terms.accounts request.subscriptions)
-    (free_for terms before (account_of terms.accounts request.subscriptions)) request.action
+    event_reply terms request.services (account_of terms request.subscriptions)
+    (free_for terms before (account_of terms request.subscriptions)) request.action
 
 -- ---- what settles services
 
@@ -188,7 +195,7 @@ settles_by Event opened known = false
 
 abbrev pub settles_after : Terms → List Posting → CcRequest → Bool
 settles_after terms before request =
-    settles_by request.kind (is_open terms.validity request.session before) (is_some (account_of terms.accounts request.subscriptions))
+    settles_by request.kind (is_open terms.validity request.session before) (is_some (account_of terms request.subscriptions))
 
 -- The tariff at which a request pays for the used units of a service: in an open session that of the service's last grant
 -- there, else that which holds. An INITIAL begins its session.
@@ -279,6 +286,21 @@ holds_from tariffs free (service ∷ services) =
     hold_of service (made_grant (grant_to tariffs free service))
     ++ holds_from tariffs (free_behind free (grant_to tariffs free service)) services
 
+-- a service of an account that is closed: what it asks is refused
+abbrev pub refusal_to : List Tariff → Service → Option Grant
+refusal_to tariffs service =
+    option_and_then (λ tariff. option_map (λ asked. record { units = 0; held = 0; last = true }) (asked_of tariff service)) (tariff_of tariffs service)
+
+-- the replies for services of an account, where so much of it is free: one that is closed is granted nothing
+abbrev pub replies_on : Terms → Option ℕ → ℤ → List Service → List ServiceReply
+replies_on terms account free services =
+    if is_closed terms account then map (λ service. settled_reply terms service (refusal_to terms.tariffs service)) services
+    else replies_from terms free services
+
+-- what is reserved for services of an account, where so much of it is free
+abbrev pub holds_on : Terms → Option ℕ → ℤ → List Service → List Hold
+holds_on terms account free services = if is_closed terms account then [] else holds_from terms.tariffs free services
+
 -- the Result-Code of a command is that of its bare service, where it has one
 abbrev pub command_code : List ServiceReply → ResultCode
 command_code replies = option_map_or (λ reply. reply.code) (find (λ reply. reply.bare) replies) Success
@@ -290,9 +312,9 @@ session_reply replies = record { code = command_code replies; services = replies
 abbrev pub closing_reply : Terms → List Service → CcReply
 closing_reply terms services = session_reply (map (λ service. settled_reply terms service None) services)
 
--- INITIAL and UPDATE are granted what is free
-abbrev pub granting_reply : Terms → ℤ → List Service → CcReply
-granting_reply terms free services = session_reply (replies_from terms free services)
+-- INITIAL and UPDATE are granted what is free of their account, if it is not closed
+abbrev pub granting_reply : Terms → Option ℕ → ℤ → List Service → CcReply
+granting_reply terms account free services = session_reply (replies_on terms account free services)
 
 -- ---- the reply
 
@@ -306,7 +328,7 @@ reply_by terms before request Event = event_after terms before request
 reply_by terms before request Termination =
     if settles_after terms before request then closing_reply terms request.services else code_alone UnknownSessionId
 reply_by terms before request kind =
-    if settles_after terms before request then granting_reply terms (free_to_grant terms before request) request.services
+    if settles_after terms before request then granting_reply terms (charged_account terms before request) (free_to_grant terms before request) request.services
     else code_alone (unsettled_code kind (is_open terms.validity request.session before))
 
 abbrev pub reply_after : Terms → List Posting → CcRequest → CcReply
@@ -322,7 +344,7 @@ grants_with _ code holds = []
 
 abbrev pub grants_by : Terms → List Posting → CcRequest → Bool → List Hold
 grants_by terms before request true =
-    grants_with request.kind (reply_after terms before request).code (holds_from terms.tariffs (free_to_grant terms before request) request.services)
+    grants_with request.kind (reply_after terms before request).code (holds_on terms (charged_account terms before request) (free_to_grant terms before request) request.services)
 grants_by terms before request false = []
 
 -- what a request reserves
@@ -366,11 +388,15 @@ accounts_at accounts before = fold (λ known posting. accounts_with known postin
 abbrev pub tariffs_at : List Tariff → List Posting → List Tariff
 tariffs_at tariffs before = fold (λ known posting. tariffs_with known posting.entry) tariffs before
 
+abbrev pub closed_at : List Subscription → List Posting → List Subscription
+closed_at closed before = fold (λ known posting. closed_with known posting.entry) closed before
+
 -- The terms that hold after postings, where a book began with these: all that a request does, it does under the terms of
--- its own place. Accounts join and tariffs change; validity and money stay.
+-- its own place. Accounts join, close and open again, and tariffs change; validity and money stay.
 abbrev pub terms_at : Terms → List Posting → Terms
 terms_at opening before = record {
   accounts = accounts_at opening.accounts before;
+  closed = closed_at opening.closed before;
   tariffs = tariffs_at opening.tariffs before;
   validity = opening.validity;
   money = opening.money;

@@ -41,6 +41,7 @@ row_terms = record {
   accounts =
       row_account (codes "491700000001") 1000 ∷ row_account (codes "491700000002") 12 ∷ row_account (codes "491700000003") 4
       ∷ row_account (codes "491700000004") 27 ∷ row_account (codes "491700000005") 25 ∷ [];
+  closed = [];
   tariffs = row_tariff ∷ [];
   validity = 600;
   money = record { currency = 978; exponent = negsuc 1 };

@@ -119,6 +119,7 @@ strange_update = record (settled 2000 1 Update [] []) { account = Some 1 }
 abbrev pub small_terms : Terms
 small_terms = record {
   accounts = record { id_kind = 0; id = []; opening = pos 100 } ∷ [];
+  closed = [];
   tariffs = [];
   validity = 600;
   money = record { currency = 978; exponent = pos 0 };

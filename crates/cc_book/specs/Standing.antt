@@ -68,8 +68,8 @@ holds_beside services holds = filter (λ hold. not (is_named services hold)) hol
 -- that one of their Subscription-Ids has.
 pub record NamesAccount (terms : Terms) (request : CcRequest) (account : Option ℕ) : Type 0 where
   pub within : IfSome account (λ place. place < length terms.accounts)
-  pub initial : request.kind ≡ Initial → account ≡ account_of terms.accounts request.subscriptions
-  pub event : request.kind ≡ Event → account ≡ account_of terms.accounts request.subscriptions
+  pub initial : request.kind ≡ Initial → account ≡ account_of terms request.subscriptions
+  pub event : request.kind ≡ Event → account ≡ account_of terms request.subscriptions
 
 -- the balances of accounts before the first request
 abbrev pub openings_of : List Account → List ℤ

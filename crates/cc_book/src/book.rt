@@ -101,9 +101,9 @@ impl Book {
     ghost use Rattle.cc_book.specs.History.{IsLegal};
     ghost use Rattle.cc_book.specs.Taking.{Ledger, SweepsWith, is_fresh, sweep_answer, after_sweep_with, with_take};
 
-    /// A book with no entry. It takes up to `limit` entries, of which the caller makes no more than [`HISTORY_LIMIT`],
-    /// and has room for them from the start, so that no entry is ever moved; `validity` is the Validity-Time of grants
-    /// in seconds.
+    /// A book with no entry, and no account that is closed. It takes up to `limit` entries, of which the caller makes no more than
+    /// [`HISTORY_LIMIT`], and has room for them from the start, so that no entry is ever moved; `validity` is the Validity-Time of
+    /// grants in seconds.
     pub fn new(
         alloc: Global,
         accounts: Vec<Account>,
@@ -113,19 +113,29 @@ impl Book {
         limit: u64,
     ) -> Result<Self, AllocError>
         requires { limit ≤ HISTORY_LIMIT }
-        ensures terms { IfOk result (λ book. book.terms ≡ record { accounts = accounts.items; tariffs = tariffs; validity = validity; money = money }) }
+        ensures terms { IfOk result (λ book. book.terms ≡ record { accounts = accounts.items; closed = []; tariffs = tariffs; validity = validity; money = money }) }
         ensures limit { IfOk result (λ book. book.limit ≡ limit) }
         ensures history { IfOk result (λ book. book.history ≡ []) }
     {
+        let terms = Terms {
+            accounts: Listing::from_vec(accounts),
+            closed: Listing::empty(alloc),
+            tariffs,
+            validity,
+            money,
+        };
+        Book::under(alloc, terms, limit)
+    }
+
+    /// A book under these terms, with no entry, and with room for so many.
+    pub fn under(alloc: Global, terms: Terms, limit: u64) -> Result<Self, AllocError>
+        requires { limit ≤ HISTORY_LIMIT }
+        ensures { IfOk result (λ book. book ≡ record { terms = terms; limit = limit; history = [] }) }
+    {
         let room = limit as usize;
-        let standing = Standing::new(alloc, &accounts, room)?;
+        let standing = Standing::new(alloc, terms.accounts.as_slice(), room)?;
         Ok(Book {
-            terms: Terms {
-                accounts: Listing::from_vec(accounts),
-                tariffs,
-                validity,
-                money,
-            },
+            terms,
             changed: None,
             limit,
             history: Vec::with_capacity(alloc, room)?,

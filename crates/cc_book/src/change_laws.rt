@@ -7,20 +7,21 @@ ghost use Rattle.cc_view.specs.declared.code.ResultCode.TheVariants.{CreditLimit
 ghost use Rattle.cc_view.specs.declared.request.RequestKind.TheVariants.{Initial};
 ghost use Rattle.cc_view.specs.declared.request.RequestedAction.TheVariants.{DirectDebiting};
 ghost use Rattle.cc_view.specs.declared.request.ServiceName.{ServiceName};
+ghost use Rattle.cc_view.specs.declared.request.Subscription.{Subscription};
 ghost use Rattle.cc_book.specs.declared.entry.Entry.{Entry};
 ghost use Rattle.cc_book.specs.declared.entry.Entry.TheVariants.{Take, Sweep, ChangeTerms};
 ghost use Rattle.cc_book.specs.declared.terms.Terms.{Terms};
-ghost use Rattle.cc_book.specs.declared.terms_change.ChangeRefusal.TheVariants.{Nothing, AlreadyThere, Twice, Full};
+ghost use Rattle.cc_book.specs.declared.terms_change.ChangeRefusal.TheVariants.{Nothing, AlreadyThere, Twice, NotThere, ClosedAlready, ClosedTwice, NotClosed, ReopenedTwice, Full};
 ghost use Rattle.cc_book.specs.declared.terms_change.TermsChange.{TermsChange};
 ghost use Rattle.cc_view.specs.declared.request.CcRequest.{CcRequest};
-ghost use Rattle.cc_book.specs.AccountMachine.{code_alone, kept_reply, postings_of, reply_to, terms_of};
+ghost use Rattle.cc_book.specs.AccountMachine.{account_of, charged_account, code_alone, grants_after, is_closed, kept_reply, postings_of, reply_to, terms_of};
 ghost use Rattle.cc_book.specs.Balance.{balance_of, open_sessions_of, reserved_of};
-ghost use Rattle.cc_book.specs.ChangeExample.{changed, dear_update, dearer, joined_by, joiner, joiner_initial, joins};
+ghost use Rattle.cc_book.specs.ChangeExample.{changed, closed_update, closes, dear_update, dearer, either_initial, first_number, joined_by, joiner, joiner_initial, joins, reopens, standing_by};
 ghost use Rattle.cc_book.specs.Changing.{change_answer};
 ghost use Rattle.cc_book.specs.Laws.{KeepsTerms};
 ghost use Rattle.cc_book.specs.Pricing.{price_of};
 ghost use Rattle.cc_book.specs.Reservation.{held_by};
-ghost use Rattle.cc_book.specs.RowExample.{any_units, ended_by, event_on, granted_units, initial, initial_again, no_units, opened_by, request_of, row_account, row_book, row_service, row_terms, success, taken, termination, update};
+ghost use Rattle.cc_book.specs.RowExample.{any_units, ended_by, event_on, granted_units, gratis_terms, initial, initial_again, no_units, opened_by, request_of, row_account, row_book, row_service, row_terms, subscription, success, taken, termination, update};
 ghost use Rattle.cc_book.specs.Session.{session_of};
 ghost use Rattle.cc_book.specs.TermsChange.{changed_terms, fault_of_change};
 
@@ -85,12 +86,51 @@ pub fn used_units_are_paid_at_the_price_of_their_grant()
     ensures after_refusal { balance_of row_terms (opened_by (codes "491700000004") ++ changed 2000 dearer ∷ taken 3000 (update (codes "491700000004") 5000) ∷ taken 4000 (termination (codes "491700000004") 1000) ∷ []) 3 ≡ negsuc 2 }
 {}
 
+/// No request but of an open session charges a closed account: the Subscription-Ids of one name no account.
+pub fn closed_accounts_are_not_named()
+    ensures { (terms : Terms) (subscriptions : List Subscription) (account : ℕ) →
+        account_of terms subscriptions ≡ Some account → is_closed terms (Some account) ≡ false }
+{}
+
+/// Nothing is granted of an account that is closed.
+pub fn closed_accounts_are_granted_nothing()
+    ensures { (terms : Terms) (history : List Entry) (request : CcRequest) →
+        is_closed (terms_of terms history) (charged_account (terms_of terms history) (postings_of terms history) request) ≡ true →
+        grants_after (terms_of terms history) (postings_of terms history) request ≡ [] }
+{}
+
+/// The worked example: an account of 1000 closes while a session holds 25 of it for 5000 octets. The session stays open: an
+/// UPDATE pays for the 3000 that it reports, and is refused more, as is one at a price of 0; a TERMINATION pays too. An EVENT
+/// and an INITIAL find no account, or that of the next Subscription-Id. What was answered before stays, and once the account
+/// is open again it grants as before.
+pub fn closed_accounts_settle_what_was_used()
+    ensures held { reserved_of row_terms (opened_by (codes "491700000001") ++ changed 2000 closes ∷ []) 0 ≡ 25 }
+    ensures paid { balance_of row_terms (closed_update 3000) 0 ≡ pos 985 }
+    ensures refused { reply_to row_terms (opened_by (codes "491700000001") ++ changed 2000 closes ∷ []) (update (codes "491700000001") 3000) ≡ success (no_units None CreditLimitReached ∷ []) }
+    ensures released { reserved_of row_terms (closed_update 3000) 0 ≡ 0 }
+    ensures still_open { open_sessions_of row_terms (closed_update 3000) ≡ 1 }
+    ensures ended { balance_of row_terms (closed_update 3000 ++ taken 4000 (termination (codes "491700000001") 1000) ∷ []) 0 ≡ pos 980 }
+    ensures for_nothing { reply_to gratis_terms (opened_by (codes "491700000001") ++ changed 2000 closes ∷ []) (update (codes "491700000001") 0) ≡ success (no_units None CreditLimitReached ∷ []) }
+    ensures event { reply_to row_terms (changed 1000 closes ∷ []) (event_on (codes "491700000001") DirectDebiting) ≡ code_alone UserUnknown }
+    ensures initial { reply_to row_terms (changed 1000 closes ∷ []) (initial (codes "491700000001") any_units) ≡ code_alone UserUnknown }
+    ensures first { charged_account row_terms [] either_initial ≡ Some 0 }
+    ensures next { reserved_of row_terms (changed 1000 closes ∷ taken 2000 either_initial ∷ []) 3 ≡ 25 }
+    ensures repeated { kept_reply row_terms (opened_by (codes "491700000001") ++ changed 2000 closes ∷ []) (initial (codes "491700000001") any_units) ≡ Some (success (granted_units None 5000 false ∷ [])) }
+    ensures reopened { reply_to row_terms (changed 1000 closes ∷ changed 2000 reopens ∷ []) (initial (codes "491700000001") any_units) ≡ success (granted_units None 5000 false ∷ []) }
+{}
+
 /// The worked example: what is wrong with a change, by name. A full book refuses one with which nothing is wrong.
 pub fn changes_are_refused_by_name()
     ensures nothing { fault_of_change row_terms (joined_by []) ≡ Some Nothing }
     ensures there { fault_of_change row_terms (joined_by (joiner ∷ row_account (codes "491700000001") 9 ∷ [])) ≡ Some (AlreadyThere 1) }
     ensures twice { fault_of_change row_terms (joined_by (joiner ∷ joiner ∷ [])) ≡ Some (Twice 1) }
     ensures of_another_type { fault_of_change row_terms (joined_by (record (row_account (codes "491700000001") 9) { id_kind = 1 } ∷ [])) ≡ None }
+    ensures strange { fault_of_change row_terms (standing_by (first_number ∷ subscription 0 (codes "499") ∷ []) []) ≡ Some (NotThere 1) }
+    ensures closed_already { fault_of_change (terms_of row_terms (changed 1000 closes ∷ [])) closes ≡ Some (ClosedAlready 0) }
+    ensures closed_twice { fault_of_change row_terms (standing_by (first_number ∷ first_number ∷ []) []) ≡ Some (ClosedTwice 1) }
+    ensures not_closed { fault_of_change row_terms reopens ≡ Some (NotClosed 0) }
+    ensures reopened_twice { fault_of_change (terms_of row_terms (changed 1000 closes ∷ [])) (standing_by [] (first_number ∷ first_number ∷ [])) ≡ Some (ReopenedTwice 1) }
+    ensures closed_now { fault_of_change (terms_of row_terms (changed 1000 closes ∷ [])) reopens ≡ None }
     ensures made { change_answer (row_book 2 (opened_by (codes "491700000001"))) joins ≡ Ok 1 }
     ensures full { change_answer (row_book 1 (opened_by (codes "491700000001"))) joins ≡ Err (Full 1) }
     ensures fault_first { change_answer (row_book 0 []) (joined_by []) ≡ Err Nothing }

@@ -25,7 +25,7 @@ impl Terms {
         request: &CcRequest,
     ) -> Result<Outcome, AllocError>
         requires small { IsSmall self.now (S.balances standing.now) (S.sessions standing.now) }
-        requires account { account ≡ account_of self.now.accounts request.now.subscriptions }
+        requires account { account ≡ account_of self.now request.now.subscriptions }
         requires within { IfSome account (λ place. place < length self.now.accounts) }
         ensures { IfOk result (λ outcome. (before : List Posting) (moment : Moment) → request.now.kind ≡ Event → Stands self.now before (S.balances standing.now) (S.sessions standing.now) → IsOutcome self.now before (S.sessions standing.now) moment request.now outcome) }
     {

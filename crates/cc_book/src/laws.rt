@@ -143,13 +143,13 @@ pub fn debits_pay_for_what_is_granted()
     ensures paid { (terms : Terms) (history : List Entry) (request : CcRequest) → request.kind ≡ Event → request.action ≡ Some DirectDebiting →
         debit_of terms history request ≡ pos (cost_of_reply (terms_of terms history).tariffs (reply_to terms history request)) }
     ensures covered { (terms : Terms) (history : List Entry) (request : CcRequest) (account : ℕ) →
-        request.kind ≡ Event → request.action ≡ Some DirectDebiting → account_of (terms_of terms history).accounts request.subscriptions ≡ Some account →
+        request.kind ≡ Event → request.action ≡ Some DirectDebiting → account_of (terms_of terms history) request.subscriptions ≡ Some account →
         (reply_to terms history request).code ≡ Success → debit_of terms history request ≤ℤ free_after (terms_of terms history) (postings_of terms history) account }
     ensures made { (terms : Terms) (history : List Entry) (request : CcRequest) (account total : ℕ) → request.kind ≡ Event →
-        account_of (terms_of terms history).accounts request.subscriptions ≡ Some account → total_of (terms_of terms history).tariffs request.services ≡ Some total → request.action ≡ Some DirectDebiting →
+        account_of (terms_of terms history) request.subscriptions ≡ Some account → total_of (terms_of terms history).tariffs request.services ≡ Some total → request.action ≡ Some DirectDebiting →
         pos total ≤ℤ free_after (terms_of terms history) (postings_of terms history) account → (reply_to terms history request).code ≡ Success }
     ensures too_little { (terms : Terms) (history : List Entry) (request : CcRequest) (account total : ℕ) → request.kind ≡ Event →
-        account_of (terms_of terms history).accounts request.subscriptions ≡ Some account → total_of (terms_of terms history).tariffs request.services ≡ Some total → request.action ≡ Some DirectDebiting →
+        account_of (terms_of terms history) request.subscriptions ≡ Some account → total_of (terms_of terms history).tariffs request.services ≡ Some total → request.action ≡ Some DirectDebiting →
         free_after (terms_of terms history) (postings_of terms history) account <ℤ pos total → reply_to terms history request ≡ code_alone CreditLimitReached }
 {}
 
@@ -157,10 +157,10 @@ pub fn debits_pay_for_what_is_granted()
 /// section 8.6).
 pub fn checks_tell_what_is_free()
     ensures enough { (terms : Terms) (history : List Entry) (request : CcRequest) (account total : ℕ) → request.kind ≡ Event →
-        account_of (terms_of terms history).accounts request.subscriptions ≡ Some account → total_of (terms_of terms history).tariffs request.services ≡ Some total → request.action ≡ Some CheckBalance →
+        account_of (terms_of terms history) request.subscriptions ≡ Some account → total_of (terms_of terms history).tariffs request.services ≡ Some total → request.action ≡ Some CheckBalance →
         pos total ≤ℤ free_after (terms_of terms history) (postings_of terms history) account → (reply_to terms history request).check ≡ Some 0 }
     ensures too_little { (terms : Terms) (history : List Entry) (request : CcRequest) (account total : ℕ) → request.kind ≡ Event →
-        account_of (terms_of terms history).accounts request.subscriptions ≡ Some account → total_of (terms_of terms history).tariffs request.services ≡ Some total → request.action ≡ Some CheckBalance →
+        account_of (terms_of terms history) request.subscriptions ≡ Some account → total_of (terms_of terms history).tariffs request.services ≡ Some total → request.action ≡ Some CheckBalance →
         free_after (terms_of terms history) (postings_of terms history) account <ℤ pos total → (reply_to terms history request).check ≡ Some 1 }
 {}
 
@@ -247,9 +247,9 @@ pub fn events_are_charged_by_their_action()
 /// and text; an EVENT charges the account that it names, also under the Session-Id of another's session. An account may
 /// begin in debt.
 pub fn first_known_subscription_is_charged()
-    ensures first_known { account_of row_terms.accounts (subscription 0 (codes "499") ∷ subscription 0 (codes "491700000004") ∷ subscription 0 (codes "491700000002") ∷ []) ≡ Some 3 }
-    ensures of_another_type { account_of row_terms.accounts (subscription 1 (codes "491700000001") ∷ []) ≡ None }
-    ensures of_another_text { account_of row_terms.accounts (subscription 0 (codes "49170000000") ∷ []) ≡ None }
+    ensures first_known { account_of row_terms (subscription 0 (codes "499") ∷ subscription 0 (codes "491700000004") ∷ subscription 0 (codes "491700000002") ∷ []) ≡ Some 3 }
+    ensures of_another_type { account_of row_terms (subscription 1 (codes "491700000001") ∷ []) ≡ None }
+    ensures of_another_text { account_of row_terms (subscription 0 (codes "49170000000") ∷ []) ≡ None }
     ensures by_event { balance_of row_terms (opened_by (codes "491700000001") ++ taken 2000 (event_between (codes "491700000004") DirectDebiting) ∷ []) 3 ≡ pos 7 }
     ensures not_the_session { balance_of row_terms (opened_by (codes "491700000001") ++ taken 2000 (event_between (codes "491700000004") DirectDebiting) ∷ []) 0 ≡ pos 1000 }
     ensures in_debt { balance_of gratis_terms [] 0 ≡ negsuc 9 }
@@ -393,7 +393,7 @@ pub fn events_leave_sessions_alone()
 /// where there was none at the tariff that holds.
 pub fn sessions_pay_for_what_is_used()
     ensures initial { (terms : Terms) (history : List Entry) (request : CcRequest) (account : ℕ) → request.kind ≡ Initial →
-        is_open terms.validity request.session (postings_of terms history) ≡ false → account_of (terms_of terms history).accounts request.subscriptions ≡ Some account →
+        is_open terms.validity request.session (postings_of terms history) ≡ false → account_of (terms_of terms history) request.subscriptions ≡ Some account →
         debit_of terms history request ≡ pos (used_total (tariff_of (terms_of terms history).tariffs) request.services) }
     ensures update { (terms : Terms) (history : List Entry) (request : CcRequest) → request.kind ≡ Update →
         is_open terms.validity request.session (postings_of terms history) ≡ true →
@@ -410,7 +410,7 @@ pub fn other_requests_are_refused()
     ensures open_already { (terms : Terms) (history : List Entry) (request : CcRequest) → request.kind ≡ Initial →
         is_open terms.validity request.session (postings_of terms history) ≡ true → IsRefused terms history request UnableToComply }
     ensures no_account { (terms : Terms) (history : List Entry) (request : CcRequest) → request.kind ≡ Initial →
-        is_open terms.validity request.session (postings_of terms history) ≡ false → account_of (terms_of terms history).accounts request.subscriptions ≡ None →
+        is_open terms.validity request.session (postings_of terms history) ≡ false → account_of (terms_of terms history) request.subscriptions ≡ None →
         IsRefused terms history request UserUnknown }
     ensures update { (terms : Terms) (history : List Entry) (request : CcRequest) → request.kind ≡ Update →
         is_open terms.validity request.session (postings_of terms history) ≡ false → IsRefused terms history request UnknownSessionId }

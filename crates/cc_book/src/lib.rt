@@ -67,8 +67,9 @@ pub use bound_laws::{
 };
 pub use change_laws::{
     accounts_join_at_their_place, changes_are_refused_by_name, changes_leave_sessions_alone,
-    tariffs_hold_from_their_place, terms_change_by_their_entries_alone,
-    used_units_are_paid_at_the_price_of_their_grant,
+    closed_accounts_are_granted_nothing, closed_accounts_are_not_named,
+    closed_accounts_settle_what_was_used, tariffs_hold_from_their_place,
+    terms_change_by_their_entries_alone, used_units_are_paid_at_the_price_of_their_grant,
 };
 pub use content::same_request;
 pub use copy::{RequestCopy, copy_of_reply};

@@ -94,7 +94,7 @@ impl Terms {
         request: &CcRequest,
     ) -> Result<Outcome, AllocError>
         requires small { IsSmall self.now (S.balances standing.now) (S.sessions standing.now) }
-        requires account { account ≡ account_of self.now.accounts request.now.subscriptions }
+        requires account { account ≡ account_of self.now request.now.subscriptions }
         requires within { IfSome account (λ place. place < length self.now.accounts) }
         ensures { IfOk result (λ outcome. (before : List Posting) → request.now.kind ≡ Initial → Stands self.now before (S.balances standing.now) (S.sessions standing.now) → IsOutcome self.now before (S.sessions standing.now) moment request.now outcome) }
     {
@@ -124,7 +124,7 @@ impl Terms {
         request: &CcRequest,
     ) -> Result<Outcome, AllocError>
         requires small { IsSmall self.now (S.balances standing.now) (S.sessions standing.now) }
-        requires account { account_of self.now.accounts request.now.subscriptions ≡ Some account }
+        requires account { account_of self.now request.now.subscriptions ≡ Some account }
         requires within { account < length self.now.accounts }
         ensures { IfOk result (λ outcome. (before : List Posting) → request.now.kind ≡ Initial → place_in (S.sessions standing.now) request.now.session ≡ None → Stands self.now before (S.balances standing.now) (S.sessions standing.now) → IsOutcome self.now before (S.sessions standing.now) moment request.now outcome) }
     {
@@ -132,7 +132,7 @@ impl Terms {
         let none = Prices::none(alloc);
         let debit = self.used_total(&none, services);
         let free = standing.free_to_grant(account, 0, debit);
-        let granted = self.granted_services(alloc, free, services)?;
+        let granted = self.granted_on(alloc, account, free, services)?;
         let prices = none.after(alloc, &self.tariffs, &granted.holds)?;
         let reply = session_reply(granted.replies);
         let change = opening(reply.code, account, moment, request, granted.holds, prices)?;
@@ -165,7 +165,7 @@ impl Terms {
         let debit = self.used_total(&session.prices, services);
         let ended = held_in(session.holds.as_slice()) - held_in(&holds);
         let free = standing.free_to_grant(account, ended, debit);
-        let mut granted = self.granted_services(alloc, free, services)?;
+        let mut granted = self.granted_on(alloc, account, free, services)?;
         let prices = session.prices.after(alloc, &self.tariffs, &granted.holds)?;
         holds.append(&mut granted.holds)?;
         let session = session.prolonged(moment, Listing::from_vec(holds), prices)?;

@@ -1,10 +1,10 @@
 //! What a request of a session settles and is granted (RFC 8506, sections 5.1 to 5.5).
 
-ghost use Rattle.std.specs.Prelude.{◌≡◌, ◌+◌, ◌++◌, ◌<◌, ◌≤◌, ◌^◌, length, map, None, negsuc, pos, ◌≤ℤ◌, IfOk, IfSome, IsTrue, OnOk};
+ghost use Rattle.std.specs.Prelude.{◌≡◌, ◌+◌, ◌++◌, ◌<◌, ◌≤◌, ◌^◌, length, map, None, Some, negsuc, pos, ◌≤ℤ◌, IfOk, IfSome, IsTrue, OnOk};
 ghost use Rattle.std.specs.List.{find};
 ghost use Rattle.std.specs.Option.{ForSome, option_copied};
 ghost use Rattle.cc_view.specs.Request.ServiceLimits.{HasSmallSums, WithinLimits};
-ghost use Rattle.cc_book.specs.AccountMachine.{code_of_grant, command_code, free_behind, grant_to, hold_of, holds_from, made_grant, replies_from, session_reply, settled_reply};
+ghost use Rattle.cc_book.specs.AccountMachine.{code_of_grant, command_code, free_behind, grant_to, hold_of, holds_from, holds_on, made_grant, refusal_to, replies_from, replies_on, session_reply, settled_reply};
 ghost use Rattle.cc_rating.specs.Tariffs.{in_range};
 ghost use Rattle.cc_book.specs.Pricing.{priced};
 ghost use Rattle.cc_book.specs.ServiceRating.{used_cost, used_total};
@@ -63,8 +63,60 @@ impl Terms {
         }
     }
 
+    /// Grants services of an account in order, each of what the grants before it leave free. One that is closed is granted
+    /// nothing.
+    pub fn granted_on(
+        &self,
+        alloc: Global,
+        account: usize,
+        free: i128,
+        services: &[Service],
+    ) -> Result<Granted, AllocError>
+        requires within { account < length self.now.accounts }
+        requires least { negsuc (2 ^ 126) ≤ℤ free }
+        requires few { length services.now ≤ 32 }
+        ensures replies { IfOk result (λ granted. granted.replies.items ≡ replies_on self.now (Some account) free services.now) }
+        ensures holds { IfOk result (λ granted. granted.holds.items ≡ holds_on self.now (Some account) free services.now) }
+        ensures most { IfOk result (λ granted. held_in granted.holds.items ≤ 2 ^ 89) }
+    {
+        if self.is_closed(account) {
+            return Ok(Granted {
+                replies: self.refused_services(alloc, services)?,
+                holds: Vec::new(alloc),
+            });
+        }
+        self.granted_services(alloc, free, services)
+    }
+
+    /// The replies for services of an account that is closed: what they ask is refused.
+    fn refused_services(
+        &self,
+        alloc: Global,
+        services: &[Service],
+    ) -> Result<Vec<ServiceReply>, AllocError>
+        ensures { IfOk result (λ replies. replies.items ≡ map (λ service. settled_reply self.now service (refusal_to self.now.tariffs service)) services.now) }
+    {
+        services
+            .iter()
+            .map(|service| self.settled_reply(service, self.refusal_to(service)))
+            .collect(alloc)
+    }
+
+    /// No units, for a service that asks for some. None without a tariff or a Requested-Service-Unit.
+    fn refusal_to(&self, service: &Service) -> Option<Grant>
+        ensures { result ≡ refusal_to self.now.tariffs service.now }
+    {
+        let tariff = self.tariff_of(service)?;
+        let _asked = asked_of(tariff, service)?;
+        Some(Grant {
+            units: 0,
+            held: 0,
+            last: true,
+        })
+    }
+
     /// Grants services in order, each of what the grants before it leave free.
-    pub fn granted_services(
+    fn granted_services(
         &self,
         alloc: Global,
         free: i128,

@@ -1,14 +1,17 @@
 //! The terms of an account book, and what is read of a request by them.
 
-ghost use Rattle.std.specs.Prelude.{◌≡◌, ◌≤◌, ◌<◌, ◌^◌, length, map, IfOk, IfSome, IsTrue};
+ghost use Rattle.std.specs.Prelude.{◌≡◌, ◌≤◌, ◌<◌, ◌^◌, length, map, IfOk, IfSome, IsTrue, Some};
+ghost use Rattle.std.specs.List.{list_any};
 ghost use Rattle.std.specs.Option.{option_copied};
 ghost use Rattle.cc_view.specs.Request.ServiceLimits.{name_of};
-ghost use Rattle.cc_book.specs.AccountMachine.{account_of, account_with, code_alone, granted, owns, service_cost, total_of};
+ghost use Rattle.cc_book.specs.AccountMachine.{account_of, code_alone, granted, is_closed, open_account, service_cost, total_of};
+ghost use Rattle.cc_book.specs.TermsChange.{account_with, owns};
 ghost use Rattle.cc_book.specs.ServiceRating.{tariff_of};
 ghost use Rattle.cc_rating.specs.Tariffs.{in_range};
 
 use crate::account::{Account, Money};
 use crate::asking::{asked_of, unit_code};
+use crate::terms_change::is_among;
 use cc_rating::{Tariff, Tariffs};
 use cc_view::{CcReply, CcRequest, ResultCode, Service, ServiceName, ServiceReply, Subscription};
 use dia_base::Listing;
@@ -18,6 +21,8 @@ use std::alloc::{AllocError, Global};
 #[derive(Debug, Drop)]
 pub struct Terms {
     pub accounts: Listing<Account>,
+    /// The Subscription-Ids of those accounts that are closed.
+    pub closed: Listing<Subscription>,
     pub tariffs: Tariffs,
     /// Validity-Time of a grant in seconds.
     pub validity: u32,
@@ -25,20 +30,41 @@ pub struct Terms {
 }
 
 impl Terms {
-    /// The account of the first Subscription-Id that has one.
+    /// The account of the first Subscription-Id that has one which is not closed.
     pub fn account_of(&self, request: &CcRequest) -> Option<usize>
-        ensures value { result ≡ account_of self.now.accounts request.now.subscriptions }
+        ensures value { result ≡ account_of self.now request.now.subscriptions }
         ensures within { IfSome result (λ account. account < length self.now.accounts) }
     {
         for subscription in request.subscriptions.as_slice() {
-            if let Some(account) = self.account_with(subscription) {
+            if let Some(account) = self.open_account(subscription) {
                 return Some(account);
             }
         }
         None
     }
 
-    fn account_with(&self, subscription: &Subscription) -> Option<usize>
+    /// The account of a Subscription-Id. None where it is closed.
+    fn open_account(&self, subscription: &Subscription) -> Option<usize>
+        ensures value { result ≡ open_account self.now subscription.now }
+        ensures within { IfSome result (λ account. account < length self.now.accounts) }
+    {
+        if is_among(self.closed.as_slice(), subscription) {
+            None
+        } else {
+            self.account_with(subscription)
+        }
+    }
+
+    /// Whether the account at this place is closed: it is granted nothing then.
+    pub fn is_closed(&self, account: usize) -> bool
+        requires { account < length self.now.accounts }
+        ensures { result ≡ is_closed self.now (Some account) }
+    {
+        is_closed_account(self.closed.as_slice(), &self.accounts.as_slice()[account])
+    }
+
+    /// The account of a Subscription-Id, closed or not.
+    pub fn account_with(&self, subscription: &Subscription) -> Option<usize>
         ensures value { result ≡ account_with self.now.accounts subscription.now }
         ensures within { IfSome result (λ account. account < length self.now.accounts) }
     {
@@ -114,6 +140,15 @@ impl Terms {
             last: false,
         }
     }
+}
+
+/// Whether one of the Subscription-Ids of closed accounts is that of this one.
+fn is_closed_account(closed: &[Subscription], account: &Account) -> bool
+    ensures { result ≡ list_any (λ subscription. owns subscription account.now) closed.now }
+{
+    closed
+        .iter()
+        .any(|subscription| owns(subscription, account))
 }
 
 fn owns(subscription: &Subscription, account: &Account) -> bool

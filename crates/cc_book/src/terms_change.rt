@@ -1,13 +1,14 @@
 //! Changes of the terms.
 
-ghost use Rattle.std.specs.Prelude.{◌≡◌, ◌++◌, [], IfOk, unwrap_or};
-ghost use Rattle.std.specs.List.{list_any};
+ghost use Rattle.std.specs.Prelude.{◌≡◌, ◌++◌, [], IfOk, not, unwrap_or};
+ghost use Rattle.std.specs.List.{filter, list_any};
 ghost use Rattle.cc_book.specs.declared.terms_change.ChangeRefusal.TheVariants.{OutOfMemory};
-ghost use Rattle.cc_book.specs.TermsChange.{account_fault, fault_of_change, joining_fault, same_owner, says_nothing};
+ghost use Rattle.cc_book.specs.TermsChange.{account_fault, closed_by, closing_fault, fault_of_change, first_fault, is_among, joining_fault, reopening_fault, same_owner, same_subscription, says_nothing, standing_fault};
 
 use crate::account::Account;
 use crate::terms::Terms;
 use cc_rating::Tariffs;
+use cc_view::Subscription;
 use dia_base::Listing;
 use std::alloc::{AllocError, Global};
 use thiserror::Error;
@@ -17,6 +18,11 @@ use thiserror::Error;
 pub struct TermsChange {
     /// The accounts that join, behind those that are there.
     pub joining: Listing<Account>,
+    /// The Subscription-Ids of the accounts that close. A closed account keeps its balance and settles what its open sessions used;
+    /// it is granted nothing more, and no request names it.
+    pub closing: Listing<Subscription>,
+    /// The Subscription-Ids of the accounts that open again.
+    pub reopening: Listing<Subscription>,
     /// The tariffs that hold from now on, all of them. None where those stay that hold.
     pub tariffs: Option<Tariffs>,
 }
@@ -32,6 +38,21 @@ pub enum ChangeRefusal {
     /// `place` is that of the account among those that join, from 0.
     #[error("account {place} of those that join has the Subscription-Id of one before it")]
     Twice { place: usize },
+    /// `place` is that of the account among those that close, from 0.
+    #[error("account {place} of those that close is not there")]
+    NotThere { place: usize },
+    /// `place` is that of the account among those that close, from 0.
+    #[error("account {place} of those that close is closed already")]
+    ClosedAlready { place: usize },
+    /// `place` is that of the account among those that close, from 0.
+    #[error("account {place} of those that close is one before it")]
+    ClosedTwice { place: usize },
+    /// `place` is that of the account among those that open again, from 0.
+    #[error("account {place} of those that open again is not closed")]
+    NotClosed { place: usize },
+    /// `place` is that of the account among those that open again, from 0.
+    #[error("account {place} of those that open again is one before it")]
+    ReopenedTwice { place: usize },
     /// The history is at its limit.
     #[error("the history has {limit} entries, which is its limit")]
     Full { limit: u64 },
@@ -55,14 +76,30 @@ impl TermsChange {
         if self.says_nothing() {
             return Some(ChangeRefusal::Nothing);
         }
-        joining_fault(terms.accounts.as_slice(), self.joining.as_slice())
+        match joining_fault(terms.accounts.as_slice(), self.joining.as_slice()) {
+            Some(fault) => Some(fault),
+            None => self.standing_fault(terms),
+        }
     }
 
-    /// Whether it changes nothing: no account joins, and the tariffs stay.
+    /// The first fault of the accounts that close, and then of those that open again.
+    fn standing_fault(&self, terms: &Terms) -> Option<ChangeRefusal>
+        ensures { result ≡ standing_fault terms.now self.now }
+    {
+        match terms.closing_fault(self.closing.as_slice()) {
+            Some(fault) => Some(fault),
+            None => terms.reopening_fault(self.reopening.as_slice()),
+        }
+    }
+
+    /// Whether it changes nothing: no account joins, closes or opens again, and the tariffs stay.
     pub fn says_nothing(&self) -> bool
         ensures { result ≡ says_nothing self.now }
     {
-        self.joining.is_empty() && self.tariffs.is_none()
+        self.joining.is_empty()
+            && self.closing.is_empty()
+            && self.reopening.is_empty()
+            && self.tariffs.is_none()
     }
 
     /// A copy in memory of its own.
@@ -70,8 +107,12 @@ impl TermsChange {
         ensures { IfOk result (λ copy. copy ≡ self.now) }
     {
         let joining = self.joining.as_slice().to_vec(alloc)?;
+        let closing = self.closing.as_slice().to_vec(alloc)?;
+        let reopening = self.reopening.as_slice().to_vec(alloc)?;
         Ok(TermsChange {
             joining: Listing::from_vec(joining),
+            closing: Listing::from_vec(closing),
+            reopening: Listing::from_vec(reopening),
             tariffs: copy_of_some(alloc, &self.tariffs)?,
         })
     }
@@ -99,9 +140,9 @@ fn account_fault(
     ensures { result ≡ account_fault accounts.now before.now account.now }
 {
     let place = before.len();
-    if is_among(accounts, account) {
+    if is_owned(accounts, account) {
         Some(ChangeRefusal::AlreadyThere { place })
-    } else if is_among(before, account) {
+    } else if is_owned(before, account) {
         Some(ChangeRefusal::Twice { place })
     } else {
         None
@@ -109,14 +150,109 @@ fn account_fault(
 }
 
 /// Whether one of these accounts has the Subscription-Id of this one.
-fn is_among(accounts: &[Account], account: &Account) -> bool
+fn is_owned(accounts: &[Account], account: &Account) -> bool
     ensures { result ≡ list_any (same_owner account.now) accounts.now }
 {
     accounts.iter().any(|other| account.has_same_owner(other))
 }
 
+/// Whether both are one Subscription-Id, by type and text.
+pub fn same_subscription(one: &Subscription, other: &Subscription) -> bool
+    ensures { result ≡ same_subscription one.now other.now }
+{
+    one.kind == other.kind && one.text == other.text
+}
+
+/// Whether a Subscription-Id is one of these.
+pub fn is_among(subscriptions: &[Subscription], subscription: &Subscription) -> bool
+    ensures { result ≡ is_among subscriptions.now subscription.now }
+{
+    subscriptions
+        .iter()
+        .any(|other| same_subscription(subscription, other))
+}
+
 impl Terms {
     ghost use Rattle.cc_book.specs.TermsChange.{changed_terms};
+
+    /// The first fault of the accounts that close.
+    #[tactic(auto, using(crate::proofs::Joining::first_fault_at))]
+    fn closing_fault(&self, closing: &[Subscription]) -> Option<ChangeRefusal>
+        ensures { result ≡ first_fault (closing_fault self.now) [] closing.now }
+    {
+        for (place, subscription) in closing.iter().enumerate() {
+            if let Some(fault) = self.fault_of_closing(&closing[..place], subscription) {
+                return Some(fault);
+            }
+        }
+        None
+    }
+
+    /// What is wrong with an account that closes, where these close before it.
+    fn fault_of_closing(
+        &self,
+        before: &[Subscription],
+        subscription: &Subscription,
+    ) -> Option<ChangeRefusal>
+        ensures { result ≡ closing_fault self.now before.now subscription.now }
+    {
+        let place = before.len();
+        if self.account_with(subscription).is_none() {
+            Some(ChangeRefusal::NotThere { place })
+        } else if is_among(self.closed.as_slice(), subscription) {
+            Some(ChangeRefusal::ClosedAlready { place })
+        } else if is_among(before, subscription) {
+            Some(ChangeRefusal::ClosedTwice { place })
+        } else {
+            None
+        }
+    }
+
+    /// The first fault of the accounts that open again.
+    #[tactic(auto, using(crate::proofs::Joining::first_fault_at))]
+    fn reopening_fault(&self, reopening: &[Subscription]) -> Option<ChangeRefusal>
+        ensures { result ≡ first_fault (reopening_fault self.now) [] reopening.now }
+    {
+        for (place, subscription) in reopening.iter().enumerate() {
+            if let Some(fault) = self.fault_of_reopening(&reopening[..place], subscription) {
+                return Some(fault);
+            }
+        }
+        None
+    }
+
+    /// What is wrong with an account that opens again, where these do so before it.
+    fn fault_of_reopening(
+        &self,
+        before: &[Subscription],
+        subscription: &Subscription,
+    ) -> Option<ChangeRefusal>
+        ensures { result ≡ reopening_fault self.now before.now subscription.now }
+    {
+        let place = before.len();
+        if !is_among(self.closed.as_slice(), subscription) {
+            Some(ChangeRefusal::NotClosed { place })
+        } else if is_among(before, subscription) {
+            Some(ChangeRefusal::ReopenedTwice { place })
+        } else {
+            None
+        }
+    }
+
+    /// The Subscription-Ids of closed accounts after a change.
+    fn closed_after(
+        &self,
+        alloc: Global,
+        change: &TermsChange,
+    ) -> Result<Vec<Subscription>, AllocError>
+        ensures { IfOk result (λ closed. closed.items ≡ closed_by change.now self.now.closed) }
+    {
+        let reopening = change.reopening.as_slice();
+        let mut closed = self.closed.as_slice().to_vec(alloc)?;
+        closed.retain(|subscription| !is_among(reopening, subscription));
+        closed.append(&mut change.closing.as_slice().to_vec(alloc)?)?;
+        Ok(closed)
+    }
 
     /// The terms after a change.
     pub fn changed(&self, alloc: Global, change: &TermsChange) -> Result<Terms, AllocError>
@@ -124,8 +260,10 @@ impl Terms {
     {
         let mut accounts = self.accounts.as_slice().to_vec(alloc)?;
         accounts.append(&mut change.joining.as_slice().to_vec(alloc)?)?;
+        let closed = self.closed_after(alloc, change)?;
         Ok(Terms {
             accounts: Listing::from_vec(accounts),
+            closed: Listing::from_vec(closed),
             tariffs: self.tariffs_after(change).copy(alloc)?,
             validity: self.validity,
             money: self.money,

@@ -67,7 +67,7 @@ impl ListBook {
         limit: u64,
     ) -> Result<Self, AllocError>
         requires { limit ≤ HISTORY_LIMIT }
-        ensures terms { IfOk result (λ book. book.terms ≡ record { accounts = accounts.items; tariffs = tariffs; validity = validity; money = money }) }
+        ensures terms { IfOk result (λ book. book.terms ≡ record { accounts = accounts.items; closed = []; tariffs = tariffs; validity = validity; money = money }) }
         ensures limit { IfOk result (λ book. book.limit ≡ limit) }
         ensures history { IfOk result (λ book. book.history ≡ []) }
     {
@@ -76,6 +76,7 @@ impl ListBook {
         Ok(ListBook {
             terms: Terms {
                 accounts: Listing::from_vec(accounts),
+                closed: Listing::empty(alloc),
                 tariffs,
                 validity,
                 money,

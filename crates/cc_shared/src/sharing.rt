@@ -16,7 +16,7 @@ impl Sharing for Brand {
 
     ghost shared = { record {
       opened = record {
-        terms = record { accounts = []; tariffs = []; validity = 0; money = record { currency = 0; exponent = pos 0 } };
+        terms = record { accounts = []; closed = []; tariffs = []; validity = 0; money = record { currency = 0; exponent = pos 0 } };
         limit = 0;
         history = [];
       };

@@ -10,6 +10,7 @@ ghost use Rattle.farm_model.specs.Run.{empty_book};
 ghost use Rattle.farm_place.specs.Places.{fronts_from};
 ghost use Rattle.pool_node.specs.Fronts.{site_of};
 
+use crate::changing::BookTerms;
 use crate::fault::Fault;
 use crate::serving::serve_over;
 use crate::setting::Setting;
@@ -21,6 +22,7 @@ use book_opening::{copy_of_terms, identity_at, renewed, serving_book, state_id_o
 use book_store::RowStore;
 use cc_book::{Book, Terms};
 use cc_shared::{BlankHistory, SharedBook};
+use cc_sweeper::Changes;
 use dia_avp::ViewWire;
 use dia_base::NodeNo;
 use farm_clock::Timer;
@@ -67,7 +69,7 @@ where
     let wanted = copy_of_terms(alloc, empty.terms())?;
     match serving_book(setting.rt, setting.book, site.limit, empty) {
         Ok(opened) => match allowed_to_serve(alloc, opened, &wanted, timer, setting.command) {
-            Ok((journal, book, timing)) => serve_on::<Brand, O>(
+            Ok((journal, book, timing)) => serve_on::<Brand, FileBook, O>(
                 setting,
                 nodes,
                 listening,
@@ -177,20 +179,21 @@ fn place_at<O>(setting: &Setting<'_, O>, node: NodeNo) -> Result<Place, Fault>
 }
 
 /// Serves as these fronts, on this book, which the journal keeps, with so many workers.
-fn serve_on<L, O>(
+fn serve_on<L, S, O>(
     setting: &Setting<'_, O>,
     nodes: Vec<NodeNo>,
     listening: FrontSockets,
     blank: Blank,
     history: BlankHistory,
     book: Book,
-    journal: Journal<FileBook>,
+    journal: Journal<S>,
     timing: Timing,
     workers: u64,
     answers: u64,
 ) -> Result<(), Fault>
 where
     L: Pooling + Send + Sync + 'static,
+    S: RowStore + Drop + Send + 'static,
     O: Threads + Wait + Net + Clock + RandomSource + Copy + Send + 'static,
     requires checked { IsChecked setting.now.site.now }
     requires nodes { nodes.items ≡ fronts_from 0 setting.now.site.now.nodes }
@@ -200,7 +203,7 @@ where
     requires parts { (blank.parts ≡ L.parts) × (blank.parts ≡ workers) }
     requires book { book ≡ L.shared.opened }
     requires history { history ≡ L.shared.log }
-    requires kept { IsKeptBy ⟦<FileBook as RowStore>⟧.is_clean ⟦<FileBook as RowStore>⟧.is_ready ⟦<FileBook as RowStore>⟧.rows journal book }
+    requires kept { IsKeptBy S.is_clean S.is_ready S.rows journal book }
     requires settled { IsSettled journal }
     requires some { 0 < workers }
     requires enough { length nodes.items * setting.now.site.now.workers ≤ workers }
@@ -211,13 +214,14 @@ where
         sockets,
         waker,
     } = listening;
-    let fronts = start_on::<L, O>(
+    let (fronts, changes) = start_on::<L, S, O>(
         setting, &nodes, waker, blank, history, book, journal, timing, workers,
     )?;
     serve_over(
         setting,
         &nodes,
         fronts,
+        Some(BookTerms::new(changes, timing.timer)),
         places,
         sockets,
         timing.timer,
@@ -225,20 +229,21 @@ where
     )
 }
 
-/// Starts these fronts on this book. Their workers wake the loop of the process.
-fn start_on<L, O>(
+/// Starts these fronts on this book, whose terms may be changed. Their workers wake the loop of the process.
+fn start_on<L, S, O>(
     setting: &Setting<'_, O>,
     nodes: &[NodeNo],
     waker: LoopWaker,
     blank: Blank,
     history: BlankHistory,
     book: Book,
-    journal: Journal<FileBook>,
+    journal: Journal<S>,
     timing: Timing,
     workers: u64,
-) -> Result<PoolFronts<L, FileBook, O>, Fault>
+) -> Result<(PoolFronts<L, S, O>, Changes<L, S>), Fault>
 where
     L: Pooling + Send + Sync + 'static,
+    S: RowStore + Drop + Send + 'static,
     O: Threads + Wait + Clock + Copy + Send + 'static,
     requires checked { IsChecked setting.now.site.now }
     requires nodes { nodes.now ≡ fronts_from 0 setting.now.site.now.nodes }
@@ -248,20 +253,19 @@ where
     requires parts { (blank.parts ≡ L.parts) × (blank.parts ≡ workers) }
     requires book { book ≡ L.shared.opened }
     requires history { history ≡ L.shared.log }
-    requires kept { IsKeptBy ⟦<FileBook as RowStore>⟧.is_clean ⟦<FileBook as RowStore>⟧.is_ready ⟦<FileBook as RowStore>⟧.rows journal book }
+    requires kept { IsKeptBy S.is_clean S.is_ready S.rows journal book }
     requires settled { IsSettled journal }
     requires some { 0 < workers }
     requires enough { length nodes.now * setting.now.site.now.workers ≤ workers }
     requires site { (front : NodeNo) → L.site front ≡ site_of setting.now.site.now front }
 {
     let (alloc, site) = (setting.rt.alloc(), setting.site);
-    let shared = SharedBook::<L, FileBook>::share_kept(
-        alloc, blank, history, book, journal, workers,
-    );
+    let shared = SharedBook::<L, S>::share_kept(alloc, blank, history, book, journal, workers);
     let Ok((shared, seats)) = shared else {
         return Err(Fault::OutOfMemory);
     };
-    let fronts = start_fronts::<ViewWire, L, FileBook, O, LoopWaker>(
+    let changes = Changes::new(shared.another()?);
+    let fronts = start_fronts::<ViewWire, L, S, O, LoopWaker>(
         *setting.os,
         alloc,
         shared,
@@ -275,5 +279,5 @@ where
     if setting.command.record_path.is_some() {
         fronts.begin_record();
     }
-    Ok(fronts)
+    Ok((fronts, changes))
 }

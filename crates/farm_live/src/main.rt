@@ -6,10 +6,12 @@
 //! - `label`: how the log is spelled, and what it calls the process.
 //! - `waker`: how the workers of fronts end the wait of the loop.
 //! - `watching`, `rising`, `view`, `token`: what it says of itself in its log and on its status port, and who may end it there.
+//! - `changing`: changes of the terms of the book that are asked for at its status port.
 //! - `recording`: the record of what happens, which is written before anything goes to the sockets.
 //! - `fault`: why the program does not do it, and its exit status.
 #![tactic(auto)]
 
+mod changing;
 mod fault;
 mod fronts;
 mod label;

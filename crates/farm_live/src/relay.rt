@@ -64,7 +64,7 @@ fn parting_relay_at(
 }
 
 /// Serves as the relay of this name until so many answers were sent, 0 for ever, or until it is asked to end.
-pub fn serve_relay<O: Threads + Wait + Net + Clock + RandomSource>(
+pub fn serve_relay<O: Threads + Wait + Net + Clock + RandomSource + Copy + Send + 'static>(
     setting: &Setting<'_, O>,
     name: &str,
     answers: u64,
@@ -79,7 +79,7 @@ pub fn serve_relay<O: Threads + Wait + Net + Clock + RandomSource>(
 }
 
 /// Serves as the relay at this place.
-fn serve_at<O: Threads + Wait + Net + Clock + RandomSource>(
+fn serve_at<O: Threads + Wait + Net + Clock + RandomSource + Copy + Send + 'static>(
     setting: &Setting<'_, O>,
     place: Place,
     answers: u64,
@@ -93,7 +93,7 @@ fn serve_at<O: Threads + Wait + Net + Clock + RandomSource>(
 }
 
 /// Serves as this relay, at its place.
-fn serve_as<O: Threads + Wait + Net + Clock + RandomSource>(
+fn serve_as<O: Threads + Wait + Net + Clock + RandomSource + Copy + Send + 'static>(
     setting: &Setting<'_, O>,
     relay: PartingRelay,
     place: Place,

@@ -2,12 +2,16 @@
 
 ghost use Rattle.std.specs.Prelude.{◌≡◌, true, false};
 
+use crate::changing::BookTerms;
 use crate::fault::Fault;
 use crate::recording::Record;
 use crate::setting::Setting;
 use crate::turns::serve;
 use crate::view::Booked;
 use crate::watching::Watching;
+use book_file::FileBook;
+use book_store::RowStore;
+use cc_shared::Sharing;
 use dia_base::NodeNo;
 use farm_access::Strictness;
 use farm_clock::Timer;
@@ -15,6 +19,7 @@ use farm_loop::{Live, Sockets};
 use farm_place::Place;
 use farm_watch::{Goodbyes, Numbering};
 use std::alloc::Global;
+use std::marker::Brand;
 use std::net::Net;
 use std::random::RandomSource;
 use std::rt::Clock;
@@ -81,58 +86,92 @@ pub fn parting_places<O>(
 }
 
 /// Serves as one node, which stands at this place, over sockets of its own.
-pub fn serve_alone<N: Booked, O: Threads + Wait + Net + Clock + RandomSource>(
+pub fn serve_alone<N, O>(
     setting: &Setting<'_, O>,
     number: NodeNo,
     node: N,
     places: Vec<Place>,
     answers: u64,
-) -> Result<(), Fault> {
+) -> Result<(), Fault>
+where
+    N: Booked,
+    O: Threads + Wait + Net + Clock + RandomSource + Copy + Send + 'static,
+{
     let sockets = Sockets::new(setting.os, setting.rt.alloc())?;
     let timer = Timer::start(setting.os)?;
-    serve_over(setting, &[number], node, places, sockets, timer, answers)
+    serve_over::<N, Brand, FileBook, O>(
+        setting,
+        &[number],
+        node,
+        None,
+        places,
+        sockets,
+        timer,
+        answers,
+    )
 }
 
-/// Serves as these nodes, which stand at these places, over these sockets and by this timer.
-pub fn serve_over<N: Booked, O: Threads + Wait + Net + Clock + RandomSource>(
+/// Serves as these nodes, which stand at these places, over these sockets and by this timer. `terms` changes the terms of their book, if they have one.
+pub fn serve_over<N, L, S, O>(
     setting: &Setting<'_, O>,
     numbers: &[NodeNo],
     node: N,
+    terms: Option<BookTerms<L, S>>,
     places: Vec<Place>,
     sockets: Sockets,
     timer: Timer,
     answers: u64,
-) -> Result<(), Fault> {
+) -> Result<(), Fault>
+where
+    N: Booked,
+    L: Sharing + Send + Sync + 'static,
+    S: RowStore + Drop + Send + 'static,
+    O: Threads + Wait + Net + Clock + RandomSource + Copy + Send + 'static,
+{
     let (alloc, site) = (setting.rt.alloc(), setting.site);
     let places = parting_places(setting, places)?;
     let mut live = Live::over(setting.os, alloc, site, sockets, node, places, timer)?;
     live.serving.number(numbering_of(setting));
-    serve_recorded(setting, numbers, live, answers)
+    serve_recorded(setting, numbers, live, terms, answers)
 }
 
 /// Serves as nodes that nobody is connected with yet.
-fn serve_recorded<N: Booked, O: Threads + Wait + Net + Clock + RandomSource>(
+fn serve_recorded<N, L, S, O>(
     setting: &Setting<'_, O>,
     numbers: &[NodeNo],
     live: Live<N>,
+    terms: Option<BookTerms<L, S>>,
     answers: u64,
-) -> Result<(), Fault> {
+) -> Result<(), Fault>
+where
+    N: Booked,
+    L: Sharing + Send + Sync + 'static,
+    S: RowStore + Drop + Send + 'static,
+    O: Threads + Wait + Net + Clock + RandomSource + Copy + Send + 'static,
+{
     let mut live = live;
     let recording = Record::begin(setting, numbers, false, &mut live)?;
     let watching = Watching::begin(setting, numbers)?;
-    serve_to_end(setting, live, recording, watching, answers)
+    serve_to_end(setting, live, recording, watching, terms, answers)
 }
 
 /// Serves until so many answers were sent, 0 for ever, or until it is asked to end. Then it ends in good order.
-fn serve_to_end<N: Booked, O: Threads + Wait + Net + Clock>(
+fn serve_to_end<N, L, S, O>(
     setting: &Setting<'_, O>,
     live: Live<N>,
     recording: Record,
     watching: Watching,
+    terms: Option<BookTerms<L, S>>,
     answers: u64,
-) -> Result<(), Fault> {
+) -> Result<(), Fault>
+where
+    N: Booked,
+    L: Sharing + Send + Sync + 'static,
+    S: RowStore + Drop + Send + 'static,
+    O: Threads + Wait + Net + Clock + Copy + Send + 'static,
+{
     let (mut live, mut recording) = (live, recording);
-    serve(setting, watching, &mut recording, &mut live, answers)?;
+    serve(setting, watching, terms, &mut recording, &mut live, answers)?;
     end(setting, recording, live);
     Ok(())
 }

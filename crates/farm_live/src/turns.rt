@@ -1,14 +1,18 @@
 //! The turns of a process, until it has ended in good order.
 
+use crate::changing::BookTerms;
 use crate::fault::Fault;
 use crate::recording::Record;
 use crate::setting::Setting;
 use crate::view::Booked;
 use crate::watching::Watching;
+use book_store::RowStore;
+use cc_shared::Sharing;
 use farm_loop::Live;
 use std::net::Net;
 use std::rt::Clock;
 use std::sync::Wait;
+use std::thread::Threads;
 
 /// One turn. What happened is written to the record before anything goes to the sockets. The process ends where its book is not
 /// stored: what was answered before that is.
@@ -34,28 +38,42 @@ pub fn turn<O: Net + Clock, N: Booked>(
 }
 
 /// Turns until so many answers were sent, 0 for ever, or until it is asked to end. The status port is closed then.
-pub fn serve<O: Wait + Net + Clock, N: Booked>(
+pub fn serve<N, L, S, O>(
     setting: &Setting<'_, O>,
     watching: Watching,
+    terms: Option<BookTerms<L, S>>,
     recording: &mut Record,
     live: &mut Live<N>,
     answers: u64,
-) -> Result<(), Fault> {
-    let mut watching = watching;
-    serve_watched(setting, &mut watching, recording, live, answers)
+) -> Result<(), Fault>
+where
+    N: Booked,
+    L: Sharing + Send + Sync + 'static,
+    S: RowStore + Drop + Send + 'static,
+    O: Threads + Wait + Net + Clock + Copy + Send + 'static,
+{
+    let (mut watching, mut terms) = (watching, terms);
+    serve_watched(setting, &mut watching, &mut terms, recording, live, answers)
 }
 
 /// The same, with the status port.
-fn serve_watched<O: Wait + Net + Clock, N: Booked>(
+fn serve_watched<N, L, S, O>(
     setting: &Setting<'_, O>,
     watching: &mut Watching,
+    terms: &mut Option<BookTerms<L, S>>,
     recording: &mut Record,
     live: &mut Live<N>,
     answers: u64,
-) -> Result<(), Fault> {
+) -> Result<(), Fault>
+where
+    N: Booked,
+    L: Sharing + Send + Sync + 'static,
+    S: RowStore + Drop + Send + 'static,
+    O: Threads + Wait + Net + Clock + Copy + Send + 'static,
+{
     for _ in setting.os.forever() {
         turn(setting, recording, live)?;
-        let is_asked_to_end = watching.look(setting, live)?;
+        let is_asked_to_end = watching.look(setting, live, terms)?;
         let has_answered = answers > 0 && live.serving.answers() >= answers;
         if is_asked_to_end || has_answered {
             return close(setting, recording, live);

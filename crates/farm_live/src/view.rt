@@ -1,5 +1,6 @@
 //! What a serving process says of itself.
 
+use crate::changing::LastChange;
 use book_store::RowStore;
 use cc_book::Book;
 use dia_base::{NodeNo, PENDING_LIMIT};
@@ -161,6 +162,10 @@ pub struct View<'a, N> {
     pub live: &'a Live<N>,
     /// How long it has served, in milliseconds.
     pub uptime: u64,
+    /// What has become of the last change of the terms of its book.
+    pub last_change: LastChange,
+    /// How many entries its book had behind the last change that was made, 0 where none was.
+    pub changed_entries: u64,
 }
 
 /// The name of a node of the site.
@@ -324,7 +329,7 @@ impl<N: Node + Drop + Booked> View<'_, N> {
         match self.live.serving.node().book() {
             Some(figures) => {
                 let book = BookStatus {
-                    entries: figures.entries,
+                    entries: figures.entries.max(self.changed_entries),
                     limit: self.site.limit,
                     sessions: figures.sessions(),
                     charges: figures.charges,
@@ -358,9 +363,7 @@ impl<N: Node + Drop + Booked> Source for View<'_, N> {
     }
 
     fn terms(&self) -> Result<String, AllocError> {
-        String::from_str(
-            self.rt.alloc(),
-            "the terms do not change while this node serves\n",
-        )
+        let last = self.last_change;
+        format!(in self.rt.alloc(); "{last}\n")
     }
 }

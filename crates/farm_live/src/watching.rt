@@ -1,11 +1,15 @@
-//! What a serving process does beside serving: it says what it does, is asked to end, and tells when its book gets full.
+//! What a serving process does beside serving: it says what it does, is asked to end, changes the terms of its book, and tells when
+//! that gets full.
 
 use crate::Logger;
+use crate::changing::{BookTerms, LastChange};
 use crate::fault::Fault;
 use crate::rising::Rising;
 use crate::setting::Setting;
 use crate::token::token_at;
 use crate::view::{Booked, View, open_in};
+use book_store::RowStore;
+use cc_shared::Sharing;
 use dia_base::NodeNo;
 use farm_base::Site;
 use farm_clock::Timer;
@@ -13,10 +17,12 @@ use farm_command::Process;
 use farm_loop::{Live, StatusPort};
 use farm_node::Node;
 use farm_status::{Changing, Token};
-use log::{error, warn};
+use log::{error, info, warn};
 use std::net::{IpAddr, Ipv4Addr, Net, SocketAddr};
 use std::random::RandomSource;
 use std::rt::Clock;
+use std::sync::Wait;
+use std::thread::Threads;
 
 /// What a serving process does beside serving.
 #[derive(Drop)]
@@ -95,6 +101,40 @@ fn port_of<O: Net + Clock + RandomSource>(
     }
 }
 
+/// Whether the terms of the book may be changed, if the process has one, and what has become of the last change.
+fn changing_of<L, S>(terms: &Option<BookTerms<L, S>>) -> (Changing, LastChange)
+where
+    L: Sharing + Send + Sync + 'static,
+    S: RowStore + Drop + Send + 'static,
+{
+    match terms {
+        Some(terms) => (terms.changing(), terms.last()),
+        None => (Changing::Never, LastChange::Nothing),
+    }
+}
+
+/// How many entries the book had behind the last change of its terms, 0 where none was made.
+fn changed_entries_of<L, S>(terms: &Option<BookTerms<L, S>>) -> u64
+where
+    L: Sharing + Send + Sync + 'static,
+    S: RowStore + Drop + Send + 'static,
+{
+    match terms {
+        Some(terms) => terms.entries(),
+        None => 0,
+    }
+}
+
+/// Tells what a change of the terms has come to.
+fn tell_change(log: &Logger, last: LastChange) {
+    match last {
+        LastChange::Made { place } => {
+            info!(log; target: "farm", event = "terms", place = place; "{last}");
+        }
+        _ => warn!(log; target: "farm", event = "terms"; "{last}"),
+    }
+}
+
 impl Watching {
     /// What the command asks for beside serving as these nodes.
     pub fn begin<O: Net + Clock + RandomSource>(
@@ -113,43 +153,96 @@ impl Watching {
         })
     }
 
-    /// Answers who asks what the process does; whether it is to end: it is asked to, and no request is under way, or it was
-    /// asked [`GRACE`] ago.
-    pub fn look<O: Clock, N: Node + Drop + Booked>(
+    /// Answers who asks what the process does, and hands a change of the terms on that is asked for; whether the process is to end: it is
+    /// asked to, and no request is under way, or it was asked [`GRACE`] ago.
+    pub fn look<N, L, S, O>(
         &mut self,
         setting: &Setting<'_, O>,
         live: &Live<N>,
-    ) -> Result<bool, Fault> {
-        self.tell_filling(setting.log, setting.site, live);
+        terms: &mut Option<BookTerms<L, S>>,
+    ) -> Result<bool, Fault>
+    where
+        N: Node + Drop + Booked,
+        L: Sharing + Send + Sync + 'static,
+        S: RowStore + Drop + Send + 'static,
+        O: Threads + Wait + Clock + Copy + Send + 'static,
+    {
+        if let Some(terms) = terms
+            && terms.look(setting.os)
+        {
+            tell_change(setting.log, terms.last());
+        }
+        self.tell(setting, live, changed_entries_of(terms))?;
+        self.serve_port(setting, live, terms)
+    }
+
+    /// Tells what the log says of the process now. Its book has `entries` at least.
+    fn tell<N: Node + Drop + Booked, O: Clock>(
+        &mut self,
+        setting: &Setting<'_, O>,
+        live: &Live<N>,
+        entries: u64,
+    ) -> Result<(), Fault> {
+        self.tell_filling(setting.log, setting.site, live, entries);
         let second = self.timer.now(setting.os)?.0 / 1_000;
         self.tell_strangers(setting.log, live, second);
         self.tell_mismatched(setting.log, live, second);
+        Ok(())
+    }
+
+    /// Answers who asks at the status port, and hands on what is asked for; whether the process is to end.
+    fn serve_port<N, L, S, O>(
+        &mut self,
+        setting: &Setting<'_, O>,
+        live: &Live<N>,
+        terms: &mut Option<BookTerms<L, S>>,
+    ) -> Result<bool, Fault>
+    where
+        N: Node + Drop + Booked,
+        L: Sharing + Send + Sync + 'static,
+        S: RowStore + Drop + Send + 'static,
+        O: Threads + Wait + Clock + Copy + Send + 'static,
+    {
         let Some(port) = &mut self.port else {
             return Ok(false);
         };
         let Some(uptime) = port.due(setting.os)? else {
             return Ok(false);
         };
+        let (changing, last_change) = changing_of(terms);
         let view = View {
             rt: setting.rt,
             site: setting.site,
             nodes: &self.nodes,
             live,
             uptime,
+            last_change,
+            changed_entries: changed_entries_of(terms),
         };
-        drop(port.look(&view, Changing::Never));
+        if let Some(text) = port.look(&view, changing)
+            && let Some(terms) = terms
+        {
+            terms.ask(setting, &text);
+        }
         match port.asked_to_end() {
             Some(millis) => Ok(millis >= GRACE || open_in(&live.serving) == 0),
             None => Ok(false),
         }
     }
 
-    /// Tells that the book gets full, once at each filling, and once where it has reached several when the process starts.
-    fn tell_filling<N: Node + Drop + Booked>(&mut self, log: &Logger, site: &Site, live: &Live<N>) {
+    /// Tells that the book gets full, once at each filling, and once where it has reached several when the process starts. It has `least`
+    /// entries at least.
+    fn tell_filling<N: Node + Drop + Booked>(
+        &mut self,
+        log: &Logger,
+        site: &Site,
+        live: &Live<N>,
+        least: u64,
+    ) {
         let Some(figures) = live.serving.node().book() else {
             return;
         };
-        let (entries, limit) = (figures.entries, site.limit);
+        let (entries, limit) = (figures.entries.max(least), site.limit);
         let now = filling(entries, limit);
         let reached = reached_by(now);
         if reached > self.told {

@@ -29,7 +29,7 @@ const CALL_LIMIT: u32 = 8;
 /// The octets of the head of a request, and of its body.
 const HEAD_LIMIT: usize = 8_192;
 
-const BODY_LIMIT: usize = 1_024;
+const BODY_LIMIT: usize = 524_288;
 
 /// A connection at the port.
 #[derive(Drop)]

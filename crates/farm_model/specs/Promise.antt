@@ -243,6 +243,7 @@ AppliedOrChangedNothing t = t.applied ≡ false → t.after ≡ t.before
 abbrev pub terms_of : Site → Terms
 terms_of site = record {
   accounts = site.accounts;
+  closed = [];
   tariffs = site.tariffs;
   validity = site.validity;
   money = record { currency = site.currency; exponent = site.exponent };

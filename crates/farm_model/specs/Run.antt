@@ -77,6 +77,7 @@ abbrev pub empty_book : Site → Ledger
 empty_book site = record {
   terms = record {
     accounts = site.accounts;
+    closed = [];
     tariffs = site.tariffs;
     validity = site.validity;
     money = record { currency = site.currency; exponent = site.exponent };

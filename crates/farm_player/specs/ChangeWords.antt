@@ -2,6 +2,7 @@
 use Rattle.std.specs.Prelude.{ℕ, ℤ, List, [], ◌∷◌, ◌++◌, codes, Option, Some, None}
 use Rattle.std.specs.List.{flat_map}
 use Rattle.std.specs.Fmt.{decimal, signed_decimal}
+use Rattle.cc_view.specs.declared.request.Subscription.{Subscription}
 use Rattle.cc_book.specs.declared.account.Account.{Account}
 use Rattle.cc_book.specs.declared.terms_change.TermsChange.{TermsChange}
 use Rattle.cc_rating.specs.declared.tariff.Tariff.{Tariff}
@@ -43,5 +44,11 @@ abbrev pub tariffs_words : Option (List Tariff) → List ℕ
 tariffs_words None = []
 tariffs_words (Some tariffs) = codes " tariffs" ++ flat_map tariff_words tariffs
 
+-- `account TYPE ID closed`, and with `open` one that opens again
+unfoldable pub standing_words : List ℕ → Subscription → List ℕ
+standing_words said subscription = codes " account" ++ number_word subscription.kind ++ (32 ∷ subscription.text) ++ said
+
 abbrev pub change_words : TermsChange → List ℕ
-change_words change = flat_map account_words change.joining ++ tariffs_words change.tariffs
+change_words change =
+    flat_map account_words change.joining ++ flat_map (standing_words (codes " closed")) change.closing
+    ++ flat_map (standing_words (codes " open")) change.reopening ++ tariffs_words change.tariffs

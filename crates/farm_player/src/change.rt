@@ -2,10 +2,11 @@
 
 ghost use Rattle.std.specs.Prelude.{◌≡◌, ◌++◌, OnOk, IfOk, string_bytes};
 ghost use Rattle.std.specs.List.{flat_map};
-ghost use Rattle.farm_player.specs.ChangeWords.{account_words, amount_word, change_words, key_word, number_word, tariff_words, tariffs_words, units_word};
+ghost use Rattle.farm_player.specs.ChangeWords.{account_words, amount_word, change_words, key_word, number_word, standing_words, tariff_words, tariffs_words, units_word};
 
 use cc_book::{Account, TermsChange};
 use cc_rating::{Tariff, Tariffs, UnitKind};
+use cc_view::Subscription;
 use std::alloc::{AllocError, Global};
 
 /// A number, behind a space.
@@ -67,6 +68,37 @@ fn push_accounts(alloc: Global, out: &mut Vec<u8>, accounts: &[Account]) -> Resu
     Ok(())
 }
 
+/// An account of which this is said, and not its opening.
+#[tactic(auto, unfolding(crate::specs::ChangeWords::standing_words))]
+fn push_standing(
+    alloc: Global,
+    out: &mut Vec<u8>,
+    subscription: &Subscription,
+    said: &[u8],
+) -> Result<(), AllocError>
+    ensures { OnOk result (out.new.items ≡ out.old.items ++ standing_words said.now subscription.now) }
+{
+    out.extend_from_slice(b" account")?;
+    push_number(alloc, out, u64::from(subscription.kind))?;
+    out.push(b' ')?;
+    out.extend_from_slice(subscription.text.as_slice())?;
+    out.extend_from_slice(said)
+}
+
+fn push_all_standing(
+    alloc: Global,
+    out: &mut Vec<u8>,
+    subscriptions: &[Subscription],
+    said: &[u8],
+) -> Result<(), AllocError>
+    ensures { OnOk result (out.new.items ≡ out.old.items ++ flat_map (standing_words said.now) subscriptions.now) }
+{
+    for subscription in subscriptions {
+        push_standing(alloc, out, subscription, said)?;
+    }
+    Ok(())
+}
+
 #[tactic(auto, unfolding(crate::specs::ChangeWords::tariff_words))]
 fn push_tariff(alloc: Global, out: &mut Vec<u8>, tariff: &Tariff) -> Result<(), AllocError>
     ensures { OnOk result (out.new.items ≡ out.old.items ++ tariff_words tariff.now) }
@@ -110,5 +142,7 @@ pub fn push_change(alloc: Global, out: &mut Vec<u8>, change: &TermsChange) -> Re
     ensures { OnOk result (out.new.items ≡ out.old.items ++ change_words change.now) }
 {
     push_accounts(alloc, out, change.joining.as_slice())?;
+    push_all_standing(alloc, out, change.closing.as_slice(), b" closed")?;
+    push_all_standing(alloc, out, change.reopening.as_slice(), b" open")?;
     push_tariffs(alloc, out, &change.tariffs)
 }

@@ -275,7 +275,7 @@ first_word-shorter = refl
 -- ---- terms
 
 abbrev changed : List Account → Option (List Tariff) → Step
-changed joining tariffs = ChangeTerms (record { 0 = 1000 }) (record { joining = joining; tariffs = tariffs })
+changed joining tariffs = ChangeTerms (record { 0 = 1000 }) (record { joining = joining; closing = []; reopening = []; tariffs = tariffs })
 
 by_octets : Tariff
 by_octets = record { group = Some 10; ident = None; kind = Octets; block = 1000; price = 7; quantum = 5000; greatest = 10000 }

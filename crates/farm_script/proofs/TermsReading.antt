@@ -2,11 +2,11 @@
 use Rattle.std.proofs.Common.{◌≡◌, ℕ, ◌+◌, ◌-◌, ◌≤◌, ◌<◌, true, false, List, [], ◌∷◌, ◌++◌, length, map, codes, get_or, take, drop, drop-cons, length-drop, add-one, Bor, Some, None, Result, Ok, Err, refl, ap, ◌∙◌, arith}
 use Rattle.std.proofs.lemmas.List.{take_all}
 use Rattle.std.specs.Str.{bytes_eq}
-use Rattle.cc_book.specs.declared.account.Account.{Account}
 use Rattle.cc_rating.specs.declared.tariff.Tariff.{Tariff}
 use Rattle.farm_script.specs.declared.fault.LineFault.{LineFault}
+use Rattle.farm_script.specs.declared.terms.AccountItem.{AccountItem}
 use Rattle.farm_script.specs.declared.terms.Form.{Form}
-use Rattle.farm_script.specs.TermsWords.{account_of, accounts_from, behind_tariffs, form_fault, next_form, tariff_of, tariffs_from}
+use Rattle.farm_script.specs.TermsWords.{behind_tariffs, form_fault, item_of, items_from, next_form, tariff_of, tariffs_from}
 use Rattle.farm_script.specs.Words.{◌>>=◌}
 use Rattle.farm_script.proofs.WordLists.{no_word}
 
@@ -31,45 +31,45 @@ form_next words i form within = rw (add-one, drop-cons words i no_word within) r
 -- ---- accounts
 
 -- what one more account makes of those before it
-abbrev pub accounts_with : List Account → Result Account LineFault → List (List ℕ) → Result (List Account) LineFault
-accounts_with before (Ok account) words = accounts_from (before ++ account ∷ []) words
-accounts_with before (Err fault) words = Err fault
+abbrev pub items_with : List AccountItem → Result AccountItem LineFault → List (List ℕ) → Result (List AccountItem) LineFault
+items_with before (Ok item) words = items_from (before ++ item ∷ []) words
+items_with before (Err fault) words = Err fault
 
-pub no_account : (words : List (Bor (List ℕ))) (before : List Account) → length words < 4 → accounts_from before (octets_of words) ≡ Ok before
+pub no_account : (words : List (Bor (List ℕ))) (before : List AccountItem) → length words < 4 → items_from before (octets_of words) ≡ Ok before
 no_account [] before few = refl
 no_account (a ∷ []) before few = refl
 no_account (a ∷ b ∷ []) before few = refl
 no_account (a ∷ b ∷ c ∷ []) before few = refl
 no_account (a ∷ b ∷ c ∷ d ∷ words) before few = absurd (omega arith)
 
-pub other_item : (words : List (Bor (List ℕ))) (before : List Account) → 4 ≤ length words → bytes_eq (word_at words 0) (codes "account") ≡ false
-    → accounts_from before (octets_of words) ≡ Ok before
+pub other_item : (words : List (Bor (List ℕ))) (before : List AccountItem) → 4 ≤ length words → bytes_eq (word_at words 0) (codes "account") ≡ false
+    → items_from before (octets_of words) ≡ Ok before
 other_item [] before least other = absurd (omega arith)
 other_item (a ∷ []) before least other = absurd (omega arith)
 other_item (a ∷ b ∷ []) before least other = absurd (omega arith)
 other_item (a ∷ b ∷ c ∷ []) before least other = absurd (omega arith)
 other_item (a ∷ b ∷ c ∷ d ∷ words) before least other = rw other refl
 
-pub account_more : (words : List (Bor (List ℕ))) (before : List Account) → 4 ≤ length words → bytes_eq (word_at words 0) (codes "account") ≡ true
-    → accounts_from before (octets_of words) ≡ accounts_with before (account_of (word_at words 1) (word_at words 2) (word_at words 3)) (octets_of (drop 4 words))
+pub account_more : (words : List (Bor (List ℕ))) (before : List AccountItem) → 4 ≤ length words → bytes_eq (word_at words 0) (codes "account") ≡ true
+    → items_from before (octets_of words) ≡ items_with before (item_of (word_at words 1) (word_at words 2) (word_at words 3)) (octets_of (drop 4 words))
 account_more [] before least is = absurd (omega arith)
 account_more (a ∷ []) before least is = absurd (omega arith)
 account_more (a ∷ b ∷ []) before least is = absurd (omega arith)
 account_more (a ∷ b ∷ c ∷ []) before least is = absurd (omega arith)
-account_more (a ∷ b ∷ c ∷ d ∷ words) before least is = rw is (with_next (account_of b.now c.now d.now))
+account_more (a ∷ b ∷ c ∷ d ∷ words) before least is = rw is (with_next (item_of b.now c.now d.now))
   where
-    with_next : (one : Result Account LineFault) → (one >>= (λ account. accounts_from (before ++ account ∷ []) (octets_of words))) ≡ accounts_with before one (octets_of words)
-    with_next (Ok account) = refl
+    with_next : (one : Result AccountItem LineFault) → (one >>= (λ item. items_from (before ++ item ∷ []) (octets_of words))) ≡ items_with before one (octets_of words)
+    with_next (Ok item) = refl
     with_next (Err fault) = refl
 
 -- the accounts that are read, and the words that are left, behind one more
-pub account_step : (all rest : List (Bor (List ℕ))) (before after : List Account) (account : Account)
-    → accounts_from [] (octets_of all) ≡ accounts_from before (octets_of rest) → 4 ≤ length rest → bytes_eq (word_at rest 0) (codes "account") ≡ true
-    → account_of (word_at rest 1) (word_at rest 2) (word_at rest 3) ≡ Ok account → after ≡ before ++ account ∷ []
-    → accounts_from [] (octets_of all) ≡ accounts_from after (octets_of (take (length rest - 4) (drop 4 rest)))
-account_step all rest before after account so_far least is one more =
+pub account_step : (all rest : List (Bor (List ℕ))) (before after : List AccountItem) (item : AccountItem)
+    → items_from [] (octets_of all) ≡ items_from before (octets_of rest) → 4 ≤ length rest → bytes_eq (word_at rest 0) (codes "account") ≡ true
+    → item_of (word_at rest 1) (word_at rest 2) (word_at rest 3) ≡ Ok item → after ≡ before ++ item ∷ []
+    → items_from [] (octets_of all) ≡ items_from after (octets_of (take (length rest - 4) (drop 4 rest)))
+account_step all rest before after item so_far least is one more =
     rw (more, rest_is 4 rest)
-    (so_far ∙ account_more rest before least is ∙ ap (λ (r : Result Account LineFault). accounts_with before r (octets_of (drop 4 rest))) one)
+    (so_far ∙ account_more rest before least is ∙ ap (λ (r : Result AccountItem LineFault). items_with before r (octets_of (drop 4 rest))) one)
 
 -- ---- the words behind `tariffs`
 

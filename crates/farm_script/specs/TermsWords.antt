@@ -1,7 +1,8 @@
--- What the words behind `terms` spell: a moment, the accounts that join, and the tariffs that hold from then on.
+-- What the words behind `terms` spell: a moment, the accounts that join, close and open again, and the tariffs that hold from then on.
 use Rattle.std.specs.Prelude.{ℕ, ◌-◌, ◌^◌, ℤ, pos, neg_ℤ, List, [], ◌∷◌, ◌++◌, length, codes, Bool, true, false, ◌&&◌, ◌==◌, nat_le, nat_lt, if◌then◌else◌, Option, Some, None, is_none, Result, Ok, Err}
-use Rattle.std.specs.List.{list_all}
+use Rattle.std.specs.List.{filter_map, list_all}
 use Rattle.std.specs.Str.{bytes_eq}
+use Rattle.cc_view.specs.declared.request.Subscription.{Subscription}
 use Rattle.cc_book.specs.declared.account.Account.{Account}
 use Rattle.cc_book.specs.declared.terms_change.TermsChange.{TermsChange}
 use Rattle.cc_rating.specs.declared.tariff.Tariff.{Tariff}
@@ -13,6 +14,8 @@ use Rattle.farm_base.specs.declared.step.Step.TheVariants.{ChangeTerms}
 use Rattle.farm_base.specs.CheckedSite.{is_visible, is_within}
 use Rattle.farm_script.specs.declared.fault.LineFault.{LineFault}
 use Rattle.farm_script.specs.declared.fault.LineFault.TheVariants.{UnknownWord, WrongCount, BadNumber}
+use Rattle.farm_script.specs.declared.terms.AccountItem.{AccountItem}
+use Rattle.farm_script.specs.declared.terms.AccountItem.TheVariants.{Joins, Closes, Reopens}
 use Rattle.farm_script.specs.declared.terms.Form.{Form}
 use Rattle.farm_script.specs.Words.{number_of, ◌>>=◌}
 
@@ -67,11 +70,28 @@ is_sound_id id = is_within 1 64 (length id) && list_all is_visible id
 abbrev pub with_id : ℕ → List ℕ → ℤ → Result Account LineFault
 with_id kind id opening = if is_sound_id id then Ok (record { id_kind = kind; id = id; opening = opening }) else Err BadNumber
 
-abbrev pub account_of : List ℕ → List ℕ → List ℕ → Result Account LineFault
-account_of kind id opening = do
+-- a Subscription-Id of an account of a site
+abbrev pub named : ℕ → List ℕ → Result Subscription LineFault
+named kind id = if is_sound_id id then Ok (record { kind = kind; text = id }) else Err BadNumber
+
+-- what is said of an account: that it is closed, or open again, or with which opening it joins
+abbrev pub item_said : ℕ → List ℕ → List ℕ → Result AccountItem LineFault
+item_said kind id said =
+    if bytes_eq said (codes "closed") then (do
+      subscription ← named kind id
+      Ok (Closes subscription))
+    else if bytes_eq said (codes "open") then (do
+      subscription ← named kind id
+      Ok (Reopens subscription))
+    else (do
+      amount ← amount_of said
+      account ← with_id kind id amount
+      Ok (Joins account))
+
+abbrev pub item_of : List ℕ → List ℕ → List ℕ → Result AccountItem LineFault
+item_of kind id said = do
   number ← number_up_to 4 kind
-  amount ← amount_of opening
-  with_id number id amount
+  item_said number id said
 
 -- a Rating-Group or a Service-Identifier, or `-` for none
 abbrev pub key_of : List ℕ → Result (Option ℕ) LineFault
@@ -99,12 +119,25 @@ tariff_of group ident units block price quantum greatest = do
 
 -- ---- what all items say, in this order behind others
 
--- the accounts before `tariffs`
-abbrev pub accounts_from : List Account → List (List ℕ) → Result (List Account) LineFault
-accounts_from before (word ∷ kind ∷ id ∷ opening ∷ words) = if bytes_eq word (codes "account") then (do
-  account ← account_of kind id opening
-  accounts_from (before ++ account ∷ []) words) else Ok before
-accounts_from before words = Ok before
+-- what is said of accounts before `tariffs`
+abbrev pub items_from : List AccountItem → List (List ℕ) → Result (List AccountItem) LineFault
+items_from before (word ∷ kind ∷ id ∷ said ∷ words) = if bytes_eq word (codes "account") then (do
+  item ← item_of kind id said
+  items_from (before ++ item ∷ []) words) else Ok before
+items_from before words = Ok before
+
+-- the accounts that join, and the Subscription-Ids of those that close and of those that open again
+abbrev pub joining_of : AccountItem → Option Account
+joining_of (Joins account) = Some account
+joining_of _ = None
+
+abbrev pub closing_of : AccountItem → Option Subscription
+closing_of (Closes subscription) = Some subscription
+closing_of _ = None
+
+abbrev pub reopening_of : AccountItem → Option Subscription
+reopening_of (Reopens subscription) = Some subscription
+reopening_of _ = None
 
 -- the words behind `tariffs`, if it is there
 abbrev pub behind_tariffs : List (List ℕ) → Option (List (List ℕ))
@@ -135,9 +168,9 @@ some_tariffs_of (Some words) = do
 
 abbrev pub change_of : List (List ℕ) → Result TermsChange LineFault
 change_of items = do
-  joining ← accounts_from [] items
+  accounts ← items_from [] items
   tariffs ← some_tariffs_of (behind_tariffs items)
-  Ok (record { joining = joining; tariffs = tariffs })
+  Ok (record { joining = filter_map joining_of accounts; closing = filter_map closing_of accounts; reopening = filter_map reopening_of accounts; tariffs = tariffs })
 
 -- ---- the step
 

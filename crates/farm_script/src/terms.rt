@@ -1,26 +1,33 @@
 //! The step that the words behind `terms` spell: a change of the terms.
 
-ghost use Rattle.std.specs.Prelude.{◌≡◌, ◌≤◌, [], codes, map, false, Ok, Some, None, IfSome, IfNone, IfOk};
-ghost use Rattle.std.specs.List.{list_all};
+ghost use Rattle.std.specs.Prelude.{◌≡◌, ◌≤◌, ◌++◌, ◌∷◌, [], codes, map, false, Ok, Some, None, IfSome, IfNone, IfOk, OnOk};
+ghost use Rattle.std.specs.List.{filter_map, list_all};
 ghost use Rattle.std.specs.Str.{bytes_eq};
 ghost use Rattle.farm_base.specs.CheckedSite.{is_visible};
-ghost use Rattle.farm_script.specs.TermsWords.{account_of, accounts_from, amount_of, behind_tariffs, change_of, faultless, form_at_item, form_fault, is_sound_id, key_of, last_form, next_form, number_up_to, some_tariffs_of, step_said, tariff_of, tariffs_from, tariffs_of, terms_of, units_of, with_id};
+ghost use Rattle.farm_script.specs.TermsWords.{amount_of, behind_tariffs, change_of, closing_of, faultless, form_at_item, form_fault, is_sound_id, item_of, item_said, items_from, joining_of, key_of, last_form, named, next_form, number_up_to, reopening_of, some_tariffs_of, step_said, tariff_of, tariffs_from, tariffs_of, terms_of, units_of, with_id};
 ghost use Rattle.farm_script.specs.Words.{Answers};
 
 use crate::fault::LineFault;
 use crate::word::number_of;
 use cc_book::{Account, TermsChange};
 use cc_rating::{Tariff, TariffFault, Tariffs, UnitKind};
+use cc_view::Subscription;
 use dia_avp::Octets;
 use dia_base::{Listing, Moment};
 use farm_base::Step;
-use std::alloc::Global;
+use std::alloc::{AllocError, Global};
 
 const ACCOUNT: &[u8] = b"account";
 
 const TARIFFS: &[u8] = b"tariffs";
 
 const TARIFF: &[u8] = b"tariff";
+
+/// What is said of an account that closes, in place of its opening.
+const CLOSED: &[u8] = b"closed";
+
+/// What is said of one that opens again.
+const OPEN: &[u8] = b"open";
 
 /// How many words an account has behind its own.
 const ACCOUNT_WORDS: usize = 3;
@@ -54,6 +61,53 @@ const KEY_LIMIT: u64 = 4_294_967_295;
 struct Form {
     in_tariffs: bool,
     left: usize,
+}
+
+/// What is said of an account.
+#[derive(Debug, Drop)]
+enum AccountItem {
+    Joins(Account),
+    Closes(Subscription),
+    Reopens(Subscription),
+}
+
+/// What is said of accounts, by what they do, in the order in which it is said.
+#[derive(Debug, Drop)]
+struct Parted {
+    joining: Vec<Account>,
+    closing: Vec<Subscription>,
+    reopening: Vec<Subscription>,
+}
+
+impl Parted {
+    fn of(alloc: Global, items: Vec<AccountItem>) -> Result<Self, AllocError>
+        ensures joining { IfOk result (λ parted. parted.joining.items ≡ filter_map joining_of items.items) }
+        ensures closing { IfOk result (λ parted. parted.closing.items ≡ filter_map closing_of items.items) }
+        ensures reopening { IfOk result (λ parted. parted.reopening.items ≡ filter_map reopening_of items.items) }
+    {
+        let mut parted = Parted {
+            joining: Vec::new(alloc),
+            closing: Vec::new(alloc),
+            reopening: Vec::new(alloc),
+        };
+        for item in items {
+            parted.add(item)?;
+        }
+        Ok(parted)
+    }
+
+    fn add(&mut self, item: AccountItem) -> Result<(), AllocError>
+        ensures joining { OnOk result (self.new.joining.items ≡ self.old.joining.items ++ filter_map joining_of (item ∷ [])) }
+        ensures closing { OnOk result (self.new.closing.items ≡ self.old.closing.items ++ filter_map closing_of (item ∷ [])) }
+        ensures reopening { OnOk result (self.new.reopening.items ≡ self.old.reopening.items ++ filter_map reopening_of (item ∷ [])) }
+    {
+        match item {
+            AccountItem::Joins(account) => self.joining.push(account)?,
+            AccountItem::Closes(subscription) => self.closing.push(subscription)?,
+            AccountItem::Reopens(subscription) => self.reopening.push(subscription)?,
+        }
+        Ok(())
+    }
 }
 
 /// The step that the words behind `terms` spell, or the line's first fault.
@@ -165,34 +219,66 @@ fn are_tariffs(word: &[u8]) -> bool
 fn change_of(alloc: Global, items: &[&[u8]]) -> Result<TermsChange, LineFault>
     ensures { Answers (change_of (map (λ word. word.now) items.now)) result }
 {
-    let joining = accounts_of(alloc, items)?;
+    let accounts = account_items(alloc, items)?;
     let tariffs = some_tariffs_of(alloc, items)?;
-    Ok(TermsChange { joining, tariffs })
+    let parted = Parted::of(alloc, accounts.into_vec())?;
+    Ok(TermsChange {
+        joining: Listing::from_vec(parted.joining),
+        closing: Listing::from_vec(parted.closing),
+        reopening: Listing::from_vec(parted.reopening),
+        tariffs,
+    })
 }
 
-/// The accounts before `tariffs`.
-fn accounts_of(alloc: Global, items: &[&[u8]]) -> Result<Listing<Account>, LineFault>
-    ensures { Answers (accounts_from [] (map (λ word. word.now) items.now)) result }
+/// What is said of accounts before `tariffs`.
+fn account_items(alloc: Global, items: &[&[u8]]) -> Result<Listing<AccountItem>, LineFault>
+    ensures { Answers (items_from [] (map (λ word. word.now) items.now)) result }
 {
     let mut accounts = Vec::new(alloc);
     let mut rest = items;
-    while let [word, kind, id, opening, behind @ ..] = rest {
+    while let [word, kind, id, said, behind @ ..] = rest {
         if !is_account(word) {
             return Ok(Listing::from_vec(accounts));
         }
-        let account = account_of(alloc, kind, id, opening)?;
-        accounts.push(account)?;
+        let item = item_of(alloc, kind, id, said)?;
+        accounts.push(item)?;
         rest = behind;
     }
     Ok(Listing::from_vec(accounts))
 }
 
-fn account_of(alloc: Global, kind: &[u8], id: &[u8], opening: &[u8]) -> Result<Account, LineFault>
-    ensures { Answers (account_of kind.now id.now opening.now) result }
+fn item_of(alloc: Global, kind: &[u8], id: &[u8], said: &[u8]) -> Result<AccountItem, LineFault>
+    ensures { Answers (item_of kind.now id.now said.now) result }
 {
     let kind = number_up_to(ID_KIND_LIMIT, kind)?;
-    let opening = amount_of(opening)?;
-    with_id(alloc, kind as u32, id, opening)
+    item_said(alloc, kind as u32, id, said)
+}
+
+/// What is said of an account: that it is closed, or open again, or with which opening it joins.
+fn item_said(alloc: Global, kind: u32, id: &[u8], said: &[u8]) -> Result<AccountItem, LineFault>
+    ensures { Answers (item_said kind id.now said.now) result }
+{
+    if said == CLOSED {
+        Ok(AccountItem::Closes(named(alloc, kind, id)?))
+    } else if said == OPEN {
+        Ok(AccountItem::Reopens(named(alloc, kind, id)?))
+    } else {
+        let opening = amount_of(said)?;
+        Ok(AccountItem::Joins(with_id(alloc, kind, id, opening)?))
+    }
+}
+
+/// A Subscription-Id.
+fn named(alloc: Global, kind: u32, id: &[u8]) -> Result<Subscription, LineFault>
+    ensures { Answers (named kind id.now) result }
+{
+    if !is_sound_id(id) {
+        return Err(LineFault::BadNumber);
+    }
+    Ok(Subscription {
+        kind,
+        text: Octets::copy_of(alloc, id)?,
+    })
 }
 
 fn with_id(alloc: Global, id_kind: u32, id: &[u8], opening: i64) -> Result<Account, LineFault>

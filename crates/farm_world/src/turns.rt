@@ -192,6 +192,11 @@ impl World {
                 ChangeRefusal::Nothing
                 | ChangeRefusal::AlreadyThere { .. }
                 | ChangeRefusal::Twice { .. }
+                | ChangeRefusal::NotThere { .. }
+                | ChangeRefusal::ClosedAlready { .. }
+                | ChangeRefusal::ClosedTwice { .. }
+                | ChangeRefusal::NotClosed { .. }
+                | ChangeRefusal::ReopenedTwice { .. }
                 | ChangeRefusal::Full { .. },
             ) => Ok(true),
             Err(ChangeRefusal::OutOfMemory) => Err(AllocError),

@@ -18,7 +18,7 @@ short_site workers queue = record { name = front_name; realm = realm_name; profi
 
 -- a book without accounts
 abbrev pub empty_book : Ledger
-empty_book = record { terms = record { accounts = []; tariffs = []; validity = 600; money = record { currency = 978; exponent = negsuc 1 } }; limit = 1048576; history = [] }
+empty_book = record { terms = record { accounts = []; closed = []; tariffs = []; validity = 600; money = record { currency = 978; exponent = negsuc 1 } }; limit = 1048576; history = [] }
 
 -- ---- events on the first connection, and of the first worker where no other is named
 
@@ -61,11 +61,11 @@ sweep = event.Sweep (record { 0 = 18446744073709551615 })
 
 -- tariffs, of which there are none, hold from this moment on
 abbrev pub change : FrontEvent
-change = event.ChangeTerms (record { 0 = 2000 }) (record { joining = []; tariffs = Some [] })
+change = event.ChangeTerms (record { 0 = 2000 }) (record { joining = []; closing = []; reopening = []; tariffs = Some [] })
 
 -- a change that says nothing, and is refused
 abbrev pub no_change : FrontEvent
-no_change = event.ChangeTerms (record { 0 = 2000 }) (record { joining = []; tariffs = None })
+no_change = event.ChangeTerms (record { 0 = 2000 }) (record { joining = []; closing = []; reopening = []; tariffs = None })
 
 abbrev pub restart : FrontEvent
 restart = event.Restart

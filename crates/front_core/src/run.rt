@@ -76,6 +76,11 @@ fn change_terms(
             ChangeRefusal::Nothing
             | ChangeRefusal::AlreadyThere { .. }
             | ChangeRefusal::Twice { .. }
+            | ChangeRefusal::NotThere { .. }
+            | ChangeRefusal::ClosedAlready { .. }
+            | ChangeRefusal::ClosedTwice { .. }
+            | ChangeRefusal::NotClosed { .. }
+            | ChangeRefusal::ReopenedTwice { .. }
             | ChangeRefusal::Full { .. },
         ) => Ok(()),
         Err(ChangeRefusal::OutOfMemory) => Err(FrontError::OutOfMemory),

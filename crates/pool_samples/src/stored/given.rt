@@ -295,7 +295,7 @@ fn without_action(alloc: Global) -> anyhow::Result<Taken> {
     })
 }
 
-/// An account joins, as far below 0 as one can be, and a tariff holds.
+/// An account joins, as far below 0 as one can be, another closes, a third opens again, and a tariff holds.
 fn change(alloc: Global) -> anyhow::Result<TermsChange> {
     let account = Account {
         id_kind: 0,
@@ -312,8 +312,12 @@ fn change(alloc: Global) -> anyhow::Result<TermsChange> {
         greatest: UNITS_LIMIT,
     };
     let tariffs = vec![in alloc; tariff]?;
+    let closing = subscription(alloc, 0, b"491700000002")?;
+    let reopening = subscription(alloc, 0, b"491700000003")?;
     Ok(TermsChange {
         joining: Listing::from_vec(vec![in alloc; account]?),
+        closing: Listing::from_vec(vec![in alloc; closing]?),
+        reopening: Listing::from_vec(vec![in alloc; reopening]?),
         tariffs: Some(Tariffs::new(alloc, tariffs)?),
     })
 }

@@ -13,10 +13,10 @@ const CHANGES: [(usize, usize, u8); 15] = [
     (9, 49, 2),
     (9, 50, 1),
     // Whether there are tariffs, what the units of one are, and its price, at most 2^20.
-    (9, 66, 2),
-    (9, 81, 3),
-    (9, 94, 1),
-    (9, 97, 0),
+    (9, 130, 2),
+    (9, 145, 3),
+    (9, 158, 1),
+    (9, 161, 0),
     // CC-Request-Type, and whether there is a Requested-Action.
     (3, 37, 5),
     (3, 38, 2),

@@ -12,4 +12,4 @@ pub returns : goal.returns
 returns c =
     let fits : SFits w32 c.args.value.now.money.exponent = search rules in
     let accounts = subst (λ (xs : List Account). Adds (listed account) xs c.push_tariffs.new.out.items c.push_accounts.new.out.items) c.as_slice.ensures c.in_ok-push_accounts.ensures in
-    terms_added c.args.value.now c.in_ok-push_u32.ensures (simp to_z-of_z at c.in_ok-push_i32.ensures) c.in_ok-push_u32-2.ensures c.in_ok-push_tariffs.ensures accounts
+    terms_added c.args.value.now c.requires c.in_ok-push_u32.ensures (simp to_z-of_z at c.in_ok-push_i32.ensures) c.in_ok-push_u32-2.ensures c.in_ok-push_tariffs.ensures accounts

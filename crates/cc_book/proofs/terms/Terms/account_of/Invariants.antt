@@ -4,4 +4,4 @@ use Rattle.cc_book.proofs.terms.Terms.account_of.Given as goal
 
 abbrev pub invariant-loop-subscription : goal.invariant-loop-subscription
 invariant-loop-subscription l =
-    account_of l.self.accounts l.fn.request.subscriptions ≡ account_of l.self.accounts (drop l.subscription-index l.subscription-items)
+    account_of l.self l.fn.request.subscriptions ≡ account_of l.self (drop l.subscription-index l.subscription-items)

@@ -17,12 +17,12 @@ returns-in_ok-session-in-Some-default g c = λ before is stands.
     c.in_ok-session-in-Some-default.ensures
     ∙ ap (λ (hs : List Hold). prolonged session c.args.moment hs c.in_ok-prices-in-Some-default.prices) holds
     ∙ ap (prolonged session c.args.moment session.holds) c.in_ok-prices-in-Some-default.ensures in
-    let outcome : c.refused.result ≡ refused-outcome (account_of c.args.self.now.accounts c.args.request.now.subscriptions) UnableToComply
+    let outcome : c.refused.result ≡ refused-outcome (account_of c.args.self.now c.args.request.now.subscriptions) UnableToComply
     (GoesOn c.in-Some-default.place (prolonged session c.args.moment session.holds session.prices)) =
     c.refused.ensures
     ∙ ap (λ (a : Option ℕ). refused-outcome a UnableToComply (GoesOn c.in-Some-default.place c.in_ok-session-in-Some-default.session))
     c.requires.account
-    ∙ ap (λ (s : OpenSession). refused-outcome (account_of c.args.self.now.accounts c.args.request.now.subscriptions) UnableToComply
+    ∙ ap (λ (s : OpenSession). refused-outcome (account_of c.args.self.now c.args.request.now.subscriptions) UnableToComply
     (GoesOn c.in-Some-default.place s)) next in
     subst (IsOutcome c.args.self.now before (g.S.Lookup.sessions c.args.standing.now) c.args.moment c.args.request.now) (sym outcome)
     (initial-open c.args.request.now c.args.moment stands c.in-Some-default.place session is c.in-Some-default.ensures.at c.in-Some-default.ensures.there)

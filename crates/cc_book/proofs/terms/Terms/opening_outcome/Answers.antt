@@ -4,7 +4,7 @@ use Rattle.std.specs.Int.{w128}
 use Rattle.std.proofs.lemmas.Int.{to_z-of_z}
 use Rattle.cc_view.specs.declared.reply.CcReply.{CcReply}
 use Rattle.cc_view.specs.declared.request.Service.{Service}
-use Rattle.cc_book.specs.AccountMachine.{granting_reply, holds_from, session_reply}
+use Rattle.cc_book.specs.AccountMachine.{granting_reply, holds_on, session_reply}
 use Rattle.cc_book.specs.declared.outcome.Change.TheVariants.{Opens, Stays}
 use Rattle.cc_book.specs.declared.price.Price.{Price}
 use Rattle.cc_book.specs.Pricing.{priced, prices_after}
@@ -35,15 +35,15 @@ returns g c = λ before is shut stands.
     let value : free ≡ available -ℤ pos used =
     to_z-of_z w128 c.free_to_grant-free.result free_fits ∙ c.free_to_grant-free.ensures.value ∙ ap (λ (z : ℤ). available -ℤ z) debit in
     let is_free = free-initial request c.args.moment stands c.args.account free is shut c.requires.account c.requires.within value in
-    let holds : c.in_ok-granted.granted.holds.items ≡ holds_from terms.tariffs free request.services = c.in_ok-granted.ensures.holds
-    ∙ ap (holds_from terms.tariffs free) services in
-    let reply : c.session_reply-reply.result ≡ granting_reply terms free request.services =
-    c.session_reply-reply.ensures ∙ ap session_reply c.in_ok-granted.ensures.replies ∙ ap (granting_reply terms free) services in
+    let holds : c.in_ok-granted.granted.holds.items ≡ holds_on terms (Some c.args.account) free request.services = c.in_ok-granted.ensures.holds
+    ∙ ap (holds_on terms (Some c.args.account) free) services in
+    let reply : c.session_reply-reply.result ≡ granting_reply terms (Some c.args.account) free request.services =
+    c.session_reply-reply.ensures ∙ ap session_reply c.in_ok-granted.ensures.replies ∙ ap (granting_reply terms (Some c.args.account) free) services in
     let later : c.in_ok-prices.prices ≡ prices_after terms.tariffs [] c.in_ok-granted.granted.holds.items =
     c.in_ok-prices.ensures
     ∙ ap (λ (ps : List Price). prices_after terms.tariffs ps c.deref.result.now) c.none-none.ensures
     ∙ ap (prices_after terms.tariffs []) c.deref.ensures.value in
-    let change : c.in_ok-change.change ≡ opening-change request c.args.moment stands (is_success (granting_reply terms free request.services).code)
+    let change : c.in_ok-change.change ≡ opening-change request c.args.moment stands (is_success (granting_reply terms (Some c.args.account) free request.services).code)
     c.args.account c.in_ok-granted.granted.holds.items =
     c.in_ok-change.ensures
     ∙ ap (λ (ps : List Price). cond (is_success c.session_reply-reply.result.code) (Opens (record {
@@ -54,7 +54,7 @@ returns g c = λ before is shut stands.
       prices = ps;
     })) Stays) later
     ∙ ap (λ (r : CcReply). opening-change request c.args.moment stands (is_success r.code) c.args.account c.in_ok-granted.granted.holds.items) reply in
-    same-outcome (Some c.args.account) (pos used) _ (granting_reply terms free request.services) _
+    same-outcome (Some c.args.account) (pos used) _ (granting_reply terms (Some c.args.account) free request.services) _
     c.in_ok-change.change c.in_ok-change.change
     (sym debit) (sym reply) refl
     (initial-closed request c.args.moment stands c.args.account free c.in_ok-granted.granted.holds.items c.in_ok-change.change is shut c.requires.account

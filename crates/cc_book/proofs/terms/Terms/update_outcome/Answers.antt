@@ -4,7 +4,7 @@ use Rattle.std.specs.Int.{w128}
 use Rattle.std.proofs.lemmas.Int.{to_z-of_z}
 use Rattle.cc_view.specs.declared.request.Service.{Service}
 use Rattle.cc_book.specs.declared.outcome.Change.TheVariants.{GoesOn}
-use Rattle.cc_book.specs.AccountMachine.{granting_reply, holds_from, session_reply}
+use Rattle.cc_book.specs.AccountMachine.{granting_reply, holds_on, session_reply}
 use Rattle.cc_book.specs.declared.session.Hold.{Hold}
 use Rattle.cc_book.specs.Pricing.{price_at, priced, prices_after}
 use Rattle.cc_book.specs.ServiceRating.{used_total}
@@ -86,10 +86,10 @@ returns g c = λ before is stands.
     ((slice_index_or (g.S.Lookup.balances c.args.standing.now) session.account (pos 0) -ℤ pos (reserved_in session.account sessions)) +ℤ pos ended) -ℤ z)
     debit in
     let is_free = free-update request c.args.moment stands c.in-Some.place session free ended is c.in-Some.ensures.at c.in-Some.ensures.there parts value in
-    let holds : c.in_ok-granted.granted.holds.items ≡ holds_from terms.tariffs free request.services = c.in_ok-granted.ensures.holds
-    ∙ ap (holds_from terms.tariffs free) services in
-    let reply : c.session_reply.result ≡ granting_reply terms free request.services = c.session_reply.ensures
-    ∙ ap session_reply c.in_ok-granted.ensures.replies ∙ ap (granting_reply terms free) services in
+    let holds : c.in_ok-granted.granted.holds.items ≡ holds_on terms (Some session.account) free request.services = c.in_ok-granted.ensures.holds
+    ∙ ap (holds_on terms (Some session.account) free) services in
+    let reply : c.session_reply.result ≡ granting_reply terms (Some session.account) free request.services = c.session_reply.ensures
+    ∙ ap session_reply c.in_ok-granted.ensures.replies ∙ ap (granting_reply terms (Some session.account) free) services in
     let outcome = update-open request c.args.moment stands c.in-Some.place session free c.in_ok-granted.granted.holds.items is c.in-Some.ensures.at
     c.in-Some.ensures.there small is_free holds c.in_ok-granted.ensures.most in
     let all : c.append.new.self.items ≡ holds_beside request.services session.holds ++ c.in_ok-granted.granted.holds.items =
@@ -102,6 +102,12 @@ returns g c = λ before is stands.
     c.in_ok-session.ensures
     ∙ ap (λ (hs : List Hold). prolonged session c.args.moment hs c.in_ok-prices.prices) (c.from_vec.ensures ∙ all)
     ∙ ap (prolonged session c.args.moment (holds_beside request.services session.holds ++ c.in_ok-granted.granted.holds.items)) later in
-    same-outcome (Some session.account) (pos used) _ (granting_reply terms free request.services)
+    same-outcome (Some session.account) (pos used) _ (granting_reply terms (Some session.account) free request.services)
     c.session_reply.result _ (GoesOn c.in-Some.place c.in_ok-session.session)
     (sym debit) (sym reply) (ap (GoesOn c.in-Some.place) (sym next)) outcome
+
+-- the account of the session is there
+pub granted_on-requires-clause-within : goal.granted_on-requires-clause-within
+granted_on-requires-clause-within g c =
+    let known = account-at _ (g.S.Lookup.sessions c.args.standing.now) c.in-Some.place c.in-Some.session.now c.in-Some.ensures.there c.requires.known in
+    omega (arith, c.requires.accounts)

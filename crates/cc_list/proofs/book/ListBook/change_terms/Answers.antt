@@ -5,7 +5,7 @@ use Rattle.cc_book.specs.declared.session.OpenSession.{OpenSession}
 use Rattle.cc_book.specs.declared.entry.Entry.{Entry}
 use Rattle.cc_book.specs.declared.terms.Terms.{Terms}
 use Rattle.cc_book.specs.AccountMachine.{terms_of}
-use Rattle.cc_book.specs.Changing.{change_answer}
+use Rattle.cc_book.specs.Changing.{change_answer, with_change}
 use Rattle.cc_book.specs.Standing.{openings_of}
 use Rattle.cc_book.specs.Taking.{Ledger}
 use Rattle.cc_book.specs.TermsChange.{changed_terms}
@@ -52,3 +52,9 @@ invariant_of-self-2 c =
           ∙ sym (ap (λ (es : List Entry). terms_of inside.terms es) c.push_reserved.ensures.items
           ∙ terms_of-change inside.terms history c.args.moment c.args.change),
     )
+
+pub returns-clause-after : goal.returns-clause-after
+returns-clause-after c =
+    let ledger : Ledger = record { terms = c.self.inside.terms; limit = c.self.inside.limit; history = c.self.inside.history.items } in
+    ap (λ (es : List Entry). record ledger { history = es }) c.push_reserved.ensures.items
+    ∙ ap (λ (l : Ledger). with_change l c.args.moment c.args.change) c.self.view_is

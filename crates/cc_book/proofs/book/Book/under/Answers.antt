@@ -11,13 +11,13 @@ use Rattle.cc_book.proofs.Books.{IsBook-empty}
 use Rattle.cc_book.proofs.Bounds.{bounded-empty, opens-small}
 use Rattle.cc_book.proofs.Postings.{terms_of-empty}
 use Rattle.cc_book.proofs.Stands.{empty-stands}
-use Rattle.cc_book.proofs.book.Book.new.Goals as goal
+use Rattle.cc_book.proofs.book.Book.under.Goals as goal
 
 pub invariant_of-result : goal.invariant_of-result
 invariant_of-result c =
-    let terms : Terms = record { accounts = c.from_vec.result; tariffs = c.args.tariffs; validity = c.args.validity; money = c.args.money } in
+    let terms : Terms = c.args.terms in
     let standing = c.in_ok-standing.standing in
-    let openings = c.in_ok-standing.ensures.balances ∙ ap (map (λ (a : Account). a.opening)) (c.deref.ensures.value ∙ sym c.from_vec.ensures) in
+    let openings = c.in_ok-standing.ensures.balances ∙ ap (map (λ (a : Account). a.opening)) c.as_slice.ensures in
     let stands = empty-stands terms standing.balances.items openings in
     let small = opens-small terms standing.balances.items openings c.in_ok-standing.ensures.least c.in_ok-standing.ensures.most in
     let bounded = bounded-empty terms standing.balances.items openings c.in_ok-standing.ensures.least c.in_ok-standing.ensures.most in
@@ -35,7 +35,7 @@ invariant_of-result c =
         for_replies = omega (arith, c.in_ok-with_capacity-2.ensures.exact);
         for_sessions = omega (arith, c.in_ok-standing.ensures.room);
       },
-      c.in_ok-standing.ensures.accounts ∙ ap length (c.deref.ensures.value ∙ sym c.from_vec.ensures) ∙ sym stands.accounts,
+      c.in_ok-standing.ensures.accounts ∙ ap length c.as_slice.ensures ∙ sym stands.accounts,
       subst (λ (es : List Entry). IsIndexed es places) (sym c.in_ok-with_capacity.ensures.items) c.in_ok-new.ensures.indexed,
       subst (λ (es : List Entry). HasPlaces c.args.limit (length es) places) (sym c.in_ok-with_capacity.ensures.items) c.in_ok-new.ensures.room,
       omega arith,

@@ -1,7 +1,0 @@
-use denote.Exit.{yes}
-use denote.Param.Send.{arg_send, param_send}
-use Rattle.book_file.proofs.Crossing.{file_book_send}
-use Rattle.farm_live.proofs.fronts.start_on.Goals as goal
-
-pub start_fronts-fronts-requires-send-S : goal.start_fronts-fronts-requires-send-S
-start_fronts-fronts-requires-send-S g c κs within = param_send 2 _ (arg_send _ yes _ (file_book_send _ _ _))
