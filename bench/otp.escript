@@ -3,7 +3,8 @@
 %% c1.example, sends an EVENT, an INITIAL and an UPDATE, is asked whether it lives, writes "restart" and waits until the relay was
 %% killed and started again. Then it asks whether the relay lives, and sends the TERMINATION, behind which the relay disconnects.
 %% It writes "once more" then, waits until the relay is there again, and disconnects itself. A line for each answer, and for what OTP
-%% has counted; status 1 where something is not as it is to be. Run by bench/otp.
+%% has counted; status 1 where something is not as it is to be. Run by bench/otp, and by bench/otp_model.py with the word "model": the
+%% model asks nobody whether it lives, and does not disconnect.
 -module(otp).
 -export([peer_up/3, peer_down/3, pick_peer/4, prepare_request/3, prepare_retransmit/3, handle_answer/4, handle_error/4, handle_request/3]).
 -mode(compile).
@@ -11,6 +12,8 @@
 -define(SERVICE, ?MODULE).
 
 main([Port, Dictionary]) ->
+    main([Port, Dictionary, "relay"]);
+main([Port, Dictionary, Other]) ->
     load(Dictionary),
     ok = diameter:start(),
     ok = diameter:start_service(?SERVICE, [
@@ -37,20 +40,38 @@ main([Port, Dictionary]) ->
     expect("EVENT", 2001, 3200, call(Event, 4, 0, #{'Requested-Action' => [0]}, [#{asked => 3200}])),
     expect("INITIAL", 2001, 5000, call(Session, 1, 0, #{}, [#{asked => none}])),
     expect("UPDATE", 2001, 5000, call(Session, 2, 1, #{}, [#{asked => none, used => 4000}])),
-    timer:sleep(4500),
-    counted("watchdogs received and answered", 3, [{{0, 280, 1}, recv}, {{0, 280, 0}, send}]),
+    asked_by(Other),
     io:format("restart~n"),
     wait(down),
     wait(up),
-    timer:sleep(18000),
-    counted("watchdogs sent and answered", 2, [{{0, 280, 1}, send}, {{0, 280, 0}, recv}]),
+    answered_by(Other),
     expect("TERMINATION", 2001, none, call(Session, 3, 2, #{}, [#{used => 3000}])),
-    wait(down),
-    io:format("once more~n"),
-    wait(up),
+    left_by(Other),
     ok = diameter:stop_service(?SERVICE),
     io:format("done~n"),
     halt(0).
+
+%% the relay asks whether its peers live
+asked_by("relay") ->
+    timer:sleep(4500),
+    counted("watchdogs received and answered", 3, [{{0, 280, 1}, recv}, {{0, 280, 0}, send}]);
+asked_by("model") ->
+    ok.
+
+%% and answers who asks it
+answered_by("relay") ->
+    timer:sleep(18000),
+    counted("watchdogs sent and answered", 2, [{{0, 280, 1}, send}, {{0, 280, 0}, recv}]);
+answered_by("model") ->
+    ok.
+
+%% it disconnects behind so many answers, and is started again
+left_by("relay") ->
+    wait(down),
+    io:format("once more~n"),
+    wait(up);
+left_by("model") ->
+    ok.
 
 %% makes and loads the dictionary
 load(File) ->

@@ -74,7 +74,7 @@ def main():
                 pass  # the connection was cut
 
     threading.Thread(target=accept, daemon=True).start()
-    client = subprocess.Popen(["escript", ROOT / "bench/otp.escript", str(PORT), ROOT / "bench/cc.dia"], stdout=subprocess.PIPE, text=True)
+    client = subprocess.Popen(["escript", ROOT / "bench/otp.escript", str(PORT), ROOT / "bench/cc.dia", "model"], stdout=subprocess.PIPE, text=True)
     for line in client.stdout:
         print(line, end="")
         if line == "restart\n":
