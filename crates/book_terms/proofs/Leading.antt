@@ -1,7 +1,7 @@
 -- Changes that are needed lead to the terms that are wanted.
 use Rattle.std.proofs.Common.{◌≡◌, ◌||◌, ◌&&◌, Bool, true, false, not, cond, List, [], ◌∷◌, ◌++◌, Option, Some, None, refl, ap, sym, ◌∙◌, subst, append_assoc, append-nil, unwrap_or}
 use Rattle.std.specs.Cmp.{int_eq_equiv}
-use Rattle.std.specs.List.{filter, list_all, list_any, position}
+use Rattle.std.specs.List.{list_all, list_any, position}
 use Rattle.std.specs.Option.{is_none}
 use Rattle.std.specs.Ordering.{int_eq}
 use Rattle.std.proofs.lemmas.Cmp.{nat_eq_equiv, nat_list_eq_equiv}

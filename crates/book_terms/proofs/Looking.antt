@@ -1,7 +1,6 @@
 -- An account is looked for from a place on, and then before it.
-use Rattle.std.proofs.Common.{◌≡◌, ℕ, ◌||◌, Bool, true, false, List, ◌++◌, Option, Some, None, refl, ap, sym, ◌∙◌, ◌+◌, ◌-◌, ◌<◌, ◌≤◌, arith, cond, nat_lt, get_or, length, take, drop, min}
+use Rattle.std.proofs.Common.{◌≡◌, ℕ, ◌||◌, Bool, true, false, List, Some, None, refl, ap, sym, ◌∙◌, ◌-◌, ◌<◌, arith, nat_lt, get_or, length, take, drop}
 use Rattle.std.specs.List.{list_any, position, position_or_len}
-use Rattle.std.specs.Option.{is_some}
 use Rattle.std.proofs.Math.Seq.{take-length}
 use Rattle.std.proofs.lemmas.Bool.{lt-ltb}
 use Rattle.std.proofs.lemmas.List.{get_or-take, length-drop, length-take-le, take-append-drop}

@@ -9,8 +9,7 @@ use book_rows::{
     Fault, ReadError, accounts_at, i32_at, push_accounts, push_i32, push_tariffs, push_u32,
     tariffs_at, u32_at,
 };
-use cc_book::{Money, Terms};
-use dia_base::Listing;
+use cc_book::{Accounts, Money, Subscriptions, Terms};
 use std::alloc::{AllocError, Global};
 
 #[tactic(auto, unfolding(crate::specs::Terms::terms))]
@@ -24,8 +23,8 @@ fn terms_at(alloc: Global, octets: &[u8]) -> Result<(Terms, &[u8]), ReadError>
     let (accounts, rest) = accounts_at(alloc, rest)?;
     Ok((
         Terms {
-            accounts: Listing::from_vec(accounts),
-            closed: Listing::empty(alloc),
+            accounts: Accounts::from_vec(alloc, accounts)?,
+            closed: Subscriptions::empty(alloc),
             tariffs,
             validity,
             money: Money { currency, exponent },

@@ -7,10 +7,10 @@ ghost use Rattle.book_terms.specs.declared.differences.NeededFault.TheVariants.{
 ghost use Rattle.book_terms.specs.declared.key.TermsKey.TheVariants as keys;
 ghost use Rattle.book_terms.specs.declared.key.TermsKey.{TermsKey as TermsKeyValue};
 ghost use Rattle.book_terms.specs.Stance.{IsStance};
-ghost use Rattle.book_terms.specs.Difference.{AgreeAsFarAsBothGo, AgreeInNumbers, DifferAt, DifferInNumbers, DiffersIn, IsNeeded, SaysTariffs, has_other_opening, is_known, is_there, joining_of, same_account};
+ghost use Rattle.book_terms.specs.Difference.{AgreeAsFarAsBothGo, AgreeInNumbers, DifferAt, DifferInNumbers, DiffersIn, IsNeeded, SaysTariffs, has_other_opening, is_there, joining_of, same_account};
 
 use crate::key::TermsKey;
-use cc_book::{Account, Terms, TermsChange};
+use cc_book::{Account, Accounts, Terms, TermsChange};
 use cc_rating::{Tariff, Tariffs};
 use dia_base::Listing;
 use std::alloc::{AllocError, Global};
@@ -41,7 +41,7 @@ pub fn needed_change(alloc: Global, now: &Terms, wanted: &Terms) -> Result<Terms
     if let Some(key) = difference_in_numbers(now, wanted) {
         return Err(NeededFault::Stays(key));
     }
-    let joining = joining_of(alloc, now.accounts.as_slice(), wanted.accounts.as_slice())?;
+    let joining = joining_of(alloc, &now.accounts, wanted.accounts.as_slice())?;
     Ok(TermsChange {
         joining: Listing::from_vec(joining),
         closing: Listing::empty(alloc),
@@ -121,7 +121,7 @@ enum Stance {
 /// Both lists have the same accounts in the same order for the most part: each account is looked for where the one before it was found.
 fn joining_of(
     alloc: Global,
-    there: &[Account],
+    there: &Accounts,
     wanted: &[Account],
 ) -> Result<Vec<Account>, NeededFault>
     ensures joining { IfOk result (λ joining. joining.items ≡ joining_of there.now wanted.now) }
@@ -151,18 +151,17 @@ fn join(joining: &mut Vec<Account>, account: &Account) -> Result<(), AllocError>
     Ok(())
 }
 
-/// Where an account stands among those that are there, which is looked for from a place on, and then before it.
-fn stance_of(there: &[Account], account: &Account, from: usize) -> Stance
+/// Where an account stands among those that are there: if its owner has one, it is looked for from a place on, and then before it.
+fn stance_of(there: &Accounts, account: &Account, from: usize) -> Stance
     requires { from ≤ length there.now }
     ensures { IsStance there.now account.now result }
 {
-    if let Some(before) = place_behind(there, account, from) {
-        return Stance::There { before };
+    if !there.has_owner_of(account) {
+        return Stance::Unknown;
     }
-    if is_known(there, account) {
-        Stance::OtherOpening
-    } else {
-        Stance::Unknown
+    match place_behind(there.as_slice(), account, from) {
+        Some(before) => Stance::There { before },
+        None => Stance::OtherOpening,
     }
 }
 
@@ -186,13 +185,6 @@ fn place_in(there: &[Account], account: &Account) -> Option<usize>
     ensures { result ≡ position (same_account account.now) there.now }
 {
     there.iter().position(|other| same_account(account, other))
-}
-
-/// Whether the owner of an account has one there.
-fn is_known(there: &[Account], account: &Account) -> bool
-    ensures { result ≡ is_known there.now account.now }
-{
-    there.iter().any(|other| account.has_same_owner(other))
 }
 
 fn same_account(one: &Account, other: &Account) -> bool

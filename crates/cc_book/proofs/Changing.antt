@@ -1,6 +1,6 @@
 -- What stands after a change of the terms, and what a book answers to one.
-use Rattle.std.proofs.Common.{◌≡◌, ℕ, suc, ◌+◌, ◌-◌, ◌<◌, ◌≤◌, ◌^◌, Bool, true, false, cond, not, ◌&&◌, ◌||◌, List, [], ◌∷◌, ◌++◌, All, length, length-append, map, Option, Some, None, Result, Ok, Err, is_some, inl, inr, refl, sym, ap, subst, ◌∙◌, arith, rules, slice_index_or}
-use Rattle.std.specs.Prelude.{ℤ, pos, negsuc, ◌-ℤ◌, ◌≤ℤ◌, IsOk, is_none, is_ok, nat_abs, nat_le, sum_by, IfSome, find}
+use Rattle.std.proofs.Common.{◌≡◌, ℕ, suc, ◌+◌, ◌-◌, ◌<◌, ◌≤◌, ◌^◌, Bool, true, false, cond, not, ◌&&◌, ◌||◌, List, [], ◌∷◌, ◌++◌, All, length, length-append, Option, Some, None, Result, Ok, Err, is_some, inl, inr, refl, sym, ap, subst, ◌∙◌, arith, rules, slice_index_or}
+use Rattle.std.specs.Prelude.{ℤ, pos, negsuc, ◌-ℤ◌, ◌≤ℤ◌, is_none, nat_abs, nat_le, sum_by, IfSome, find}
 use Rattle.std.specs.List.{AllByRecursion, fold, list_any}
 use Rattle.std.specs.Option.{option_or}
 use Rattle.std.proofs.Math.ListN.{get_or-append}
@@ -29,9 +29,9 @@ use Rattle.cc_book.specs.Changing.{ChangesWith, change_answer, change_answer_by}
 use Rattle.cc_book.specs.Posting.{Posting, debits_to}
 use Rattle.cc_book.specs.Reservation.{held_by, is_alive, replaces, reserved_by, same_name}
 use Rattle.cc_book.specs.Session.{Opened, is_of, left_after, next_session, open_count, opened_at, opens, outlasts, session_in, session_of}
-use Rattle.cc_book.specs.Standing.{Stands, alive_weight, grants_weight, open_weight, openings_of, reserved_in, sessions_after, is_session}
+use Rattle.cc_book.specs.Standing.{Stands, alive_weight, grants_weight, open_weight, openings_of, sessions_after, is_session}
 use Rattle.cc_book.specs.Taking.{IsBook, Ledger}
-use Rattle.cc_book.specs.TermsChange.{account_fault, account_with, changed_terms, closing_fault, fault_of_change, first_fault, is_among, joining_fault, reopening_fault, same_owner, says_nothing, standing_fault}
+use Rattle.cc_book.specs.TermsChange.{account_with, changed_terms, closing_fault, fault_of_change, first_fault, is_among, joining_fault, reopening_fault, same_owner, says_nothing, standing_fault}
 use Rattle.cc_book.proofs.Alive.{Weight, any-push}
 use Rattle.cc_book.proofs.Books.{opens-push, replies-push, sessions_after-push, stands-push}
 use Rattle.cc_book.proofs.Bounds.{bounded-empty, opens-small}

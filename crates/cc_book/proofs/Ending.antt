@@ -16,7 +16,7 @@ use Rattle.cc_book.specs.declared.entry.Entry.{Entry}
 use Rattle.cc_book.specs.declared.entry.Entry.TheVariants.{Take, Sweep, ChangeTerms}
 use Rattle.cc_book.specs.declared.session.Hold.{Hold}
 use Rattle.cc_book.specs.declared.terms.Terms.{Terms}
-use Rattle.cc_book.specs.AccountMachine.{account_of, charged_account, free_to_grant, grants_by, grants_with, holds_from, holds_on, post, posting_of, postings_of, reply_after, settles_after, settles_by, terms_at}
+use Rattle.cc_book.specs.AccountMachine.{account_of, charged_account, free_to_grant, grants_by, grants_with, holds_on, post, posting_of, postings_of, reply_after, settles_after, settles_by, terms_at}
 use Rattle.cc_book.specs.Duplicate.{same_session}
 use Rattle.cc_book.specs.Balance.{open_sessions_of, reserved_of}
 use Rattle.cc_book.specs.Posting.{Posting, is_account}

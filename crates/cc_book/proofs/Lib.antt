@@ -1,4 +1,4 @@
-mod Accounts
+mod Untouched
 mod Beside
 mod Closing
 mod Due
@@ -27,6 +27,7 @@ pub mod KeptSessions
 pub mod Keys
 pub mod Looking
 pub mod Outcomes
+mod Owners
 pub mod Placing
 pub mod Pricing
 pub mod Postings

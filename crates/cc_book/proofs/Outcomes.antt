@@ -13,7 +13,7 @@ use Rattle.cc_book.specs.declared.outcome.Outcome.{Outcome}
 use Rattle.cc_book.specs.declared.entry.Entry.TheVariants.{Take}
 use Rattle.cc_book.specs.declared.session.OpenSession.{OpenSession}
 use Rattle.cc_book.specs.declared.terms.Terms.{Terms}
-use Rattle.cc_book.specs.AccountMachine.{account_by, account_of, charged_account, free_to_grant, grants_after, grants_by, grants_with, holds_from, holds_on, opener_account, post, posting_of, reply_after, settles_after, settles_by}
+use Rattle.cc_book.specs.AccountMachine.{account_by, account_of, charged_account, free_to_grant, grants_after, grants_by, grants_with, holds_on, opener_account, posting_of, reply_after, settles_after, settles_by}
 use Rattle.cc_book.specs.Posting.{Posting, debit_to, is_account}
 use Rattle.cc_book.specs.Session.{Opened, is_initial_kind, is_open, is_success, next_session, opens, session_by}
 use Rattle.cc_book.specs.Standing.{IsOutcome, Stands, after_change, after_debit, change_at, change_closed, change_of, change_open, grants_weight, holds_beside, holds_weight, is_session, opened_as, place_in, opened_session}

@@ -1,6 +1,6 @@
 -- The totals of accounts that join: nothing is held of them.
-use Rattle.std.proofs.Common.{◌≡◌, ℕ, zero, suc, ◌<◌, List, [], ◌∷◌, ◌++◌, length, length-append, Result, Ok, Err, refl, sym, subst, ◌∙◌, arith, slice_index_or}
-use Rattle.std.specs.Prelude.{OnErr, OnOk, replicate}
+use Rattle.std.proofs.Common.{◌≡◌, ℕ, zero, suc, ◌<◌, List, [], ◌∷◌, ◌++◌, length, length-append, refl, ◌∙◌, arith, slice_index_or}
+use Rattle.std.specs.Prelude.{replicate}
 use Rattle.std.specs.List.{AllByRecursion}
 use Rattle.std.specs.Map.{values_of}
 use Rattle.cc_book.specs.declared.session.OpenSession.{OpenSession}
@@ -22,7 +22,8 @@ still_known few many [] le all = tt
 still_known few many (session ∷ sessions) le all =
     let here = all.0 in (omega arith, still_known few many sessions le all.1)
 
-kept-more : (entries : List (List ℕ × OpenSession)) (totals : List ℕ) (count : ℕ) → IsKept entries totals → IsKept entries (totals ++ replicate count 0)
+-- sessions stay kept when accounts join
+pub kept-more : (entries : List (List ℕ × OpenSession)) (totals : List ℕ) (count : ℕ) → IsKept entries totals → IsKept entries (totals ++ replicate count 0)
 kept-more entries totals count kept =
     let long = length-append totals (replicate count 0) in
     record {
@@ -30,9 +31,3 @@ kept-more entries totals count kept =
       known = still_known (length totals) (length (totals ++ replicate count 0)) (values_of entries) (omega arith) kept.known;
       summed = λ account. padded totals count account ∙ kept.summed account;
     }
-
--- sessions stay kept, whether there was memory for the totals of accounts that join or not
-pub kept-joined : {E : Type 0} (result : Result (Unit {0}) E) (entries : List (List ℕ × OpenSession)) (totals new : List ℕ) (count : ℕ)
-    → OnOk result (new ≡ totals ++ replicate count 0) → OnErr result (new ≡ totals) → IsKept entries totals → IsKept entries new
-kept-joined (Ok unit) entries totals new count ok err kept = subst (IsKept entries) (sym ok) (kept-more entries totals count kept)
-kept-joined (Err e) entries totals new count ok err kept = subst (IsKept entries) (sym err) kept

@@ -27,7 +27,7 @@ use Rattle.cc_book.specs.declared.entry.Entry.TheVariants.{Take, Sweep, ChangeTe
 use Rattle.cc_rating.specs.declared.tariff.Tariff.{Tariff}
 use Rattle.cc_book.specs.declared.terms.Terms.{Terms}
 use Rattle.cc_book.specs.Content.{same_request}
-use Rattle.cc_book.specs.Duplicate.{has_key, key_of, same_session}
+use Rattle.cc_book.specs.Duplicate.{has_key, key_of}
 use Rattle.cc_book.specs.Posting.{Posting, debits_to}
 use Rattle.cc_book.specs.Pricing.{price_at}
 use Rattle.cc_book.specs.ServiceRating.{asked_of, asking_cost, tariff_of, unit_code, used_total}

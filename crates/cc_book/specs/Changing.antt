@@ -1,10 +1,11 @@
 -- What the book answers to a change of its terms, and what it keeps of it.
-use Rattle.std.specs.Prelude.{◌≡◌, ℕ, List, [], ◌∷◌, ◌++◌, length, nat_le, if◌then◌else◌, Option, Some, None, Result, Ok, Err, IsOk, is_ok}
+use Rattle.std.specs.Prelude.{◌≡◌, ℕ, ◌+◌, ◌≤◌, [], ◌∷◌, ◌++◌, length, vec_len, vec_capacity, nat_le, if◌then◌else◌, Option, Some, None, Result, Ok, Err, IsOk, is_ok}
 use Rattle.dia_base.specs.declared.number.Moment.{Moment}
 use Rattle.cc_book.specs.declared.entry.Entry.TheVariants.{ChangeTerms}
 use Rattle.cc_book.specs.declared.terms_change.ChangeRefusal.{ChangeRefusal}
 use Rattle.cc_book.specs.declared.terms_change.ChangeRefusal.TheVariants.{Full, OutOfMemory}
 use Rattle.cc_book.specs.declared.terms_change.TermsChange.{TermsChange}
+use Rattle.cc_book.specs.declared.standing.Standing.{Standing}
 use Rattle.cc_book.specs.AccountMachine.{terms_of}
 use Rattle.cc_book.specs.Taking.{Ledger}
 use Rattle.cc_book.specs.TermsChange.{fault_of_change}
@@ -30,3 +31,8 @@ with_change ledger moment change = record ledger { history = ledger.history ++ C
 -- the book after a change that was answered so
 abbrev pub after_change_with : Ledger → Moment → TermsChange → Result ℕ ChangeRefusal → Ledger
 after_change_with ledger moment change result = if is_ok result then with_change ledger moment change else ledger
+
+-- there is room for so many accounts to join
+pub record HasAccountRoom (standing : Standing) (joining : ℕ) : Type 0 where
+  pub balances : vec_len standing.balances + joining ≤ vec_capacity standing.balances
+  pub totals : joining ≤ standing.sessions.account_room

@@ -1,5 +1,5 @@
 -- What the laws of the book speak of.
-use Rattle.std.specs.Prelude.{◌≡◌, ℕ, zero, suc, ◌+◌, ◌≤◌, Some, List, [], ◌∷◌, ◌++◌, IsTrue, count_by, ◌&&◌, if◌then◌else◌, None, Option, ℤ, pos, ◌+ℤ◌, find, sum_by, unwrap_or}
+use Rattle.std.specs.Prelude.{◌≡◌, ℕ, zero, suc, ◌+◌, ◌≤◌, Some, List, [], ◌∷◌, ◌++◌, IsTrue, count_by, ◌&&◌, if◌then◌else◌, None, ℤ, pos, ◌+ℤ◌, find, sum_by, unwrap_or}
 use Rattle.std.specs.Option.{option_and_then, option_map}
 use Rattle.dia_base.specs.declared.number.Moment.{Moment}
 use Rattle.cc_view.specs.declared.code.ResultCode.{ResultCode}

@@ -10,6 +10,7 @@ pub mod History
 pub mod Laws
 pub mod Places
 pub mod OpenSessions
+pub mod Owners
 pub mod Planning
 pub mod Posting
 pub mod Pricing

@@ -7,12 +7,13 @@ use Rattle.cc_book.specs.declared.outcome.Change.TheVariants.{Stays, Opens, Goes
 use Rattle.cc_book.specs.declared.session.OpenSession.{OpenSession}
 use Rattle.cc_book.specs.Standing.{held_in, place_in, reserved_in}
 
--- the open sessions, as contracts see them: in the order in which they opened, with the room for more, and the count of
--- the accounts whose totals are kept
+-- the open sessions, as contracts see them: in the order in which they opened, with the room for more, the count of the
+-- accounts whose totals are kept, and the room for more of these
 pub record Sessions : Type 0 where
   pub items : List OpenSession
   pub room : ℕ
   pub accounts : ℕ
+  pub account_room : ℕ
 
 -- the totals are what the sessions hold, account by account
 abbrev pub AreTotals : List ℕ → List OpenSession → Type 0

@@ -1,6 +1,6 @@
 -- Prices: used units are paid for at the tariff at which their service was last granted in its session, whatever tariff
 -- holds when they are reported.
-use Rattle.std.specs.Prelude.{ℕ, List, [], ◌++◌, Bool, ◌&&◌, not, if◌then◌else◌, Option, Some, None, find, IsTrue}
+use Rattle.std.specs.Prelude.{ℕ, List, ◌++◌, Bool, not, if◌then◌else◌, Option, None, find, IsTrue}
 use Rattle.std.specs.List.{filter, filter_map, fold, list_all, list_any}
 use Rattle.std.specs.Option.{option_map, option_or}
 use Rattle.cc_view.specs.declared.request.Service.{Service}

@@ -1,6 +1,7 @@
 -- Changes of the terms: accounts that join, close and open again, and tariffs that hold from a place on.
-use Rattle.std.specs.Prelude.{ℕ, List, [], ◌∷◌, ◌++◌, length, Bool, true, false, not, ◌&&◌, ◌==◌, if◌then◌else◌, Option, Some, None, is_none, unwrap_or}
-use Rattle.std.specs.List.{filter, list_any, position}
+pub use Rattle.cc_book.specs.Owners.{account_with, is_among, owns, same_owner, same_subscription}
+use Rattle.std.specs.Prelude.{List, [], ◌∷◌, ◌++◌, length, Bool, true, false, not, ◌&&◌, if◌then◌else◌, Option, Some, None, is_none, unwrap_or}
+use Rattle.std.specs.List.{filter, list_any}
 use Rattle.std.specs.Option.{option_or}
 use Rattle.cc_rating.specs.declared.tariff.Tariff.{Tariff}
 use Rattle.cc_view.specs.declared.request.Subscription.{Subscription}
@@ -11,24 +12,6 @@ use Rattle.cc_book.specs.declared.terms.Terms.{Terms}
 use Rattle.cc_book.specs.declared.terms_change.ChangeRefusal.{ChangeRefusal}
 use Rattle.cc_book.specs.declared.terms_change.ChangeRefusal.TheVariants.{Nothing, AlreadyThere, Twice, NotThere, ClosedAlready, ClosedTwice, NotClosed, ReopenedTwice}
 use Rattle.cc_book.specs.declared.terms_change.TermsChange.{TermsChange}
-use Rattle.cc_book.specs.Duplicate.{same_session}
-
--- ---- accounts and their Subscription-Ids
-
--- whether a Subscription-Id is that of an account, by type and text
-abbrev pub owns : Subscription → Account → Bool
-owns subscription account = account.id_kind == subscription.kind && same_session account.id subscription.text
-
--- the place of the account that a Subscription-Id has
-abbrev pub account_with : List Account → Subscription → Option ℕ
-account_with accounts subscription = position (owns subscription) accounts
-
--- whether two Subscription-Ids are one, by type and text
-abbrev pub same_subscription : Subscription → Subscription → Bool
-same_subscription one other = one.kind == other.kind && same_session one.text other.text
-
-abbrev pub is_among : List Subscription → Subscription → Bool
-is_among subscriptions subscription = list_any (same_subscription subscription) subscriptions
 
 -- ---- the terms after an entry
 
@@ -75,10 +58,6 @@ changed_terms terms change = record {
 }
 
 -- ---- what is wrong with a change
-
--- whether two accounts have one Subscription-Id
-abbrev pub same_owner : Account → Account → Bool
-same_owner one other = one.id_kind == other.id_kind && same_session one.id other.id
 
 -- what is wrong with an account that joins, where these are there, and these join before it
 abbrev pub account_fault : List Account → List Account → Account → Option ChangeRefusal

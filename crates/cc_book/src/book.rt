@@ -8,13 +8,15 @@ mod changing;
 mod planning;
 
 use crate::account::{Account, Money};
+use crate::accounts::Accounts;
 use crate::entry::Entry;
 use crate::places::Places;
 use crate::standing::Standing;
+use crate::subscriptions::Subscriptions;
 use crate::terms::Terms;
 use cc_rating::Tariffs;
 use cc_view::{CcReply, CcRequest};
-use dia_base::{HISTORY_LIMIT, Listing, Moment};
+use dia_base::{HISTORY_LIMIT, Moment};
 pub use planning::kept_answer;
 use std::alloc::{AllocError, AllocFailed, Global};
 use std::marker::Model;
@@ -118,8 +120,8 @@ impl Book {
         ensures history { IfOk result (λ book. book.history ≡ []) }
     {
         let terms = Terms {
-            accounts: Listing::from_vec(accounts),
-            closed: Listing::empty(alloc),
+            accounts: Accounts::from_vec(alloc, accounts)?,
+            closed: Subscriptions::empty(alloc),
             tariffs,
             validity,
             money,

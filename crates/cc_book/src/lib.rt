@@ -5,7 +5,8 @@
 //!   what `take` would answer. [`Book::sweep`] ends the sessions that sent no request for twice their validity.
 //! - [`Plan`]: what a request does, found out by [`Book::plan`], which alone may refuse or want memory, and done by
 //!   [`Book::commit`]. Between the two an answer can be spelled: a book is not charged for one that cannot be.
-//! - [`Account`], [`Money`], [`Entry`], [`Answered`], [`BookRefusal`]: what goes in and comes out.
+//! - [`Account`], [`Money`], [`Entry`], [`Answered`], [`BookRefusal`]: what goes in and comes out. [`Accounts`] and
+//!   [`Subscriptions`] find accounts by their Subscription-Ids.
 //! - For another body of the book, as `cc_list` is: [`Lookup`], what a request looks up of a book; [`Terms::outcome_of`],
 //!   what it does then, an [`Outcome`]; and what both bodies do alike, copies and the test whether a book is full.
 //!
@@ -16,7 +17,7 @@
 //! `specs/Balance`, sessions and reservations in `specs/Session` and `specs/Reservation`, what services ask and used
 //! in `specs/ServiceRating`, at which price in `specs/Pricing`, how terms change in `specs/TermsChange`, the history in
 //! `specs/History`, which requests are one in `specs/Duplicate` and `specs/Content`, how a request is found in it in
-//! `specs/Places`, what it has left in `specs/Standing`, a call in `specs/Taking`, and its two halves in `specs/Planning`.
+//! `specs/Places`, how an account in `specs/Owners`, what it has left in `specs/Standing`, a call in `specs/Taking`, and its two halves in `specs/Planning`.
 //! `specs/Bounds` says which amounts an account bears. `specs/RowExample`, `specs/SessionExample` and
 //! `specs/BoundExample` are worked examples. The functions of `laws` and `bound_laws` have no body: their contracts are
 //! laws of these definitions.
@@ -37,6 +38,7 @@
 #![tactic(auto)]
 
 mod account;
+mod accounts;
 mod asking;
 mod book;
 mod bound_laws;
@@ -56,10 +58,12 @@ mod price;
 mod session;
 mod settling;
 mod standing;
+mod subscriptions;
 mod terms;
 mod terms_change;
 
 pub use account::{Account, Money};
+pub use accounts::{Accounts, Owner};
 pub use book::{Answered, Book, BookRefusal, free_place, kept_answer};
 pub use bound_laws::{
     accounts_at_their_bound_refuse_requests, accounts_bear_requests_below_their_bounds,
@@ -96,5 +100,6 @@ pub use outcome::{Change, Outcome};
 pub use plan::{Plan, Taken};
 pub use price::{Price, Prices};
 pub use session::{Hold, OpenSession, held_in};
+pub use subscriptions::Subscriptions;
 pub use terms::Terms;
 pub use terms_change::{ChangeRefusal, TermsChange};

@@ -23,13 +23,13 @@ pub struct OpenSessions {
 }
 
 impl Model for OpenSessions {
-    ghost use Rattle.std.specs.Prelude.{length};
+    ghost use Rattle.std.specs.Prelude.{◌-◌, length, vec_capacity};
     ghost use Rattle.indexmap.specs.IndexMap.{spare, values};
     ghost use Rattle.cc_book.specs.OpenSessions.{IsKept, Sessions};
 
     ghost Value = { Sessions };
 
-    ghost view = { λ sessions. record { items = values sessions.sessions; room = spare sessions.sessions; accounts = length sessions.totals.items } };
+    ghost view = { λ sessions. record { items = values sessions.sessions; room = spare sessions.sessions; accounts = length sessions.totals.items; account_room = vec_capacity sessions.totals - length sessions.totals.items } };
 
     ghost invariant = { λ sessions. IsKept sessions.sessions.entries sessions.totals.items };
 }
@@ -95,14 +95,27 @@ impl OpenSessions {
         self.sessions.insert(id, session).unwrap();
     }
 
-    /// So many accounts join, of which nothing is held. An error leaves all as it is.
-    pub fn join(&mut self, joining: usize) -> Result<(), AllocError>
+    /// Makes room for so many accounts to join.
+    pub fn reserve_accounts(&mut self, joining: usize) -> Result<(), AllocError>
         ensures items { self.new.items ≡ self.old.items }
         ensures room { self.new.room ≡ self.old.room }
-        ensures ok { OnOk result (self.new.accounts ≡ self.old.accounts + joining) }
-        ensures err { OnErr result (self.new.accounts ≡ self.old.accounts) }
+        ensures accounts { self.new.accounts ≡ self.old.accounts }
+        ensures ok { OnOk result (joining ≤ self.new.account_room) }
     {
-        add_totals(&mut self.totals, joining)
+        self.totals.reserve(joining)?;
+        Ok(())
+    }
+
+    /// So many accounts join, of which nothing is held. There is room for them.
+    pub fn join(&mut self, joining: usize)
+        requires { joining ≤ self.old.account_room }
+        ensures items { self.new.items ≡ self.old.items }
+        ensures room { self.new.room ≡ self.old.room }
+        ensures accounts { self.new.accounts ≡ self.old.accounts + joining }
+    {
+        for _account in 0..joining {
+            self.totals.push_reserved(0);
+        }
     }
 
     /// The session at a place is this one now.
@@ -148,18 +161,6 @@ impl OpenSessions {
             { !session.is_due(validity, moment) },
         );
     }
-}
-
-/// Adds so many totals of nothing.
-fn add_totals(totals: &mut Vec<u128>, joining: usize) -> Result<(), AllocError>
-    ensures ok { OnOk result (totals.new.items ≡ totals.old.items ++ replicate joining 0) }
-    ensures err { OnErr result (totals.new.items ≡ totals.old.items) }
-{
-    totals.reserve(joining)?;
-    for _account in 0..joining {
-        totals.push_reserved(0);
-    }
-    Ok(())
 }
 
 /// Takes off the totals what the sessions hold that have ended by a moment.

@@ -2,6 +2,7 @@
 
 ghost use Rattle.std.specs.Prelude.{◌≡◌, ℕ, ◌<◌, ◌≤◌, ◌^◌, ◌+◌, ◌-◌, [], length, map, pos, negsuc, ◌≤ℤ◌, ◌++◌, IfOk, OnOk, OnErr, All, count_by};
 ghost use Rattle.std.specs.Option.{ForSome};
+ghost use Rattle.cc_book.specs.Changing.{HasAccountRoom};
 ghost use Rattle.cc_book.specs.OpenSessions.{FitsIn};
 ghost use Rattle.cc_book.specs.Standing.{after_change, after_debit, is_due, openings_of, reserved_in, without_due};
 
@@ -86,23 +87,32 @@ impl Standing {
         self.sessions.sweep(validity, moment);
     }
 
-    /// Accounts join, with their opening amounts. An error leaves all as it is.
-    pub fn join(&mut self, joining: &[Account]) -> Result<(), AllocError>
-        ensures balances { OnOk result (self.new.balances.items ≡ self.old.balances.items ++ openings_of joining.now) }
-        ensures least { OnOk result (All (λ opening. negsuc (2 ^ 63) ≤ℤ opening) (openings_of joining.now)) }
-        ensures most { OnOk result (All (λ opening. opening ≤ℤ pos (2 ^ 63)) (openings_of joining.now)) }
-        ensures accounts { OnOk result (self.new.sessions.accounts ≡ self.old.sessions.accounts + length joining.now) }
+    /// Makes room for so many accounts to join.
+    pub fn reserve_accounts(&mut self, joining: usize) -> Result<(), AllocError>
+        ensures balances { self.new.balances.items ≡ self.old.balances.items }
+        ensures accounts { self.new.sessions.accounts ≡ self.old.sessions.accounts }
         ensures sessions { self.new.sessions.items ≡ self.old.sessions.items }
         ensures room { self.new.sessions.room ≡ self.old.sessions.room }
-        ensures err_balances { OnErr result (self.new.balances.items ≡ self.old.balances.items) }
-        ensures err_accounts { OnErr result (self.new.sessions.accounts ≡ self.old.sessions.accounts) }
+        ensures ok { OnOk result (HasAccountRoom self.new joining) }
     {
-        self.balances.reserve(joining.len())?;
-        self.sessions.join(joining.len())?;
+        self.balances.reserve(joining)?;
+        self.sessions.reserve_accounts(joining)
+    }
+
+    /// Accounts join, with their opening amounts. There is room for them.
+    pub fn join(&mut self, joining: &[Account])
+        requires { HasAccountRoom self.old (length joining.now) }
+        ensures balances { self.new.balances.items ≡ self.old.balances.items ++ openings_of joining.now }
+        ensures least { All (λ opening. negsuc (2 ^ 63) ≤ℤ opening) (openings_of joining.now) }
+        ensures most { All (λ opening. opening ≤ℤ pos (2 ^ 63)) (openings_of joining.now) }
+        ensures accounts { self.new.sessions.accounts ≡ self.old.sessions.accounts + length joining.now }
+        ensures sessions { self.new.sessions.items ≡ self.old.sessions.items }
+        ensures room { self.new.sessions.room ≡ self.old.sessions.room }
+    {
+        self.sessions.join(joining.len());
         for account in joining {
             self.balances.push_reserved(account.opening as i128);
         }
-        Ok(())
     }
 
     /// Debits an account.

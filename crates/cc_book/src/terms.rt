@@ -1,17 +1,16 @@
 //! The terms of an account book, and what is read of a request by them.
 
 ghost use Rattle.std.specs.Prelude.{◌≡◌, ◌≤◌, ◌<◌, ◌^◌, length, map, IfOk, IfSome, IsTrue, Some};
-ghost use Rattle.std.specs.List.{list_any};
 ghost use Rattle.std.specs.Option.{option_copied};
 ghost use Rattle.cc_view.specs.Request.ServiceLimits.{name_of};
 ghost use Rattle.cc_book.specs.AccountMachine.{account_of, code_alone, granted, is_closed, open_account, service_cost, total_of};
-ghost use Rattle.cc_book.specs.TermsChange.{account_with, owns};
 ghost use Rattle.cc_book.specs.ServiceRating.{tariff_of};
 ghost use Rattle.cc_rating.specs.Tariffs.{in_range};
 
-use crate::account::{Account, Money};
+use crate::account::Money;
+use crate::accounts::Accounts;
 use crate::asking::{asked_of, unit_code};
-use crate::terms_change::is_among;
+use crate::subscriptions::Subscriptions;
 use cc_rating::{Tariff, Tariffs};
 use cc_view::{CcReply, CcRequest, ResultCode, Service, ServiceName, ServiceReply, Subscription};
 use dia_base::Listing;
@@ -20,9 +19,9 @@ use std::alloc::{AllocError, Global};
 /// What the charging of requests rests on.
 #[derive(Debug, Drop)]
 pub struct Terms {
-    pub accounts: Listing<Account>,
+    pub accounts: Accounts,
     /// The Subscription-Ids of those accounts that are closed.
-    pub closed: Listing<Subscription>,
+    pub closed: Subscriptions,
     pub tariffs: Tariffs,
     /// Validity-Time of a grant in seconds.
     pub validity: u32,
@@ -48,10 +47,10 @@ impl Terms {
         ensures value { result ≡ open_account self.now subscription.now }
         ensures within { IfSome result (λ account. account < length self.now.accounts) }
     {
-        if is_among(self.closed.as_slice(), subscription) {
+        if self.closed.contains(subscription) {
             None
         } else {
-            self.account_with(subscription)
+            self.accounts.find(subscription)
         }
     }
 
@@ -60,18 +59,8 @@ impl Terms {
         requires { account < length self.now.accounts }
         ensures { result ≡ is_closed self.now (Some account) }
     {
-        is_closed_account(self.closed.as_slice(), &self.accounts.as_slice()[account])
-    }
-
-    /// The account of a Subscription-Id, closed or not.
-    pub fn account_with(&self, subscription: &Subscription) -> Option<usize>
-        ensures value { result ≡ account_with self.now.accounts subscription.now }
-        ensures within { IfSome result (λ account. account < length self.now.accounts) }
-    {
-        self.accounts
-            .as_slice()
-            .iter()
-            .position(|account| owns(subscription, account))
+        self.closed
+            .contains_owner_of(&self.accounts.as_slice()[account])
     }
 
     /// The sum of the costs of the asked units. None with no service, or with one that has no tariff.
@@ -140,21 +129,6 @@ impl Terms {
             last: false,
         }
     }
-}
-
-/// Whether one of the Subscription-Ids of closed accounts is that of this one.
-fn is_closed_account(closed: &[Subscription], account: &Account) -> bool
-    ensures { result ≡ list_any (λ subscription. owns subscription account.now) closed.now }
-{
-    closed
-        .iter()
-        .any(|subscription| owns(subscription, account))
-}
-
-fn owns(subscription: &Subscription, account: &Account) -> bool
-    ensures { result ≡ owns subscription.now account.now }
-{
-    account.id_kind == subscription.kind && account.id == subscription.text
 }
 
 /// What names a service: Rating-Group, and the first Service-Identifier.

@@ -1,11 +1,13 @@
 //! Changes of the terms.
 
-ghost use Rattle.std.specs.Prelude.{◌≡◌, ◌++◌, [], IfOk, not, unwrap_or};
+ghost use Rattle.std.specs.Prelude.{◌≡◌, ◌++◌, [], IfOk, OnOk, OnErr, not, unwrap_or};
 ghost use Rattle.std.specs.List.{filter, list_any};
 ghost use Rattle.cc_book.specs.declared.terms_change.ChangeRefusal.TheVariants.{OutOfMemory};
 ghost use Rattle.cc_book.specs.TermsChange.{account_fault, closed_by, closing_fault, fault_of_change, first_fault, is_among, joining_fault, reopening_fault, same_owner, same_subscription, says_nothing, standing_fault};
 
 use crate::account::Account;
+use crate::accounts::Accounts;
+use crate::subscriptions::Subscriptions;
 use crate::terms::Terms;
 use cc_rating::Tariffs;
 use cc_view::Subscription;
@@ -76,7 +78,7 @@ impl TermsChange {
         if self.says_nothing() {
             return Some(ChangeRefusal::Nothing);
         }
-        match joining_fault(terms.accounts.as_slice(), self.joining.as_slice()) {
+        match joining_fault(&terms.accounts, self.joining.as_slice()) {
             Some(fault) => Some(fault),
             None => self.standing_fault(terms),
         }
@@ -120,7 +122,7 @@ impl TermsChange {
 
 /// The first fault of the accounts that join these.
 #[tactic(auto, using(crate::proofs::Joining::joining_fault_at))]
-fn joining_fault(accounts: &[Account], joining: &[Account]) -> Option<ChangeRefusal>
+fn joining_fault(accounts: &Accounts, joining: &[Account]) -> Option<ChangeRefusal>
     ensures { result ≡ joining_fault accounts.now [] joining.now }
 {
     for (place, account) in joining.iter().enumerate() {
@@ -133,14 +135,14 @@ fn joining_fault(accounts: &[Account], joining: &[Account]) -> Option<ChangeRefu
 
 /// What is wrong with an account that joins, where these are there, and these join before it.
 fn account_fault(
-    accounts: &[Account],
+    accounts: &Accounts,
     before: &[Account],
     account: &Account,
 ) -> Option<ChangeRefusal>
     ensures { result ≡ account_fault accounts.now before.now account.now }
 {
     let place = before.len();
-    if is_owned(accounts, account) {
+    if accounts.has_owner_of(account) {
         Some(ChangeRefusal::AlreadyThere { place })
     } else if is_owned(before, account) {
         Some(ChangeRefusal::Twice { place })
@@ -157,14 +159,14 @@ fn is_owned(accounts: &[Account], account: &Account) -> bool
 }
 
 /// Whether both are one Subscription-Id, by type and text.
-pub fn same_subscription(one: &Subscription, other: &Subscription) -> bool
+fn same_subscription(one: &Subscription, other: &Subscription) -> bool
     ensures { result ≡ same_subscription one.now other.now }
 {
     one.kind == other.kind && one.text == other.text
 }
 
 /// Whether a Subscription-Id is one of these.
-pub fn is_among(subscriptions: &[Subscription], subscription: &Subscription) -> bool
+fn is_among(subscriptions: &[Subscription], subscription: &Subscription) -> bool
     ensures { result ≡ is_among subscriptions.now subscription.now }
 {
     subscriptions
@@ -197,9 +199,9 @@ impl Terms {
         ensures { result ≡ closing_fault self.now before.now subscription.now }
     {
         let place = before.len();
-        if self.account_with(subscription).is_none() {
+        if self.accounts.find(subscription).is_none() {
             Some(ChangeRefusal::NotThere { place })
-        } else if is_among(self.closed.as_slice(), subscription) {
+        } else if self.closed.contains(subscription) {
             Some(ChangeRefusal::ClosedAlready { place })
         } else if is_among(before, subscription) {
             Some(ChangeRefusal::ClosedTwice { place })
@@ -230,7 +232,7 @@ impl Terms {
         ensures { result ≡ reopening_fault self.now before.now subscription.now }
     {
         let place = before.len();
-        if !is_among(self.closed.as_slice(), subscription) {
+        if !self.closed.contains(subscription) {
             Some(ChangeRefusal::NotClosed { place })
         } else if is_among(before, subscription) {
             Some(ChangeRefusal::ReopenedTwice { place })
@@ -240,34 +242,52 @@ impl Terms {
     }
 
     /// The Subscription-Ids of closed accounts after a change.
-    fn closed_after(
-        &self,
-        alloc: Global,
-        change: &TermsChange,
-    ) -> Result<Vec<Subscription>, AllocError>
-        ensures { IfOk result (λ closed. closed.items ≡ closed_by change.now self.now.closed) }
+    fn closed_after(&self, alloc: Global, change: &TermsChange) -> Result<Subscriptions, AllocError>
+        ensures { IfOk result (λ closed. closed ≡ closed_by change.now self.now.closed) }
     {
-        let reopening = change.reopening.as_slice();
-        let mut closed = self.closed.as_slice().to_vec(alloc)?;
-        closed.retain(|subscription| !is_among(reopening, subscription));
-        closed.append(&mut change.closing.as_slice().to_vec(alloc)?)?;
-        Ok(closed)
+        let reopening = change.reopening.as_slice().to_vec(alloc)?;
+        let reopening = Subscriptions::from_vec(alloc, reopening)?;
+        let closed = self
+            .closed
+            .without(alloc, &reopening, change.closing.as_slice())?;
+        Subscriptions::from_vec(alloc, closed)
     }
 
     /// The terms after a change.
     pub fn changed(&self, alloc: Global, change: &TermsChange) -> Result<Terms, AllocError>
         ensures { IfOk result (λ terms. terms ≡ changed_terms self.now change.now) }
     {
-        let mut accounts = self.accounts.as_slice().to_vec(alloc)?;
-        accounts.append(&mut change.joining.as_slice().to_vec(alloc)?)?;
-        let closed = self.closed_after(alloc, change)?;
+        let mut terms = self.copy(alloc)?;
+        terms.change(alloc, change)?;
+        Ok(terms)
+    }
+
+    /// A copy in memory of its own.
+    pub fn copy(&self, alloc: Global) -> Result<Terms, AllocError>
+        ensures { IfOk result (λ copy. copy ≡ self.now) }
+    {
+        let accounts = self.accounts.as_slice().to_vec(alloc)?;
+        let closed = self.closed.as_slice().to_vec(alloc)?;
         Ok(Terms {
-            accounts: Listing::from_vec(accounts),
-            closed: Listing::from_vec(closed),
-            tariffs: self.tariffs_after(change).copy(alloc)?,
+            accounts: Accounts::from_vec(alloc, accounts)?,
+            closed: Subscriptions::from_vec(alloc, closed)?,
+            tariffs: self.tariffs.copy(alloc)?,
             validity: self.validity,
             money: self.money,
         })
+    }
+
+    /// Changes them, in a time that does not grow with the accounts that are there. An error leaves them as they are.
+    pub fn change(&mut self, alloc: Global, change: &TermsChange) -> Result<(), AllocError>
+        ensures ok { OnOk result (self.new ≡ changed_terms self.old change.now) }
+        ensures err { OnErr result (self.new ≡ self.old) }
+    {
+        let closed = self.closed_after(alloc, change)?;
+        let tariffs = self.tariffs_after(change).copy(alloc)?;
+        self.accounts.join(change.joining.as_slice())?;
+        self.closed = closed;
+        self.tariffs = tariffs;
+        Ok(())
     }
 
     /// The tariffs after a change.

@@ -8,12 +8,12 @@ mod changing;
 use crate::key::kept;
 use crate::standing::Lists;
 use cc_book::{
-    Account, Answered, BookRefusal, Entry, Lookup, Money, Plan, RequestCopy, Taken, Terms,
-    copy_of_reply, free_place, kept_answer,
+    Account, Accounts, Answered, BookRefusal, Entry, Lookup, Money, Plan, RequestCopy,
+    Subscriptions, Taken, Terms, copy_of_reply, free_place, kept_answer,
 };
 use cc_rating::Tariffs;
 use cc_view::{CcReply, CcRequest};
-use dia_base::{HISTORY_LIMIT, Listing, Moment};
+use dia_base::{HISTORY_LIMIT, Moment};
 use std::alloc::{AllocError, Global};
 use std::marker::Model;
 
@@ -75,8 +75,8 @@ impl ListBook {
         let standing = Lists::new(alloc, &accounts, room)?;
         Ok(ListBook {
             terms: Terms {
-                accounts: Listing::from_vec(accounts),
-                closed: Listing::empty(alloc),
+                accounts: Accounts::from_vec(alloc, accounts)?,
+                closed: Subscriptions::empty(alloc),
                 tariffs,
                 validity,
                 money,

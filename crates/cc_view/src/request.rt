@@ -49,7 +49,7 @@ impl RequestedAction {
 }
 
 /// A Subscription-Id: its type and its data, which is text (RFC 8506, section 8.46).
-#[derive(Debug, Drop, Clone, PartialEq, Eq)]
+#[derive(Debug, Drop, Clone, PartialEq, Eq, Hash)]
 pub struct Subscription {
     pub kind: u32,
     pub text: Octets,

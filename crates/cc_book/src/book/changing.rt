@@ -1,6 +1,7 @@
 //! The terms that hold, and how they change.
 
-ghost use Rattle.std.specs.Prelude.{◌≡◌, ◌≢◌, Err};
+ghost use Rattle.std.specs.Prelude.{◌≡◌, ◌≢◌, Err, OnOk, OnErr, unwrap_or};
+ghost use Rattle.cc_book.specs.TermsChange.{changed_terms};
 ghost use Rattle.cc_book.specs.declared.terms_change.ChangeRefusal.TheVariants.{OutOfMemory};
 
 use super::{Book, free_place};
@@ -8,7 +9,7 @@ use crate::entry::Entry;
 use crate::terms::Terms;
 use crate::terms_change::{ChangeRefusal, TermsChange};
 use dia_base::Moment;
-use std::alloc::Global;
+use std::alloc::{AllocError, Global};
 
 impl Book {
     ghost use Rattle.cc_book.specs.AccountMachine.{terms_of};
@@ -41,7 +42,8 @@ impl Book {
     /// Changes the terms, all that the change says or nothing: from here on the accounts that join are there, each with
     /// its opening amount as its balance, and the new tariffs hold. It answers the place of the entry. No reply and no
     /// debit of the past changes, and what is held stays held at the cost at which it was granted. Memory is wanted only
-    /// for what is not refused; it is that of the terms anew. After a refusal the book is unchanged.
+    /// for what is not refused: at the first change that of the terms anew, later that of the change. After a refusal the
+    /// book is unchanged.
     pub fn change_terms(
         &mut self,
         alloc: Global,
@@ -52,12 +54,32 @@ impl Book {
         ensures after { self.new ≡ after_change_with self.old moment change result }
     {
         let place = self.quote_change(&change)?;
-        let terms = self.terms_now().changed(alloc, &change)?;
-        self.standing.join(change.joining.as_slice())?;
-        self.changed = Some(terms);
+        self.standing.reserve_accounts(change.joining.len())?;
+        change_held(alloc, &self.terms, &mut self.changed, &change)?;
+        self.standing.join(change.joining.as_slice());
         self.history
             .push_reserved(Entry::ChangeTerms { moment, change });
         self.replies.push_reserved(None);
         Ok(place)
+    }
+}
+
+/// Changes the terms that hold: those that an entry changed, or a copy of those that the book began with. An error
+/// leaves what holds as it is.
+fn change_held(
+    alloc: Global,
+    terms: &Terms,
+    changed: &mut Option<Terms>,
+    change: &TermsChange,
+) -> Result<(), AllocError>
+    ensures ok { OnOk result (unwrap_or changed.new terms.now ≡ changed_terms (unwrap_or changed.old terms.now) change.now) }
+    ensures err { OnErr result (unwrap_or changed.new terms.now ≡ unwrap_or changed.old terms.now) }
+{
+    if changed.is_none() {
+        *changed = Some(terms.copy(alloc)?);
+    }
+    match changed {
+        Some(held) => held.change(alloc, change),
+        None => unreachable!(),
     }
 }

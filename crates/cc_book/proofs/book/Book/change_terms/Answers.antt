@@ -1,4 +1,4 @@
-use Rattle.std.proofs.Common.{◌≡◌, ◌<◌, ◌^◌, ◌++◌, ◌∷◌, [], All, List, length, length-append, refl, ap, subst, sym, ◌∙◌, arith}
+use Rattle.std.proofs.Common.{◌≡◌, ◌^◌, ◌++◌, ◌∷◌, [], All, List, length, length-append, refl, ap, subst, sym, ◌∙◌, arith}
 use Rattle.std.specs.Prelude.{ℤ, negsuc, pos, ◌≤ℤ◌}
 use Rattle.std.proofs.lemmas.List.{length-map}
 use Rattle.cc_book.specs.declared.account.Account.{Account}
@@ -34,35 +34,36 @@ invariant_of-self-2 c =
     (ap (λ (l : Ledger). change_answer l c.args.change) c.self.view_is ∙ c.in_ok-place.ensures.answer) in
     let joining = c.args.change.joining in
     let given = c.as_slice.ensures in
-    let least = subst (λ (accounts : List Account). All (λ (z : ℤ). negsuc (2 ^ 63) ≤ℤ z) (openings_of accounts)) given c.in_ok-join.ensures.least in
-    let most = subst (λ (accounts : List Account). All (λ (z : ℤ). z ≤ℤ pos (2 ^ 63)) (openings_of accounts)) given c.in_ok-join.ensures.most in
+    let least = subst (λ (accounts : List Account). All (λ (z : ℤ). negsuc (2 ^ 63) ≤ℤ z) (openings_of accounts)) given c.join.ensures.least in
+    let most = subst (λ (accounts : List Account). All (λ (z : ℤ). z ≤ℤ pos (2 ^ 63)) (openings_of accounts)) given c.join.ensures.most in
     let book = IsBook-change inside.terms inside.limit history inside.replies.items inside.standing.balances.items inside.standing.sessions.items
     c.args.moment c.args.change c.self.invariant.0 made.1 made.0 least most in
     let balances : c.join.new.self.balances.items ≡ inside.standing.balances.items ++ openings_of joining =
-    c.in_ok-join.ensures.balances ∙ ap (λ (accounts : List Account). inside.standing.balances.items ++ openings_of accounts) given in
+    c.join.ensures.balances
+    ∙ (λ i. c.reserve_accounts.ensures.balances i ++ openings_of (given i)) in
+    let sessions = c.join.ensures.sessions ∙ c.reserve_accounts.ensures.sessions in
     let entry : Entry = ChangeTerms c.args.moment c.args.change in
     let long = length-append history (entry ∷ []) in (
       same-book _ c.push_reserved.new.self.items _ c.push_reserved-2.new.self.items _ c.join.new.self.balances.items _ c.join.new.self.sessions.items
-          (sym c.push_reserved.ensures.items) (sym c.push_reserved-2.ensures.items) (sym balances) (sym c.join.ensures.sessions) book,
+          (sym c.push_reserved.ensures.items) (sym c.push_reserved-2.ensures.items) (sym balances) (sym sessions) book,
       record {
         for_entries = omega (arith, c.self.invariant.1.for_entries, c.push_reserved.ensures.capacity);
         for_replies = omega (arith, c.self.invariant.1.for_replies, c.push_reserved-2.ensures.capacity);
         for_sessions = (let pushed = ap length c.push_reserved.ensures.items in
-            omega (arith, c.self.invariant.1.for_sessions, c.join.ensures.room));
+            omega (arith, c.self.invariant.1.for_sessions, c.join.ensures.room, c.reserve_accounts.ensures.room));
       },
       (let more = length-append inside.standing.balances.items (openings_of joining) in
           let joined = length-map joining (λ (a : Account). a.opening) in
           let now = ap length balances in
           let count = ap length given in
-          omega (arith, c.in_ok-join.ensures.accounts, c.self.invariant.2)),
+          omega (arith, c.join.ensures.accounts, c.reserve_accounts.ensures.accounts, c.self.invariant.2)),
       subst (λ (es : List Entry). IsIndexed es inside.places) (sym c.push_reserved.ensures.items)
           (IsIndexed-keyless history inside.places entry refl c.self.invariant.3),
       subst (λ (es : List Entry). HasPlaces inside.limit (length es) inside.places) (sym c.push_reserved.ensures.items)
           (record { for_firsts = omega (arith, c.self.invariant.4.for_firsts); for_numbered = omega (arith, c.self.invariant.4.for_numbered) }),
       c.self.invariant.5,
-      c.in_ok-terms.ensures
-          ∙ ap (λ (now : Terms). changed_terms now c.args.change)
-          (c.terms_now.ensures ∙ sym (ap (λ (l : Ledger). terms_of l.terms l.history) c.self.view_is))
+      c.in_ok-change_held.ensures.ok
+          ∙ ap (λ (now : Terms). changed_terms now c.args.change) c.self.invariant.6
           ∙ sym (ap (λ (es : List Entry). terms_of inside.terms es) c.push_reserved.ensures.items
           ∙ terms_of-change inside.terms history c.args.moment c.args.change),
     )

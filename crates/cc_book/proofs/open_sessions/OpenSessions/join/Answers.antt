@@ -1,7 +1,12 @@
-use Rattle.cc_book.proofs.Totals.{kept-joined}
+use Rattle.std.proofs.Common.{List, ℕ, sym, subst, ap}
+use Rattle.cc_book.specs.declared.session.OpenSession.{OpenSession}
+use Rattle.cc_book.specs.OpenSessions.{IsKept}
+use Rattle.cc_book.proofs.Totals.{kept-more}
 use Rattle.cc_book.proofs.open_sessions.OpenSessions.join.Goals as goal
 
 pub invariant_of-self : goal.invariant_of-self
 invariant_of-self c =
-    kept-joined c.add_totals.result c.self.inside.sessions.entries c.self.inside.totals.items c.add_totals.new.totals.items c.args.joining
-    c.add_totals.ensures.ok c.add_totals.ensures.err c.self.invariant
+    let kept = c.loop-account.invariant in
+    subst (λ (entries : List (List ℕ × OpenSession)). IsKept entries c.loop-account.self-inside.totals.items) (sym (ap (λ sessions. sessions.entries) kept.sessions))
+    (subst (λ (totals : List ℕ). IsKept c.self.inside.sessions.entries totals) (sym kept.items)
+    (kept-more c.self.inside.sessions.entries c.self.inside.totals.items c.loop-account._account c.self.invariant))

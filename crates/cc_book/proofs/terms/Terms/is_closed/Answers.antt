@@ -11,8 +11,7 @@ returns c =
     let accounts = c.args.self.now.accounts in
     let closed = c.args.self.now.closed in
     let account : Account = c.index-as_slice-account.result in
-    c.is_closed_account.ensures
-    ∙ ap (λ (ids : List Subscription). list_any (λ (s : Subscription). owns s account) ids) c.as_slice.ensures
+    c.contains_owner_of.ensures
     ∙ ap (λ (a : Account). list_any (λ (s : Subscription). owns s a) closed)
-    (c.index-as_slice-account.is ∙ ap (λ (all : List Account). get_or all c.args.account account) c.as_slice-2.ensures)
+    (c.index-as_slice-account.is ∙ ap (λ (all : List Account). get_or all c.args.account account) c.as_slice.ensures)
     ∙ sym (is_closed_at_get accounts closed c.args.account account c.requires)

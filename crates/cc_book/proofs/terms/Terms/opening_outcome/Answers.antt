@@ -3,7 +3,6 @@ use Rattle.std.specs.Prelude.{ℤ, pos, ◌+ℤ◌, ◌-ℤ◌, slice_index_or}
 use Rattle.std.specs.Int.{w128}
 use Rattle.std.proofs.lemmas.Int.{to_z-of_z}
 use Rattle.cc_view.specs.declared.reply.CcReply.{CcReply}
-use Rattle.cc_view.specs.declared.request.Service.{Service}
 use Rattle.cc_book.specs.AccountMachine.{granting_reply, holds_on, session_reply}
 use Rattle.cc_book.specs.declared.outcome.Change.TheVariants.{Opens, Stays}
 use Rattle.cc_book.specs.declared.price.Price.{Price}

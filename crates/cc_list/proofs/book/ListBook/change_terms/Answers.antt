@@ -1,4 +1,4 @@
-use Rattle.std.proofs.Common.{◌≡◌, ◌<◌, ◌^◌, ◌++◌, All, Global, List, Vec, length, ap, subst, sym, ◌∙◌, arith}
+use Rattle.std.proofs.Common.{◌≡◌, ◌^◌, ◌++◌, All, Global, List, Vec, ap, subst, sym, ◌∙◌, arith}
 use Rattle.std.specs.Prelude.{ℤ, negsuc, pos, vec_capacity, ◌≤ℤ◌}
 use Rattle.cc_book.specs.declared.account.Account.{Account}
 use Rattle.cc_book.specs.declared.session.OpenSession.{OpenSession}
@@ -13,6 +13,13 @@ use Rattle.cc_book.proofs.Books.{replies-long, same-book}
 use Rattle.cc_book.proofs.Changing.{IsBook-change, made-change}
 use Rattle.cc_book.proofs.Postings.{terms_of-change}
 use Rattle.cc_list.proofs.book.ListBook.change_terms.Goals as goal
+
+pub push_reserved-requires : goal.push_reserved-requires
+push_reserved-requires c =
+    let ledger : Ledger = record { terms = c.self.inside.terms; limit = c.self.inside.limit; history = c.self.inside.history.items } in
+    let made = made-change ledger c.args.change c.in_ok-place.place
+    (ap (λ (l : Ledger). change_answer l c.args.change) c.self.view_is ∙ c.in_ok-place.ensures.answer) in
+    omega (arith, made.1, c.self.invariant.1.for_entries, c.self.inside.history.ok.0)
 
 pub push_reserved-requires-2 : goal.push_reserved-requires-2
 push_reserved-requires-2 c =

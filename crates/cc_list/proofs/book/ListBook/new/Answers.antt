@@ -14,9 +14,9 @@ use Rattle.cc_list.proofs.book.ListBook.new.Goals as goal
 
 pub invariant_of-result : goal.invariant_of-result
 invariant_of-result c =
-    let terms : Terms = record { accounts = c.from_vec.result; closed = c.empty.result; tariffs = c.args.tariffs; validity = c.args.validity; money = c.args.money } in
+    let terms : Terms = record { accounts = c.in_ok-from_vec.field-0; closed = c.empty.result; tariffs = c.args.tariffs; validity = c.args.validity; money = c.args.money } in
     let standing = c.in_ok-standing.standing in
-    let openings = c.in_ok-standing.ensures.balances ∙ ap (map (λ (a : Account). a.opening)) (c.deref.ensures.value ∙ sym c.from_vec.ensures) in
+    let openings = c.in_ok-standing.ensures.balances ∙ ap (map (λ (a : Account). a.opening)) (c.deref.ensures.value ∙ sym c.in_ok-from_vec.ensures) in
     let stands = empty-stands terms standing.balances.items openings in
     let small = opens-small terms standing.balances.items openings c.in_ok-standing.ensures.least c.in_ok-standing.ensures.most in
     let bounded = bounded-empty terms standing.balances.items openings c.in_ok-standing.ensures.least c.in_ok-standing.ensures.most in

@@ -1,5 +1,5 @@
-use Rattle.std.proofs.Common.{◌≡◌, ◌+◌, ◌<◌, ◌≤◌, ◌++◌, ◌^◌, [], ◌∷◌, All, List, SFits, length, take, ap, subst, sym, ◌∙◌, arith, append_assoc, get_or, rules, vec_len}
-use Rattle.std.specs.Prelude.{ℤ, negsuc, pos, vec_capacity, ◌≤ℤ◌}
+use Rattle.std.proofs.Common.{◌≡◌, ◌+◌, ◌++◌, ◌^◌, [], ◌∷◌, All, List, SFits, take, ap, subst, sym, ◌∙◌, arith, append_assoc, rules}
+use Rattle.std.specs.Prelude.{ℤ, negsuc, pos, ◌≤ℤ◌}
 use Rattle.std.specs.Int.{w64}
 use Rattle.std.proofs.lemmas.Int.{ints}
 use Rattle.std.proofs.lemmas.List.Elements.{All-push}

@@ -1,0 +1,10 @@
+use Rattle.std.proofs.Common.{◌≡◌, ◌+◌, ◌-◌, ◌≤◌, ◌++◌, vec_len}
+use Rattle.std.specs.Prelude.{replicate, vec_capacity}
+use Rattle.cc_book.proofs.open_sessions.OpenSessions.join.Given as goal
+
+abbrev pub invariant-loop-account : goal.invariant-loop-account
+invariant-loop-account l = record {
+  items : l.self-inside.totals.items ≡ l.initial.self-inside.totals.items ++ replicate l._account 0;
+  room : vec_len l.self-inside.totals + (l.joining - l._account) ≤ vec_capacity l.self-inside.totals;
+  sessions : l.self-inside.sessions ≡ l.initial.self-inside.sessions;
+}

@@ -1,0 +1,198 @@
+//! Accounts in order, each found by its Subscription-Id in a time that does not grow with them.
+
+ghost use Rattle.std.specs.Prelude.{◌≡◌, ◌<◌, ◌++◌, ◌∷◌, [], IfOk, IfSome, OnOk, OnErr, length, take};
+ghost use Rattle.std.specs.List.{list_any};
+ghost use Rattle.cc_book.specs.TermsChange.{account_with, same_owner};
+ghost use Rattle.cc_book.specs.Owners.{Finds, confirmed};
+
+use crate::account::Account;
+use cc_view::Subscription;
+use dia_avp::Octets;
+use indexmap::{Equivalent, IndexMap};
+use std::alloc::{AllocError, Global};
+use std::hash::Hash;
+use std::marker::Model;
+
+/// The Subscription-Id of an account, to be looked up.
+#[derive(Clone, Copy, Debug, PartialEq, Eq, Hash)]
+pub struct Owner<'a> {
+    pub kind: u32,
+    pub text: &'a Octets,
+}
+
+impl<'a> Equivalent<Subscription> for Owner<'a> {
+    ghost use Rattle.std.specs.Prelude.{◌&&◌, ◌==◌, ◌++◌};
+    ghost use Rattle.std.proofs.Common.{ap, rules};
+    ghost use Rattle.std.specs.Hash as fed;
+    ghost use Rattle.cc_view.specs.declared.request.Subscription.{Subscription};
+    ghost use Rattle.cc_book.specs.Duplicate.{same_session};
+    ghost use Rattle.cc_book.specs.TermsChange.{same_subscription};
+    ghost use Rattle.cc_book.specs.Owners.{one_subscription};
+
+    ghost equivalent = { λ owner id. owner.kind == id.kind && same_session owner.text.now id.text };
+
+    ghost respects_hash = { λ owner id same. ap (λ (s : Subscription). fed.u32 s.kind ++ fed.slice fed.u8 s.text) (one_subscription (record { kind = owner.kind; text = owner.text.now }) id (Prim.search rules)) };
+
+    ghost respects_eq = { λ owner one other same. ap (λ (s : Subscription). same_subscription s other) (one_subscription (record { kind = owner.kind; text = owner.text.now }) one (Prim.search rules)) };
+
+    fn equivalent(&self, key: &Subscription) -> bool {
+        self.kind == key.kind && *self.text == key.text
+    }
+}
+
+impl Account {
+    /// The Subscription-Id of its owner.
+    pub fn owner(&self) -> Owner<'_>
+        ensures kind { result.kind ≡ self.now.id_kind }
+        ensures text { result.text.now ≡ self.now.id }
+    {
+        Owner {
+            kind: self.id_kind,
+            text: &self.id,
+        }
+    }
+}
+
+/// Accounts in order, each found by its Subscription-Id.
+#[derive(Debug, Drop)]
+pub struct Accounts {
+    items: Vec<Account>,
+    /// The place of the first account with each Subscription-Id. A place is to be confirmed: a join that wanted
+    /// memory leaves places at which no such account stands.
+    places: IndexMap<Subscription, usize>,
+}
+
+impl Model for Accounts {
+    ghost use Rattle.std.specs.Prelude.{List};
+    ghost use Rattle.cc_book.specs.declared.account.Account.{Account};
+    ghost use Rattle.cc_book.specs.Owners.{Finds};
+
+    ghost Value = { List Account };
+
+    ghost view = { λ accounts. accounts.items.items };
+
+    ghost invariant = { λ accounts. Finds accounts.items.items accounts.places };
+}
+
+impl Accounts {
+    /// No accounts, with room for so many.
+    fn with_capacity(alloc: Global, room: usize) -> Result<Self, AllocError>
+        ensures { IfOk result (λ accounts. accounts ≡ []) }
+    {
+        Ok(Accounts {
+            items: Vec::with_capacity(alloc, room)?,
+            places: IndexMap::with_capacity(alloc, room)?,
+        })
+    }
+
+    /// These accounts, in this order.
+    pub fn from_vec(alloc: Global, items: Vec<Account>) -> Result<Self, AllocError>
+        ensures { IfOk result (λ accounts. accounts ≡ items.items) }
+    {
+        let mut accounts = Accounts::with_capacity(alloc, items.len())?;
+        for account in items {
+            accounts.push(account)?;
+        }
+        Ok(accounts)
+    }
+
+    /// The accounts themselves.
+    pub fn as_slice(&self) -> &[Account]
+        ensures { result.now ≡ self.now }
+    {
+        &self.items
+    }
+
+    /// The place of the first account with this Subscription-Id.
+    pub fn find(&self, id: &Subscription) -> Option<usize>
+        ensures value { result ≡ account_with self.now id.now }
+        ensures within { IfSome result (λ account. account < length self.now) }
+    {
+        let told = self.places.get(id).copied();
+        confirmed(
+            &self.items,
+            told,
+            Owner {
+                kind: id.kind,
+                text: &id.text,
+            },
+        )
+    }
+
+    /// Whether one of them has the Subscription-Id of this one.
+    pub fn has_owner_of(&self, account: &Account) -> bool
+        ensures { result ≡ list_any (same_owner account.now) self.now }
+    {
+        let owner = account.owner();
+        let told = self.places.get(owner).copied();
+        confirmed(&self.items, told, owner).is_some()
+    }
+
+    /// An account joins behind these. An error leaves them as they are.
+    fn push(&mut self, account: Account) -> Result<(), AllocError>
+        ensures ok { OnOk result (self.new ≡ self.old ++ account ∷ []) }
+        ensures err { OnErr result (self.new ≡ self.old) }
+    {
+        add_place(&self.items, &mut self.places, &account)?;
+        self.items.push(account)?;
+        Ok(())
+    }
+
+    /// Accounts join behind these, all of them or, after an error, none.
+    pub fn join(&mut self, joining: &[Account]) -> Result<(), AllocError>
+        ensures ok { OnOk result (self.new ≡ self.old ++ joining.now) }
+        ensures err { OnErr result (self.new ≡ self.old) }
+    {
+        let count = self.items.len();
+        let joined = self.push_all(joining);
+        if joined.is_err() {
+            self.items.truncate(count);
+        }
+        joined
+    }
+
+    /// Accounts join behind these. After an error some may have joined.
+    fn push_all(&mut self, joining: &[Account]) -> Result<(), AllocError>
+        ensures ok { OnOk result (self.new ≡ self.old ++ joining.now) }
+        ensures err { take (length self.old) self.new ≡ self.old }
+    {
+        for account in joining {
+            self.push(account.clone()?)?;
+        }
+        Ok(())
+    }
+}
+
+/// A place that an index tells, if the account there has this Subscription-Id.
+fn confirmed(accounts: &[Account], told: Option<usize>, owner: Owner<'_>) -> Option<usize>
+    ensures { result ≡ confirmed (record { kind = owner.entry.kind; text = owner.entry.text.now }) accounts.now told }
+{
+    let place = told?;
+    if accounts.get(place)?.owner() == owner {
+        Some(place)
+    } else {
+        None
+    }
+}
+
+/// Adds the place of an account that joins these, if none of them has its Subscription-Id.
+fn add_place(
+    accounts: &[Account],
+    places: &mut IndexMap<Subscription, usize>,
+    account: &Account,
+) -> Result<(), AllocError>
+    ensures ok { OnOk result (Finds accounts.now places.old → Finds (accounts.now ++ account.now ∷ []) places.new) }
+    ensures always { Finds accounts.now places.old → Finds accounts.now places.new }
+{
+    let owner = account.owner();
+    let told = places.get(owner).copied();
+    if confirmed(accounts, told, owner).is_some() {
+        return Ok(());
+    }
+    let id = Subscription {
+        kind: owner.kind,
+        text: owner.text.clone()?,
+    };
+    places.insert(id, accounts.len())?;
+    Ok(())
+}
