@@ -4,7 +4,7 @@
 It lays bench/book beside the crates of a copy of the repository, proves and builds it (`rt run`; what was proved here is
 taken along), and says what that measured: the least of ten windows of 1,250 requests of all kinds at so many entries, a
 sweep that ends 10 of so many open sessions and one that ends none, the TERMINATION of the session that opened first of so
-many, and the octets of memory that the process has more for each entry. Each is the best of some runs. Nothing of it is
+many, the same window with so many accounts, and the octets of memory that the process has more for each entry. Each is the best of some runs. Nothing of it is
 part of the gate.
 """
 import subprocess
@@ -15,6 +15,7 @@ from pathlib import Path
 from laid import build, lay
 
 DEPS = "dia_base dia_avp cc_view cc_rating cc_book anyhow"
+ACCOUNTS = [1_000, 1_000_000]
 ENTRIES = [1_000, 30_000, 1_000_000]
 OPEN = [1_000, 100_000]
 RUNS = 3
@@ -39,6 +40,9 @@ def measure(program):
         some, none = least(program, "sweep", sessions)
         print(f"a sweep that ends 10 of {sessions} sessions: {some} ns, one that ends none: {none} ns")
         print(f"the TERMINATION of the first of {sessions} sessions: {least(program, 'end', sessions)[0]} ns")
+    charges = {accounts: least(program, "accounts", accounts)[0] for accounts in ACCOUNTS}
+    for accounts, took in charges.items():
+        print(f"a request with {accounts} accounts: {took} ns, {took / charges[ACCOUNTS[0]]:.2f} times the first")
     empty = printed(program, "memory", 0)[0]
     for entries in ENTRIES[1:]:
         more = printed(program, "memory", entries)[0] - empty

@@ -19,15 +19,3 @@ hold_behind old new wanted moment change needed is =
     let P : Terms → Type 0 = λ terms. Hold terms wanted in
     let behind : now_in new ≡ changed_terms (now_in old) change = ap now_in is ∙ terms_of-change old.terms old.history moment change in
     subst P (sym behind) (lead_there (now_in old) wanted change needed)
-
--- no account opens again
-all_stay : {X : Type 0} (closed : List X) → filter (λ x. true) closed ≡ closed
-all_stay {X = X} [] = refl
-all_stay {X = X} (x ∷ closed) = ap (λ (rest : List X). x ∷ rest) (all_stay closed)
-
--- terms without a change
-pub unchanged : (terms : Terms) → changed_terms terms (record { joining = []; closing = []; reopening = []; tariffs = None }) ≡ terms
-unchanged terms =
-    let accounts = append-nil terms.accounts in
-    let closed = append-nil (filter (λ x. true) terms.closed) ∙ all_stay terms.closed in
-    λ i. record terms { accounts = accounts i; closed = closed i }

@@ -22,11 +22,6 @@ IsOfTerms octets terms = (about : About) × (whole about_form octets ≡ Ok abou
 abbrev pub now_in : Ledger → Terms
 now_in book = terms_of book.terms book.history
 
--- the terms of a site hold in a book, and it has the site's limit
-pub record Serves (wanted : Ledger) (book : Ledger) : Type 0 where
-  pub terms : Hold (now_in book) wanted.terms
-  pub limit : book.limit ≡ wanted.limit
-
 -- a book with one more entry, at that moment: the change that leads to the terms of a site
 pub record IsChangedTo (wanted : Terms) (moment : Moment) (old new : Ledger) : Type 0 where
   pub change : TermsChange

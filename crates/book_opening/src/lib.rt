@@ -22,4 +22,4 @@ pub use opening::{
     StoredBook, change_book, create_book, empty_under, identity_at, open_book, read_book,
     serving_book, state_id_of,
 };
-pub use renewing::{change_for, copy_of_terms, renew, renewed};
+pub use renewing::{change_for, renew, renewed};

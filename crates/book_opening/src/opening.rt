@@ -68,13 +68,14 @@ pub fn empty_under(alloc: Global, terms: Terms, limit: u64) -> Result<Book, Allo
 }
 
 /// A book with no entry, under the terms that the octets of a book say it was made under.
-fn empty_of(alloc: Global, about: &About, limit: u64) -> Result<Book, BookFault>
+fn empty_of(alloc: Global, about: About, limit: u64) -> Result<Book, BookFault>
     requires { limit ≤ HISTORY_LIMIT }
-    ensures terms { IfOk result (λ book. whole terms_form about.now.terms ≡ Ok book.terms) }
+    ensures terms { IfOk result (λ book. whole terms_form about.terms ≡ Ok book.terms) }
     ensures limit { IfOk result (λ book. book.limit ≡ limit) }
     ensures history { IfOk result (λ book. book.history ≡ []) }
 {
     let terms = read_terms(alloc, about.terms.as_slice())?;
+    drop(about);
     Ok(empty_under(alloc, terms, limit)?)
 }
 
@@ -95,7 +96,7 @@ fn open_in<S: RowStore + Drop>(
 {
     let mut store = store;
     let about = about_of(alloc, &mut store)?;
-    let empty = empty_of(alloc, &about, limit)?;
+    let empty = empty_of(alloc, about, limit)?;
     match open_journal(alloc, store, empty) {
         Ok(opened) => Ok(opened),
         Err(error) => Err(error.into()),
@@ -131,28 +132,28 @@ fn in_memory<S: RowStore>(alloc: Global, empty: Book) -> (Journal<S>, Book)
 }
 
 /// The book that serves, before it comes under the terms of the site ([`renew`](crate::renew)): that of the file, opened as [`open_book`]
-/// does, with room for so many entries, or this empty one in memory where no file is named.
+/// does, with room for so many entries, or where no file is named an empty one in memory, under those terms.
 pub fn serving_book(
     rt: &HostRuntime,
     path: Option<&str>,
     limit: u64,
-    empty: Book,
+    wanted: &Terms,
 ) -> Result<(Journal<FileBook>, Book), BookFault>
     requires most { limit ≤ HISTORY_LIMIT }
-    requires limit { empty.limit ≡ limit }
     ensures kept { IfOk result (λ opened. IsKeptBy ⟦<FileBook as RowStore>⟧.is_clean ⟦<FileBook as RowStore>⟧.is_ready ⟦<FileBook as RowStore>⟧.rows opened.0 opened.1) }
     ensures settled { IfOk result (λ opened. IsSettled opened.0) }
     ensures limit { IfOk result (λ opened. opened.1.limit ≡ limit) }
     ensures stored { IfOk result (λ opened. is_some opened.0.store ≡ is_some path.entry) }
     ensures terms { IfOk result (λ opened. IfSome opened.0.store (λ now. ⟦<FileBook as RowStore>⟧.is_clean now → IsOfTerms (⟦<FileBook as RowStore>⟧.about now) opened.1.terms)) }
-    ensures memory { IfNone path.entry (IfOk result (λ opened. (opened.0.store ≡ None) × (opened.1 ≡ empty))) }
+    ensures memory { IfNone path.entry (IfOk result (λ opened. (opened.0.store ≡ None) × (opened.1 ≡ record { terms = wanted.now; limit = limit; history = [] }))) }
 {
     match path {
-        Some(path) => {
-            drop(empty);
-            open_book(rt, path, limit)
+        Some(path) => open_book(rt, path, limit),
+        None => {
+            let terms = wanted.copy(rt.alloc())?;
+            let empty = empty_under(rt.alloc(), terms, limit)?;
+            Ok(in_memory(rt.alloc(), empty))
         }
-        None => Ok(in_memory(rt.alloc(), empty)),
     }
 }
 

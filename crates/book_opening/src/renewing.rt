@@ -17,7 +17,7 @@ use book_journal::Journal;
 use book_store::RowStore;
 use book_terms::{NeededFault, needed_change};
 use cc_book::{Book, Terms, TermsChange};
-use dia_base::{Listing, Moment};
+use dia_base::Moment;
 use std::alloc::{AllocError, Global};
 
 /// The change that leads from the terms that hold in a book to those of a site, which no entry has made yet.
@@ -120,18 +120,4 @@ pub fn renewed<S: RowStore + Drop>(
         Ok(()) => Ok((journal, book)),
         Err(fault) => Err(fault),
     }
-}
-
-/// A copy of terms.
-#[tactic(auto, using(crate::proofs::UnderTerms::unchanged))]
-pub fn copy_of_terms(alloc: Global, terms: &Terms) -> Result<Terms, AllocError>
-    ensures { IfOk result (λ copy. copy ≡ terms.now) }
-{
-    let nothing = TermsChange {
-        joining: Listing::empty(alloc),
-        closing: Listing::empty(alloc),
-        reopening: Listing::empty(alloc),
-        tariffs: None,
-    };
-    terms.changed(alloc, &nothing)
 }

@@ -1,47 +1,76 @@
-//! Where a site has its book: the key `book` of a site file.
+//! Which files a site file names: its book, and its accounts.
 //!
 //! ```text
-//! book = "farm.book" # absent: in memory alone
+//! book = "farm.book"         # absent: in memory alone
+//! accounts = "farm.accounts" # absent: those of the site file alone
 //! ```
 //!
-//! - [`book_in`]: what a document says at `book`, or why it says nothing ([`BookKeyFault`]).
+//! - [`path_in`]: what a document says at one of these keys ([`FileKey`]), or why it says nothing ([`FileKeyFault`]).
 //! - [`path_from`]: the path of a file that a site file names. A relative one begins at the folder of the site file, wherever
 //!   the process was started.
 //! - [`book_path`]: the file of the book that is served on: the one that the command line names, else that of the site file.
+//! - [`accounts_path`]: the file of the accounts, if the site file names one.
 //!
-//! All other keys of the file are read elsewhere. `specs/Place` says which value names a book, and which path is meant.
+//! All other keys of the file are read elsewhere. `specs/Place` says which value names a file, and which path is meant.
 #![tactic(auto)]
 
 ghost use Rattle.std.specs.Prelude.{◌≡◌, IfErr, IfOk, option_map, string_bytes};
 ghost use Rattle.toml.specs.Data.{get_member};
 ghost use Rattle.toml.specs.View.{table_view, view};
-ghost use Rattle.book_place.specs.Place.{IsAtBook, IsKeyFault, IsServedPath, Names, NamesAt, book_key, folder_of, from_folder_of};
+ghost use Rattle.book_place.specs.Place.{IsFaultAt, IsKeyFault, IsNamedPath, IsServedPath, Names, NamesAt, folder_of, from_folder_of, spelled};
 
 use std::alloc::{AllocError, Global};
+use std::fmt;
 use thiserror::Error;
 use toml::{Table, Value};
 
-/// Why a document does not say where the book is.
+/// A key of a site file that names a file. It is printed as the site file spells it.
+#[derive(Clone, Copy, Debug, PartialEq, Eq)]
+pub enum FileKey {
+    Book,
+    Accounts,
+}
+
+impl FileKey {
+    /// The key as the site file spells it.
+    pub fn as_str(self) -> &'static str
+        ensures { result.now ≡ spelled self }
+    {
+        match self {
+            FileKey::Book => "book",
+            FileKey::Accounts => "accounts",
+        }
+    }
+}
+
+impl fmt::Display for FileKey {
+    fn fmt<W: fmt::Write>(&self, f: &mut fmt::Formatter<W>) -> fmt::Result {
+        let spelled = self.as_str();
+        write!(f, "{spelled}")
+    }
+}
+
+/// Why a document does not say where a file is.
 #[derive(Clone, Copy, Debug, PartialEq, Eq, Error)]
-pub enum BookKeyFault {
-    /// What stands at `book` is no text.
-    #[error("site: WrongType book")]
-    NoText,
-    /// The text at `book` is empty.
-    #[error("site: OutOfRange book")]
-    Empty,
+pub enum FileKeyFault {
+    /// What stands at the key is no text.
+    #[error("site: WrongType {key}")]
+    NoText { key: FileKey },
+    /// The text at the key is empty.
+    #[error("site: OutOfRange {key}")]
+    Empty { key: FileKey },
     #[error("out of memory")]
     OutOfMemory,
 }
 
-impl From<AllocError> for BookKeyFault {
+impl From<AllocError> for FileKeyFault {
     ghost use Rattle.std.specs.Prelude.{◌≡◌};
-    ghost use Rattle.book_place.specs.declared.BookKeyFault.TheVariants.{OutOfMemory};
+    ghost use Rattle.book_place.specs.declared.FileKeyFault.TheVariants.{OutOfMemory};
 
     ghost from_gives = { λ _ e. e ≡ OutOfMemory };
 
-    fn from(_: AllocError) -> BookKeyFault {
-        BookKeyFault::OutOfMemory
+    fn from(_: AllocError) -> FileKeyFault {
+        FileKeyFault::OutOfMemory
     }
 }
 
@@ -52,26 +81,26 @@ fn find<'a>(table: &'a Table, key: &str) -> Option<&'a Value>
     table.get(key)
 }
 
-/// The path that a value names.
-fn path_at(value: &Value) -> Result<&str, BookKeyFault>
+/// The path that the value at a key names.
+fn path_at(key: FileKey, value: &Value) -> Result<&str, FileKeyFault>
     ensures path { IfOk result (λ path. Names (view value.now) path.now) }
-    ensures fault { IfErr result (IsKeyFault (view value.now)) }
+    ensures fault { IfErr result (IsKeyFault key (view value.now)) }
 {
     match value.as_str() {
-        None => Err(BookKeyFault::NoText),
-        Some("") => Err(BookKeyFault::Empty),
+        None => Err(FileKeyFault::NoText { key }),
+        Some("") => Err(FileKeyFault::Empty { key }),
         Some(path) => Ok(path),
     }
 }
 
-/// The path that the document of a site file names at `book`, as it stands there; none where the key is absent.
-pub fn book_in(document: &Table) -> Result<Option<&str>, BookKeyFault>
-    ensures path { IfOk result (λ path. NamesAt (get_member book_key (table_view document.now)) (option_map (λ s. s.now) path)) }
-    ensures fault { IfErr result (IsAtBook (get_member book_key (table_view document.now))) }
+/// The path that the document of a site file names at a key, as it stands there; none where the key is absent.
+pub fn path_in(document: &Table, key: FileKey) -> Result<Option<&str>, FileKeyFault>
+    ensures path { IfOk result (λ path. NamesAt (get_member (spelled key) (table_view document.now)) (option_map (λ s. s.now) path)) }
+    ensures fault { IfErr result (IsFaultAt key (get_member (spelled key) (table_view document.now))) }
 {
-    match find(document, "book") {
+    match find(document, key.as_str()) {
         None => Ok(None),
-        Some(value) => match path_at(value) {
+        Some(value) => match path_at(key, value) {
             Ok(path) => Ok(Some(path)),
             Err(fault) => Err(fault),
         },
@@ -107,14 +136,29 @@ pub fn book_path(
     told: Option<&str>,
     site: &str,
     document: &Table,
-) -> Result<Option<String>, BookKeyFault>
-    ensures path { IfOk result (λ path. IsServedPath (option_map (λ s. s.now) told.entry) site.now (get_member book_key (table_view document.now)) (option_map string_bytes path)) }
-    ensures fault { IfErr result (IsAtBook (get_member book_key (table_view document.now))) }
+) -> Result<Option<String>, FileKeyFault>
+    ensures path { IfOk result (λ path. IsServedPath (option_map (λ s. s.now) told.entry) site.now (get_member (spelled FileKey.Book) (table_view document.now)) (option_map string_bytes path)) }
+    ensures fault { IfErr result (IsFaultAt FileKey.Book (get_member (spelled FileKey.Book) (table_view document.now))) }
 {
-    let named = book_in(document)?;
+    let named = path_in(document, FileKey::Book)?;
     match (told, named) {
         (Some(path), _) => Ok(Some(String::from_str(alloc, path)?)),
         (None, Some(named)) => Ok(Some(path_from(alloc, site, named)?)),
         (None, None) => Ok(None),
+    }
+}
+
+/// The path of the file of accounts that the document of the site file at a path names, if it names one.
+pub fn accounts_path(
+    alloc: Global,
+    site: &str,
+    document: &Table,
+) -> Result<Option<String>, FileKeyFault>
+    ensures path { IfOk result (λ path. IsNamedPath site.now (get_member (spelled FileKey.Accounts) (table_view document.now)) (option_map string_bytes path)) }
+    ensures fault { IfErr result (IsFaultAt FileKey.Accounts (get_member (spelled FileKey.Accounts) (table_view document.now))) }
+{
+    match path_in(document, FileKey::Accounts)? {
+        Some(named) => Ok(Some(path_from(alloc, site, named)?)),
+        None => Ok(None),
     }
 }

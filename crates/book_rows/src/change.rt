@@ -8,7 +8,7 @@ use crate::accounts::{accounts_at, push_accounts};
 use crate::fault::ReadError;
 use crate::request::{push_subscriptions, subscriptions_at};
 use crate::tariffs::{optional_tariffs_at, push_optional_tariffs};
-use cc_book::TermsChange;
+use cc_book::{Accounts, TermsChange};
 use dia_base::Listing;
 use std::alloc::{AllocError, Global};
 
@@ -22,7 +22,7 @@ pub fn change_at(alloc: Global, octets: &[u8]) -> Result<(TermsChange, &[u8]), R
     let (tariffs, rest) = optional_tariffs_at(alloc, rest)?;
     Ok((
         TermsChange {
-            joining: Listing::from_vec(joining),
+            joining: Accounts::from_vec(alloc, joining)?,
             closing: Listing::from_vec(closing),
             reopening: Listing::from_vec(reopening),
             tariffs,

@@ -43,7 +43,7 @@ pub fn needed_change(alloc: Global, now: &Terms, wanted: &Terms) -> Result<Terms
     }
     let joining = joining_of(alloc, &now.accounts, wanted.accounts.as_slice())?;
     Ok(TermsChange {
-        joining: Listing::from_vec(joining),
+        joining: Accounts::from_vec(alloc, joining)?,
         closing: Listing::empty(alloc),
         reopening: Listing::empty(alloc),
         tariffs: needed_tariffs(alloc, &now.tariffs, &wanted.tariffs)?,

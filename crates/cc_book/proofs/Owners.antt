@@ -119,6 +119,25 @@ any_by account (other ∷ accounts) = λ i. owns-turned account other i || any_b
 pub any-owner : (account : Account) (accounts : List Account) → is_some (account_with accounts (owner_of account)) ≡ list_any (same_owner account) accounts
 any-owner account accounts = any-placed (owns (owner_of account)) accounts ∙ any_by account accounts
 
+-- whether a place that is found stands before another one
+abbrev pub is_before : Option ℕ → ℕ → Bool
+is_before None place = false
+is_before (Some first) place = ltb first place
+
+pub owner-before : (account : Account) (accounts : List Account) (place : ℕ) (found : Option ℕ) → account_with accounts (owner_of account) ≡ found
+    → list_any (same_owner account) (take place accounts) ≡ is_before found place
+owner-before account accounts place found is =
+    sym (any-owner account (take place accounts))
+    ∙ ap is_some (position-take (owns (owner_of account)) place accounts ∙ ap (bounded (owns (owner_of account)) place) is)
+    ∙ by found
+  where
+    by : (found : Option ℕ) → is_some (bounded (owns (owner_of account)) place found) ≡ is_before found place
+    by None = refl
+    by (Some first) = two (ltb first place) where
+      two : (b : Bool) → is_some (cond b (Some first) None) ≡ b
+      two true = refl
+      two false = refl
+
 -- ---- what is confirmed
 
 pub has_at-within : (id : Subscription) (accounts : List Account) (place : ℕ) → has_at id accounts place ≡ true → place < length accounts
@@ -272,6 +291,11 @@ module _ {S : Type 0} (accounts : List Account) (old : HashMap Subscription ℕ 
           ∙ sym (nowhere id e)
       by false e =
           ap (confirmed id accounts) (updated id ∙ ap (λ (b : Bool). cond b (Some (length accounts)) (get same_subscription old id)) e) ∙ finds id
+
+-- the same of an index that may not be there
+pub if-finds-first : {S : Type 0} (accounts : List Account) (places : Option (HashMap Subscription ℕ S)) → IfSome places (Finds accounts) → (n : ℕ) → IfSome places (Finds (take n accounts))
+if-finds-first accounts None none n = tt
+if-finds-first accounts (Some places) finds n = finds-first accounts places finds n
 
 pub confirmed-within : (id : Subscription) (accounts : List Account) (told : Option ℕ) → IfSome (confirmed id accounts told) (λ place. place < length accounts)
 confirmed-within id accounts None = search rules

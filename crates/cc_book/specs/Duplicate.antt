@@ -1,6 +1,6 @@
 -- What makes two requests the same (RFC 8506, section 8.2): Session-Id and CC-Request-Number.
-use Rattle.std.specs.Prelude.{ℕ, List, Bool, false, ◌&&◌, ◌==◌, nat_eq}
-use lib.Pointwise.{pointwise}
+use Rattle.std.specs.Prelude.{ℕ, List, Bool, false, ◌&&◌, ◌==◌}
+pub use Rattle.cc_book.specs.Octets.{same_session}
 use Rattle.cc_view.specs.declared.request.CcRequest.{CcRequest}
 use Rattle.cc_book.specs.declared.entry.Entry.{Entry}
 use Rattle.cc_book.specs.declared.entry.Entry.TheVariants.{Take, Sweep, ChangeTerms}
@@ -11,9 +11,6 @@ pub record Key : Type 0 where
 
 abbrev pub key_of : CcRequest → Key
 key_of request = record { session = request.session; number = request.number }
-
-abbrev pub same_session : List ℕ → List ℕ → Bool
-same_session = pointwise nat_eq
 
 abbrev pub same_key : Key → Key → Bool
 same_key one other = one.number == other.number && same_session one.session other.session

@@ -8,9 +8,10 @@ pub mod Content
 pub mod Duplicate
 pub mod History
 pub mod Laws
-pub mod Places
+pub mod Octets
 pub mod OpenSessions
 pub mod Owners
+pub mod Places
 pub mod Planning
 pub mod Posting
 pub mod Pricing

@@ -9,7 +9,7 @@ use Rattle.std.specs.HashMap.{HashMap}
 use Rattle.std.specs.HashSet.{HashSet}
 use Rattle.cc_book.specs.declared.account.Account.{Account}
 use Rattle.cc_view.specs.declared.request.Subscription.{Subscription}
-use Rattle.cc_book.specs.Duplicate.{same_session}
+use Rattle.cc_book.specs.Octets.{same_session}
 
 -- ---- accounts and their Subscription-Ids
 

@@ -57,6 +57,11 @@ changed_terms terms change = record {
   money = terms.money;
 }
 
+-- the terms that a book began with, and those that hold now
+pub record TermsOfBook : Type 0 where
+  pub begun : Terms
+  pub current : Terms
+
 -- ---- what is wrong with a change
 
 -- what is wrong with an account that joins, where these are there, and these join before it

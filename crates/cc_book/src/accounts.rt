@@ -1,8 +1,8 @@
 //! Accounts in order, each found by its Subscription-Id in a time that does not grow with them.
 
-ghost use Rattle.std.specs.Prelude.{◌≡◌, ◌<◌, ◌++◌, ◌∷◌, [], IfOk, IfSome, OnOk, OnErr, length, take};
+ghost use Rattle.std.specs.Prelude.{◌≡◌, ◌==◌, ◌<◌, ◌++◌, ◌∷◌, [], IfOk, IfSome, OnOk, OnErr, length, take};
 ghost use Rattle.std.specs.List.{list_any};
-ghost use Rattle.cc_book.specs.TermsChange.{account_with, same_owner};
+ghost use Rattle.cc_book.specs.TermsChange.{account_with, owns, same_owner};
 ghost use Rattle.cc_book.specs.Owners.{Finds, confirmed};
 
 use crate::account::Account;
@@ -58,12 +58,12 @@ impl Account {
 pub struct Accounts {
     items: Vec<Account>,
     /// The place of the first account with each Subscription-Id. A place is to be confirmed: a join that wanted
-    /// memory leaves places at which no such account stands.
-    places: IndexMap<Subscription, usize>,
+    /// memory leaves places at which no such account stands. None of a list alone.
+    places: Option<IndexMap<Subscription, usize>>,
 }
 
 impl Model for Accounts {
-    ghost use Rattle.std.specs.Prelude.{List};
+    ghost use Rattle.std.specs.Prelude.{IfSome, List};
     ghost use Rattle.cc_book.specs.declared.account.Account.{Account};
     ghost use Rattle.cc_book.specs.Owners.{Finds};
 
@@ -71,29 +71,60 @@ impl Model for Accounts {
 
     ghost view = { λ accounts. accounts.items.items };
 
-    ghost invariant = { λ accounts. Finds accounts.items.items accounts.places };
+    ghost invariant = { λ accounts. IfSome accounts.places (Finds accounts.items.items) };
 }
 
 impl Accounts {
-    /// No accounts, with room for so many.
-    fn with_capacity(alloc: Global, room: usize) -> Result<Self, AllocError>
-        ensures { IfOk result (λ accounts. accounts ≡ []) }
-    {
-        Ok(Accounts {
-            items: Vec::with_capacity(alloc, room)?,
-            places: IndexMap::with_capacity(alloc, room)?,
-        })
-    }
-
     /// These accounts, in this order.
     pub fn from_vec(alloc: Global, items: Vec<Account>) -> Result<Self, AllocError>
         ensures { IfOk result (λ accounts. accounts ≡ items.items) }
     {
-        let mut accounts = Accounts::with_capacity(alloc, items.len())?;
-        for account in items {
-            accounts.push(account)?;
+        let places = places_of(alloc, &items)?;
+        Ok(Accounts {
+            items,
+            places: Some(places),
+        })
+    }
+
+    /// These accounts, in this order, as a list alone: in it an account is looked for from the first on.
+    pub fn list(items: Vec<Account>) -> Self
+        ensures { result ≡ items.items }
+    {
+        Accounts {
+            items,
+            places: None,
         }
-        Ok(accounts)
+    }
+
+    /// How many there are.
+    pub fn len(&self) -> usize
+        ensures { result ≡ length self.now }
+    {
+        self.items.len()
+    }
+
+    /// Whether there is none.
+    pub fn is_empty(&self) -> bool
+        ensures { result ≡ (length self.now == 0) }
+    {
+        self.items.is_empty()
+    }
+
+    /// The same, each found by its Subscription-Id.
+    pub fn indexed(self, alloc: Global) -> Result<Self, AllocError>
+        ensures { IfOk result (λ accounts. accounts ≡ self) }
+    {
+        if self.places.is_some() {
+            return Ok(self);
+        }
+        Accounts::from_vec(alloc, self.items)
+    }
+
+    /// The same as a list alone, which takes half the memory.
+    pub fn into_list(self) -> Self
+        ensures { result ≡ self }
+    {
+        Accounts::list(self.items)
     }
 
     /// The accounts themselves.
@@ -108,24 +139,38 @@ impl Accounts {
         ensures value { result ≡ account_with self.now id.now }
         ensures within { IfSome result (λ account. account < length self.now) }
     {
-        let told = self.places.get(id).copied();
-        confirmed(
-            &self.items,
-            told,
-            Owner {
-                kind: id.kind,
-                text: &id.text,
-            },
-        )
+        self.place_of(Owner {
+            kind: id.kind,
+            text: &id.text,
+        })
     }
 
     /// Whether one of them has the Subscription-Id of this one.
     pub fn has_owner_of(&self, account: &Account) -> bool
         ensures { result ≡ list_any (same_owner account.now) self.now }
     {
-        let owner = account.owner();
-        let told = self.places.get(owner).copied();
-        confirmed(&self.items, told, owner).is_some()
+        self.place_of(account.owner()).is_some()
+    }
+
+    /// Whether one of them before this place has the Subscription-Id of this one.
+    pub fn has_owner_before(&self, place: usize, account: &Account) -> bool
+        ensures { result ≡ list_any (same_owner account.now) (take place self.now) }
+    {
+        match self.place_of(account.owner()) {
+            Some(first) => first < place,
+            None => false,
+        }
+    }
+
+    /// The place of the first account of an owner.
+    fn place_of(&self, owner: Owner<'_>) -> Option<usize>
+        ensures value { result ≡ account_with self.now (record { kind = owner.entry.kind; text = owner.entry.text.now }) }
+        ensures within { IfSome result (λ account. account < length self.now) }
+    {
+        match &self.places {
+            Some(places) => confirmed(&self.items, places.get(owner).copied(), owner),
+            None => first_place(&self.items, owner),
+        }
     }
 
     /// An account joins behind these. An error leaves them as they are.
@@ -133,7 +178,9 @@ impl Accounts {
         ensures ok { OnOk result (self.new ≡ self.old ++ account ∷ []) }
         ensures err { OnErr result (self.new ≡ self.old) }
     {
-        add_place(&self.items, &mut self.places, &account)?;
+        if let Some(places) = &mut self.places {
+            add_place(&self.items, places, &account)?;
+        }
         self.items.push(account)?;
         Ok(())
     }
@@ -161,6 +208,35 @@ impl Accounts {
         }
         Ok(())
     }
+}
+
+/// The place of the first account of an owner, looked for from the first account on.
+fn first_place(accounts: &[Account], owner: Owner<'_>) -> Option<usize>
+    ensures value { result ≡ account_with accounts.now (record { kind = owner.entry.kind; text = owner.entry.text.now }) }
+    ensures within { IfSome result (λ place. place < length accounts.now) }
+{
+    accounts.iter().position(|account| is_of(account, owner))
+}
+
+/// Whether an account is that of an owner.
+fn is_of(account: &Account, owner: Owner<'_>) -> bool
+    ensures { result ≡ owns (record { kind = owner.entry.kind; text = owner.entry.text.now }) account.now }
+{
+    account.owner() == owner
+}
+
+/// The place of the first account with each Subscription-Id.
+fn places_of(
+    alloc: Global,
+    accounts: &[Account],
+) -> Result<IndexMap<Subscription, usize>, AllocError>
+    ensures { IfOk result (Finds accounts.now) }
+{
+    let mut places = IndexMap::with_capacity(alloc, accounts.len())?;
+    for (place, account) in accounts.iter().enumerate() {
+        add_place(&accounts[..place], &mut places, account)?;
+    }
+    Ok(places)
 }
 
 /// A place that an index tells, if the account there has this Subscription-Id.

@@ -10,6 +10,7 @@ mod planning;
 use crate::account::{Account, Money};
 use crate::accounts::Accounts;
 use crate::entry::Entry;
+use crate::kept_terms::KeptTerms;
 use crate::places::Places;
 use crate::standing::Standing;
 use crate::subscriptions::Subscriptions;
@@ -64,10 +65,8 @@ impl<T: Drop> From<AllocFailed<T>> for BookRefusal {
 /// nothing is worked out twice.
 #[derive(Debug, Drop)]
 pub struct Book {
-    /// The terms that it began with.
-    terms: Terms,
-    /// The terms that hold now, where an entry changed them.
-    changed: Option<Terms>,
+    /// The terms that it began with, and those that hold now.
+    terms: KeptTerms,
     limit: u64,
     history: Vec<Entry>,
     /// The reply of each entry, none of a sweep.
@@ -78,23 +77,23 @@ pub struct Book {
 }
 
 impl Model for Book {
-    ghost use Rattle.std.specs.Prelude.{◌≡◌, ◌+◌, ◌≤◌, ◌^◌, length, unwrap_or, vec_capacity};
+    ghost use Rattle.std.specs.Prelude.{◌≡◌, ◌+◌, ◌≤◌, ◌^◌, length, vec_capacity};
     ghost use Rattle.cc_book.specs.AccountMachine.{terms_of};
     ghost use Rattle.cc_book.specs.Places.{HasPlaces, IsIndexed};
     ghost use Rattle.cc_book.specs.Taking.{HasRoom, IsBook, Ledger};
 
     ghost Value = { Ledger };
 
-    ghost view = { λ b. record { terms = b.terms; limit = b.limit; history = b.history.items } };
+    ghost view = { λ b. record { terms = b.terms.begun; limit = b.limit; history = b.history.items } };
 
     ghost invariant = { λ b.
-        IsBook b.terms b.limit b.history.items b.replies.items b.standing.balances.items b.standing.sessions.items
+        IsBook b.terms.begun b.limit b.history.items b.replies.items b.standing.balances.items b.standing.sessions.items
         × HasRoom b.limit (vec_capacity b.history) (vec_capacity b.replies) (length b.history.items + b.standing.sessions.room)
         × (b.standing.sessions.accounts ≡ length b.standing.balances.items)
         × IsIndexed b.history.items b.places
         × HasPlaces b.limit (length b.history.items) b.places
         × (b.limit ≤ 2 ^ 20)
-        × (unwrap_or b.changed b.terms ≡ terms_of b.terms b.history.items) };
+        × (b.terms.current ≡ terms_of b.terms.begun b.history.items) };
 }
 
 impl Book {
@@ -137,8 +136,7 @@ impl Book {
         let room = limit as usize;
         let standing = Standing::new(alloc, terms.accounts.as_slice(), room)?;
         Ok(Book {
-            terms,
-            changed: None,
+            terms: KeptTerms::of(alloc, terms)?,
             limit,
             history: Vec::with_capacity(alloc, room)?,
             replies: Vec::with_capacity(alloc, room)?,
@@ -184,7 +182,7 @@ impl Book {
         ensures answer { SweepsWith (sweep_answer self.now moment) result }
         ensures memory { result ≢ Err OutOfMemory }
     {
-        let ended = self.standing.count_due(self.terms.validity, moment);
+        let ended = self.standing.count_due(self.terms.validity(), moment);
         if ended == 0 {
             return Ok(0);
         }
@@ -209,15 +207,22 @@ impl Book {
         }
         self.history.push_reserved(Entry::Sweep { moment });
         self.replies.push_reserved(None);
-        self.standing.sweep(self.terms.validity, moment);
+        self.standing.sweep(self.terms.validity(), moment);
         Ok(ended)
     }
 
-    /// The terms that it began with, as they were handed to `new`.
-    pub fn terms(&self) -> &Terms
-        ensures { result.now ≡ self.now.terms }
+    /// A copy of the terms that it began with. Its accounts are a list alone ([`Accounts::list`]).
+    pub fn terms(&self, alloc: Global) -> Result<Terms, AllocError>
+        ensures { IfOk result (λ terms. terms ≡ self.now.terms) }
     {
-        &self.terms
+        self.terms.begun(alloc)
+    }
+
+    /// Validity-Time of its grants in seconds.
+    pub fn validity(&self) -> u32
+        ensures { result ≡ self.now.terms.validity }
+    {
+        self.terms.validity()
     }
 
     /// The accounts: those that were handed to `new`, and behind them those that have joined.

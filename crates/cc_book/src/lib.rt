@@ -47,6 +47,7 @@ mod content;
 mod copy;
 mod entry;
 mod event;
+mod kept_terms;
 mod key;
 mod laws;
 mod lookup;

@@ -1,9 +1,9 @@
 //! Changes of the terms.
 
-ghost use Rattle.std.specs.Prelude.{◌≡◌, ◌++◌, [], IfOk, OnOk, OnErr, not, unwrap_or};
-ghost use Rattle.std.specs.List.{filter, list_any};
+ghost use Rattle.std.specs.Prelude.{◌≡◌, ◌<◌, ◌++◌, [], IfOk, OnOk, OnErr, length, not, take, unwrap_or};
+ghost use Rattle.std.specs.List.{filter};
 ghost use Rattle.cc_book.specs.declared.terms_change.ChangeRefusal.TheVariants.{OutOfMemory};
-ghost use Rattle.cc_book.specs.TermsChange.{account_fault, closed_by, closing_fault, fault_of_change, first_fault, is_among, joining_fault, reopening_fault, same_owner, same_subscription, says_nothing, standing_fault};
+ghost use Rattle.cc_book.specs.TermsChange.{account_fault, closed_by, closing_fault, fault_of_change, first_fault, is_among, joining_fault, reopening_fault, same_subscription, says_nothing, standing_fault};
 
 use crate::account::Account;
 use crate::accounts::Accounts;
@@ -19,7 +19,7 @@ use thiserror::Error;
 #[derive(Debug, Drop)]
 pub struct TermsChange {
     /// The accounts that join, behind those that are there.
-    pub joining: Listing<Account>,
+    pub joining: Accounts,
     /// The Subscription-Ids of the accounts that close. A closed account keeps its balance and settles what its open sessions used;
     /// it is granted nothing more, and no request names it.
     pub closing: Listing<Subscription>,
@@ -78,7 +78,7 @@ impl TermsChange {
         if self.says_nothing() {
             return Some(ChangeRefusal::Nothing);
         }
-        match joining_fault(&terms.accounts, self.joining.as_slice()) {
+        match joining_fault(&terms.accounts, &self.joining) {
             Some(fault) => Some(fault),
             None => self.standing_fault(terms),
         }
@@ -104,15 +104,28 @@ impl TermsChange {
             && self.tariffs.is_none()
     }
 
+    /// The same, whose accounts that join are a list alone ([`Accounts::into_list`]).
+    pub fn into_list(self) -> TermsChange
+        ensures { result ≡ self }
+    {
+        TermsChange {
+            joining: self.joining.into_list(),
+            closing: self.closing,
+            reopening: self.reopening,
+            tariffs: self.tariffs,
+        }
+    }
+
     /// A copy in memory of its own.
     pub fn copy(&self, alloc: Global) -> Result<TermsChange, AllocError>
         ensures { IfOk result (λ copy. copy ≡ self.now) }
     {
         let joining = self.joining.as_slice().to_vec(alloc)?;
+        let joining = Accounts::from_vec(alloc, joining)?;
         let closing = self.closing.as_slice().to_vec(alloc)?;
         let reopening = self.reopening.as_slice().to_vec(alloc)?;
         Ok(TermsChange {
-            joining: Listing::from_vec(joining),
+            joining,
             closing: Listing::from_vec(closing),
             reopening: Listing::from_vec(reopening),
             tariffs: copy_of_some(alloc, &self.tariffs)?,
@@ -122,40 +135,34 @@ impl TermsChange {
 
 /// The first fault of the accounts that join these.
 #[tactic(auto, using(crate::proofs::Joining::joining_fault_at))]
-fn joining_fault(accounts: &Accounts, joining: &[Account]) -> Option<ChangeRefusal>
+fn joining_fault(accounts: &Accounts, joining: &Accounts) -> Option<ChangeRefusal>
     ensures { result ≡ joining_fault accounts.now [] joining.now }
 {
-    for (place, account) in joining.iter().enumerate() {
-        if let Some(fault) = account_fault(accounts, &joining[..place], account) {
+    for (place, account) in joining.as_slice().iter().enumerate() {
+        if let Some(fault) = account_fault(accounts, joining, place, account) {
             return Some(fault);
         }
     }
     None
 }
 
-/// What is wrong with an account that joins, where these are there, and these join before it.
+/// What is wrong with the account at a place of those that join these.
 fn account_fault(
     accounts: &Accounts,
-    before: &[Account],
+    joining: &Accounts,
+    place: usize,
     account: &Account,
 ) -> Option<ChangeRefusal>
-    ensures { result ≡ account_fault accounts.now before.now account.now }
+    requires { place < length joining.now }
+    ensures { result ≡ account_fault accounts.now (take place joining.now) account.now }
 {
-    let place = before.len();
     if accounts.has_owner_of(account) {
         Some(ChangeRefusal::AlreadyThere { place })
-    } else if is_owned(before, account) {
+    } else if joining.has_owner_before(place, account) {
         Some(ChangeRefusal::Twice { place })
     } else {
         None
     }
-}
-
-/// Whether one of these accounts has the Subscription-Id of this one.
-fn is_owned(accounts: &[Account], account: &Account) -> bool
-    ensures { result ≡ list_any (same_owner account.now) accounts.now }
-{
-    accounts.iter().any(|other| account.has_same_owner(other))
 }
 
 /// Whether both are one Subscription-Id, by type and text.
@@ -272,6 +279,19 @@ impl Terms {
             accounts: Accounts::from_vec(alloc, accounts)?,
             closed: Subscriptions::from_vec(alloc, closed)?,
             tariffs: self.tariffs.copy(alloc)?,
+            validity: self.validity,
+            money: self.money,
+        })
+    }
+
+    /// The same, with accounts that are each found by their Subscription-Ids.
+    pub fn indexed(self, alloc: Global) -> Result<Terms, AllocError>
+        ensures { IfOk result (λ terms. terms ≡ self) }
+    {
+        Ok(Terms {
+            accounts: self.accounts.indexed(alloc)?,
+            closed: self.closed,
+            tariffs: self.tariffs,
             validity: self.validity,
             money: self.money,
         })

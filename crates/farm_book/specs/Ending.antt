@@ -15,6 +15,9 @@ use Rattle.book_store.specs.declared.error.AppendError.{AppendError}
 use Rattle.book_store.specs.declared.error.AppendError.TheVariants as append
 use Rattle.book_store.specs.declared.error.CheckError.TheVariants as check
 use Rattle.book_store.specs.declared.error.RowError.TheVariants as row
+use Rattle.book_place.specs.declared.FileKeyFault.TheVariants as key
+use Rattle.farm_terms.specs.declared.fault.AccountsFault.TheVariants as accounts
+use Rattle.farm_terms.specs.declared.opening.SiteTermsFault.TheVariants as terms
 use Rattle.farm_book.specs.declared.fault.TaskFault.{TaskFault}
 use Rattle.farm_book.specs.declared.fault.TaskFault.TheVariants as task
 use Rattle.farm_command.specs.declared.status.Status.{Status}
@@ -86,6 +89,12 @@ abbrev pub status_of : TaskFault → Status
 status_of task.SiteFile = status.Failed
 status_of (task.Site site.OutOfMemory) = status.OutOfMemory
 status_of (task.Site other) = status.Refused
+status_of (task.FileKey key.OutOfMemory) = status.OutOfMemory
+status_of (task.FileKey other) = status.Refused
+status_of (task.Terms terms.NotRead) = status.Failed
+status_of (task.Terms terms.OutOfMemory) = status.OutOfMemory
+status_of (task.Terms (terms.Accounts accounts.OutOfMemory)) = status.OutOfMemory
+status_of (task.Terms (terms.Accounts other)) = status.Refused
 status_of (task.NotMade fault) = status_of_book fault
 status_of (task.NotRead fault) = status_of_book fault
 status_of (task.NotChanged fault) = status_of_book fault

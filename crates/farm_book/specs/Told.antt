@@ -1,5 +1,5 @@
 -- What a task prints.
-use Rattle.std.specs.Prelude.{◌≡◌, ℕ, List, [], ◌++◌, if◌then◌else◌}
+use Rattle.std.specs.Prelude.{◌≡◌, ℕ, Bool, List, [], ◌++◌, if◌then◌else◌}
 use Rattle.book_copy.specs.declared.file.Copied.{Copied}
 use Rattle.book_entries.specs.Replayed.{sum_in}
 use Rattle.book_lines.specs.Lines.{difference_line, lines_of}
@@ -7,22 +7,19 @@ use Rattle.book_lines.specs.Summary.{made_line, summary_of}
 use Rattle.book_opening.specs.declared.opening.StoredBook.{StoredBook}
 use Rattle.book_opening.specs.Opened.{now_in}
 use Rattle.book_terms.specs.Difference.{IsNeeded}
+use Rattle.cc_book.specs.declared.terms.Terms.{Terms}
 use Rattle.cc_book.specs.declared.terms_change.TermsChange.{TermsChange}
 use Rattle.cc_book.specs.TermsChange.{says_nothing}
 use Rattle.farm_base.specs.declared.site.Site.{Site}
 use Rattle.farm_command.specs.declared.book_task.BookTask.{BookTask}
 use Rattle.farm_command.specs.declared.book_task.BookTask.TheVariants as task
-use Rattle.farm_model.specs.Run.{empty_book}
+use Rattle.farm_terms.specs.SiteAccounts.{AreTermsOf}
 use Rattle.farm_report.specs.Report.{report_of}
 
 -- a book with the limit of a site, and with the sum of its history
 pub record IsStoredFor (site : Site) (stored : StoredBook) : Type 0 where
   pub limit : stored.book.limit ≡ site.limit
   pub sum : stored.sum.0 ≡ sum_in stored.book
-
--- a change leads from the terms that hold in the book to those of the site
-abbrev pub LeadsTo : Site → StoredBook → TermsChange → Type 0
-LeadsTo site stored change = IsNeeded (now_in stored.book) (empty_book site).terms change
 
 -- what a book comes to
 abbrev pub summary_text : StoredBook → List ℕ
@@ -45,10 +42,12 @@ text_of (task.Backup to) stored change = summary_text stored
 abbrev pub IsCopyOf : Copied → StoredBook → Type 0
 IsCopyOf copied copy = (copy.identity ≡ copied.identity) × (copy.sum ≡ copied.sum)
 
--- the text is what a task prints of a book, from whose terms a change leads to those of the site
-pub record IsTold (site : Site) (task : BookTask) (text : List ℕ) : Type 0 where
+-- the text is what a task prints of a book, from whose terms a change leads to those that the site wants, alone or with a file of accounts
+pub record IsTold (site : Site) (with_file : Bool) (task : BookTask) (text : List ℕ) : Type 0 where
+  pub wanted : Terms
+  pub are_wanted : AreTermsOf site with_file wanted
   pub stored : StoredBook
   pub is_for : IsStoredFor site stored
   pub change : TermsChange
-  pub leads : LeadsTo site stored change
+  pub leads : IsNeeded (now_in stored.book) wanted change
   pub says : text ≡ text_of task stored change

@@ -9,9 +9,11 @@ use book_file::FileError;
 use book_journal::JournalError;
 use book_lines::LinesFault;
 use book_opening::BookFault;
+use book_place::FileKeyFault;
 use book_store::{AppendError, CheckError, RowError};
 use farm_command::Status;
 use farm_site::SiteFault;
+use farm_terms::{AccountsFault, SiteTermsFault};
 use sqlite_trees::error::StoreError;
 use std::alloc::AllocError;
 use thiserror::Error;
@@ -23,6 +25,12 @@ pub enum TaskFault {
     SiteFile,
     #[error("{0}")]
     Site(SiteFault),
+    /// What the site file says of where the accounts are is refused, or memory ran out.
+    #[error("{0}")]
+    FileKey(FileKeyFault),
+    /// The file of accounts is not read, or refused.
+    #[error("{0}")]
+    Terms(SiteTermsFault),
     #[error("the book is not made: {0}")]
     NotMade(BookFault),
     #[error("the book is not read: {0}")]
@@ -50,7 +58,8 @@ impl TaskFault {
         ensures { result ≡ status_of self.now }
     {
         match self {
-            TaskFault::SiteFile | TaskFault::Write => Status::Failed,
+            TaskFault::SiteFile | TaskFault::Terms(SiteTermsFault::NotRead) | TaskFault::Write =>
+                Status::Failed,
             TaskFault::NotMade(fault)
             | TaskFault::NotRead(fault)
             | TaskFault::NotChanged(fault)
@@ -58,9 +67,16 @@ impl TaskFault {
             TaskFault::NotCopied(fault) => copy_status(*fault),
             TaskFault::OtherCopy => Status::Refused,
             TaskFault::Site(SiteFault::OutOfMemory)
+            | TaskFault::FileKey(FileKeyFault::OutOfMemory)
+            | TaskFault::Terms(
+                SiteTermsFault::OutOfMemory | SiteTermsFault::Accounts(AccountsFault::OutOfMemory),
+            )
             | TaskFault::Lines(LinesFault::OutOfMemory)
             | TaskFault::OutOfMemory => Status::OutOfMemory,
-            TaskFault::Site(_) | TaskFault::Lines(_) => Status::Refused,
+            TaskFault::Site(_)
+            | TaskFault::FileKey(_)
+            | TaskFault::Terms(SiteTermsFault::Accounts(_))
+            | TaskFault::Lines(_) => Status::Refused,
         }
     }
 }

@@ -1,62 +1,75 @@
 //! What is done with a book.
 
-ghost use Rattle.std.specs.Prelude.{◌≡◌, ◌≤◌, ◌↔◌, IfErr, IfOk, IsTrue};
+ghost use Rattle.std.specs.Prelude.{◌≡◌, ◌≤◌, ◌↔◌, [], IfErr, IfOk, IsTrue, is_some};
 ghost use Rattle.book_lines.specs.Lines.{lines_of};
 ghost use Rattle.farm_base.specs.CheckedSite.{IsChecked};
-ghost use Rattle.farm_model.specs.Run.{empty_book};
 ghost use Rattle.farm_report.specs.Report.{report_of};
+ghost use Rattle.farm_terms.specs.SiteAccounts.{AreTermsOf};
 ghost use Rattle.farm_book.specs.Told.{IsCopyOf, IsStoredFor, IsTold, summary_text, text_of};
 
 use crate::fault::TaskFault;
 use book_copy::{Copied, copy_file};
 use book_lines::{entry_lines, made_line, push_difference_line, summary};
 use book_opening::{
-    BookFault, StoredBook, change_book, change_for, copy_of_terms, create_book, empty_under,
-    read_book,
+    BookFault, StoredBook, change_book, change_for, create_book, empty_under, read_book,
 };
+use book_place::accounts_path;
 use book_store::FIRST_SUM;
 use cc_book::{Terms, TermsChange};
 use dia_base::HISTORY_LIMIT;
 use farm_base::Site;
 use farm_command::{BookCommand, BookTask};
 use farm_report::report;
-use farm_site::site_of_octets;
+use farm_site::{SiteDocument, site_document_of_octets};
+use farm_terms::site_terms;
 use farm_text::{ReadFault, file_at, write_text};
-use farm_world::empty_book;
 use std::alloc::Global;
 use std::io;
+use toml::Table;
 
-/// The site of a file.
-fn site_at(rt: &HostRuntime, path: &str) -> Result<Site, TaskFault>
-    ensures { IfOk result IsChecked }
+/// The site of a file, with its document.
+fn site_at(rt: &HostRuntime, path: &str) -> Result<SiteDocument, TaskFault>
+    ensures { IfOk result (λ read. IsChecked read.site) }
 {
     let octets = match file_at(rt, path) {
         Ok(octets) => octets,
         Err(ReadFault::Failed) => return Err(TaskFault::SiteFile),
         Err(ReadFault::OutOfMemory) => return Err(TaskFault::OutOfMemory),
     };
-    match site_of_octets(rt.alloc(), &octets) {
-        Ok(site) => Ok(site),
+    match site_document_of_octets(rt.alloc(), &octets) {
+        Ok(read) => Ok(read),
         Err(fault) => Err(TaskFault::Site(fault)),
     }
 }
 
-/// The terms of a site.
-fn wanted_by(alloc: Global, site: &Site) -> Result<Terms, TaskFault>
-    requires { IsChecked site.now }
-    ensures { IfOk result (λ wanted. wanted ≡ (empty_book site.now).terms) }
-{
-    let empty = empty_book(alloc, site)?;
-    Ok(copy_of_terms(alloc, empty.terms())?)
+/// The path of the file of accounts, if the document of the site file at a path names one.
+fn accounts_at(alloc: Global, site: &str, document: &Table) -> Result<Option<String>, TaskFault> {
+    match accounts_path(alloc, site, document) {
+        Ok(path) => Ok(path),
+        Err(fault) => Err(TaskFault::FileKey(fault)),
+    }
 }
 
-/// Makes a book under the terms of a site. It is given as it is stored then.
-fn made(rt: &HostRuntime, path: &str, site: &Site) -> Result<StoredBook, TaskFault>
+/// The terms that a site wants, with the accounts of the file at a path, if it names one.
+fn wanted_by(rt: &HostRuntime, site: &Site, accounts: Option<&str>) -> Result<Terms, TaskFault>
     requires { IsChecked site.now }
+    ensures { IfOk result (AreTermsOf site.now (is_some accounts.entry)) }
+{
+    match site_terms(rt, site, accounts) {
+        Ok(terms) => Ok(terms),
+        Err(fault) => Err(TaskFault::Terms(fault)),
+    }
+}
+
+/// Makes a book under the terms that a site wants. It is given as it is stored then.
+fn made(rt: &HostRuntime, path: &str, site: &Site, wanted: &Terms) -> Result<StoredBook, TaskFault>
+    requires checked { IsChecked site.now }
+    requires open { wanted.now.closed ≡ [] }
     ensures { IfOk result (IsStoredFor site.now) }
 {
-    let book = empty_book(rt.alloc(), site)?;
-    match create_book(rt, path, book.terms()) {
+    let terms = wanted.copy(rt.alloc())?;
+    let book = empty_under(rt.alloc(), terms, site.limit)?;
+    match create_book(rt, path, wanted) {
         Ok(identity) => Ok(StoredBook {
             identity,
             book,
@@ -143,11 +156,12 @@ fn stored(
     site: &Site,
     wanted: &Terms,
 ) -> Result<StoredBook, TaskFault>
-    requires { IsChecked site.now }
+    requires checked { IsChecked site.now }
+    requires open { wanted.now.closed ≡ [] }
     ensures { IfOk result (IsStoredFor site.now) }
 {
     match command.task {
-        BookTask::Create => made(rt, command.file, site),
+        BookTask::Create => made(rt, command.file, site, wanted),
         BookTask::Check | BookTask::Report | BookTask::Export => read_for(
             rt,
             command.file,
@@ -198,7 +212,7 @@ fn entries_of(alloc: Global, limit: u64, stored: &StoredBook) -> Result<Vec<u8>,
     requires { limit ≤ HISTORY_LIMIT }
     ensures { IfOk result (λ text. text.items ≡ lines_of stored.now.book.terms stored.now.book.history) }
 {
-    let terms = copy_of_terms(alloc, stored.book.terms())?;
+    let terms = stored.book.terms(alloc)?;
     let empty = empty_under(alloc, terms, limit)?;
     match entry_lines(alloc, empty, stored.book.history()) {
         Ok(lines) => Ok(lines),
@@ -227,13 +241,19 @@ fn text_of(
     }
 }
 
-/// Does what a command asks for, for a site, and gives what is printed of it.
-fn told_of(rt: &HostRuntime, command: &BookCommand<'_>, site: &Site) -> Result<Vec<u8>, TaskFault>
+/// Does what a command asks for, for a site, with the accounts of the file at a path, if it names one. It gives what is printed of it.
+#[tactic(auto, using(crate::proofs::Stored::none_closed))]
+fn told_of(
+    rt: &HostRuntime,
+    command: &BookCommand<'_>,
+    site: &Site,
+    accounts: Option<&str>,
+) -> Result<Vec<u8>, TaskFault>
     requires { IsChecked site.now }
-    ensures { IfOk result (λ text. IsTold site.now command.now.task text.items) }
+    ensures { IfOk result (λ text. IsTold site.now (is_some accounts.entry) command.now.task text.items) }
 {
     let alloc = rt.alloc();
-    let wanted = wanted_by(alloc, site)?;
+    let wanted = wanted_by(rt, site, accounts)?;
     let stored = stored(rt, command, site, &wanted)?;
     match change_for(alloc, &stored.book, &wanted) {
         Ok(change) => text_of(alloc, command.task, site.limit, &stored, &change),
@@ -243,8 +263,9 @@ fn told_of(rt: &HostRuntime, command: &BookCommand<'_>, site: &Site) -> Result<V
 
 /// Does what a command asks for, and prints it. Nothing is printed before it is done.
 pub fn carry_out_task(rt: &HostRuntime, command: &BookCommand<'_>) -> Result<(), TaskFault> {
-    let site = site_at(rt, command.site)?;
-    let told = told_of(rt, command, &site)?;
+    let read = site_at(rt, command.site)?;
+    let accounts = accounts_at(rt.alloc(), command.site, &read.document)?;
+    let told = told_of(rt, command, &read.site, accounts.as_deref())?;
     match write_text(&mut io::writer(rt), &told) {
         Ok(()) => Ok(()),
         Err(_) => Err(TaskFault::Write),

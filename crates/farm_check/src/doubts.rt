@@ -8,6 +8,7 @@ use crate::clients::push_client_doubts;
 use crate::lines::{Lines, identity_text, node_name, text_of};
 use crate::money::{cost_by, services_of};
 use crate::nodes::kind_word;
+use cc_book::Account;
 use cc_rating::{Tariff, Tariffs};
 use dia_base::{NodeKind, NodeNo};
 use farm_base::{Node, Route, Site};
@@ -18,10 +19,11 @@ pub fn push_doubts(
     alloc: Global,
     lines: &mut Lines,
     site: &Site,
+    accounts: &[Account],
     tariffs: &Tariffs,
 ) -> Result<(), AllocError> {
     push_client_doubts(lines, site)?;
-    push_empty_tables(lines, site)?;
+    push_empty_tables(lines, site, accounts)?;
     for (place, node) in site.nodes.as_slice().iter().enumerate() {
         push_node_doubts(alloc, lines, site, place, node)?;
     }
@@ -30,20 +32,24 @@ pub fn push_doubts(
         push_route_doubts(alloc, lines, site, route)?;
     }
     for tariff in site.tariffs.as_slice() {
-        push_tariff_doubts(alloc, lines, site, tariffs, tariff)?;
+        push_tariff_doubts(alloc, lines, accounts, tariffs, tariff)?;
     }
     Ok(())
 }
 
 /// Tables without an entry, which a farm that charges cannot do without.
-fn push_empty_tables(lines: &mut Lines, site: &Site) -> Result<(), AllocError> {
+fn push_empty_tables(
+    lines: &mut Lines,
+    site: &Site,
+    accounts: &[Account],
+) -> Result<(), AllocError> {
     if site.nodes.is_empty() {
         lines.push("look: there is no node")?;
     }
     if site.tariffs.is_empty() {
         lines.push("look: there is no tariff: every service is refused, DIAMETER_RATING_FAILED")?;
     }
-    if site.accounts.is_empty() {
+    if accounts.is_empty() {
         lines.push("look: there is no account: every request is refused, DIAMETER_USER_UNKNOWN")?;
     }
     Ok(())
@@ -171,12 +177,12 @@ fn host_of(site: &Site, node: NodeNo) -> Option<&[u8]> {
 fn push_tariff_doubts(
     alloc: Global,
     lines: &mut Lines,
-    site: &Site,
+    accounts: &[Account],
     tariffs: &Tariffs,
     tariff: &Tariff,
 ) -> Result<(), AllocError> {
     let units = tariff.quantum.min(tariff.greatest);
-    let (Some(cost), Some(opening)) = (cost_by(tariffs, tariff, units), greatest_opening(site))
+    let (Some(cost), Some(opening)) = (cost_by(tariffs, tariff, units), greatest_opening(accounts))
     else {
         return Ok(());
     };
@@ -191,10 +197,6 @@ fn push_tariff_doubts(
 }
 
 /// The greatest opening of an account.
-fn greatest_opening(site: &Site) -> Option<i64> {
-    site.accounts
-        .as_slice()
-        .iter()
-        .map(|account| account.opening)
-        .max()
+fn greatest_opening(accounts: &[Account]) -> Option<i64> {
+    accounts.iter().map(|account| account.opening).max()
 }

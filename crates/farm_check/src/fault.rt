@@ -4,10 +4,11 @@ ghost use Rattle.std.specs.Prelude.{◌≡◌};
 ghost use Rattle.farm_check.specs.declared.fault.CheckFault.TheVariants.{OutOfMemory};
 ghost use Rattle.farm_check.specs.Checking.{status_of};
 
-use book_place::BookKeyFault;
+use book_place::FileKeyFault;
 use farm_access::AccessFault;
 use farm_command::Status;
 use farm_site::SiteFault;
+use farm_terms::AccountsFault;
 use std::alloc::{AllocError, AllocFailed};
 use thiserror::Error;
 
@@ -22,9 +23,14 @@ pub enum CheckFault {
     /// What the file says of who may come up is refused; and what is told of it, likewise.
     #[error("{1}")]
     Access(AccessFault, String),
-    /// What the file says of where the book is is refused; and what is told of it, likewise.
+    /// What the file says of where the book or the accounts are is refused; and what is told of it, likewise.
     #[error("{1}")]
-    Book(BookKeyFault, String),
+    File(FileKeyFault, String),
+    #[error("the file of accounts cannot be read")]
+    AccountsFile,
+    /// The file of accounts is refused; and what is told of it: its own line, and what was expected there.
+    #[error("{1}")]
+    Accounts(AccountsFault, String),
     #[error("the output cannot be written")]
     Write,
     #[error("out of memory")]
@@ -37,9 +43,11 @@ impl CheckFault {
         ensures { result ≡ status_of self.now }
     {
         match self {
-            CheckFault::SiteFile | CheckFault::Write => Status::Failed,
-            CheckFault::Site(_, _) | CheckFault::Access(_, _) | CheckFault::Book(_, _) =>
-                Status::Refused,
+            CheckFault::SiteFile | CheckFault::AccountsFile | CheckFault::Write => Status::Failed,
+            CheckFault::Site(_, _)
+            | CheckFault::Access(_, _)
+            | CheckFault::File(_, _)
+            | CheckFault::Accounts(_, _) => Status::Refused,
             CheckFault::OutOfMemory => Status::OutOfMemory,
         }
     }

@@ -12,7 +12,7 @@ const LINE_LIMIT: usize = 20;
 const KEY_LIMIT: usize = 64;
 
 /// The keys of the file itself.
-const OWN_KEYS: [&str; 19] = [
+const OWN_KEYS: [&str; 20] = [
     "realm",
     "validity",
     "limit",
@@ -32,6 +32,7 @@ const OWN_KEYS: [&str; 19] = [
     "advertise",
     "strict",
     "book",
+    "accounts",
 ];
 
 /// The keys of the entries of each table, in the order of [`TABLES`].

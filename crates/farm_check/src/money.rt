@@ -6,6 +6,7 @@ ghost use Rattle.cc_rating.specs.Rating.{cost_of};
 ghost use Rattle.cc_rating.specs.Tariffs.{rates};
 
 use crate::lines::Lines;
+use cc_book::Account;
 use cc_rating::{Tariff, Tariffs, UnitKind};
 use farm_base::Site;
 use std::alloc::{AllocError, Global};
@@ -15,6 +16,7 @@ pub fn push_money(
     alloc: Global,
     lines: &mut Lines,
     site: &Site,
+    accounts: &[Account],
     tariffs: &Tariffs,
 ) -> Result<(), AllocError> {
     let (currency, exponent) = (site.currency, site.exponent);
@@ -25,14 +27,14 @@ pub fn push_money(
     for tariff in site.tariffs.as_slice() {
         lines.push(tariff_line(alloc, tariffs, tariff)?.as_str())?;
     }
-    let (count, sum) = (site.accounts.len(), opening_sum(site));
+    let (count, sum) = (accounts.len(), opening_sum(accounts));
     lines.push(format!(in alloc; "accounts: {count}, with openings of {sum} in all")?.as_str())
 }
 
 /// The sum of all openings; so many numbers of 64 bits as there can be accounts do not come to the limits of 128.
-fn opening_sum(site: &Site) -> i128 {
+fn opening_sum(accounts: &[Account]) -> i128 {
     let mut sum: i128 = 0;
-    for account in site.accounts.as_slice() {
+    for account in accounts {
         sum = sum.saturating_add(i128::from(account.opening));
     }
     sum

@@ -1,48 +1,36 @@
 //! What a site comes to, for somebody who reads it.
 
-ghost use Rattle.std.specs.Prelude.{◌≡◌, IfOk, None};
-ghost use Rattle.cc_rating.specs.Tariffs.{fault_of};
 ghost use Rattle.farm_base.specs.CheckedSite.{IsChecked};
 
-use crate::booked::push_book;
 use crate::clients::push_clients;
 use crate::doubts::push_doubts;
+use crate::files::{Files, push_files};
 use crate::lines::{Lines, identity_text};
 use crate::money::push_money;
 use crate::nodes::push_nodes;
-use cc_rating::{Tariff, Tariffs};
+use cc_book::Account;
 use farm_base::Site;
+use farm_terms::tariffs_of;
 use std::alloc::{AllocError, Global};
 
-/// The summary of a site: the site, the file of its book, what it takes of clients that deviate, its nodes by kind, links, routes by
+/// The summary of a site with these accounts: the site, the files that it names, what it takes of clients that deviate, its nodes by kind, links, routes by
 /// realm, tariffs with what they cost, accounts, and then what may look wrong, a line each that begins with `look:`.
 pub fn push_summary(
     alloc: Global,
     lines: &mut Lines,
     site: &Site,
-    book: Option<&str>,
+    accounts: &[Account],
+    files: &Files,
 ) -> Result<(), AllocError>
     requires { IsChecked site.now }
 {
-    let tariffs = tariffs_of(alloc, site.tariffs.as_slice())?;
+    let tariffs = tariffs_of(alloc, site)?;
     push_site(alloc, lines, site)?;
-    push_book(alloc, lines, book)?;
+    push_files(alloc, lines, files)?;
     push_clients(alloc, lines, site)?;
     push_nodes(alloc, lines, site)?;
-    push_money(alloc, lines, site, &tariffs)?;
-    push_doubts(alloc, lines, site, &tariffs)
-}
-
-/// The tariffs of a site, as the book has them.
-fn tariffs_of(alloc: Global, tariffs: &[Tariff]) -> Result<Tariffs, AllocError>
-    requires { fault_of tariffs.now ≡ None }
-    ensures { IfOk result (λ made. made ≡ tariffs.now) }
-{
-    let copies = Vec::from_slice(alloc, tariffs)?;
-    match Tariffs::new(alloc, copies) {
-        Ok(made) => Ok(made),
-        Err(_) => Err(AllocError),
-    }
+    push_money(alloc, lines, site, accounts, &tariffs)?;
+    push_doubts(alloc, lines, site, accounts, &tariffs)
 }
 
 fn push_site(alloc: Global, lines: &mut Lines, site: &Site) -> Result<(), AllocError> {

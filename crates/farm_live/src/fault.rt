@@ -3,13 +3,14 @@
 use book_clock::ClockBehind;
 use book_file::FileError;
 use book_opening::BookFault;
-use book_place::BookKeyFault;
+use book_place::FileKeyFault;
 use farm_access::AccessFault;
 use farm_client::LinesFault;
 use farm_command::{CliFault, Status};
 use farm_loop::LoopFault;
 use farm_place::PlaceFault;
 use farm_site::SiteFault;
+use farm_terms::{AccountsFault, SiteTermsFault};
 use pool_node::StartFault;
 use std::alloc::{AllocError, AllocFailed};
 use std::io;
@@ -29,9 +30,12 @@ pub enum Fault {
     /// What it says of who may connect from where is refused, or memory ran out.
     #[error("{0}")]
     Access(AccessFault),
-    /// What it says of where the book is is refused, or memory ran out.
+    /// What it says of where the book or the accounts are is refused, or memory ran out.
     #[error("{0}")]
-    BookKey(BookKeyFault),
+    FileKey(FileKeyFault),
+    /// The file of accounts is not read, or refused.
+    #[error("{0}")]
+    Terms(SiteTermsFault),
     /// The site has no such node, or one without an address.
     #[error("{0}")]
     Place(PlaceFault),
@@ -90,6 +94,12 @@ impl From<io::Error> for Fault {
     }
 }
 
+impl From<SiteTermsFault> for Fault {
+    fn from(fault: SiteTermsFault) -> Fault {
+        Fault::Terms(fault)
+    }
+}
+
 impl From<StartFault> for Fault {
     fn from(fault: StartFault) -> Fault {
         Fault::Start(fault)
@@ -116,7 +126,10 @@ impl Fault {
             Fault::StatusAddress | Fault::TokenAlone => Status::Misused,
             Fault::Site(SiteFault::OutOfMemory)
             | Fault::Access(AccessFault::OutOfMemory)
-            | Fault::BookKey(BookKeyFault::OutOfMemory)
+            | Fault::FileKey(FileKeyFault::OutOfMemory)
+            | Fault::Terms(
+                SiteTermsFault::OutOfMemory | SiteTermsFault::Accounts(AccountsFault::OutOfMemory),
+            )
             | Fault::Place(PlaceFault::OutOfMemory)
             | Fault::Lines(LinesFault::OutOfMemory)
             | Fault::Loop(LoopFault::OutOfMemory)
@@ -125,7 +138,8 @@ impl Fault {
             | Fault::OutOfMemory => Status::OutOfMemory,
             Fault::Site(_)
             | Fault::Access(_)
-            | Fault::BookKey(_)
+            | Fault::FileKey(_)
+            | Fault::Terms(SiteTermsFault::Accounts(_))
             | Fault::Clock(_)
             | Fault::Place(PlaceFault::NoAddress | PlaceFault::UnknownName { .. })
             | Fault::Lines(LinesFault::NoMessage { .. })
@@ -138,6 +152,7 @@ impl Fault {
             )
             | Fault::NoToken => Status::Refused,
             Fault::SiteFile
+            | Fault::Terms(SiteTermsFault::NotRead)
             | Fault::Read
             | Fault::Write
             | Fault::Loop(LoopFault::Sockets(_))

@@ -4,9 +4,9 @@ ghost use Rattle.std.specs.Prelude.{◌≡◌, ◌<◌, ◌≤◌, ◌*◌, is_s
 ghost use Rattle.dia_base.specs.declared.number.NodeNo.{NodeNo};
 ghost use Rattle.farm_base.specs.CheckedSite.{IsChecked};
 ghost use Rattle.book_journal.specs.Kept.{IsKeptBy, IsSettled};
-ghost use Rattle.book_opening.specs.Opened.{Serves, now_in};
+ghost use Rattle.book_opening.specs.Opened.{now_in};
 ghost use Rattle.book_terms.specs.Difference.{Hold};
-ghost use Rattle.farm_model.specs.Run.{empty_book};
+ghost use Rattle.farm_live.specs.Serving.{IsServed};
 ghost use Rattle.farm_place.specs.Places.{fronts_from};
 ghost use Rattle.pool_node.specs.Fronts.{site_of};
 
@@ -18,7 +18,7 @@ use crate::waker::LoopWaker;
 use book_clock::check_clock;
 use book_file::FileBook;
 use book_journal::Journal;
-use book_opening::{copy_of_terms, identity_at, renewed, serving_book, state_id_of};
+use book_opening::{identity_at, renewed, serving_book, state_id_of};
 use book_store::RowStore;
 use cc_book::{Book, Terms};
 use cc_shared::{BlankHistory, SharedBook};
@@ -29,7 +29,7 @@ use farm_clock::Timer;
 use farm_command::Process;
 use farm_loop::Sockets;
 use farm_place::{Place, fronts_of, place_of};
-use farm_world::empty_book;
+use farm_terms::site_terms;
 use front_pool::Pooling;
 use pool_node::{PoolFronts, Timing, seats_for, start_fronts};
 use std::alloc::Global;
@@ -51,6 +51,7 @@ struct FrontSockets {
 
 /// Serves as all fronts of the site, each with as many workers as the site says, until so many answers were sent, 0 for
 /// ever, or until it is asked to end. Its book is opened before anything is connected or listens.
+#[tactic(auto, using(crate::proofs::Served::wanted_terms_hold))]
 pub fn serve_fronts<O>(setting: &Setting<'_, O>, answers: u64) -> Result<(), Fault>
 where
     O: Threads + Wait + Net + Clock + RandomSource + Copy + Send + 'static,
@@ -65,10 +66,9 @@ where
         return Err(Fault::OutOfMemory);
     };
     let workers = workers.max(1);
-    let empty = empty_book(alloc, site)?;
-    let wanted = copy_of_terms(alloc, empty.terms())?;
-    match serving_book(setting.rt, setting.book, site.limit, empty) {
-        Ok(opened) => match allowed_to_serve(alloc, opened, &wanted, timer, setting.command) {
+    let wanted = site_terms(setting.rt, site, setting.accounts)?;
+    match serving_book(setting.rt, setting.book, site.limit, &wanted) {
+        Ok(opened) => match allowed_to_serve(alloc, opened, wanted, timer, setting.command) {
             Ok((journal, book, timing)) => serve_on::<Brand, FileBook, O>(
                 setting,
                 nodes,
@@ -92,13 +92,13 @@ where
 fn allowed_to_serve<S: RowStore + Drop>(
     alloc: Global,
     opened: (Journal<S>, Book),
-    wanted: &Terms,
+    wanted: Terms,
     timer: Timer,
     command: &Process<'_>,
 ) -> Result<(Journal<S>, Book, Timing), Fault>
     requires kept { IsKeptBy S.is_clean S.is_ready S.rows opened.0 opened.1 }
     requires settled { IsSettled opened.0 }
-    ensures hold { IfOk result (λ served. Hold (now_in served.1) wanted.now) }
+    ensures hold { IfOk result (λ served. Hold (now_in served.1) wanted) }
     ensures limit { IfOk result (λ served. served.1.limit ≡ opened.1.limit) }
     ensures kept { IfOk result (λ served. IsKeptBy S.is_clean S.is_ready S.rows served.0 served.1) }
     ensures settled { IfOk result (λ served. IsSettled served.0) }
@@ -107,7 +107,7 @@ fn allowed_to_serve<S: RowStore + Drop>(
     let timing = Timing::on(timer, &opened.1);
     check_timing(timer, timing, command.clock_behind)?;
     let moment = timing.timer.first();
-    match renewed(alloc, opened, wanted, moment, command.change_terms) {
+    match renewed(alloc, opened, &wanted, moment, command.change_terms) {
         Ok((journal, book)) => {
             let timing = Timing::on(timing.timer, &book);
             Ok((journal, book, timing))
@@ -197,7 +197,7 @@ where
     O: Threads + Wait + Net + Clock + RandomSource + Copy + Send + 'static,
     requires checked { IsChecked setting.now.site.now }
     requires nodes { nodes.items ≡ fronts_from 0 setting.now.site.now.nodes }
-    requires serves { Serves (empty_book setting.now.site.now) book }
+    requires serves { IsServed setting.now.site.now (is_some setting.now.accounts) book }
     requires stored { is_some journal.store ≡ is_some setting.now.book }
     requires name { blank.name ≡ L.name }
     requires parts { (blank.parts ≡ L.parts) × (blank.parts ≡ workers) }
@@ -247,7 +247,7 @@ where
     O: Threads + Wait + Clock + Copy + Send + 'static,
     requires checked { IsChecked setting.now.site.now }
     requires nodes { nodes.now ≡ fronts_from 0 setting.now.site.now.nodes }
-    requires serves { Serves (empty_book setting.now.site.now) book }
+    requires serves { IsServed setting.now.site.now (is_some setting.now.accounts) book }
     requires stored { is_some journal.store ≡ is_some setting.now.book }
     requires name { blank.name ≡ L.name }
     requires parts { (blank.parts ≡ L.parts) × (blank.parts ≡ workers) }

@@ -14,7 +14,7 @@ use crate::label::lines_of;
 use crate::relay::serve_relay;
 use crate::sending::send;
 use crate::setting::Setting;
-use book_place::book_path;
+use book_place::{accounts_path, book_path};
 use farm_access::Access;
 use farm_base::Site;
 use farm_command::{CliFault, Command, Process, Task, command_of, words_of};
@@ -38,12 +38,14 @@ fn site_file(rt: &HostRuntime, path: &str) -> Result<Vec<u8>, Fault> {
     }
 }
 
-/// What a site file spells: the site, and who may connect to its nodes from where; and the file of the book that is served on.
+/// What a site file spells: the site, who may connect to its nodes from where, and the files of the book that is served on and of
+/// accounts beside the site's.
 #[derive(Drop)]
 struct Spelled {
     site: Site,
     access: Access,
     book: Option<String>,
+    accounts: Option<String>,
 }
 
 /// The site that the octets of a file spell, with their document.
@@ -77,7 +79,19 @@ fn book_in(
 ) -> Result<Option<String>, Fault> {
     match book_path(alloc, command.book, command.site, document) {
         Ok(path) => Ok(path),
-        Err(fault) => Err(Fault::BookKey(fault)),
+        Err(fault) => Err(Fault::FileKey(fault)),
+    }
+}
+
+/// The path of the file of accounts, if the document of the site file of a command names one.
+fn accounts_in(
+    alloc: Global,
+    command: &Process<'_>,
+    document: &Table,
+) -> Result<Option<String>, Fault> {
+    match accounts_path(alloc, command.site, document) {
+        Ok(path) => Ok(path),
+        Err(fault) => Err(Fault::FileKey(fault)),
     }
 }
 
@@ -90,10 +104,12 @@ fn spelled_in(rt: &HostRuntime, command: &Process<'_>, file: &[u8]) -> Result<Sp
     let read = read_in(rt.alloc(), file)?;
     let access = access_in(rt.alloc(), file, &read.document)?;
     let book = book_in(rt.alloc(), command, &read.document)?;
+    let accounts = accounts_in(rt.alloc(), command, &read.document)?;
     Ok(Spelled {
         site: read.site,
         access,
         book,
+        accounts,
     })
 }
 
@@ -123,6 +139,7 @@ where
         site: &spelled.site,
         access: &spelled.access,
         book: spelled.book.as_deref(),
+        accounts: spelled.accounts.as_deref(),
     };
     run_task(&setting)
 }

@@ -19,4 +19,6 @@ pub struct Setting<'a, O> {
     pub access: &'a Access,
     /// The path of the file with the book of the fronts, if it is not kept in memory alone.
     pub book: Option<&'a str>,
+    /// The path of the file with accounts beside those of the site, if its site file names one.
+    pub accounts: Option<&'a str>,
 }

@@ -1,3 +1,4 @@
+pub mod AccountLines
 pub mod Schedule
 pub mod TermsWords
 pub mod Words

@@ -70,6 +70,19 @@ is_sound_id id = is_within 1 64 (length id) && list_all is_visible id
 abbrev pub with_id : ℕ → List ℕ → ℤ → Result Account LineFault
 with_id kind id opening = if is_sound_id id then Ok (record { id_kind = kind; id = id; opening = opening }) else Err BadNumber
 
+-- the account that the words behind `account` spell
+abbrev pub account_said : List (List ℕ) → Result Account LineFault
+account_said (kind ∷ id ∷ opening ∷ []) = do
+  number ← number_up_to 4 kind
+  amount ← amount_of opening
+  with_id number id amount
+account_said words = Err WrongCount
+
+-- the account that the words of a line of its own spell
+abbrev pub account_of : List (List ℕ) → Result Account LineFault
+account_of [] = Err WrongCount
+account_of (word ∷ words) = if bytes_eq word (codes "account") then account_said words else Err UnknownWord
+
 -- a Subscription-Id of an account of a site
 abbrev pub named : ℕ → List ℕ → Result Subscription LineFault
 named kind id = if is_sound_id id then Ok (record { kind = kind; text = id }) else Err BadNumber

@@ -34,6 +34,7 @@
 //! farm skips the step.
 //!
 //! - [`steps_of`]: the steps that a text spells, or the fault of the first line that spells none.
+//! - [`accounts_of`]: the accounts that a text spells, one on a line, in the words of `terms`. [`line_of_account`]: on which.
 //! - [`words_of`], [`node_of`], [`number_of`], [`message_of`]: the words of a line, and what one stands for, for those who
 //!   read other lines in the same words.
 //! - [`LineFault`], [`ScriptFault`]: why a text is no schedule, with the words that are printed.
@@ -60,12 +61,14 @@ ghost use Rattle.std.specs.Str.Lines.{lines};
 ghost use Rattle.farm_script.specs.Schedule.{AnswersText, limited, step_of, steps_of};
 ghost use Rattle.farm_script.specs.Words.{Answers, words_of};
 
+mod accounts;
 mod fault;
 mod line;
 mod reading;
 mod terms;
 mod word;
 
+pub use accounts::{accounts_of, line_of_account};
 use dia_base::{SCHEDULE_LIMIT, STEP_LIMIT};
 use farm_base::{Site, Step};
 pub use fault::{LineFault, ScriptFault};
@@ -116,7 +119,7 @@ fn step_in(alloc: Global, line: &[u8], site: &Site, before: usize) -> Result<Ste
     Ok(step)
 }
 
-fn no_memory_at(line: u64) -> ScriptFault
+pub(crate) fn no_memory_at(line: u64) -> ScriptFault
     ensures { result ≡ ScriptFault.Line line LineFault.OutOfMemory }
 {
     ScriptFault::Line {

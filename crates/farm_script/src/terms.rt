@@ -4,12 +4,12 @@ ghost use Rattle.std.specs.Prelude.{◌≡◌, ◌≤◌, ◌++◌, ◌∷◌, [
 ghost use Rattle.std.specs.List.{filter_map, list_all};
 ghost use Rattle.std.specs.Str.{bytes_eq};
 ghost use Rattle.farm_base.specs.CheckedSite.{is_visible};
-ghost use Rattle.farm_script.specs.TermsWords.{amount_of, behind_tariffs, change_of, closing_of, faultless, form_at_item, form_fault, is_sound_id, item_of, item_said, items_from, joining_of, key_of, last_form, named, next_form, number_up_to, reopening_of, some_tariffs_of, step_said, tariff_of, tariffs_from, tariffs_of, terms_of, units_of, with_id};
+ghost use Rattle.farm_script.specs.TermsWords.{account_of, account_said, amount_of, behind_tariffs, change_of, closing_of, faultless, form_at_item, form_fault, is_sound_id, item_of, item_said, items_from, joining_of, key_of, last_form, named, next_form, number_up_to, reopening_of, some_tariffs_of, step_said, tariff_of, tariffs_from, tariffs_of, terms_of, units_of, with_id};
 ghost use Rattle.farm_script.specs.Words.{Answers};
 
 use crate::fault::LineFault;
 use crate::word::number_of;
-use cc_book::{Account, TermsChange};
+use cc_book::{Account, Accounts, TermsChange};
 use cc_rating::{Tariff, TariffFault, Tariffs, UnitKind};
 use cc_view::Subscription;
 use dia_avp::Octets;
@@ -123,6 +123,34 @@ pub fn terms_of(alloc: Global, words: &[&[u8]]) -> Result<Step, LineFault>
     }
 }
 
+/// The account that the words of a line of its own spell, or the line's first fault.
+pub fn account_of(alloc: Global, words: &[&[u8]]) -> Result<Account, LineFault>
+    ensures { Answers (account_of (map (λ word. word.now) words.now)) result }
+{
+    let Some((word, said)) = words.split_first() else {
+        return Err(LineFault::WrongCount);
+    };
+    if is_account(word) {
+        account_said(alloc, said)
+    } else {
+        Err(LineFault::UnknownWord)
+    }
+}
+
+/// The account that the words behind `account` spell.
+fn account_said(alloc: Global, words: &[&[u8]]) -> Result<Account, LineFault>
+    ensures { Answers (account_said (map (λ word. word.now) words.now)) result }
+{
+    match words {
+        [kind, id, opening] => {
+            let kind = number_up_to(ID_KIND_LIMIT, kind)?;
+            let opening = amount_of(opening)?;
+            with_id(alloc, kind as u32, id, opening)
+        }
+        _ => Err(LineFault::WrongCount),
+    }
+}
+
 fn step_said(alloc: Global, moment: &[u8], items: &[&[u8]]) -> Result<Step, LineFault>
     ensures { Answers (step_said moment.now (map (λ word. word.now) items.now)) result }
 {
@@ -223,7 +251,7 @@ fn change_of(alloc: Global, items: &[&[u8]]) -> Result<TermsChange, LineFault>
     let tariffs = some_tariffs_of(alloc, items)?;
     let parted = Parted::of(alloc, accounts.into_vec())?;
     Ok(TermsChange {
-        joining: Listing::from_vec(parted.joining),
+        joining: Accounts::from_vec(alloc, parted.joining)?,
         closing: Listing::from_vec(parted.closing),
         reopening: Listing::from_vec(parted.reopening),
         tariffs,

@@ -1,4 +1,4 @@
-//! A change of the terms of a book, as lines of text.
+//! Terms of a book as lines of text: a change of them, and the accounts that it begins with.
 //!
 //! ```text
 //! account TYPE ID OPENING                                        an account joins
@@ -6,8 +6,12 @@
 //! tariff GROUP IDENT UNITS BLOCK PRICE QUANTUM GREATEST
 //! ```
 //!
-//! The words are those of a schedule's step `terms`, and each line ends an item where it pleases. [`change_in`] reads such a text, all of
-//! it or nothing, by [`farm_script`]. What it spells stands in `specs/Lines`.
+//! The words are those of a schedule's step `terms`.
+//!
+//! - [`change_in`] reads a change, all of it or nothing, by [`farm_script`]. Each line ends an item where it pleases. What a text spells
+//!   stands in `specs/Lines`.
+//! - [`site_terms`] reads the terms that the book of a site begins with: the site's own, and the accounts of a file that its site file
+//!   names, each `account` on a line of its own ([`accounts_with`]). `specs/SiteAccounts` says which these are, and why there are none.
 #![tactic(auto)]
 
 ghost use Rattle.std.specs.Prelude.{◌≡◌, ◌∷◌, [], IfOk};
@@ -15,14 +19,18 @@ ghost use Rattle.dia_base.specs.declared.number.Moment.{Moment};
 ghost use Rattle.farm_base.specs.declared.step.Step.TheVariants.{ChangeTerms};
 ghost use Rattle.farm_terms.specs.Lines.{IsSpelled, blank_of, step_line};
 
+mod accounts;
 mod fault;
 mod finding;
+mod opening;
 
+pub use accounts::{ACCOUNT_LIMIT, accounts_with, tariffs_of};
 use cc_book::TermsChange;
 use farm_base::{Site, Step};
 use farm_script::{ScriptFault, steps_of};
-pub use fault::TextFault;
+pub use fault::{AccountsFault, TextFault};
 use finding::line_with_fault;
+pub use opening::{SiteTermsFault, accounts_file, site_terms};
 use std::alloc::{AllocError, Global};
 
 /// The most lines of a text.

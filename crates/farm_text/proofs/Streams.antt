@@ -1,9 +1,9 @@
 -- What is read from a stream, piece by piece, and what is written to one.
-use Rattle.std.proofs.Common.{◌≡◌, ℕ, zero, suc, ◌≤◌, List, [], ◌∷◌, ◌++◌, length, take, drop, Option, Some, None, refl, sym, subst, ap, ◌∙◌, arith, append_assoc}
+use Rattle.std.proofs.Common.{◌≡◌, ℕ, zero, suc, ◌+◌, ◌≤◌, List, [], ◌∷◌, ◌++◌, length, take, drop, Option, Some, None, refl, sym, subst, ap, ◌∙◌, arith, append_assoc}
 use Rattle.std.specs.Prelude.{IfSome}
 use Rattle.std.specs.Io.KnownBytes.{Appends, Consumes, IsAtEnd, Keeps}
 use Rattle.std.proofs.lemmas.List.{append-nil, take_all, take-append-drop}
-use Rattle.farm_text.specs.Reading.{ReadsText}
+use Rattle.farm_text.specs.Reading.{ReadsUpTo}
 use Rattle.farm_text.specs.Writing.{BeginsWithRest}
 
 -- one piece after another
@@ -73,9 +73,9 @@ read_end n a b c xs buf count none before last end le =
     read_to_end n a c xs (subst (λ (ys : List ℕ). Consumes a c ys) (append-nil xs) (Consumes-then a b c xs [] before nothing)) (end none) le
 
 -- what was taken from the stream is what was to be read
-pub reads-text : (a b : Option (List ℕ)) (xs : List ℕ) → IfSome a (λ octets. xs ≡ take 16777217 octets) → Consumes a b xs → ReadsText a b
-reads-text None b xs is p = tt
-reads-text (Some octets) b xs is p = subst (λ (ys : List ℕ). Consumes (Some octets) b ys) is p
+pub reads-text : (limit : ℕ) (a b : Option (List ℕ)) (xs : List ℕ) → IfSome a (λ octets. xs ≡ take (limit + 1) octets) → Consumes a b xs → ReadsUpTo limit a b
+reads-text limit None b xs is p = tt
+reads-text limit (Some octets) b xs is p = subst (λ (ys : List ℕ). Consumes (Some octets) b ys) is p
 
 -- the last read took nothing
 pub taken_nothing : (a b c : Option (List ℕ)) (xs buf : List ℕ) (count : ℕ) → count ≡ 0 → Consumes a b xs → Consumes b c (take count buf) → Consumes a c xs

@@ -5,6 +5,6 @@ mod files;
 mod reading;
 mod writing;
 
-pub use files::file_at;
-pub use reading::{ReadFault, TEXT_LIMIT, read_text};
+pub use files::{file_at, file_up_to};
+pub use reading::{ReadFault, TEXT_LIMIT, read_text, read_up_to};
 pub use writing::{WriteFault, write_text};

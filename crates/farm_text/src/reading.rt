@@ -1,8 +1,8 @@
 //! A text from a reader.
 
-ghost use Rattle.std.specs.Prelude.{◌≡◌, ◌<◌, ◌≤◌, length, take, IfOk, IfSome, OnErr, OnOk};
+ghost use Rattle.std.specs.Prelude.{◌≡◌, ◌+◌, ◌<◌, ◌≤◌, ◌^◌, length, take, IfOk, IfSome, OnErr, OnOk};
 ghost use Rattle.std.specs.Io.KnownBytes.{Consumes, IsAtEnd, Keeps};
-ghost use Rattle.farm_text.specs.Reading.{ReadsText};
+ghost use Rattle.farm_text.specs.Reading.{ReadsText, ReadsUpTo};
 
 use std::alloc::Global;
 use std::io;
@@ -39,16 +39,29 @@ fn read_some<R: Read>(reader: &mut R, piece: &mut [u8]) -> io::Result<usize>
     reader.read(piece)
 }
 
-/// Reads until the end, a fault, or one octet above the size limit. After a fault it is not said how much was read.
+/// Reads a text, up to one octet above [`TEXT_LIMIT`], as [`read_up_to`] does.
 pub fn read_text<R: Read>(alloc: Global, reader: &mut R) -> Result<Vec<u8>, ReadFault>
     ensures text { IfOk result (λ text. IfSome (R.remaining reader.old) (λ octets. text.items ≡ take 16777217 octets)) }
     ensures read { OnOk result (ReadsText (R.remaining reader.old) (R.remaining reader.new)) }
 {
+    read_up_to(alloc, reader, TEXT_LIMIT)
+}
+
+/// Reads until the end, a fault, or one octet above the size limit. After a fault it is not said how much was read.
+pub fn read_up_to<R: Read>(
+    alloc: Global,
+    reader: &mut R,
+    limit: usize,
+) -> Result<Vec<u8>, ReadFault>
+    requires { limit < 2 ^ 32 }
+    ensures text { IfOk result (λ text. IfSome (R.remaining reader.old) (λ octets. text.items ≡ take (limit + 1) octets)) }
+    ensures read { OnOk result (ReadsUpTo limit (R.remaining reader.old) (R.remaining reader.new)) }
+{
     let mut text = Vec::new(alloc);
     let mut piece = [0u8; PIECE];
     let mut interrupted = 0;
-    while text.len() <= TEXT_LIMIT {
-        let room = (TEXT_LIMIT + 1 - text.len()).min(PIECE);
+    while text.len() <= limit {
+        let room = (limit + 1 - text.len()).min(PIECE);
         match read_some(reader, &mut piece[..room]) {
             Ok(count) => {
                 if count == 0 {

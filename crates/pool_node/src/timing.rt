@@ -51,7 +51,7 @@ impl Timing {
         ensures later { min (deadline_at book.now.terms.validity result.timer.first) 18446744073709551615 ≤ result.first_sweep.0 }
     {
         let timer = timer.not_before(Moment(latest(book.history())));
-        let lasting = 2_000 * u64::from(book.terms().validity);
+        let lasting = 2_000 * u64::from(book.validity());
         Timing {
             timer,
             first_sweep: Moment(timer.first().0.saturating_add(lasting)),

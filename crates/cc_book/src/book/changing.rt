@@ -1,7 +1,6 @@
 //! The terms that hold, and how they change.
 
-ghost use Rattle.std.specs.Prelude.{◌≡◌, ◌≢◌, Err, OnOk, OnErr, unwrap_or};
-ghost use Rattle.cc_book.specs.TermsChange.{changed_terms};
+ghost use Rattle.std.specs.Prelude.{◌≡◌, ◌≢◌, Err};
 ghost use Rattle.cc_book.specs.declared.terms_change.ChangeRefusal.TheVariants.{OutOfMemory};
 
 use super::{Book, free_place};
@@ -9,7 +8,7 @@ use crate::entry::Entry;
 use crate::terms::Terms;
 use crate::terms_change::{ChangeRefusal, TermsChange};
 use dia_base::Moment;
-use std::alloc::{AllocError, Global};
+use std::alloc::Global;
 
 impl Book {
     ghost use Rattle.cc_book.specs.AccountMachine.{terms_of};
@@ -19,10 +18,7 @@ impl Book {
     pub fn terms_now(&self) -> &Terms
         ensures { result.now ≡ terms_of self.now.terms self.now.history }
     {
-        match &self.changed {
-            Some(terms) => terms,
-            None => &self.terms,
-        }
+        self.terms.current()
     }
 
     /// What `change_terms` would answer now. It changes nothing, and takes no memory.
@@ -42,8 +38,7 @@ impl Book {
     /// Changes the terms, all that the change says or nothing: from here on the accounts that join are there, each with
     /// its opening amount as its balance, and the new tariffs hold. It answers the place of the entry. No reply and no
     /// debit of the past changes, and what is held stays held at the cost at which it was granted. Memory is wanted only
-    /// for what is not refused: at the first change that of the terms anew, later that of the change. After a refusal the
-    /// book is unchanged.
+    /// for what is not refused, and that of the change alone. After a refusal the book is unchanged.
     pub fn change_terms(
         &mut self,
         alloc: Global,
@@ -55,31 +50,12 @@ impl Book {
     {
         let place = self.quote_change(&change)?;
         self.standing.reserve_accounts(change.joining.len())?;
-        change_held(alloc, &self.terms, &mut self.changed, &change)?;
+        self.terms.change(alloc, &change)?;
         self.standing.join(change.joining.as_slice());
+        let change = change.into_list();
         self.history
             .push_reserved(Entry::ChangeTerms { moment, change });
         self.replies.push_reserved(None);
         Ok(place)
-    }
-}
-
-/// Changes the terms that hold: those that an entry changed, or a copy of those that the book began with. An error
-/// leaves what holds as it is.
-fn change_held(
-    alloc: Global,
-    terms: &Terms,
-    changed: &mut Option<Terms>,
-    change: &TermsChange,
-) -> Result<(), AllocError>
-    ensures ok { OnOk result (unwrap_or changed.new terms.now ≡ changed_terms (unwrap_or changed.old terms.now) change.now) }
-    ensures err { OnErr result (unwrap_or changed.new terms.now ≡ unwrap_or changed.old terms.now) }
-{
-    if changed.is_none() {
-        *changed = Some(terms.copy(alloc)?);
-    }
-    match changed {
-        Some(held) => held.change(alloc, change),
-        None => unreachable!(),
     }
 }

@@ -6,7 +6,7 @@ ghost use Rattle.cc_view.specs.Request.ServiceLimits.{HasSmallSums};
 
 use book_rows::{Row, Step, Sum, Taken, chained_row, spell_row};
 use book_store::FIRST_SUM;
-use cc_book::{Account, TermsChange};
+use cc_book::{Account, Accounts, TermsChange};
 use cc_rating::{Tariff, Tariffs, UNITS_LIMIT, UnitKind};
 use cc_view::{
     CcReply, CcRequest, Cost, RequestKind, RequestedAction, ResultCode, Service, ServiceName,
@@ -315,7 +315,7 @@ fn change(alloc: Global) -> anyhow::Result<TermsChange> {
     let closing = subscription(alloc, 0, b"491700000002")?;
     let reopening = subscription(alloc, 0, b"491700000003")?;
     Ok(TermsChange {
-        joining: Listing::from_vec(vec![in alloc; account]?),
+        joining: Accounts::from_vec(alloc, vec![in alloc; account]?)?,
         closing: Listing::from_vec(vec![in alloc; closing]?),
         reopening: Listing::from_vec(vec![in alloc; reopening]?),
         tariffs: Some(Tariffs::new(alloc, tariffs)?),

@@ -1,9 +1,6 @@
-use Rattle.std.proofs.Common.{◌≡◌, ℕ, List, Result, Ok, Err, subst}
+use Rattle.std.proofs.Common.{◌≡◌, ℕ, List, Result, Ok, Err}
 use Rattle.std.specs.Prelude.{IfOk}
 use Rattle.std.specs.Global.{Vec}
-use Rattle.cc_book.specs.declared.terms.Terms.{Terms}
-use Rattle.book_opening.specs.Opened.{now_in}
-use Rattle.book_terms.specs.Difference.{IsNeeded}
 use Rattle.farm_book.specs.Told.{IsTold, text_of}
 use Rattle.farm_book.proofs.tasks.told_of.Goals as goal
 
@@ -16,8 +13,6 @@ pub returns-in-Ok : goal.returns-in-Ok
 returns-in-Ok c =
     let stored = c.in_ok-stored.stored in
     let change = c.in-Ok.change in
-    let P : Terms → Type 0 = λ wanted. IsNeeded (now_in stored.book) wanted change in
-    let leads = subst P c.in_ok-wanted.ensures c.in-Ok.ensures.needed in
     of_value c.text_of.result
-    (λ text says. record { stored = stored; is_for = c.in_ok-stored.ensures; change = change; leads = leads; says = says })
+    (λ text says. record { wanted = c.in_ok-wanted.wanted; are_wanted = c.in_ok-wanted.ensures; stored = stored; is_for = c.in_ok-stored.ensures; change = change; leads = c.in-Ok.ensures.needed; says = says })
     c.text_of.ensures

@@ -12,9 +12,9 @@ use Rattle.cc_book.proofs.book.Book.balance.Goals as goal
 pub returns-then-account-len-clause-value : goal.returns-then-account-len-clause-value
 returns-then-account-len-clause-value c =
     let there : c.args.account < length c.self.inside.standing.balances.items = omega (arith, c.if-account-len.true, c.len.ensures, c.self.inside.standing.balances.ok.0) in
-    let within : c.args.account < length (terms_of c.self.inside.terms c.self.inside.history.items).accounts = omega (arith, there, c.self.invariant.0.stands.accounts) in
+    let within : c.args.account < length (terms_of c.self.inside.terms.begun c.self.inside.history.items).accounts = omega (arith, there, c.self.invariant.0.stands.accounts) in
     let item = c.index.ensures ∙ get_or_default c.self.inside.standing.balances.items c.args.account c.index.result.now (pos 0) there in
-    let is = item ∙ balance_of-is c.self.inside.terms c.self.inside.history.items c.self.invariant.0.stands c.args.account within
+    let is = item ∙ balance_of-is c.self.inside.terms.begun c.self.inside.history.items c.self.invariant.0.stands c.args.account within
     ∙ ap (λ (l : Ledger). balance_of l.terms l.history c.args.account) c.self.view_is in
     let same : length (terms_of c.args.self.now.terms c.args.self.now.history).accounts ≡ length c.self.inside.standing.balances.items =
     sym (ap (λ (l : Ledger). length (terms_of l.terms l.history).accounts) c.self.view_is) ∙ sym c.self.invariant.0.stands.accounts in

@@ -62,9 +62,9 @@ change-requires-clause-fits c =
     let does = taking-outcome c.self.invariant.0 c.args.taken taking in
     let outcome = c.args.taken.outcome in
     let now = c.self.inside.standing.sessions in
-    let book = IsBook-push c.self.inside.terms c.self.inside.limit c.self.inside.history.items c.self.inside.replies.items
+    let book = IsBook-push c.self.inside.terms.begun c.self.inside.limit c.self.inside.history.items c.self.inside.replies.items
     c.self.inside.standing.balances.items now.items c.args.taken.moment c.args.taken.request outcome c.self.invariant.0 taking.new taking.room taking.borne does in
-    let posting = posting_of (terms_of c.self.inside.terms c.self.inside.history.items) (postings_of c.self.inside.terms c.self.inside.history.items)
+    let posting = posting_of (terms_of c.self.inside.terms.begun c.self.inside.history.items) (postings_of c.self.inside.terms.begun c.self.inside.history.items)
     (Take c.args.taken.moment c.args.taken.request) in
     let fits : Fits now c.args.taken.request c.args.taken.moment posting c.self.invariant.0.stands.own_ids outcome.change =
     subst (Fits now c.args.taken.request c.args.taken.moment posting c.self.invariant.0.stands.own_ids) (sym does.change)
@@ -85,7 +85,7 @@ invariant_of-self c =
     let least = does.least in
     let most = does.most in
     let fits : SFits w128 outcome.debit = search rules in
-    let book = IsBook-push c.self.inside.terms c.self.inside.limit c.self.inside.history.items c.self.inside.replies.items
+    let book = IsBook-push c.self.inside.terms.begun c.self.inside.limit c.self.inside.history.items c.self.inside.replies.items
     c.self.inside.standing.balances.items c.self.inside.standing.sessions.items c.args.taken.moment c.args.taken.request outcome c.self.invariant.0
     taking.new taking.room taking.borne does in
     let sessions : c.change.new.self.sessions.items ≡ after_change c.self.inside.standing.sessions.items outcome.change =
@@ -121,6 +121,6 @@ invariant_of-self c =
           }),
       c.self.invariant.5,
       c.self.invariant.6
-          ∙ sym (ap (λ (es : List Entry). terms_of c.self.inside.terms es) pushed
-          ∙ terms_of-take c.self.inside.terms c.self.inside.history.items c.args.taken.moment c.args.taken.request),
+          ∙ sym (ap (λ (es : List Entry). terms_of c.self.inside.terms.begun es) pushed
+          ∙ terms_of-take c.self.inside.terms.begun c.self.inside.history.items c.args.taken.moment c.args.taken.request),
     )

@@ -68,7 +68,7 @@ returns-in-Some-clause-after c =
 pub returns-in_default-free_place-clause-answer : goal.returns-in_default-free_place-clause-answer
 returns-in_default-free_place-clause-answer c =
     let new = subst (λ (h : List Entry). IsNew h (key_of c.args.request.now)) c.deref.ensures.value c.in_default.ensures in
-    let ledger : Ledger = record { terms = c.self.inside.terms; limit = c.self.inside.limit; history = c.self.inside.history.items } in
+    let ledger : Ledger = record { terms = c.self.inside.terms.begun; limit = c.self.inside.limit; history = c.self.inside.history.items } in
     let reached = subst (λ (es : List Entry). c.self.inside.limit ≤ length es) c.deref-2.ensures.value c.in_default-free_place.ensures.none in
     sym (ap (λ (l : Ledger). answer_of l c.args.request.now) c.self.view_is) ∙ answer_of-full ledger c.args.request.now new reached
 
@@ -106,7 +106,7 @@ returns-then-not-bears_more-clause-within c =
     (c.terms_now-terms.ensures ∙ sym (ap (λ (l : Ledger). terms_of l.terms l.history) c.self.view_is))
     c.args.request.now c.charged_account-account.result c.charged_account-account.ensures.charged in
     let new = subst (λ (h : List Entry). IsNew h (key_of c.args.request.now)) c.deref.ensures.value c.in_default.ensures in
-    let ledger : Ledger = record { terms = c.self.inside.terms; limit = c.self.inside.limit; history = c.self.inside.history.items } in
+    let ledger : Ledger = record { terms = c.self.inside.terms.begun; limit = c.self.inside.limit; history = c.self.inside.history.items } in
     let unborne = sym (c.bears_more.ensures ∙ borne-book c.self.invariant.0 c.args.request.now c.charged_account-account.result charged)
     ∙ c.if-not-bears_more.true in
     sym (ap (λ (l : Ledger). answer_within l c.args.request.now) c.self.view_is) ∙ within-refused ledger c.args.request.now new unborne
@@ -145,15 +145,15 @@ returns-clause-good c =
       taking = record {
         new = subst (λ (r : CcRequest). IsNew c.self.inside.history.items (key_of r)) same new;
         room = room;
-        borne = subst (λ (r : CcRequest). IsTrue (bears_request (terms_of c.self.inside.terms c.self.inside.history.items)
-            (postings_of c.self.inside.terms c.self.inside.history.items) r)) same
+        borne = subst (λ (r : CcRequest). IsTrue (bears_request (terms_of c.self.inside.terms.begun c.self.inside.history.items)
+            (postings_of c.self.inside.terms.begun c.self.inside.history.items) r)) same
             (borne-by c.self.invariant.0 c.args.request.now c.charged_account-account.result
             (charged-now c.self.invariant.0 c.terms_now-terms.result.now
             (c.terms_now-terms.ensures ∙ sym (ap (λ (l : Ledger). terms_of l.terms l.history) c.self.view_is))
             c.args.request.now c.charged_account-account.result c.charged_account-account.ensures.charged)
             (sym c.bears_more.ensures ∙ c.if-not-bears_more.false));
         outcome = planned-outcome c.self.invariant.0 c.args.moment c.in_ok-request.request c.in_ok-outcome.outcome
-            (subst (λ (r : CcRequest). IsOutcome (terms_of c.self.inside.terms c.self.inside.history.items) (postings_of c.self.inside.terms c.self.inside.history.items)
+            (subst (λ (r : CcRequest). IsOutcome (terms_of c.self.inside.terms.begun c.self.inside.history.items) (postings_of c.self.inside.terms.begun c.self.inside.history.items)
             c.self.inside.standing.sessions.items c.args.moment r c.in_ok-outcome.outcome) same does);
       };
       answer = ap (λ (r : CcReply). record { reply = r; place = c.in-Some-free_place.place; fresh = true }) c.in_ok-reply.ensures
@@ -167,7 +167,7 @@ returns-in_err-answered-clause-answer c =
     let at = subst (λ (h : List Entry). IsKeptAt h (key_of c.args.request.now) c.in-Some.place c.in-Some.taken.now) c.deref.ensures.value
     c.in-Some.ensures in
     no_memory _ c.from_residual.result (subst (λ (l : Ledger). IsOk (answer_of l c.args.request.now)) c.self.view_is
-    (kept-answered c.self.inside.terms c.self.inside.limit c.self.inside.history.items c.args.request.now c.in-Some.taken.now c.in-Some.place at))
+    (kept-answered c.self.inside.terms.begun c.self.inside.limit c.self.inside.history.items c.args.request.now c.in-Some.taken.now c.in-Some.place at))
     c.from_residual.ensures.1
 
 pub returns-in_err-outcome-clause-answer : goal.returns-in_err-outcome-clause-answer
@@ -176,7 +176,7 @@ returns-in_err-outcome-clause-answer c =
     let room = subst (λ (es : List Entry). length es < c.self.inside.limit) c.deref-2.ensures.value c.in-Some-free_place.ensures.some.1 in
     no_memory _ c.from_residual-in_err-outcome.result
     (subst (λ (l : Ledger). IsOk (answer_of l c.args.request.now)) c.self.view_is
-    (new-answered c.self.inside.terms c.self.inside.limit c.self.inside.history.items c.args.request.now new room)) c.from_residual-in_err-outcome.ensures.1
+    (new-answered c.self.inside.terms.begun c.self.inside.limit c.self.inside.history.items c.args.request.now new room)) c.from_residual-in_err-outcome.ensures.1
 
 pub returns-in_err-reply-clause-answer : goal.returns-in_err-reply-clause-answer
 returns-in_err-reply-clause-answer c =
@@ -184,7 +184,7 @@ returns-in_err-reply-clause-answer c =
     let room = subst (λ (es : List Entry). length es < c.self.inside.limit) c.deref-2.ensures.value c.in-Some-free_place.ensures.some.1 in
     no_memory _ c.from_residual-in_err-reply.result
     (subst (λ (l : Ledger). IsOk (answer_of l c.args.request.now)) c.self.view_is
-    (new-answered c.self.inside.terms c.self.inside.limit c.self.inside.history.items c.args.request.now new room)) c.from_residual-in_err-reply.ensures.1
+    (new-answered c.self.inside.terms.begun c.self.inside.limit c.self.inside.history.items c.args.request.now new room)) c.from_residual-in_err-reply.ensures.1
 
 pub returns-in_err-request-clause-answer : goal.returns-in_err-request-clause-answer
 returns-in_err-request-clause-answer c =
@@ -192,7 +192,7 @@ returns-in_err-request-clause-answer c =
     let room = subst (λ (es : List Entry). length es < c.self.inside.limit) c.deref-2.ensures.value c.in-Some-free_place.ensures.some.1 in
     no_memory _ c.from_residual-in_err-request.result
     (subst (λ (l : Ledger). IsOk (answer_of l c.args.request.now)) c.self.view_is
-    (new-answered c.self.inside.terms c.self.inside.limit c.self.inside.history.items c.args.request.now new room)) c.from_residual-in_err-request.ensures.1
+    (new-answered c.self.inside.terms.begun c.self.inside.limit c.self.inside.history.items c.args.request.now new room)) c.from_residual-in_err-request.ensures.1
 
 -- ---- and by value: the same, since the account bears the request, or the request is kept
 
@@ -204,7 +204,7 @@ returns-in-Some-clause-within c =
     subst (λ (rs : List (Option CcReply)). IfSome (slice_index_or rs c.in-Some.place None)
     (AnswersRepeat c.in-Some.taken.now c.args.request.now c.in-Some.place c.in_ok-answered.answered)) c.deref-in-Some.ensures.value
     c.in_ok-answered.ensures in
-    let ledger : Ledger = record { terms = c.self.inside.terms; limit = c.self.inside.limit; history = c.self.inside.history.items } in
+    let ledger : Ledger = record { terms = c.self.inside.terms.begun; limit = c.self.inside.limit; history = c.self.inside.history.items } in
     within-now c.args.request.now c.self.view_is (within-kept ledger c.args.request.now c.in-Some.taken.now c.in-Some.place at)
     ∙ sym (ap (λ (l : Ledger). answer_of l c.args.request.now) c.self.view_is)
     ∙ answer-kept c.self.invariant.0 c.args.request.now c.in-Some.taken.now c.in-Some.place c.in_ok-answered.answered at answered
@@ -212,7 +212,7 @@ returns-in-Some-clause-within c =
 pub returns-in_default-free_place-clause-within : goal.returns-in_default-free_place-clause-within
 returns-in_default-free_place-clause-within c =
     let new = subst (λ (h : List Entry). IsNew h (key_of c.args.request.now)) c.deref.ensures.value c.in_default.ensures in
-    let ledger : Ledger = record { terms = c.self.inside.terms; limit = c.self.inside.limit; history = c.self.inside.history.items } in
+    let ledger : Ledger = record { terms = c.self.inside.terms.begun; limit = c.self.inside.limit; history = c.self.inside.history.items } in
     let reached = subst (λ (es : List Entry). c.self.inside.limit ≤ length es) c.deref-2.ensures.value c.in_default-free_place.ensures.none in
     let full = answer_of-full ledger c.args.request.now new reached in
     within-now c.args.request.now c.self.view_is (within-full ledger c.args.request.now full)
@@ -220,7 +220,7 @@ returns-in_default-free_place-clause-within c =
 
 pub returns-clause-within : goal.returns-clause-within
 returns-clause-within c =
-    let ledger : Ledger = record { terms = c.self.inside.terms; limit = c.self.inside.limit; history = c.self.inside.history.items } in
+    let ledger : Ledger = record { terms = c.self.inside.terms.begun; limit = c.self.inside.limit; history = c.self.inside.history.items } in
     let borne = borne-by c.self.invariant.0 c.args.request.now c.charged_account-account.result
     (charged-now c.self.invariant.0 c.terms_now-terms.result.now
     (c.terms_now-terms.ensures ∙ sym (ap (λ (l : Ledger). terms_of l.terms l.history) c.self.view_is))
@@ -242,15 +242,15 @@ pub returns-in_err-answered-clause-within : goal.returns-in_err-answered-clause-
 returns-in_err-answered-clause-within c =
     let at = subst (λ (h : List Entry). IsKeptAt h (key_of c.args.request.now) c.in-Some.place c.in-Some.taken.now) c.deref.ensures.value
     c.in-Some.ensures in
-    let ledger : Ledger = record { terms = c.self.inside.terms; limit = c.self.inside.limit; history = c.self.inside.history.items } in
+    let ledger : Ledger = record { terms = c.self.inside.terms.begun; limit = c.self.inside.limit; history = c.self.inside.history.items } in
     no_memory _ c.from_residual.result
     (within-ok c.args.request.now c.self.view_is (within-kept ledger c.args.request.now c.in-Some.taken.now c.in-Some.place at)
-    (kept-answered c.self.inside.terms c.self.inside.limit c.self.inside.history.items c.args.request.now c.in-Some.taken.now c.in-Some.place at))
+    (kept-answered c.self.inside.terms.begun c.self.inside.limit c.self.inside.history.items c.args.request.now c.in-Some.taken.now c.in-Some.place at))
     c.from_residual.ensures.1
 
 pub returns-in_err-outcome-clause-within : goal.returns-in_err-outcome-clause-within
 returns-in_err-outcome-clause-within c =
-    let ledger : Ledger = record { terms = c.self.inside.terms; limit = c.self.inside.limit; history = c.self.inside.history.items } in
+    let ledger : Ledger = record { terms = c.self.inside.terms.begun; limit = c.self.inside.limit; history = c.self.inside.history.items } in
     let borne = borne-by c.self.invariant.0 c.args.request.now c.charged_account-account.result
     (charged-now c.self.invariant.0 c.terms_now-terms.result.now
     (c.terms_now-terms.ensures ∙ sym (ap (λ (l : Ledger). terms_of l.terms l.history) c.self.view_is))
@@ -260,11 +260,11 @@ returns-in_err-outcome-clause-within c =
     let room = subst (λ (es : List Entry). length es < c.self.inside.limit) c.deref-2.ensures.value c.in-Some-free_place.ensures.some.1 in
     no_memory _ c.from_residual-in_err-outcome.result
     (within-ok c.args.request.now c.self.view_is (within-borne ledger c.args.request.now borne)
-    (new-answered c.self.inside.terms c.self.inside.limit c.self.inside.history.items c.args.request.now new room)) c.from_residual-in_err-outcome.ensures.1
+    (new-answered c.self.inside.terms.begun c.self.inside.limit c.self.inside.history.items c.args.request.now new room)) c.from_residual-in_err-outcome.ensures.1
 
 pub returns-in_err-reply-clause-within : goal.returns-in_err-reply-clause-within
 returns-in_err-reply-clause-within c =
-    let ledger : Ledger = record { terms = c.self.inside.terms; limit = c.self.inside.limit; history = c.self.inside.history.items } in
+    let ledger : Ledger = record { terms = c.self.inside.terms.begun; limit = c.self.inside.limit; history = c.self.inside.history.items } in
     let borne = borne-by c.self.invariant.0 c.args.request.now c.charged_account-account.result
     (charged-now c.self.invariant.0 c.terms_now-terms.result.now
     (c.terms_now-terms.ensures ∙ sym (ap (λ (l : Ledger). terms_of l.terms l.history) c.self.view_is))
@@ -274,11 +274,11 @@ returns-in_err-reply-clause-within c =
     let room = subst (λ (es : List Entry). length es < c.self.inside.limit) c.deref-2.ensures.value c.in-Some-free_place.ensures.some.1 in
     no_memory _ c.from_residual-in_err-reply.result
     (within-ok c.args.request.now c.self.view_is (within-borne ledger c.args.request.now borne)
-    (new-answered c.self.inside.terms c.self.inside.limit c.self.inside.history.items c.args.request.now new room)) c.from_residual-in_err-reply.ensures.1
+    (new-answered c.self.inside.terms.begun c.self.inside.limit c.self.inside.history.items c.args.request.now new room)) c.from_residual-in_err-reply.ensures.1
 
 pub returns-in_err-request-clause-within : goal.returns-in_err-request-clause-within
 returns-in_err-request-clause-within c =
-    let ledger : Ledger = record { terms = c.self.inside.terms; limit = c.self.inside.limit; history = c.self.inside.history.items } in
+    let ledger : Ledger = record { terms = c.self.inside.terms.begun; limit = c.self.inside.limit; history = c.self.inside.history.items } in
     let borne = borne-by c.self.invariant.0 c.args.request.now c.charged_account-account.result
     (charged-now c.self.invariant.0 c.terms_now-terms.result.now
     (c.terms_now-terms.ensures ∙ sym (ap (λ (l : Ledger). terms_of l.terms l.history) c.self.view_is))
@@ -288,4 +288,4 @@ returns-in_err-request-clause-within c =
     let room = subst (λ (es : List Entry). length es < c.self.inside.limit) c.deref-2.ensures.value c.in-Some-free_place.ensures.some.1 in
     no_memory _ c.from_residual-in_err-request.result
     (within-ok c.args.request.now c.self.view_is (within-borne ledger c.args.request.now borne)
-    (new-answered c.self.inside.terms c.self.inside.limit c.self.inside.history.items c.args.request.now new room)) c.from_residual-in_err-request.ensures.1
+    (new-answered c.self.inside.terms.begun c.self.inside.limit c.self.inside.history.items c.args.request.now new room)) c.from_residual-in_err-request.ensures.1

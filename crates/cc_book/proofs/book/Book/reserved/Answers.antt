@@ -18,7 +18,7 @@ pub returns-then-account-len : goal.returns-then-account-len
 returns-then-account-len c =
     let most = (small-book c.self.invariant.0).held c.args.account in
     let small : c.reserved.result < 2 ^ 127 = omega (arith, c.reserved.ensures) in
-    let is = c.reserved.ensures ∙ sym (reserved_of-is c.self.inside.terms c.self.inside.history.items c.self.invariant.0.stands c.args.account)
+    let is = c.reserved.ensures ∙ sym (reserved_of-is c.self.inside.terms.begun c.self.inside.history.items c.self.invariant.0.stands c.args.account)
     ∙ ap (λ (l : Ledger). reserved_of l.terms l.history c.args.account) c.self.view_is in
     let same : length (terms_of c.args.self.now.terms c.args.self.now.history).accounts ≡ length c.self.inside.standing.balances.items =
     sym (ap (λ (l : Ledger). length (terms_of l.terms l.history).accounts) c.self.view_is) ∙ sym c.self.invariant.0.stands.accounts in

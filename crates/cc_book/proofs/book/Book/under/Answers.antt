@@ -1,4 +1,4 @@
-use Rattle.std.proofs.Common.{subst, sym, ap, ◌∙◌, List, length, Option, arith, map, []}
+use Rattle.std.proofs.Common.{◌≡◌, subst, sym, ap, ◌∙◌, List, length, Option, arith, map, []}
 use Rattle.cc_view.specs.declared.reply.CcReply.{CcReply}
 use Rattle.cc_book.specs.declared.account.Account.{Account}
 use Rattle.cc_book.specs.declared.entry.Entry.{Entry}
@@ -7,6 +7,7 @@ use Rattle.cc_book.specs.declared.terms.Terms.{Terms}
 use Rattle.cc_book.specs.AccountMachine.{terms_of}
 use Rattle.cc_book.specs.Places.{HasPlaces, IsIndexed}
 use Rattle.cc_book.specs.Taking.{IsBook}
+use Rattle.cc_book.specs.TermsChange.{TermsOfBook}
 use Rattle.cc_book.proofs.Books.{IsBook-empty}
 use Rattle.cc_book.proofs.Bounds.{bounded-empty, opens-small}
 use Rattle.cc_book.proofs.Postings.{terms_of-empty}
@@ -28,8 +29,12 @@ invariant_of-result c =
     (sym c.in_ok-with_capacity-2.ensures.items)
     (subst (λ (es : List Entry). IsBook terms c.args.limit es [] standing.balances.items []) (sym c.in_ok-with_capacity.ensures.items)
     (IsBook-empty terms c.args.limit standing.balances.items small bounded stands))) in
+    let kept = c.in_ok-of.field-0 in
+    let begun : terms ≡ kept.begun = sym (ap (λ (k : TermsOfBook). k.begun) c.in_ok-of.ensures) in
+    let current : kept.current ≡ terms = ap (λ (k : TermsOfBook). k.current) c.in_ok-of.ensures in
     let places = c.in_ok-new.field-0 in (
-      book,
+      subst (λ (t : Terms). IsBook t c.args.limit c.in_ok-with_capacity.field-0.items c.in_ok-with_capacity-2.field-0.items
+          standing.balances.items standing.sessions.items) begun book,
       record {
         for_entries = omega (arith, c.in_ok-with_capacity.ensures.exact);
         for_replies = omega (arith, c.in_ok-with_capacity-2.ensures.exact);
@@ -39,5 +44,6 @@ invariant_of-result c =
       subst (λ (es : List Entry). IsIndexed es places) (sym c.in_ok-with_capacity.ensures.items) c.in_ok-new.ensures.indexed,
       subst (λ (es : List Entry). HasPlaces c.args.limit (length es) places) (sym c.in_ok-with_capacity.ensures.items) c.in_ok-new.ensures.room,
       omega arith,
-      sym (ap (λ (es : List Entry). terms_of terms es) c.in_ok-with_capacity.ensures.items ∙ terms_of-empty terms),
+      current ∙ sym (ap (λ (es : List Entry). terms_of terms es) c.in_ok-with_capacity.ensures.items ∙ terms_of-empty terms)
+          ∙ ap (λ (t : Terms). terms_of t c.in_ok-with_capacity.field-0.items) begun,
     )

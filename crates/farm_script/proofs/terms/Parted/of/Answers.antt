@@ -1,9 +1,7 @@
-use Rattle.std.proofs.Common.{◌≡◌, ℕ, ◌∷◌, [], ◌++◌, List, Option, length, refl, sym, ap, subst, ◌∙◌, append_assoc, append-nil, arith}
+use Rattle.std.proofs.Common.{◌≡◌, ◌∷◌, [], ◌++◌, List, Option, length, refl, sym, ap, ◌∙◌, append_assoc, arith}
 use Rattle.std.specs.List.{filter_map}
 use Rattle.std.specs.Vec.Iter.{into_iter_items}
 use Rattle.std.proofs.lemmas.List.Elements.{filter_map-append}
-use Rattle.cc_view.specs.declared.request.Subscription.{Subscription}
-use Rattle.cc_book.specs.declared.account.Account.{Account}
 use Rattle.farm_script.specs.declared.terms.AccountItem.{AccountItem}
 use Rattle.farm_script.specs.TermsWords.{closing_of, joining_of, reopening_of}
 use Rattle.farm_script.proofs.terms.Parted.of.Goals as goal
