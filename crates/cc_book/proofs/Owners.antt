@@ -1,6 +1,6 @@
 -- What an index by Subscription-Id finds of accounts.
 use Rattle.std.proofs.Common.{◌≡◌, ℕ, zero, suc, ◌+◌, ◌<◌, ◌≤◌, Bool, true, false, cond, not, ◌&&◌, ◌||◌, eqb, ltb, List, [], ◌∷◌, ◌++◌, length, take, get_or, Option, Some, None, refl, sym, ap, subst, ◌∙◌, arith, rules, one-add}
-use Rattle.std.specs.Prelude.{is_some, IfSome}
+use Rattle.std.specs.Prelude.{is_some, nat_eq, IfSome}
 use Rattle.std.specs.List.{list_any, position, position_or_len}
 use Rattle.std.specs.Option.{option_map, option_or}
 use Rattle.std.specs.HashMap.{HashMap}
@@ -11,7 +11,7 @@ use Rattle.cc_book.specs.declared.account.Account.{Account}
 use Rattle.cc_view.specs.declared.request.Subscription.{Subscription}
 use Rattle.cc_book.specs.Duplicate.{same_session}
 use Rattle.cc_book.specs.TermsChange.{account_with, is_among, owns, same_owner, same_subscription}
-use Rattle.cc_book.specs.Owners.{Finds, Knows, confirmed, has_at, one_subscription}
+use Rattle.cc_book.specs.Owners.{Finds, Knows, confirmed, digest_of, has_digest, one_subscription, owner_of, passes_at}
 
 -- ---- the first place at which a test passes, from the front on
 
@@ -97,9 +97,6 @@ module _ {X : Type 0} (p : X → Bool) where
 
 -- ---- the Subscription-Id of an account
 
-abbrev pub owner_of : Account → Subscription
-owner_of account = record { kind = account.id_kind; text = account.id }
-
 turned_number : (m n : ℕ) → eqb m n ≡ eqb n m
 turned_number m n = search rules
 
@@ -138,74 +135,98 @@ owner-before account accounts place found is =
       two true = refl
       two false = refl
 
+-- ---- two tests of which one implies the other
+
+module _ {X : Type 0} (p q : X → Bool) (implied : (x : X) → q x ≡ true → p x ≡ true) where
+  turned : (x : X) → p x ≡ false → q x ≡ false
+  turned x e = by (q x) refl where
+    by : (b : Bool) → q x ≡ b → q x ≡ false
+    by true is = let two = implied x is in absurd cc
+    by false is = is
+
+  -- where none passes the one, none passes the other
+  pub nowhere-narrow : (xs : List X) → position p xs ≡ None → position q xs ≡ None
+  nowhere-narrow [] e = refl
+  nowhere-narrow (x ∷ xs) e = by (p x) refl (λ more. nowhere-narrow xs more) (sym (position-cons p x xs) ∙ e) where
+    none : (found : Option ℕ) → option_map suc found ≡ None → found ≡ None
+    none None is = refl
+    none (Some n) is = absurd cc
+
+    by : (b : Bool) → p x ≡ b → (position p xs ≡ None → position q xs ≡ None) → cond b (Some 0) (option_map suc (position p xs)) ≡ None → position q (x ∷ xs) ≡ None
+    by true is behind e = absurd cc
+    by false is behind e =
+        position-cons q x xs
+        ∙ ap (λ (b : Bool). cond b (Some 0) (option_map suc (position q xs))) (turned x is)
+        ∙ ap (option_map suc) (behind (none (position p xs) e))
+
 -- ---- what is confirmed
 
-pub has_at-within : (id : Subscription) (accounts : List Account) (place : ℕ) → has_at id accounts place ≡ true → place < length accounts
-has_at-within id [] place e = absurd cc
-has_at-within id (a ∷ accounts) zero e = search rules
-has_at-within id (a ∷ accounts) (suc place) e = let more = has_at-within id accounts place e in omega arith
+pub passes_at-within : (p : Account → Bool) (accounts : List Account) (place : ℕ) → passes_at p accounts place ≡ true → place < length accounts
+passes_at-within p [] place e = absurd cc
+passes_at-within p (a ∷ accounts) zero e = search rules
+passes_at-within p (a ∷ accounts) (suc place) e = let more = passes_at-within p accounts place e in omega arith
 
-pub has_at-get : (id : Subscription) (accounts : List Account) (place : ℕ) (d : Account) → place < length accounts
-    → has_at id accounts place ≡ owns id (get_or accounts place d)
-has_at-get id [] place d lt = absurd (omega arith)
-has_at-get id (a ∷ accounts) zero d lt = refl
-has_at-get id (a ∷ accounts) (suc place) d lt = has_at-get id accounts place d (omega arith)
+pub passes_at-get : (p : Account → Bool) (accounts : List Account) (place : ℕ) (d : Account) → place < length accounts
+    → passes_at p accounts place ≡ p (get_or accounts place d)
+passes_at-get p [] place d lt = absurd (omega arith)
+passes_at-get p (a ∷ accounts) zero d lt = refl
+passes_at-get p (a ∷ accounts) (suc place) d lt = passes_at-get p accounts place d (omega arith)
 
-pub has_at-past : (id : Subscription) (accounts : List Account) (place : ℕ) → length accounts ≤ place → has_at id accounts place ≡ false
-has_at-past id [] place le = refl
-has_at-past id (a ∷ accounts) zero le = absurd (omega arith)
-has_at-past id (a ∷ accounts) (suc place) le = has_at-past id accounts place (omega arith)
+pub passes_at-past : (p : Account → Bool) (accounts : List Account) (place : ℕ) → length accounts ≤ place → passes_at p accounts place ≡ false
+passes_at-past p [] place le = refl
+passes_at-past p (a ∷ accounts) zero le = absurd (omega arith)
+passes_at-past p (a ∷ accounts) (suc place) le = passes_at-past p accounts place (omega arith)
 
-has_at-last : (id : Subscription) (accounts : List Account) (last : Account) → has_at id (accounts ++ last ∷ []) (length accounts) ≡ owns id last
-has_at-last id [] last = refl
-has_at-last id (a ∷ accounts) last = has_at-last id accounts last
+passes_at-last : (p : Account → Bool) (accounts : List Account) (last : Account) → passes_at p (accounts ++ last ∷ []) (length accounts) ≡ p last
+passes_at-last p [] last = refl
+passes_at-last p (a ∷ accounts) last = passes_at-last p accounts last
 
--- an account of another Subscription-Id confirms nothing
-has_at-other : (id : Subscription) (accounts : List Account) (last : Account) (place : ℕ) → owns id last ≡ false
-    → has_at id (accounts ++ last ∷ []) place ≡ has_at id accounts place
-has_at-other id [] last zero e = e
-has_at-other id [] last (suc place) e = refl
-has_at-other id (a ∷ accounts) last zero e = refl
-has_at-other id (a ∷ accounts) last (suc place) e = has_at-other id accounts last place e
+-- an account that does not pass confirms nothing
+passes_at-other : (p : Account → Bool) (accounts : List Account) (last : Account) (place : ℕ) → p last ≡ false
+    → passes_at p (accounts ++ last ∷ []) place ≡ passes_at p accounts place
+passes_at-other p [] last zero e = e
+passes_at-other p [] last (suc place) e = refl
+passes_at-other p (a ∷ accounts) last zero e = refl
+passes_at-other p (a ∷ accounts) last (suc place) e = passes_at-other p accounts last place e
 
 -- what is confirmed stays so
-has_at-stays : (id : Subscription) (accounts : List Account) (last : Account) (place : ℕ) → has_at id accounts place ≡ true
-    → has_at id (accounts ++ last ∷ []) place ≡ true
-has_at-stays id [] last place e = absurd cc
-has_at-stays id (a ∷ accounts) last zero e = e
-has_at-stays id (a ∷ accounts) last (suc place) e = has_at-stays id accounts last place e
+passes_at-stays : (p : Account → Bool) (accounts : List Account) (last : Account) (place : ℕ) → passes_at p accounts place ≡ true
+    → passes_at p (accounts ++ last ∷ []) place ≡ true
+passes_at-stays p [] last place e = absurd cc
+passes_at-stays p (a ∷ accounts) last zero e = e
+passes_at-stays p (a ∷ accounts) last (suc place) e = passes_at-stays p accounts last place e
 
-has_at-take : (id : Subscription) (n : ℕ) (accounts : List Account) (place : ℕ) → has_at id (take n accounts) place ≡ (ltb place n && has_at id accounts place)
-has_at-take id zero accounts place = let none : ltb place 0 ≡ false = search rules in sym (ap (λ (b : Bool). b && has_at id accounts place) none)
-has_at-take id (suc n) [] place = by (ltb place (suc n)) where
+passes_at-take : (p : Account → Bool) (n : ℕ) (accounts : List Account) (place : ℕ) → passes_at p (take n accounts) place ≡ (ltb place n && passes_at p accounts place)
+passes_at-take p zero accounts place = let none : ltb place 0 ≡ false = search rules in sym (ap (λ (b : Bool). b && passes_at p accounts place) none)
+passes_at-take p (suc n) [] place = by (ltb place (suc n)) where
   by : (b : Bool) → false ≡ (b && false)
   by true = refl
   by false = refl
-has_at-take id (suc n) (a ∷ accounts) zero = let some : ltb 0 (suc n) ≡ true = search rules in sym (ap (λ (b : Bool). b && owns id a) some)
-has_at-take id (suc n) (a ∷ accounts) (suc place) = let step : ltb (suc place) (suc n) ≡ ltb place n = search rules in
-    has_at-take id n accounts place ∙ sym (ap (λ (b : Bool). b && has_at id accounts place) step)
+passes_at-take p (suc n) (a ∷ accounts) zero = let some : ltb 0 (suc n) ≡ true = search rules in sym (ap (λ (b : Bool). b && p a) some)
+passes_at-take p (suc n) (a ∷ accounts) (suc place) = let step : ltb (suc place) (suc n) ≡ ltb place n = search rules in
+    passes_at-take p n accounts place ∙ sym (ap (λ (b : Bool). b && passes_at p accounts place) step)
 
-confirmed-other : (id : Subscription) (accounts : List Account) (last : Account) (told : Option ℕ) → owns id last ≡ false
-    → confirmed id (accounts ++ last ∷ []) told ≡ confirmed id accounts told
-confirmed-other id accounts last None e = refl
-confirmed-other id accounts last (Some place) e = ap (λ (b : Bool). cond b (Some place) None) (has_at-other id accounts last place e)
+confirmed-other : (p : Account → Bool) (accounts : List Account) (last : Account) (told : Option ℕ) → p last ≡ false
+    → confirmed p (accounts ++ last ∷ []) told ≡ confirmed p accounts told
+confirmed-other p accounts last None e = refl
+confirmed-other p accounts last (Some place) e = ap (λ (b : Bool). cond b (Some place) None) (passes_at-other p accounts last place e)
 
-confirmed-stays : (id : Subscription) (accounts : List Account) (last : Account) (told : Option ℕ) → is_some (confirmed id accounts told) ≡ true
-    → confirmed id (accounts ++ last ∷ []) told ≡ confirmed id accounts told
-confirmed-stays id accounts last None e = refl
-confirmed-stays id accounts last (Some place) e = by (has_at id accounts place) refl e where
-  by : (b : Bool) → has_at id accounts place ≡ b → is_some (cond b (Some place) None) ≡ true
-      → cond (has_at id (accounts ++ last ∷ []) place) (Some place) None ≡ cond (has_at id accounts place) (Some place) None
-  by true is some = ap (λ (b : Bool). cond b (Some place) None) (has_at-stays id accounts last place is ∙ sym is)
+confirmed-stays : (p : Account → Bool) (accounts : List Account) (last : Account) (told : Option ℕ) → is_some (confirmed p accounts told) ≡ true
+    → confirmed p (accounts ++ last ∷ []) told ≡ confirmed p accounts told
+confirmed-stays p accounts last None e = refl
+confirmed-stays p accounts last (Some place) e = by (passes_at p accounts place) refl e where
+  by : (b : Bool) → passes_at p accounts place ≡ b → is_some (cond b (Some place) None) ≡ true
+      → cond (passes_at p (accounts ++ last ∷ []) place) (Some place) None ≡ cond (passes_at p accounts place) (Some place) None
+  by true is some = ap (λ (b : Bool). cond b (Some place) None) (passes_at-stays p accounts last place is ∙ sym is)
   by false is some = absurd cc
 
-confirmed-take : (id : Subscription) (n : ℕ) (accounts : List Account) (told : Option ℕ)
-    → confirmed id (take n accounts) told ≡ bounded (owns id) n (confirmed id accounts told)
-confirmed-take id n accounts None = refl
-confirmed-take id n accounts (Some place) =
-    ap (λ (b : Bool). cond b (Some place) None) (has_at-take id n accounts place) ∙ by (ltb place n) refl (has_at id accounts place)
+confirmed-take : (p : Account → Bool) (n : ℕ) (accounts : List Account) (told : Option ℕ)
+    → confirmed p (take n accounts) told ≡ bounded p n (confirmed p accounts told)
+confirmed-take p n accounts None = refl
+confirmed-take p n accounts (Some place) =
+    ap (λ (b : Bool). cond b (Some place) None) (passes_at-take p n accounts place) ∙ by (ltb place n) refl (passes_at p accounts place)
   where
-    by : (b : Bool) → ltb place n ≡ b → (has : Bool) → cond (ltb place n && has) (Some place) None ≡ bounded (owns id) n (cond has (Some place) None)
+    by : (b : Bool) → ltb place n ≡ b → (has : Bool) → cond (ltb place n && has) (Some place) None ≡ bounded p n (cond has (Some place) None)
     by b e true = two (ltb place n) where
       two : (c : Bool) → cond (c && true) (Some place) None ≡ cond c (Some place) None
       two true = refl
@@ -223,86 +244,122 @@ or_some : (found later : Option ℕ) → is_some found ≡ true → option_or fo
 or_some None later e = absurd cc
 or_some (Some at) later e = refl
 
+is_none : (found : Option ℕ) → is_some found ≡ false → found ≡ None
+is_none None e = refl
+is_none (Some n) e = absurd cc
+
+equal_digests : (m n : ℕ) → eqb m n ≡ true → m ≡ n
+equal_digests m n e = search rules
+
 -- ---- an account more, and fewer
 
-module _ {S : Type 0} (accounts : List Account) (old : HashMap Subscription ℕ S) (finds : Finds accounts old) where
+module _ {S : Type 0} (accounts : List Account) (old : HashMap ℕ ℕ S) (finds : Finds accounts old) where
   -- the first accounts alone
   pub finds-first : (n : ℕ) → Finds (take n accounts) old
-  finds-first n id =
-      confirmed-take id n accounts (get same_subscription old id) ∙ ap (bounded (owns id) n) (finds id) ∙ sym (position-take (owns id) n accounts)
+  finds-first n digest =
+      confirmed-take (has_digest digest) n accounts (get nat_eq old digest) ∙ ap (bounded (has_digest digest) n) (finds digest) ∙ sym (position-take (has_digest digest) n accounts)
 
-  same-at : (account : Account) (id : Subscription) → owns id account ≡ false → confirmed id (accounts ++ account ∷ []) (get same_subscription old id) ≡ account_with (accounts ++ account ∷ []) id
-  same-at account id other =
-      confirmed-other id accounts account (get same_subscription old id) other ∙ finds id
-      ∙ sym (position-last (owns id) accounts account
-      ∙ ap (λ (b : Bool). option_or (account_with accounts id) (cond b (Some (length accounts)) None)) other
-      ∙ or_none (account_with accounts id))
+  same-at : (account : Account) (digest : ℕ) → has_digest digest account ≡ false
+      → confirmed (has_digest digest) (accounts ++ account ∷ []) (get nat_eq old digest) ≡ position (has_digest digest) (accounts ++ account ∷ [])
+  same-at account digest other =
+      confirmed-other (has_digest digest) accounts account (get nat_eq old digest) other ∙ finds digest
+      ∙ sym (position-last (has_digest digest) accounts account
+      ∙ ap (λ (b : Bool). option_or (position (has_digest digest) accounts) (cond b (Some (length accounts)) None)) other
+      ∙ or_none (position (has_digest digest) accounts))
 
-  -- an account whose Subscription-Id has an account before it
-  pub finds-known : (account : Account) → is_some (confirmed (owner_of account) accounts (get same_subscription old (owner_of account))) ≡ true
+  -- an account whose digest one before it has
+  pub finds-known : (account : Account) → is_some (confirmed (has_digest (digest_of (owner_of account))) accounts (get nat_eq old (digest_of (owner_of account)))) ≡ true
       → Finds (accounts ++ account ∷ []) old
-  finds-known account known id = by (owns id account) refl where
-    by : (b : Bool) → owns id account ≡ b → confirmed id (accounts ++ account ∷ []) (get same_subscription old id) ≡ account_with (accounts ++ account ∷ []) id
+  finds-known account known digest = by (has_digest digest account) refl where
+    by : (b : Bool) → has_digest digest account ≡ b → confirmed (has_digest digest) (accounts ++ account ∷ []) (get nat_eq old digest) ≡ position (has_digest digest) (accounts ++ account ∷ [])
     by true e =
-        let same = one_subscription (owner_of account) id e in
-        let there : is_some (confirmed id accounts (get same_subscription old id)) ≡ true =
-        subst (λ (s : Subscription). is_some (confirmed s accounts (get same_subscription old s)) ≡ true) same known in
-        confirmed-stays id accounts account (get same_subscription old id) there ∙ finds id
-        ∙ sym (position-last (owns id) accounts account
-        ∙ or_some (account_with accounts id) (cond (owns id account) (Some (length accounts)) None) (ap is_some (sym (finds id)) ∙ there))
-    by false e = same-at account id e
+        let same = equal_digests (digest_of (owner_of account)) digest e in
+        let there : is_some (confirmed (has_digest digest) accounts (get nat_eq old digest)) ≡ true =
+        subst (λ (d : ℕ). is_some (confirmed (has_digest d) accounts (get nat_eq old d)) ≡ true) same known in
+        confirmed-stays (has_digest digest) accounts account (get nat_eq old digest) there ∙ finds digest
+        ∙ sym (position-last (has_digest digest) accounts account
+        ∙ or_some (position (has_digest digest) accounts) (cond (has_digest digest account) (Some (length accounts)) None) (ap is_some (sym (finds digest)) ∙ there))
+    by false e = same-at account digest e
 
-  module _ (account : Account) (new : HashMap Subscription ℕ S)
-      (none : is_some (confirmed (owner_of account) accounts (get same_subscription old (owner_of account))) ≡ false)
-      (updated : (id : Subscription) → get same_subscription new id
-      ≡ cond (same_subscription (owner_of account) id) (Some (length accounts)) (get same_subscription old id)) where
-    is_none : (found : Option ℕ) → is_some found ≡ false → found ≡ None
-    is_none None e = refl
-    is_none (Some n) e = absurd cc
+  module _ (account : Account) (new : HashMap ℕ ℕ S)
+      (none : is_some (confirmed (has_digest (digest_of (owner_of account))) accounts (get nat_eq old (digest_of (owner_of account)))) ≡ false)
+      (updated : (digest : ℕ) → get nat_eq new digest
+      ≡ cond (nat_eq (digest_of (owner_of account)) digest) (Some (length accounts)) (get nat_eq old digest)) where
+    nowhere : (digest : ℕ) → has_digest digest account ≡ true → position (has_digest digest) accounts ≡ None
+    nowhere digest e =
+        let same = equal_digests (digest_of (owner_of account)) digest e in
+        sym (finds digest)
+        ∙ subst (λ (d : ℕ). confirmed (has_digest d) accounts (get nat_eq old d) ≡ None) same
+        (is_none (confirmed (has_digest (digest_of (owner_of account))) accounts (get nat_eq old (digest_of (owner_of account)))) none)
 
-    nowhere : (id : Subscription) → owns id account ≡ true → account_with accounts id ≡ None
-    nowhere id e =
-        let same = one_subscription (owner_of account) id e in
-        sym (finds id)
-        ∙ subst (λ (s : Subscription). confirmed s accounts (get same_subscription old s) ≡ None) same
-        (is_none (confirmed (owner_of account) accounts (get same_subscription old (owner_of account))) none)
-
-    -- the first account of its Subscription-Id
+    -- the first account with its digest
     pub finds-new : Finds (accounts ++ account ∷ []) new
-    finds-new id = by (owns id account) refl where
-      by : (b : Bool) → owns id account ≡ b → confirmed id (accounts ++ account ∷ []) (get same_subscription new id) ≡ account_with (accounts ++ account ∷ []) id
+    finds-new digest = by (has_digest digest account) refl where
+      by : (b : Bool) → has_digest digest account ≡ b → confirmed (has_digest digest) (accounts ++ account ∷ []) (get nat_eq new digest) ≡ position (has_digest digest) (accounts ++ account ∷ [])
       by true e =
-          ap (confirmed id (accounts ++ account ∷ [])) (updated id ∙ ap (λ (b : Bool). cond b (Some (length accounts)) (get same_subscription old id)) e)
-          ∙ ap (λ (b : Bool). cond b (Some (length accounts)) None) (has_at-last id accounts account ∙ e)
-          ∙ sym (position-last (owns id) accounts account
-          ∙ ap (λ (b : Bool). option_or (account_with accounts id) (cond b (Some (length accounts)) None)) e
-          ∙ ap (λ (found : Option ℕ). option_or found (Some (length accounts))) (nowhere id e))
+          ap (confirmed (has_digest digest) (accounts ++ account ∷ [])) (updated digest ∙ ap (λ (b : Bool). cond b (Some (length accounts)) (get nat_eq old digest)) e)
+          ∙ ap (λ (b : Bool). cond b (Some (length accounts)) None) (passes_at-last (has_digest digest) accounts account ∙ e)
+          ∙ sym (position-last (has_digest digest) accounts account
+          ∙ ap (λ (b : Bool). option_or (position (has_digest digest) accounts) (cond b (Some (length accounts)) None)) e
+          ∙ ap (λ (found : Option ℕ). option_or found (Some (length accounts))) (nowhere digest e))
       by false e =
-          ap (confirmed id (accounts ++ account ∷ [])) (updated id ∙ ap (λ (b : Bool). cond b (Some (length accounts)) (get same_subscription old id)) e)
-          ∙ same-at account id e
+          ap (confirmed (has_digest digest) (accounts ++ account ∷ [])) (updated digest ∙ ap (λ (b : Bool). cond b (Some (length accounts)) (get nat_eq old digest)) e)
+          ∙ same-at account digest e
 
     -- as long as it has not joined, its place is not confirmed
     pub finds-still : Finds accounts new
-    finds-still id = by (owns id account) refl where
-      by : (b : Bool) → owns id account ≡ b → confirmed id accounts (get same_subscription new id) ≡ account_with accounts id
+    finds-still digest = by (has_digest digest account) refl where
+      by : (b : Bool) → has_digest digest account ≡ b → confirmed (has_digest digest) accounts (get nat_eq new digest) ≡ position (has_digest digest) accounts
       by true e =
-          ap (confirmed id accounts) (updated id ∙ ap (λ (b : Bool). cond b (Some (length accounts)) (get same_subscription old id)) e)
-          ∙ ap (λ (b : Bool). cond b (Some (length accounts)) None) (has_at-past id accounts (length accounts) (omega arith))
-          ∙ sym (nowhere id e)
+          ap (confirmed (has_digest digest) accounts) (updated digest ∙ ap (λ (b : Bool). cond b (Some (length accounts)) (get nat_eq old digest)) e)
+          ∙ ap (λ (b : Bool). cond b (Some (length accounts)) None) (passes_at-past (has_digest digest) accounts (length accounts) (omega arith))
+          ∙ sym (nowhere digest e)
       by false e =
-          ap (confirmed id accounts) (updated id ∙ ap (λ (b : Bool). cond b (Some (length accounts)) (get same_subscription old id)) e) ∙ finds id
+          ap (confirmed (has_digest digest) accounts) (updated digest ∙ ap (λ (b : Bool). cond b (Some (length accounts)) (get nat_eq old digest)) e) ∙ finds digest
 
 -- the same of an index that may not be there
-pub if-finds-first : {S : Type 0} (accounts : List Account) (places : Option (HashMap Subscription ℕ S)) → IfSome places (Finds accounts) → (n : ℕ) → IfSome places (Finds (take n accounts))
+pub if-finds-first : {S : Type 0} (accounts : List Account) (firsts : Option (HashMap ℕ ℕ S)) → IfSome firsts (Finds accounts) → (n : ℕ) → IfSome firsts (Finds (take n accounts))
 if-finds-first accounts None none n = tt
-if-finds-first accounts (Some places) finds n = finds-first accounts places finds n
+if-finds-first accounts (Some firsts) finds n = finds-first accounts firsts finds n
 
-pub confirmed-within : (id : Subscription) (accounts : List Account) (told : Option ℕ) → IfSome (confirmed id accounts told) (λ place. place < length accounts)
-confirmed-within id accounts None = search rules
-confirmed-within id accounts (Some place) = by (has_at id accounts place) refl where
-  by : (b : Bool) → has_at id accounts place ≡ b → IfSome (cond b (Some place) None) (λ place. place < length accounts)
-  by true e = let within = has_at-within id accounts place e in search rules
-  by false e = search rules
+-- ---- what an index tells of an owner
+
+-- an account of an owner has the owner's digest
+own-digest : (id : Subscription) (account : Account) → owns id account ≡ true → has_digest (digest_of id) account ≡ true
+own-digest id account e =
+    ap (λ (s : Subscription). eqb (digest_of s) (digest_of id)) (one_subscription (owner_of account) id e) ∙ same (digest_of id)
+  where
+    same : (d : ℕ) → eqb d d ≡ true
+    same d = search rules
+
+-- where no account has the digest of an owner, none is the owner's
+pub no-digest : (id : Subscription) (accounts : List Account) → position (has_digest (digest_of id)) accounts ≡ None → account_with accounts id ≡ None
+no-digest id accounts = nowhere-narrow (has_digest (digest_of id)) (owns id) (own-digest id) accounts
+
+-- the first account that has the digest of an owner is the owner's first account, if it is the owner's
+pub first-digest : (id : Subscription) (accounts : List Account) (place : ℕ) → position (has_digest (digest_of id)) accounts ≡ Some place
+    → passes_at (owns id) accounts place ≡ true → account_with accounts id ≡ Some place
+first-digest id [] place e own = absurd cc
+first-digest id (a ∷ accounts) place e own = by (has_digest (digest_of id) a) refl (λ at found own. first-digest id accounts at found own) place own (sym (position-cons (has_digest (digest_of id)) a accounts) ∙ e) where
+  later : (found : Option ℕ) (at : ℕ) → option_map suc found ≡ Some (suc at) → found ≡ Some at
+  later None at e = absurd cc
+  later (Some n) at e = cc
+
+  not_first : (found : Option ℕ) → option_map suc found ≡ Some 0 → false ≡ true
+  not_first None e = absurd cc
+  not_first (Some n) e = absurd cc
+
+  by : (b : Bool) → has_digest (digest_of id) a ≡ b
+      → ((at : ℕ) → position (has_digest (digest_of id)) accounts ≡ Some at → passes_at (owns id) accounts at ≡ true → account_with accounts id ≡ Some at)
+      → (at : ℕ) → passes_at (owns id) (a ∷ accounts) at ≡ true
+      → cond b (Some 0) (option_map suc (position (has_digest (digest_of id)) accounts)) ≡ Some at → account_with (a ∷ accounts) id ≡ Some at
+  by true is behind zero own e = position-cons (owns id) a accounts ∙ ap (λ (b : Bool). cond b (Some 0) (option_map suc (account_with accounts id))) own
+  by true is behind (suc at) own e = absurd cc
+  by false is behind zero own e = let no = not_first (position (has_digest (digest_of id)) accounts) e in absurd cc
+  by false is behind (suc at) own e =
+      position-cons (owns id) a accounts
+      ∙ ap (λ (b : Bool). cond b (Some 0) (option_map suc (account_with accounts id))) (turned (has_digest (digest_of id)) (owns id) (own-digest id) a is)
+      ∙ ap (option_map suc) (behind at (later (position (has_digest (digest_of id)) accounts) at e) own)
 
 -- ---- a Subscription-Id more
 

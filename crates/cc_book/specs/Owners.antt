@@ -1,7 +1,9 @@
 -- Accounts and their Subscription-Ids, and what an index finds by one: the first account of a list that has it.
-use Rattle.std.proofs.Common.{◌≡◌, ℕ, zero, suc, List, [], ◌∷◌, Bool, true, false, ◌&&◌, eqb, refl, rules}
-use Rattle.std.specs.Prelude.{◌==◌, Option, Some, None, if◌then◌else◌}
-use Rattle.std.specs.List.{list_any, position}
+use Rattle.std.proofs.Common.{◌≡◌, ℕ, zero, suc, List, [], ◌∷◌, ◌++◌, Bool, true, false, ◌&&◌, eqb, refl, rules}
+use Rattle.std.specs.Prelude.{◌==◌, nat_eq, Option, Some, None, if◌then◌else◌}
+use Rattle.std.specs.List.{fold, list_any, position}
+use Rattle.std.specs.Hash.{u8 as fed_u8, u32 as fed_u32, slice as fed_slice}
+use Rattle.std.specs.Hash.DefaultHasher.{finish, initial, write}
 use Rattle.std.proofs.lemmas.Bool.{and_parts}
 use Rattle.indexmap.specs.IndexMap.{get}
 use Rattle.indexmap.specs.IndexSet.{contains}
@@ -32,23 +34,35 @@ is_among subscriptions subscription = list_any (same_subscription subscription) 
 abbrev pub same_owner : Account → Account → Bool
 same_owner one other = one.id_kind == other.id_kind && same_session one.id other.id
 
+-- the Subscription-Id of an account's owner
+abbrev pub owner_of : Account → Subscription
+owner_of account = record { kind = account.id_kind; text = account.id }
+
 -- ---- what is looked up
 
--- whether the account at a place has this Subscription-Id
-abbrev pub has_at : Subscription → List Account → ℕ → Bool
-has_at id [] place = false
-has_at id (account ∷ accounts) zero = owns id account
-has_at id (account ∷ accounts) (suc place) = has_at id accounts place
+-- a number that few other Subscription-Ids have: SipHash over the type and the text
+unfoldable pub digest_of : Subscription → ℕ
+digest_of id = finish (fold write initial (fed_u32 id.kind ++ fed_slice fed_u8 id.text))
 
--- a place that an index tells, if the account there has this Subscription-Id
-abbrev pub confirmed : Subscription → List Account → Option ℕ → Option ℕ
-confirmed id accounts None = None
-confirmed id accounts (Some place) = if has_at id accounts place then Some place else None
+-- whether this is the digest of an account's owner
+abbrev pub has_digest : ℕ → Account → Bool
+has_digest digest account = digest_of (owner_of account) == digest
+
+-- whether the account at a place passes a test
+abbrev pub passes_at : (Account → Bool) → List Account → ℕ → Bool
+passes_at p [] place = false
+passes_at p (account ∷ accounts) zero = p account
+passes_at p (account ∷ accounts) (suc place) = passes_at p accounts place
+
+-- a place that an index tells, if the account there passes a test
+abbrev pub confirmed : (Account → Bool) → List Account → Option ℕ → Option ℕ
+confirmed p accounts None = None
+confirmed p accounts (Some place) = if passes_at p accounts place then Some place else None
 
 module _ {S : Type 0} where
-  -- what is told and confirmed of a Subscription-Id is the place of the first account that has it
-  abbrev pub Finds : List Account → HashMap Subscription ℕ S → Type 0
-  Finds accounts places = (id : Subscription) → confirmed id accounts (get same_subscription places id) ≡ account_with accounts id
+  -- what is told and confirmed of a digest is the place of the first account that has it
+  abbrev pub Finds : List Account → HashMap ℕ ℕ S → Type 0
+  Finds accounts firsts = (digest : ℕ) → confirmed (has_digest digest) accounts (get nat_eq firsts digest) ≡ position (has_digest digest) accounts
 
   -- a set of Subscription-Ids has those of a list
   abbrev pub Knows : List Subscription → HashSet Subscription S → Type 0

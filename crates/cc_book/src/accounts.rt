@@ -3,14 +3,14 @@
 ghost use Rattle.std.specs.Prelude.{◌≡◌, ◌==◌, ◌<◌, ◌++◌, ◌∷◌, [], IfOk, IfSome, OnOk, OnErr, length, take};
 ghost use Rattle.std.specs.List.{list_any};
 ghost use Rattle.cc_book.specs.TermsChange.{account_with, owns, same_owner};
-ghost use Rattle.cc_book.specs.Owners.{Finds, confirmed};
+ghost use Rattle.cc_book.specs.Owners.{Finds, confirmed, digest_of, has_digest};
 
 use crate::account::Account;
 use cc_view::Subscription;
 use dia_avp::Octets;
 use indexmap::{Equivalent, IndexMap};
 use std::alloc::{AllocError, Global};
-use std::hash::Hash;
+use std::hash::{DefaultHasher, Hash, Hasher};
 use std::marker::Model;
 
 /// The Subscription-Id of an account, to be looked up.
@@ -40,6 +40,18 @@ impl<'a> Equivalent<Subscription> for Owner<'a> {
     }
 }
 
+impl<'a> Owner<'a> {
+    /// A number that few other owners have: SipHash over the type and the text.
+    #[tactic(auto, unfolding(crate::specs::Owners::digest_of))]
+    fn digest(self) -> u64
+        ensures { result ≡ digest_of (record { kind = self.entry.kind; text = self.entry.text.now }) }
+    {
+        let mut hasher = DefaultHasher::new();
+        self.hash(&mut hasher);
+        hasher.finish()
+    }
+}
+
 impl Account {
     /// The Subscription-Id of its owner.
     pub fn owner(&self) -> Owner<'_>
@@ -57,9 +69,9 @@ impl Account {
 #[derive(Debug, Drop)]
 pub struct Accounts {
     items: Vec<Account>,
-    /// The place of the first account with each Subscription-Id. A place is to be confirmed: a join that wanted
-    /// memory leaves places at which no such account stands. None of a list alone.
-    places: Option<IndexMap<Subscription, usize>>,
+    /// The place of the first account with each digest. A place is to be confirmed: a join that wanted memory leaves
+    /// places at which no such account stands. None of a list alone.
+    firsts: Option<IndexMap<u64, usize>>,
 }
 
 impl Model for Accounts {
@@ -71,7 +83,7 @@ impl Model for Accounts {
 
     ghost view = { λ accounts. accounts.items.items };
 
-    ghost invariant = { λ accounts. IfSome accounts.places (Finds accounts.items.items) };
+    ghost invariant = { λ accounts. IfSome accounts.firsts (Finds accounts.items.items) };
 }
 
 impl Accounts {
@@ -79,10 +91,10 @@ impl Accounts {
     pub fn from_vec(alloc: Global, items: Vec<Account>) -> Result<Self, AllocError>
         ensures { IfOk result (λ accounts. accounts ≡ items.items) }
     {
-        let places = places_of(alloc, &items)?;
+        let firsts = firsts_of(alloc, &items)?;
         Ok(Accounts {
             items,
-            places: Some(places),
+            firsts: Some(firsts),
         })
     }
 
@@ -92,7 +104,7 @@ impl Accounts {
     {
         Accounts {
             items,
-            places: None,
+            firsts: None,
         }
     }
 
@@ -114,13 +126,13 @@ impl Accounts {
     pub fn indexed(self, alloc: Global) -> Result<Self, AllocError>
         ensures { IfOk result (λ accounts. accounts ≡ self) }
     {
-        if self.places.is_some() {
+        if self.firsts.is_some() {
             return Ok(self);
         }
         Accounts::from_vec(alloc, self.items)
     }
 
-    /// The same as a list alone, which takes half the memory.
+    /// The same as a list alone, which takes less memory.
     pub fn into_list(self) -> Self
         ensures { result ≡ self }
     {
@@ -167,8 +179,8 @@ impl Accounts {
         ensures value { result ≡ account_with self.now (record { kind = owner.entry.kind; text = owner.entry.text.now }) }
         ensures within { IfSome result (λ account. account < length self.now) }
     {
-        match &self.places {
-            Some(places) => confirmed(&self.items, places.get(owner).copied(), owner),
+        match &self.firsts {
+            Some(firsts) => indexed_place(&self.items, firsts, owner),
             None => first_place(&self.items, owner),
         }
     }
@@ -178,8 +190,8 @@ impl Accounts {
         ensures ok { OnOk result (self.new ≡ self.old ++ account ∷ []) }
         ensures err { OnErr result (self.new ≡ self.old) }
     {
-        if let Some(places) = &mut self.places {
-            add_place(&self.items, places, &account)?;
+        if let Some(firsts) = &mut self.firsts {
+            add_place(&self.items, firsts, &account)?;
         }
         self.items.push(account)?;
         Ok(())
@@ -225,50 +237,68 @@ fn is_of(account: &Account, owner: Owner<'_>) -> bool
     account.owner() == owner
 }
 
-/// The place of the first account with each Subscription-Id.
-fn places_of(
-    alloc: Global,
+/// The place of the first account of an owner, by the place of the first account with each digest.
+fn indexed_place(
     accounts: &[Account],
-) -> Result<IndexMap<Subscription, usize>, AllocError>
-    ensures { IfOk result (Finds accounts.now) }
+    firsts: &IndexMap<u64, usize>,
+    owner: Owner<'_>,
+) -> Option<usize>
+    requires { Finds accounts.now firsts.now }
+    ensures value { result ≡ account_with accounts.now (record { kind = owner.entry.kind; text = owner.entry.text.now }) }
+    ensures within { IfSome result (λ place. place < length accounts.now) }
 {
-    let mut places = IndexMap::with_capacity(alloc, accounts.len())?;
-    for (place, account) in accounts.iter().enumerate() {
-        add_place(&accounts[..place], &mut places, account)?;
+    let digest = owner.digest();
+    let place = confirmed(accounts, firsts.get(&digest).copied(), digest)?;
+    if is_of(&accounts[place], owner) {
+        return Some(place);
     }
-    Ok(places)
+    // Another owner has the same digest.
+    first_place(accounts, owner)
 }
 
-/// A place that an index tells, if the account there has this Subscription-Id.
-fn confirmed(accounts: &[Account], told: Option<usize>, owner: Owner<'_>) -> Option<usize>
-    ensures { result ≡ confirmed (record { kind = owner.entry.kind; text = owner.entry.text.now }) accounts.now told }
+/// The place of the first account with each digest.
+fn firsts_of(alloc: Global, accounts: &[Account]) -> Result<IndexMap<u64, usize>, AllocError>
+    ensures { IfOk result (Finds accounts.now) }
+{
+    let mut firsts = IndexMap::with_capacity(alloc, accounts.len())?;
+    for (place, account) in accounts.iter().enumerate() {
+        add_place(&accounts[..place], &mut firsts, account)?;
+    }
+    Ok(firsts)
+}
+
+/// A place that an index tells, if the account there has this digest.
+fn confirmed(accounts: &[Account], told: Option<usize>, digest: u64) -> Option<usize>
+    ensures { result ≡ confirmed (has_digest digest) accounts.now told }
 {
     let place = told?;
-    if accounts.get(place)?.owner() == owner {
+    if has_digest(accounts.get(place)?, digest) {
         Some(place)
     } else {
         None
     }
 }
 
-/// Adds the place of an account that joins these, if none of them has its Subscription-Id.
+/// Whether this is the digest of an account's owner.
+fn has_digest(account: &Account, digest: u64) -> bool
+    ensures { result ≡ has_digest digest account.now }
+{
+    account.owner().digest() == digest
+}
+
+/// Adds the place of an account that joins these, if none of them has its digest.
 fn add_place(
     accounts: &[Account],
-    places: &mut IndexMap<Subscription, usize>,
+    firsts: &mut IndexMap<u64, usize>,
     account: &Account,
 ) -> Result<(), AllocError>
-    ensures ok { OnOk result (Finds accounts.now places.old → Finds (accounts.now ++ account.now ∷ []) places.new) }
-    ensures always { Finds accounts.now places.old → Finds accounts.now places.new }
+    ensures ok { OnOk result (Finds accounts.now firsts.old → Finds (accounts.now ++ account.now ∷ []) firsts.new) }
+    ensures always { Finds accounts.now firsts.old → Finds accounts.now firsts.new }
 {
-    let owner = account.owner();
-    let told = places.get(owner).copied();
-    if confirmed(accounts, told, owner).is_some() {
-        return Ok(());
+    let digest = account.owner().digest();
+    let told = firsts.get(&digest).copied();
+    if confirmed(accounts, told, digest).is_none() {
+        firsts.insert(digest, accounts.len())?;
     }
-    let id = Subscription {
-        kind: owner.kind,
-        text: owner.text.clone()?,
-    };
-    places.insert(id, accounts.len())?;
     Ok(())
 }

@@ -1,6 +1,7 @@
 use Rattle.std.proofs.Common.{◌≡◌, ℕ, Option, Some, None, sym, ◌∙◌, rules}
 use Rattle.cc_book.specs.TermsChange.{account_with}
-use Rattle.cc_book.proofs.Owners.{owner-before, owner_of}
+use Rattle.cc_book.specs.Owners.{owner_of}
+use Rattle.cc_book.proofs.Owners.{owner-before}
 use Rattle.cc_book.proofs.accounts.Accounts.has_owner_before.Goals as goal
 
 pub returns-in-Some : goal.returns-in-Some

@@ -7,5 +7,5 @@ use Rattle.cc_book.proofs.accounts.Accounts.join.Goals as goal
 
 pub invariant_of-self : goal.invariant_of-self
 invariant_of-self c =
-    subst (λ (accounts : List Account). IfSome c.self-2.inside.places (Finds accounts)) (sym c.truncate.ensures.items)
-    (if-finds-first c.self-2.inside.items.items c.self-2.inside.places c.self-2.invariant c.len-count.result)
+    subst (λ (accounts : List Account). IfSome c.self-2.inside.firsts (Finds accounts)) (sym c.truncate.ensures.items)
+    (if-finds-first c.self-2.inside.items.items c.self-2.inside.firsts c.self-2.invariant c.len-count.result)

@@ -2,7 +2,7 @@ use Rattle.std.proofs.Common.{◌≡◌, List, ap, ◌∙◌, rules}
 use Rattle.indexmap.specs.IndexSet.{contains}
 use Rattle.cc_view.specs.declared.request.Subscription.{Subscription}
 use Rattle.cc_book.specs.TermsChange.{is_among, same_subscription}
-use Rattle.cc_book.proofs.Owners.{owner_of}
+use Rattle.cc_book.specs.Owners.{owner_of}
 use Rattle.cc_book.proofs.subscriptions.Subscriptions.contains_owner_of.Goals as goal
 
 pub returns : goal.returns
