@@ -2,23 +2,21 @@
 
 ghost use Rattle.std.specs.Prelude.{◌≡◌, ◌≢◌, ◌≤◌, ◌<◌, ◌^◌, [], length, nat_abs, Err, IfNone, IfOk, IfSome, if◌then◌else◌, nat_lt, Some, None, pos};
 ghost use Rattle.cc_book.specs.declared.book.BookRefusal.TheVariants.{OutOfMemory};
+ghost use Rattle.cc_book.specs.declared.terms_change.ChangeRefusal.TheVariants as refused;
 ghost use Rattle.cc_book.specs.Taking.{AnswersWith, answer_of, answer_within};
-
-mod changing;
-mod planning;
 
 use crate::account::{Account, Money};
 use crate::accounts::Accounts;
 use crate::entry::Entry;
-use crate::kept_terms::KeptTerms;
-use crate::places::Places;
-use crate::standing::Standing;
+use crate::memory::boxed;
+use crate::plan::Plan;
+use crate::state::BookState;
 use crate::subscriptions::Subscriptions;
 use crate::terms::Terms;
+use crate::terms_change::{ChangeRefusal, TermsChange};
 use cc_rating::Tariffs;
 use cc_view::{CcReply, CcRequest};
 use dia_base::{HISTORY_LIMIT, Moment};
-pub use planning::kept_answer;
 use std::alloc::{AllocError, AllocFailed, Global};
 use std::marker::Model;
 use thiserror::Error;
@@ -61,46 +59,27 @@ impl<T: Drop> From<AllocFailed<T>> for BookRefusal {
 }
 
 /// The account book. It is its history: balances, reservations, sessions and replies are made from the terms that it
-/// began with and the entries alone. Beside the entries it keeps what they replied and what they have left, so that
-/// nothing is worked out twice.
+/// began with and the entries alone. What it keeps stands in memory of its own, so that who has a book moves a pointer.
 #[derive(Debug, Drop)]
 pub struct Book {
-    /// The terms that it began with, and those that hold now.
-    terms: KeptTerms,
-    limit: u64,
-    history: Vec<Entry>,
-    /// The reply of each entry, none of a sweep.
-    replies: Vec<Option<CcReply>>,
-    /// Where its requests stand in the history.
-    places: Places,
-    standing: Standing,
+    state: Box<BookState>,
 }
 
 impl Model for Book {
-    ghost use Rattle.std.specs.Prelude.{◌≡◌, ◌+◌, ◌≤◌, ◌^◌, length, vec_capacity};
-    ghost use Rattle.cc_book.specs.AccountMachine.{terms_of};
-    ghost use Rattle.cc_book.specs.Places.{HasPlaces, IsIndexed};
-    ghost use Rattle.cc_book.specs.Taking.{HasRoom, IsBook, Ledger};
+    ghost use Rattle.cc_book.specs.Taking.{Ledger};
 
     ghost Value = { Ledger };
 
-    ghost view = { λ b. record { terms = b.terms.begun; limit = b.limit; history = b.history.items } };
-
-    ghost invariant = { λ b.
-        IsBook b.terms.begun b.limit b.history.items b.replies.items b.standing.balances.items b.standing.sessions.items
-        × HasRoom b.limit (vec_capacity b.history) (vec_capacity b.replies) (length b.history.items + b.standing.sessions.room)
-        × (b.standing.sessions.accounts ≡ length b.standing.balances.items)
-        × IsIndexed b.history.items b.places
-        × HasPlaces b.limit (length b.history.items) b.places
-        × (b.limit ≤ 2 ^ 20)
-        × (b.terms.current ≡ terms_of b.terms.begun b.history.items) };
+    ghost view = { λ b. b.state.value };
 }
 
 impl Book {
     ghost use Rattle.cc_book.specs.AccountMachine.{terms_of};
     ghost use Rattle.cc_book.specs.Balance.{balance_of, reserved_of, open_sessions_of};
+    ghost use Rattle.cc_book.specs.Changing.{ChangesWith, after_change_with, change_answer};
     ghost use Rattle.cc_book.specs.History.{IsLegal};
-    ghost use Rattle.cc_book.specs.Taking.{Ledger, SweepsWith, is_fresh, sweep_answer, after_sweep_with, with_take};
+    ghost use Rattle.cc_book.specs.Planning.{IsGoodFor, PlansWith, after_plan, answer_planned};
+    ghost use Rattle.cc_book.specs.Taking.{SweepsWith, is_fresh, sweep_answer, after_sweep_with, with_take};
 
     /// A book with no entry, and no account that is closed. It takes up to `limit` entries, of which the caller makes no more than
     /// [`HISTORY_LIMIT`], and has room for them from the start, so that no entry is ever moved; `validity` is the Validity-Time of
@@ -133,16 +112,36 @@ impl Book {
         requires { limit ≤ HISTORY_LIMIT }
         ensures { IfOk result (λ book. book ≡ record { terms = terms; limit = limit; history = [] }) }
     {
-        let room = limit as usize;
-        let standing = Standing::new(alloc, terms.accounts.as_slice(), room)?;
+        let state = BookState::under(alloc, terms, limit)?;
         Ok(Book {
-            terms: KeptTerms::of(alloc, terms)?,
-            limit,
-            history: Vec::with_capacity(alloc, room)?,
-            replies: Vec::with_capacity(alloc, room)?,
-            places: Places::new(alloc, room)?,
-            standing,
+            state: boxed(alloc, state)?,
         })
+    }
+
+    /// What a request does to the book, which it leaves as it is: all that `take` refuses is refused here, and all the
+    /// memory that it wants is wanted here. Full where the history is at its limit, or where a balance, or what is
+    /// reserved of an account, could come to 2^124 in size, which no history of 2^20 entries brings about.
+    pub fn plan(
+        &self,
+        alloc: Global,
+        moment: Moment,
+        request: &CcRequest,
+    ) -> Result<Plan, BookRefusal>
+        ensures answer { PlansWith (answer_of self.now request.now) result }
+        ensures within { PlansWith (answer_within self.now request.now) result }
+        ensures good { IfOk result (IsGoodFor self.now) }
+        ensures after { IfOk result (λ plan. after_plan self.now plan ≡ (if (answer_planned plan).fresh then with_take self.now moment request.now else self.now)) }
+    {
+        self.state.plan(alloc, moment, request)
+    }
+
+    /// Does what was planned, and answers so. The plan is one that was made of this history. It takes no memory.
+    pub fn commit(&mut self, plan: Plan) -> Answered
+        requires { IsGoodFor self.old plan }
+        ensures answer { result ≡ answer_planned plan }
+        ensures after { self.new ≡ after_plan self.old plan }
+    {
+        self.state.commit(plan)
     }
 
     /// What `take` would answer to a request now. It changes nothing. Memory is wanted only for what is not refused.
@@ -182,14 +181,7 @@ impl Book {
         ensures answer { SweepsWith (sweep_answer self.now moment) result }
         ensures memory { result ≢ Err OutOfMemory }
     {
-        let ended = self.standing.count_due(self.terms.validity(), moment);
-        if ended == 0 {
-            return Ok(0);
-        }
-        let Some(_place) = free_place(&self.history, self.limit) else {
-            return Err(BookRefusal::Full { limit: self.limit });
-        };
-        Ok(ended as u64)
+        self.state.quote_sweep(moment)
     }
 
     /// Ends each session whose deadline is at most the moment: a session lasts for twice its validity from its last
@@ -201,35 +193,59 @@ impl Book {
         ensures after { self.new ≡ after_sweep_with self.old moment result }
         ensures memory { result ≢ Err OutOfMemory }
     {
-        let ended = self.quote_sweep(moment)?;
-        if ended == 0 {
-            return Ok(0);
-        }
-        self.history.push_reserved(Entry::Sweep { moment });
-        self.replies.push_reserved(None);
-        self.standing.sweep(self.terms.validity(), moment);
-        Ok(ended)
+        self.state.sweep(moment)
+    }
+
+    /// What `change_terms` would answer now. It changes nothing, and takes no memory.
+    pub fn quote_change(&self, change: &TermsChange) -> Result<u64, ChangeRefusal>
+        ensures answer { ChangesWith (change_answer self.now change.now) result }
+        ensures memory { result ≢ Err refused.OutOfMemory }
+    {
+        self.state.quote_change(change)
+    }
+
+    /// Changes the terms, all that the change says or nothing: from here on the accounts that join are there, each with
+    /// its opening amount as its balance, and the new tariffs hold. It answers the place of the entry. No reply and no
+    /// debit of the past changes, and what is held stays held at the cost at which it was granted. Memory is wanted only
+    /// for what is not refused, and that of the change alone. After a refusal the book is unchanged.
+    pub fn change_terms(
+        &mut self,
+        alloc: Global,
+        moment: Moment,
+        change: TermsChange,
+    ) -> Result<u64, ChangeRefusal>
+        ensures answer { ChangesWith (change_answer self.old change) result }
+        ensures after { self.new ≡ after_change_with self.old moment change result }
+    {
+        self.state.change_terms(alloc, moment, change)
     }
 
     /// A copy of the terms that it began with. Its accounts are a list alone ([`Accounts::list`]).
     pub fn terms(&self, alloc: Global) -> Result<Terms, AllocError>
         ensures { IfOk result (λ terms. terms ≡ self.now.terms) }
     {
-        self.terms.begun(alloc)
+        self.state.terms(alloc)
+    }
+
+    /// The terms that hold now: those that it began with, and each change since.
+    pub fn terms_now(&self) -> &Terms
+        ensures { result.now ≡ terms_of self.now.terms self.now.history }
+    {
+        self.state.terms_now()
     }
 
     /// Validity-Time of its grants in seconds.
     pub fn validity(&self) -> u32
         ensures { result ≡ self.now.terms.validity }
     {
-        self.terms.validity()
+        self.state.validity()
     }
 
     /// The accounts: those that were handed to `new`, and behind them those that have joined.
     pub fn accounts(&self) -> &[Account]
         ensures { result.now ≡ (terms_of self.now.terms self.now.history).accounts }
     {
-        self.terms_now().accounts.as_slice()
+        self.state.accounts()
     }
 
     /// The balance of the account at this place, which stays below 2^124 in size. None beyond the last account.
@@ -237,29 +253,21 @@ impl Book {
         ensures small { IfSome result (λ balance. nat_abs balance < 2 ^ 124) }
         ensures value { result ≡ (if nat_lt account (length (terms_of self.now.terms self.now.history).accounts) then Some (balance_of self.now.terms self.now.history account) else None) }
     {
-        if account < self.standing.balances.len() {
-            Some(self.standing.balances[account])
-        } else {
-            None
-        }
+        self.state.balance(account)
     }
 
     /// What the sessions of the account at this place have reserved. None beyond the last account.
     pub fn reserved(&self, account: usize) -> Option<i128>
         ensures { result ≡ (if nat_lt account (length (terms_of self.now.terms self.now.history).accounts) then Some (pos (reserved_of self.now.terms self.now.history account)) else None) }
     {
-        if account < self.standing.balances.len() {
-            Some(self.standing.reserved(account) as i128)
-        } else {
-            None
-        }
+        self.state.reserved(account)
     }
 
     /// How many sessions are open.
     pub fn open_sessions(&self) -> u64
         ensures { result ≡ open_sessions_of self.now.terms self.now.history }
     {
-        self.standing.sessions.len() as u64
+        self.state.open_sessions()
     }
 
     /// The entries, the oldest first.
@@ -268,7 +276,7 @@ impl Book {
         ensures legal { IsLegal self.now.terms self.now.history }
         ensures within { length self.now.history ≤ self.now.limit }
     {
-        self.history.as_slice()
+        self.state.history()
     }
 }
 

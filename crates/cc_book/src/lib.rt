@@ -51,6 +51,7 @@ mod kept_terms;
 mod key;
 mod laws;
 mod lookup;
+mod memory;
 mod open_sessions;
 mod outcome;
 mod places;
@@ -59,13 +60,14 @@ mod price;
 mod session;
 mod settling;
 mod standing;
+mod state;
 mod subscriptions;
 mod terms;
 mod terms_change;
 
 pub use account::{Account, Money};
 pub use accounts::{Accounts, Owner};
-pub use book::{Answered, Book, BookRefusal, free_place, kept_answer};
+pub use book::{Answered, Book, BookRefusal, free_place};
 pub use bound_laws::{
     accounts_at_their_bound_refuse_requests, accounts_bear_requests_below_their_bounds,
     entries_move_little, short_books_are_full_at_their_limit, what_is_reserved_is_bounded_too,
@@ -101,6 +103,7 @@ pub use outcome::{Change, Outcome};
 pub use plan::{Plan, Taken};
 pub use price::{Price, Prices};
 pub use session::{Hold, OpenSession, held_in};
+pub use state::kept_answer;
 pub use subscriptions::Subscriptions;
 pub use terms::Terms;
 pub use terms_change::{ChangeRefusal, TermsChange};

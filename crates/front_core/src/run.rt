@@ -142,6 +142,8 @@ impl Front {
         ensures memory { IsOkUnless result FrontError.OutOfMemory }
     {
         let mut book = book;
+        // The proof takes from it that the history is legal.
+        let _kept = book.history();
         let mut front = front_of(alloc, site)?;
         let mut outs = Vec::new(alloc);
         for event in events {

@@ -47,7 +47,7 @@ returns g c =
     let over : length events ≤ c.loop-event.event-index = omega arith in
     let whole : run_of site book events ≡ run_at c.loop-event.front c.loop-event.book (map items_of c.loop-event.outs.items) =
     subst (λ (all : List FrontEvent). run_of site book all ≡ run_at c.loop-event.front c.loop-event.book (map items_of c.loop-event.outs.items)) (take_all c.loop-event.event-index events over) c.loop-event.invariant in
-    let legal : IsLegal book.terms book.history = subst (λ (ledger : Ledger). IsLegal ledger.terms ledger.history) c.book.view_is c.book.invariant.0.legal in
+    let legal : IsLegal book.terms book.history = c.history-kept.ensures.legal in
     record {
       sent = ap (λ (run : FrontRun). run.sent) (sym whole);
       book = ap (λ (run : FrontRun). run.ledger) (sym whole);

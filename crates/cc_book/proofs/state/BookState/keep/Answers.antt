@@ -18,7 +18,7 @@ use Rattle.cc_book.proofs.Books.{IsBook-push, account-within, replies-long, same
 use Rattle.cc_book.proofs.Outcomes.{after_debit-length}
 use Rattle.cc_book.proofs.Postings.{terms_of-take}
 use Rattle.cc_book.proofs.Fitting.{Fits, change-fits}
-use Rattle.cc_book.proofs.book.Book.keep.Goals as goal
+use Rattle.cc_book.proofs.state.BookState.keep.Goals as goal
 
 -- ---- there is room
 

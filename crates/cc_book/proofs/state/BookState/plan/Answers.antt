@@ -14,7 +14,7 @@ use Rattle.cc_book.specs.Taking.{AnswersRepeat, Ledger, answer_of, answer_within
 use Rattle.cc_book.proofs.Books.{answer-fresh, answer-kept, borne-book, borne-by, charged-now, charged-within, kept-answered, kept-some, new-answered, no_memory, not-fresh, outcome-now, planned-outcome, short-bears, small-book, small-now, within-now, within-ok}
 use Rattle.cc_book.proofs.Bounds.{within-borne, within-full, within-kept, within-refused}
 use Rattle.cc_book.proofs.Replies.{answer_of-full}
-use Rattle.cc_book.proofs.book.Book.plan.Goals as goal
+use Rattle.cc_book.proofs.state.BookState.plan.Goals as goal
 
 -- ---- a request that is kept
 

@@ -10,7 +10,7 @@ use Rattle.cc_book.proofs.Books.{replies-long, same-book, small-book}
 use Rattle.cc_book.proofs.Placing.{IsIndexed-keyless}
 use Rattle.cc_book.proofs.Postings.{terms_of-sweep}
 use Rattle.cc_book.proofs.Sweeps.{IsBook-sweep, sweep-has_room, sweep-some}
-use Rattle.cc_book.proofs.book.Book.sweep.Goals as goal
+use Rattle.cc_book.proofs.state.BookState.sweep.Goals as goal
 
 pub push_reserved-requires-2 : goal.push_reserved-requires-2
 push_reserved-requires-2 c =

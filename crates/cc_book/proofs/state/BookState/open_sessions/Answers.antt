@@ -2,7 +2,7 @@ use Rattle.std.proofs.Common.{rules, ◌≡◌, length, ap, sym, ◌∙◌}
 use Rattle.cc_book.specs.Balance.{open_sessions_of}
 use Rattle.cc_book.specs.Taking.{Ledger}
 use Rattle.cc_book.proofs.Books.{open_sessions_of-is}
-use Rattle.cc_book.proofs.book.Book.open_sessions.Goals as goal
+use Rattle.cc_book.proofs.state.BookState.open_sessions.Goals as goal
 
 pub returns : goal.returns
 returns c =

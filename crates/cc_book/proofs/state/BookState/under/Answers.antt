@@ -12,7 +12,7 @@ use Rattle.cc_book.proofs.Books.{IsBook-empty}
 use Rattle.cc_book.proofs.Bounds.{bounded-empty, opens-small}
 use Rattle.cc_book.proofs.Postings.{terms_of-empty}
 use Rattle.cc_book.proofs.Stands.{empty-stands}
-use Rattle.cc_book.proofs.book.Book.under.Goals as goal
+use Rattle.cc_book.proofs.state.BookState.under.Goals as goal
 
 pub invariant_of-result : goal.invariant_of-result
 invariant_of-result c =

@@ -1,5 +1,5 @@
 use Rattle.cc_book.proofs.Replies.{other-answered, same-answered}
-use Rattle.cc_book.proofs.book.planning.kept_answer.Goals as goal
+use Rattle.cc_book.proofs.state.planning.kept_answer.Goals as goal
 
 pub returns-then-not-same_request : goal.returns-then-not-same_request
 returns-then-not-same_request c =

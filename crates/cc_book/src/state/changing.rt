@@ -3,14 +3,15 @@
 ghost use Rattle.std.specs.Prelude.{◌≡◌, ◌≢◌, Err};
 ghost use Rattle.cc_book.specs.declared.terms_change.ChangeRefusal.TheVariants.{OutOfMemory};
 
-use super::{Book, free_place};
+use super::BookState;
+use crate::book::free_place;
 use crate::entry::Entry;
 use crate::terms::Terms;
 use crate::terms_change::{ChangeRefusal, TermsChange};
 use dia_base::Moment;
 use std::alloc::Global;
 
-impl Book {
+impl BookState {
     ghost use Rattle.cc_book.specs.AccountMachine.{terms_of};
     ghost use Rattle.cc_book.specs.Changing.{ChangesWith, after_change_with, change_answer};
 

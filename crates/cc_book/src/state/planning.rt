@@ -3,7 +3,8 @@
 ghost use Rattle.std.specs.Prelude.{◌≡◌, IfOk, IfSome, IsSome, None, if◌then◌else◌, slice_index_or};
 ghost use Rattle.cc_book.specs.Taking.{AnswersRepeat};
 
-use super::{Answered, Book, BookRefusal, free_place};
+use super::BookState;
+use crate::book::{Answered, BookRefusal, free_place};
 use crate::content::same_request;
 use crate::copy::{RequestCopy, copy_of_reply};
 use crate::entry::Entry;
@@ -15,7 +16,7 @@ use cc_view::{CcReply, CcRequest, ResultCode};
 use dia_base::Moment;
 use std::alloc::{AllocError, Global};
 
-impl Book {
+impl BookState {
     ghost use Rattle.cc_book.specs.Planning.{IsGoodFor, IsTaking, PlansWith, after_plan, answer_planned};
     ghost use Rattle.cc_book.specs.Taking.{answer_of, answer_within, with_take};
 

@@ -4,7 +4,7 @@ use Rattle.std.specs.List.{count_by}
 use Rattle.cc_book.specs.Standing.{is_due}
 use Rattle.cc_book.specs.Taking.{Ledger, sweep_answer}
 use Rattle.cc_book.proofs.Sweeps.{sweep-full, sweep-none, sweep-some}
-use Rattle.cc_book.proofs.book.Book.quote_sweep.Goals as goal
+use Rattle.cc_book.proofs.state.BookState.quote_sweep.Goals as goal
 
 pub returns-then-ended-eq0-clause-answer : goal.returns-then-ended-eq0-clause-answer
 returns-then-ended-eq0-clause-answer c =

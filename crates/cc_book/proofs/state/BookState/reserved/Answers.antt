@@ -6,7 +6,7 @@ use Rattle.cc_book.specs.AccountMachine.{terms_of}
 use Rattle.cc_book.specs.Balance.{reserved_of}
 use Rattle.cc_book.specs.Taking.{Ledger}
 use Rattle.cc_book.proofs.Books.{reserved_of-is, small-book}
-use Rattle.cc_book.proofs.book.Book.reserved.Goals as goal
+use Rattle.cc_book.proofs.state.BookState.reserved.Goals as goal
 
 pub overflow_cast-result : goal.overflow_cast-result
 overflow_cast-result c =

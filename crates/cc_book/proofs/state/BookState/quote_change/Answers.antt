@@ -3,7 +3,7 @@ use Rattle.cc_book.specs.declared.terms.Terms.{Terms}
 use Rattle.cc_book.specs.declared.terms_change.ChangeRefusal.TheVariants.{OutOfMemory}
 use Rattle.cc_book.specs.TermsChange.{fault_of_change}
 use Rattle.cc_book.proofs.Changing.{changes-fault, fault-no_memory}
-use Rattle.cc_book.proofs.book.Book.quote_change.Goals as goal
+use Rattle.cc_book.proofs.state.BookState.quote_change.Goals as goal
 
 pub returns-in-Some-clause-answer : goal.returns-in-Some-clause-answer
 returns-in-Some-clause-answer c =

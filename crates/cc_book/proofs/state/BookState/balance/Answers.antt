@@ -7,7 +7,7 @@ use Rattle.cc_book.specs.AccountMachine.{terms_of}
 use Rattle.cc_book.specs.Balance.{balance_of}
 use Rattle.cc_book.specs.Taking.{Ledger}
 use Rattle.cc_book.proofs.Books.{balance_of-is, small-balance}
-use Rattle.cc_book.proofs.book.Book.balance.Goals as goal
+use Rattle.cc_book.proofs.state.BookState.balance.Goals as goal
 
 pub returns-then-account-len-clause-value : goal.returns-then-account-len-clause-value
 returns-then-account-len-clause-value c =

@@ -16,7 +16,7 @@ use Rattle.cc_book.proofs.Books.{replies-long, same-book}
 use Rattle.cc_book.proofs.Changing.{IsBook-change, made-change}
 use Rattle.cc_book.proofs.Placing.{IsIndexed-keyless}
 use Rattle.cc_book.proofs.Postings.{terms_of-change}
-use Rattle.cc_book.proofs.book.Book.change_terms.Goals as goal
+use Rattle.cc_book.proofs.state.BookState.change_terms.Goals as goal
 
 pub push_reserved-requires-2 : goal.push_reserved-requires-2
 push_reserved-requires-2 c =
