@@ -1,16 +1,29 @@
 //! A book in a store: opening it checks the sum of each row.
 
 ghost use Rattle.std.specs.Prelude.{◌≡◌, ◌<◌, [], ℕ, List, Some, None, Err, IfOk, OnOk, length, option_map, slice_index_or};
-ghost use Rattle.book_store.specs.Chain.{next_sum, sum_of, IsWrongAt};
+ghost use Rattle.book_store.specs.Chain.{checked_sum, next_sum, sum_of, IsWrongAt};
 ghost use Rattle.book_store.specs.Table.{Stored};
 
 use crate::error::{CheckError, RowError};
 use crate::store::RowStore;
-use book_rows::{ReadError, Sum, is_chained, read_row};
+use book_rows::{ReadError, Row, Sum, is_chained, read_row};
 use std::alloc::{AllocError, Global};
 
 /// The sum before the first row.
 pub const FIRST_SUM: Sum = Sum(0);
+
+/// The sum of a row, where it has this place and is chained to the sum before.
+fn checked_sum(alloc: Global, place: u64, before: Sum, row: &Row) -> Result<Option<Sum>, AllocError>
+    ensures { IfOk result (λ sum. option_map (λ s. s.0) sum ≡ checked_sum place before.0 row.now) }
+{
+    if row.place != place {
+        return Ok(None);
+    }
+    if !is_chained(alloc, before, row)? {
+        return Ok(None);
+    }
+    Ok(Some(row.sum))
+}
 
 /// The sum of the row that octets spell, where it has this place and is chained to the sum before.
 fn next_sum(
@@ -21,18 +34,11 @@ fn next_sum(
 ) -> Result<Option<Sum>, AllocError>
     ensures { IfOk result (λ sum. option_map (λ s. s.0) sum ≡ next_sum place before.0 octets.now) }
 {
-    let row = match read_row(alloc, octets) {
-        Ok(row) => row,
-        Err(ReadError::NoRow(_)) => return Ok(None),
-        Err(ReadError::OutOfMemory) => return Err(AllocError),
-    };
-    if row.place != place {
-        return Ok(None);
+    match read_row(alloc, octets) {
+        Ok(row) => checked_sum(alloc, place, before, &row),
+        Err(ReadError::NoRow(_)) => Ok(None),
+        Err(ReadError::OutOfMemory) => Err(AllocError),
     }
-    if !is_chained(alloc, before, &row)? {
-        return Ok(None);
-    }
-    Ok(Some(row.sum))
 }
 
 /// The sum of the row at a place, where it has this place and is chained to the sum before.
