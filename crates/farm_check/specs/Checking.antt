@@ -41,8 +41,8 @@ pub record IsMisplaced (file : List ℕ) (fault : FileKeyFault) : Type 0 where
 abbrev pub IsAccepted : List ℕ → Type 0
 IsAccepted file = IsOpenFile file × IsPlacedFile file Book × IsPlacedFile file Accounts × ((site : Site) × IsChecked site × IsSiteFile file site)
 
--- the octets have the fault of a site file that is told, or the fault in what they say of who may come up, or of a file; or they are
--- accepted, and the file of accounts that they name is not; or memory is missing
+-- The octets have the fault that is told: of a site file, or in what they say of who may come up, or of a file. Or memory
+-- is missing. Of a fault of the file of accounts it says that the octets are accepted, and no more.
 abbrev pub IsRefused : List ℕ → CheckFault → Type 0
 IsRefused file SiteFile = ⊥
 IsRefused file (of_site fault told) = AreWhyOctets file fault
