@@ -4,7 +4,7 @@ ghost use Rattle.std.specs.Prelude.{◌≡◌, ◌≤◌, ◌↔◌, [], IfErr, 
 ghost use Rattle.book_lines.specs.Lines.{lines_of};
 ghost use Rattle.farm_base.specs.CheckedSite.{IsChecked};
 ghost use Rattle.farm_report.specs.Report.{report_of};
-ghost use Rattle.farm_terms.specs.SiteAccounts.{AreTermsOf};
+ghost use Rattle.farm_terms.specs.SiteAccounts.{AreTermsOf, IsSoundFor};
 ghost use Rattle.farm_book.specs.Told.{IsCopyOf, IsStoredFor, IsTold, summary_text, text_of};
 
 use crate::fault::TaskFault;
@@ -21,7 +21,7 @@ use farm_base::Site;
 use farm_command::{BookCommand, BookTask};
 use farm_report::report;
 use farm_site::{SiteDocument, site_document_of_octets};
-use farm_terms::site_terms;
+use farm_terms::{AccountsText, accounts_text, site_terms};
 use farm_text::{ReadFault, file_at, write_text};
 use std::alloc::Global;
 use std::io;
@@ -50,12 +50,24 @@ fn accounts_at(alloc: Global, site: &str, document: &Table) -> Result<Option<Str
     }
 }
 
-/// The terms that a site wants, with the accounts of the file at a path, if it names one.
-fn wanted_by(rt: &HostRuntime, site: &Site, accounts: Option<&str>) -> Result<Terms, TaskFault>
-    requires { IsChecked site.now }
-    ensures { IfOk result (AreTermsOf site.now (is_some accounts.entry)) }
+/// The text of the file of accounts at a path, if the site file names one.
+fn text_at(rt: &HostRuntime, site: &Site, accounts: Option<&str>) -> Result<AccountsText, TaskFault>
+    ensures named { IfOk result (λ read. is_some read.text ≡ is_some accounts.entry) }
+    ensures sound { IfOk result (IsSoundFor site.now) }
 {
-    match site_terms(rt, site, accounts) {
+    match accounts_text(rt, site, accounts) {
+        Ok(read) => Ok(read),
+        Err(fault) => Err(TaskFault::Terms(fault)),
+    }
+}
+
+/// The terms that a site wants, with the accounts of a text, if there is one.
+fn wanted_by(alloc: Global, site: &Site, read: &AccountsText) -> Result<Terms, TaskFault>
+    requires checked { IsChecked site.now }
+    requires sound { IsSoundFor site.now read.now }
+    ensures { IfOk result (AreTermsOf site.now (is_some read.now.text)) }
+{
+    match site_terms(alloc, site, read) {
         Ok(terms) => Ok(terms),
         Err(fault) => Err(TaskFault::Terms(fault)),
     }
@@ -79,8 +91,19 @@ fn made(rt: &HostRuntime, path: &str, site: &Site, wanted: &Terms) -> Result<Sto
     }
 }
 
+/// Reads a book with the limit of a site.
+fn read_for(rt: &HostRuntime, path: &str, site: &Site) -> Result<StoredBook, TaskFault>
+    requires { IsChecked site.now }
+    ensures { IfOk result (IsStoredFor site.now) }
+{
+    match read_book(rt, path, site.limit) {
+        Ok(read) => Ok(read),
+        Err(fault) => Err(TaskFault::NotRead(fault)),
+    }
+}
+
 /// Reads a book, from whose terms a change leads to those that are wanted.
-fn read_for(
+fn read_under(
     rt: &HostRuntime,
     path: &str,
     site: &Site,
@@ -105,9 +128,9 @@ fn backed_up(
     requires { IsChecked site.now }
     ensures { IfOk result (IsStoredFor site.now) }
 {
-    drop(read_for(rt, path, site, wanted).map_err(TaskFault::NotRead)?);
+    drop(read_under(rt, path, site, wanted).map_err(TaskFault::NotRead)?);
     let copied = copy_file(rt, path, to).map_err(TaskFault::NotCopied)?;
-    match read_for(rt, to, site, wanted) {
+    match read_under(rt, to, site, wanted) {
         Ok(copy) => checked_copy(copied, copy),
         Err(fault) => Err(TaskFault::CopyNotRead(fault)),
     }
@@ -149,27 +172,37 @@ fn checked_copy(copied: Copied, copy: StoredBook) -> Result<StoredBook, TaskFaul
     }
 }
 
-/// Makes, reads, changes or copies the book that a command names, for a site that wants these terms.
+/// Makes, reads, changes or copies the book that a command names, and gives it with the terms that its site wants, with the accounts of a
+/// text, if there is one. What is only read is read before these terms are made: so the accounts that they have do not stand in memory
+/// beside the octets of those of the book.
 fn stored(
     rt: &HostRuntime,
     command: &BookCommand<'_>,
     site: &Site,
-    wanted: &Terms,
-) -> Result<StoredBook, TaskFault>
+    read: &AccountsText,
+) -> Result<(StoredBook, Terms), TaskFault>
     requires checked { IsChecked site.now }
-    requires open { wanted.now.closed ≡ [] }
-    ensures { IfOk result (IsStoredFor site.now) }
+    requires sound { IsSoundFor site.now read.now }
+    ensures stored { IfOk result (λ opened. IsStoredFor site.now opened.0) }
+    ensures wanted { IfOk result (λ opened. AreTermsOf site.now (is_some read.now.text) opened.1) }
 {
     match command.task {
-        BookTask::Create => made(rt, command.file, site, wanted),
-        BookTask::Check | BookTask::Report | BookTask::Export => read_for(
-            rt,
-            command.file,
-            site,
-            wanted,
-        ).map_err(TaskFault::NotRead),
-        BookTask::ChangeTerms => changed(rt, command.file, site, wanted),
-        BookTask::Backup { to } => backed_up(rt, command.file, to, site, wanted),
+        BookTask::Check | BookTask::Report | BookTask::Export => {
+            let stored = read_for(rt, command.file, site)?;
+            Ok((stored, wanted_by(rt.alloc(), site, read)?))
+        }
+        BookTask::Create => {
+            let wanted = wanted_by(rt.alloc(), site, read)?;
+            Ok((made(rt, command.file, site, &wanted)?, wanted))
+        }
+        BookTask::ChangeTerms => {
+            let wanted = wanted_by(rt.alloc(), site, read)?;
+            Ok((changed(rt, command.file, site, &wanted)?, wanted))
+        }
+        BookTask::Backup { to } => {
+            let wanted = wanted_by(rt.alloc(), site, read)?;
+            Ok((backed_up(rt, command.file, to, site, &wanted)?, wanted))
+        }
     }
 }
 
@@ -253,8 +286,8 @@ fn told_of(
     ensures { IfOk result (λ text. IsTold site.now (is_some accounts.entry) command.now.task text.items) }
 {
     let alloc = rt.alloc();
-    let wanted = wanted_by(rt, site, accounts)?;
-    let stored = stored(rt, command, site, &wanted)?;
+    let read = text_at(rt, site, accounts)?;
+    let (stored, wanted) = stored(rt, command, site, &read)?;
     match change_for(alloc, &stored.book, &wanted) {
         Ok(change) => text_of(alloc, command.task, site.limit, &stored, &change),
         Err(fault) => Err(TaskFault::NotRead(fault)),

@@ -8,6 +8,7 @@ ghost use Rattle.book_opening.specs.Opened.{now_in};
 ghost use Rattle.book_terms.specs.Difference.{Hold};
 ghost use Rattle.farm_live.specs.Serving.{IsServed};
 ghost use Rattle.farm_place.specs.Places.{fronts_from};
+ghost use Rattle.farm_terms.specs.SiteAccounts.{IsSoundFor};
 ghost use Rattle.pool_node.specs.Fronts.{site_of};
 
 use crate::changing::BookTerms;
@@ -18,7 +19,7 @@ use crate::waker::LoopWaker;
 use book_clock::check_clock;
 use book_file::FileBook;
 use book_journal::Journal;
-use book_opening::{identity_at, renewed, serving_book, state_id_of};
+use book_opening::{identity_at, open_book, renewed, serving_book, state_id_of};
 use book_store::RowStore;
 use cc_book::{Book, Terms};
 use cc_shared::{BlankHistory, SharedBook};
@@ -29,7 +30,7 @@ use farm_clock::Timer;
 use farm_command::Process;
 use farm_loop::Sockets;
 use farm_place::{Place, fronts_of, place_of};
-use farm_terms::site_terms;
+use farm_terms::{AccountsText, accounts_text, site_terms};
 use front_pool::Pooling;
 use pool_node::{PoolFronts, Timing, seats_for, start_fronts};
 use std::alloc::Global;
@@ -66,23 +67,51 @@ where
         return Err(Fault::OutOfMemory);
     };
     let workers = workers.max(1);
-    let wanted = site_terms(setting.rt, site, setting.accounts)?;
-    match serving_book(setting.rt, setting.book, site.limit, &wanted) {
-        Ok(opened) => match allowed_to_serve(alloc, opened, wanted, timer, setting.command) {
-            Ok((journal, book, timing)) => serve_on::<Brand, FileBook, O>(
-                setting,
-                nodes,
-                listening,
-                Blank::new(workers),
-                BlankHistory::new(),
-                book,
-                journal,
-                timing,
-                workers,
-                answers,
-            ),
-            Err(fault) => Err(fault),
-        },
+    let read = accounts_text(setting.rt, site, setting.accounts)?;
+    let opened = book_of(setting, &read)?;
+    let wanted = site_terms(alloc, site, &read)?;
+    drop(read);
+    match allowed_to_serve(alloc, opened, wanted, timer, setting.command) {
+        Ok((journal, book, timing)) => serve_on::<Brand, FileBook, O>(
+            setting,
+            nodes,
+            listening,
+            Blank::new(workers),
+            BlankHistory::new(),
+            book,
+            journal,
+            timing,
+            workers,
+            answers,
+        ),
+        Err(fault) => Err(fault),
+    }
+}
+
+/// The book that serves: that of the file, or where none is named an empty one under the terms of the site, with the accounts of a text,
+/// if there is one. That of a file is opened before these terms are made: so the accounts that they have do not stand in memory beside the
+/// octets of those of the book.
+fn book_of<O>(
+    setting: &Setting<'_, O>,
+    read: &AccountsText,
+) -> Result<(Journal<FileBook>, Book), Fault>
+    requires checked { IsChecked setting.now.site.now }
+    requires sound { IsSoundFor setting.now.site.now read.now }
+    ensures kept { IfOk result (λ opened. IsKeptBy ⟦<FileBook as RowStore>⟧.is_clean ⟦<FileBook as RowStore>⟧.is_ready ⟦<FileBook as RowStore>⟧.rows opened.0 opened.1) }
+    ensures settled { IfOk result (λ opened. IsSettled opened.0) }
+    ensures limit { IfOk result (λ opened. opened.1.limit ≡ setting.now.site.now.limit) }
+    ensures stored { IfOk result (λ opened. is_some opened.0.store ≡ is_some setting.now.book) }
+{
+    let (alloc, site) = (setting.rt.alloc(), setting.site);
+    let opened = match setting.book {
+        Some(path) => open_book(setting.rt, path, site.limit),
+        None => {
+            let wanted = site_terms(alloc, site, read)?;
+            serving_book(setting.rt, None, site.limit, &wanted)
+        }
+    };
+    match opened {
+        Ok(opened) => Ok(opened),
         Err(fault) => Err(Fault::Book(fault)),
     }
 }

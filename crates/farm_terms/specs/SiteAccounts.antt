@@ -1,5 +1,5 @@
 -- The accounts of a site, and of a text beside it.
-use Rattle.std.specs.Prelude.{◌≡◌, ◌==◌, ℕ, ◌-◌, ◌<◌, ◌≤◌, List, [], ◌∷◌, ◌++◌, length, take, Bool, true, false, not, ◌&&◌, ◌||◌, get_or, Some, slice_get, Ok, Err}
+use Rattle.std.specs.Prelude.{◌≡◌, ◌==◌, ℕ, ◌-◌, ◌<◌, ◌≤◌, List, [], ◌∷◌, ◌++◌, length, take, Bool, true, false, not, ◌&&◌, ◌||◌, get_or, IfSome, Some, slice_get, Ok, Err}
 use Rattle.std.specs.List.{list_any}
 use Rattle.cc_book.specs.declared.account.Account.{Account}
 use Rattle.cc_book.specs.declared.terms.Terms.{Terms}
@@ -9,6 +9,7 @@ use Rattle.farm_script.specs.AccountLines.{accounts_of, line_of_account}
 use Rattle.farm_script.specs.declared.fault.ScriptFault.TheVariants.{Line as on_line}
 use Rattle.farm_terms.specs.declared.fault.AccountsFault.{AccountsFault}
 use Rattle.farm_terms.specs.declared.fault.AccountsFault.TheVariants.{Line, Twice, CutOff, TooMany, OutOfMemory}
+use Rattle.farm_terms.specs.declared.opening.AccountsText.{AccountsText}
 
 -- the account at this place has the Subscription-Id of one before it
 pub record StandsTwiceAt (accounts : List Account) (place : ℕ) : Type 0 where
@@ -31,6 +32,10 @@ pub record AreAccountsOf (site : Site) (text : List ℕ) (accounts : List Accoun
   pub few : length read ≤ 1000000
   pub joined : accounts ≡ site.accounts ++ read
   pub once : StandOnce accounts
+
+-- a text spells accounts, each of which stands once beside those of a site
+abbrev pub AreSound : Site → List ℕ → Type 0
+AreSound site text = (accounts : List Account) × AreAccountsOf site text accounts
 
 -- ---- why a text spells none
 
@@ -67,6 +72,10 @@ terms_with site accounts = record {
   validity = site.validity;
   money = record { currency = site.currency; exponent = site.exponent };
 }
+
+-- the accounts of the text, if there is one, are sound
+abbrev pub IsSoundFor : Site → AccountsText → Type 0
+IsSoundFor site read = IfSome read.text (λ text. AreSound site text.items)
 
 -- those with the accounts of the site alone, or with those of a text behind them
 abbrev pub AreTermsOf : Site → Bool → Terms → Type 0

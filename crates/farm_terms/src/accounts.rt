@@ -4,7 +4,7 @@ ghost use Rattle.std.specs.Prelude.{◌≡◌, ◌≤◌, IfErr, IfNone, IfOk, I
 ghost use Rattle.cc_book.specs.declared.account.Account.{Account};
 ghost use Rattle.farm_base.specs.CheckedSite.{IsChecked};
 ghost use Rattle.farm_script.specs.AccountLines.{accounts_of};
-ghost use Rattle.farm_terms.specs.SiteAccounts.{AreAccountsOf, AreNoAccountsOf, IsReadFault, StandsTwiceAt, StandOnce, ends, terms_with};
+ghost use Rattle.farm_terms.specs.SiteAccounts.{AreAccountsOf, AreNoAccountsOf, AreSound, IsReadFault, StandsTwiceAt, StandOnce, ends, terms_with};
 
 use crate::fault::AccountsFault;
 use cc_book::{Account, Accounts, Money, Subscriptions, Terms};
@@ -22,7 +22,7 @@ pub fn accounts_with(alloc: Global, site: &Site, text: &[u8]) -> Result<Accounts
     ensures fault { IfErr result (AreNoAccountsOf site.now text.now) }
 {
     let read = accounts_in(alloc, text)?;
-    let accounts = joined(alloc, site, read)?;
+    let accounts = Accounts::from_vec(alloc, joined(alloc, site, read)?)?;
     match first_twice(&accounts) {
         None => Ok(accounts.into_list()),
         Some(place) => {
@@ -31,6 +31,16 @@ pub fn accounts_with(alloc: Global, site: &Site, text: &[u8]) -> Result<Accounts
             Err(AccountsFault::Twice { line })
         }
     }
+}
+
+/// The accounts of a site and, behind them, those of the lines of a text that [`accounts_with`] takes, as a list alone. None of them is
+/// looked for again, so that no memory is wanted for that.
+pub fn sound_accounts(alloc: Global, site: &Site, text: &[u8]) -> Result<Accounts, AccountsFault>
+    requires { AreSound site.now text.now }
+    ensures { IfOk result (AreAccountsOf site.now text.now) }
+{
+    let read = accounts_in(alloc, text)?;
+    Ok(Accounts::list(joined(alloc, site, read)?))
 }
 
 /// The accounts that the lines of a text spell, of which each ends.
@@ -63,13 +73,15 @@ fn is_cut_off(text: &[u8]) -> bool
 }
 
 /// The accounts of a site, and others behind them.
-fn joined(alloc: Global, site: &Site, others: Vec<Account>) -> Result<Accounts, AllocError>
-    ensures { IfOk result (λ accounts. accounts ≡ site.now.accounts ++ others.items) }
+fn joined(alloc: Global, site: &Site, others: Vec<Account>) -> Result<Vec<Account>, AllocError>
+    ensures { IfOk result (λ accounts. accounts.items ≡ site.now.accounts ++ others.items) }
 {
-    let mut accounts = site.accounts.as_slice().to_vec(alloc)?;
-    let mut others = others;
-    accounts.append(&mut others)?;
-    Accounts::from_vec(alloc, accounts)
+    let mut own = site.accounts.as_slice().to_vec(alloc)?;
+    let mut accounts = others;
+    let behind = accounts.len();
+    accounts.append(&mut own)?;
+    accounts.rotate_left(behind);
+    Ok(accounts)
 }
 
 /// The place of the first account whose Subscription-Id one before it has.

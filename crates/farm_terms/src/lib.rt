@@ -11,7 +11,8 @@
 //! - [`change_in`] reads a change, all of it or nothing, by [`farm_script`]. Each line ends an item where it pleases. What a text spells
 //!   stands in `specs/Lines`.
 //! - [`site_terms`] reads the terms that the book of a site begins with: the site's own, and the accounts of a file that its site file
-//!   names, each `account` on a line of its own ([`accounts_with`]). `specs/SiteAccounts` says which these are, and why there are none.
+//!   names, each `account` on a line of its own ([`accounts_with`]). [`accounts_text`] reads and checks that file first. `specs/SiteAccounts`
+//!   says which these are, and why there are none.
 #![tactic(auto)]
 
 ghost use Rattle.std.specs.Prelude.{◌≡◌, ◌∷◌, [], IfOk};
@@ -30,7 +31,7 @@ use farm_base::{Site, Step};
 use farm_script::{ScriptFault, steps_of};
 pub use fault::{AccountsFault, TextFault};
 use finding::line_with_fault;
-pub use opening::{SiteTermsFault, accounts_file, site_terms};
+pub use opening::{AccountsText, SiteTermsFault, accounts_file, accounts_text, site_terms};
 use std::alloc::{AllocError, Global};
 
 /// The most lines of a text.

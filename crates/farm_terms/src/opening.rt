@@ -1,10 +1,10 @@
 //! The terms that the book of a site begins with.
 
-ghost use Rattle.std.specs.Prelude.{IfOk, is_some, true};
+ghost use Rattle.std.specs.Prelude.{◌≡◌, IfOk, is_some};
 ghost use Rattle.farm_base.specs.CheckedSite.{IsChecked};
-ghost use Rattle.farm_terms.specs.SiteAccounts.{AreTermsOf};
+ghost use Rattle.farm_terms.specs.SiteAccounts.{AreTermsOf, IsSoundFor};
 
-use crate::accounts::{accounts_with, terms_with};
+use crate::accounts::{accounts_with, sound_accounts, terms_with};
 use crate::fault::AccountsFault;
 use cc_book::{Accounts, Terms};
 use farm_base::Site;
@@ -50,33 +50,39 @@ pub fn accounts_file(rt: &HostRuntime, path: &str) -> Result<Vec<u8>, SiteTermsF
     }
 }
 
-/// The terms that the book of a site begins with: its accounts and, behind them, those of the file at a path, if the site file names one.
-/// The accounts are a list alone.
-pub fn site_terms(
-    rt: &HostRuntime,
-    site: &Site,
-    accounts: Option<&str>,
-) -> Result<Terms, SiteTermsFault>
-    requires { IsChecked site.now }
-    ensures { IfOk result (AreTermsOf site.now (is_some accounts.entry)) }
-{
-    match accounts {
-        Some(path) => {
-            let text = accounts_file(rt, path)?;
-            terms_by(rt.alloc(), site, &text)
-        }
-        None => {
-            let own = site.accounts.as_slice().to_vec(rt.alloc())?;
-            Ok(terms_with(rt.alloc(), site, Accounts::list(own))?)
-        }
-    }
+/// The text of a file of accounts, each of which stands once beside those of a site. None if the site file names no file.
+#[derive(Drop)]
+pub struct AccountsText {
+    pub text: Option<Vec<u8>>,
 }
 
-/// Those of a site beside whose accounts stand those of a text.
-fn terms_by(alloc: Global, site: &Site, text: &[u8]) -> Result<Terms, SiteTermsFault>
-    requires { IsChecked site.now }
-    ensures { IfOk result (AreTermsOf site.now true) }
+/// Reads the file of accounts at a path, if the site file names one, and checks it.
+pub fn accounts_text(
+    rt: &HostRuntime,
+    site: &Site,
+    path: Option<&str>,
+) -> Result<AccountsText, SiteTermsFault>
+    ensures named { IfOk result (λ read. is_some read.text ≡ is_some path.entry) }
+    ensures sound { IfOk result (IsSoundFor site.now) }
 {
-    let accounts = accounts_with(alloc, site, text)?;
+    let Some(path) = path else {
+        return Ok(AccountsText { text: None });
+    };
+    let text = accounts_file(rt, path)?;
+    drop(accounts_with(rt.alloc(), site, &text)?);
+    Ok(AccountsText { text: Some(text) })
+}
+
+/// The terms that the book of a site begins with: its accounts and, behind them, those of a text, if there is one. The accounts are a list
+/// alone. They take memory of their own, some 90 octets each, so they are best made last.
+pub fn site_terms(alloc: Global, site: &Site, read: &AccountsText) -> Result<Terms, SiteTermsFault>
+    requires checked { IsChecked site.now }
+    requires sound { IsSoundFor site.now read.now }
+    ensures { IfOk result (AreTermsOf site.now (is_some read.now.text)) }
+{
+    let accounts = match &read.text {
+        Some(text) => sound_accounts(alloc, site, text)?,
+        None => Accounts::list(site.accounts.as_slice().to_vec(alloc)?),
+    };
     Ok(terms_with(alloc, site, accounts)?)
 }
