@@ -11,10 +11,10 @@ pub fn entry_of(row: Row) -> Entry
     ensures { result ≡ entry_of row }
 {
     let moment = row.moment;
-    match row.step {
+    match row.into_step() {
         Step::Take(taken) => Entry::Take {
             moment,
-            request: taken.request,
+            request: taken.into_request(),
         },
         Step::Sweep => Entry::Sweep { moment },
         Step::ChangeTerms(change) => Entry::ChangeTerms { moment, change },

@@ -107,7 +107,7 @@ pub fn take_octets(
         Err(ReadError::OutOfMemory) => return Err(RowRefusal::OutOfMemory),
     };
     let moment = row.moment;
-    match row.step {
+    match row.into_step() {
         Step::Take(taken) => take_request(alloc, book, before, moment, &taken.request, octets),
         Step::Sweep => take_sweep(alloc, book, before, moment, octets),
         Step::ChangeTerms(change) => take_change(alloc, book, before, moment, change, octets),

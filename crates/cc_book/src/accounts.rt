@@ -66,12 +66,22 @@ impl Account {
 }
 
 /// Accounts in order, each found by its Subscription-Id.
-#[derive(Debug, Drop)]
+#[derive(Debug)]
 pub struct Accounts {
     items: Vec<Account>,
     /// The place of the first account with each digest. A place is to be confirmed: a join that wanted memory leaves
     /// places at which no such account stands. None of a list alone.
     firsts: Option<IndexMap<u64, usize>>,
+}
+
+// By hand, so that each exit of an owner is proved with one call.
+impl Drop for Accounts {
+    fn drop(self) {
+        let Accounts {
+            items: _,
+            firsts: _,
+        } = self;
+    }
 }
 
 impl Model for Accounts {
@@ -129,14 +139,16 @@ impl Accounts {
         if self.firsts.is_some() {
             return Ok(self);
         }
-        Accounts::from_vec(alloc, self.items)
+        let Accounts { items, firsts: _ } = self;
+        Accounts::from_vec(alloc, items)
     }
 
     /// The same as a list alone, which takes less memory.
     pub fn into_list(self) -> Self
         ensures { result ≡ self }
     {
-        Accounts::list(self.items)
+        let Accounts { items, firsts: _ } = self;
+        Accounts::list(items)
     }
 
     /// The accounts themselves.

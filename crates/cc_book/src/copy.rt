@@ -10,11 +10,22 @@ use std::marker::Model;
 
 /// A copy of a request, and two more of its Session-Id: the entry keeps the one, the places of requests and the open
 /// sessions the others, where they do not know it yet.
-#[derive(Debug, Drop)]
+#[derive(Debug)]
 pub struct RequestCopy {
     request: CcRequest,
     session: Octets,
     opened: Octets,
+}
+
+// By hand, so that each exit of an owner is proved with one call.
+impl Drop for RequestCopy {
+    fn drop(self) {
+        let RequestCopy {
+            request: _,
+            session: _,
+            opened: _,
+        } = self;
+    }
 }
 
 impl Model for RequestCopy {
@@ -46,7 +57,12 @@ impl RequestCopy {
         ensures session { result.1 ≡ self.session }
         ensures opened { result.2 ≡ self.session }
     {
-        (self.request, self.session, self.opened)
+        let RequestCopy {
+            request,
+            session,
+            opened,
+        } = self;
+        (request, session, opened)
     }
 }
 

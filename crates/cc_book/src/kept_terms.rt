@@ -13,7 +13,7 @@ use std::marker::Model;
 
 /// The terms that a book began with, and those that hold now. Both have one list of accounts, since accounts only join
 /// behind others.
-#[derive(Debug, Drop)]
+#[derive(Debug)]
 pub struct KeptTerms {
     current: Terms,
     /// How many accounts there were at first.
@@ -21,6 +21,18 @@ pub struct KeptTerms {
     /// Those that were closed at first.
     first_closed: Subscriptions,
     first_tariffs: Tariffs,
+}
+
+// By hand, so that each exit of an owner is proved with one call.
+impl Drop for KeptTerms {
+    fn drop(self) {
+        let KeptTerms {
+            current: _,
+            first_accounts: _,
+            first_closed: _,
+            first_tariffs: _,
+        } = self;
+    }
 }
 
 impl Model for KeptTerms {

@@ -15,11 +15,21 @@ use std::marker::Model;
 
 /// The sessions that are open, in the order in which they opened. Each is found by its Session-Id, and what they hold
 /// of an account is kept as a total, so that neither takes a walk.
-#[derive(Debug, Drop)]
+#[derive(Debug)]
 pub struct OpenSessions {
     sessions: IndexMap<Octets, OpenSession>,
     /// What they hold of each account.
     totals: Vec<u128>,
+}
+
+// By hand, so that each exit of an owner is proved with one call.
+impl Drop for OpenSessions {
+    fn drop(self) {
+        let OpenSessions {
+            sessions: _,
+            totals: _,
+        } = self;
+    }
 }
 
 impl Model for OpenSessions {

@@ -10,12 +10,22 @@ use dia_base::Moment;
 /// What a request does to a book, found out before anything changes: what it is answered and, where the book does
 /// not keep it yet, the entry that it becomes with all that follows from it. It owns what the book keeps of it. It is
 /// good for the history that it was made of, and so for one commit.
-#[derive(Debug, Drop)]
+#[derive(Debug)]
 pub struct Plan {
     /// What the request is answered.
     pub answered: Answered,
     /// None where the book keeps the request already.
     pub taken: Option<Taken>,
+}
+
+// By hand, so that each exit of an owner is proved with one call.
+impl Drop for Plan {
+    fn drop(self) {
+        let Plan {
+            answered: _,
+            taken: _,
+        } = self;
+    }
 }
 
 /// A request that the book does not keep yet, and what it does.
@@ -40,6 +50,15 @@ impl Plan {
     pub fn into_answered(self) -> Answered
         ensures { result ≡ answer_planned self }
     {
-        self.answered
+        let (answered, _taken) = self.into_parts();
+        answered
+    }
+
+    /// What the request is answered, and what it does.
+    pub(crate) fn into_parts(self) -> (Answered, Option<Taken>)
+        ensures { result ≡ (self.answered, self.taken) }
+    {
+        let Plan { answered, taken } = self;
+        (answered, taken)
     }
 }

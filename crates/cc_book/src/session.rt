@@ -18,7 +18,7 @@ pub struct Hold {
 }
 
 /// A session that is open.
-#[derive(Debug, Drop)]
+#[derive(Debug)]
 pub struct OpenSession {
     /// Its Session-Id.
     pub id: Octets,
@@ -30,6 +30,19 @@ pub struct OpenSession {
     pub holds: Listing<Hold>,
     /// The tariffs at which its services were last granted.
     pub prices: Prices,
+}
+
+// By hand, so that each exit of an owner is proved with one call.
+impl Drop for OpenSession {
+    fn drop(self) {
+        let OpenSession {
+            id: _,
+            account: _,
+            last: _,
+            holds: _,
+            prices: _,
+        } = self;
+    }
 }
 
 impl OpenSession {

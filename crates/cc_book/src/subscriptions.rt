@@ -12,10 +12,17 @@ use std::alloc::{AllocError, Global};
 use std::marker::Model;
 
 /// Subscription-Ids in order.
-#[derive(Debug, Drop)]
+#[derive(Debug)]
 pub struct Subscriptions {
     items: Vec<Subscription>,
     known: IndexSet<Subscription>,
+}
+
+// By hand, so that each exit of an owner is proved with one call.
+impl Drop for Subscriptions {
+    fn drop(self) {
+        let Subscriptions { items: _, known: _ } = self;
+    }
 }
 
 impl Model for Subscriptions {

@@ -16,7 +16,7 @@ use std::alloc::{AllocError, Global};
 use thiserror::Error;
 
 /// What changes of the terms, from the place of its entry on. Validity-Time and money stay what the book began with.
-#[derive(Debug, Drop)]
+#[derive(Debug)]
 pub struct TermsChange {
     /// The accounts that join, behind those that are there.
     pub joining: Accounts,
@@ -27,6 +27,18 @@ pub struct TermsChange {
     pub reopening: Listing<Subscription>,
     /// The tariffs that hold from now on, all of them. None where those stay that hold.
     pub tariffs: Option<Tariffs>,
+}
+
+// By hand, so that each exit of an owner is proved with one call.
+impl Drop for TermsChange {
+    fn drop(self) {
+        let TermsChange {
+            joining: _,
+            closing: _,
+            reopening: _,
+            tariffs: _,
+        } = self;
+    }
 }
 
 /// Why the book does not change its terms. It is unchanged then.
@@ -108,11 +120,17 @@ impl TermsChange {
     pub fn into_list(self) -> TermsChange
         ensures { result ≡ self }
     {
+        let TermsChange {
+            joining,
+            closing,
+            reopening,
+            tariffs,
+        } = self;
         TermsChange {
-            joining: self.joining.into_list(),
-            closing: self.closing,
-            reopening: self.reopening,
-            tariffs: self.tariffs,
+            joining: joining.into_list(),
+            closing,
+            reopening,
+            tariffs,
         }
     }
 

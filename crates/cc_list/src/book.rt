@@ -173,7 +173,9 @@ impl ListBook {
         ensures answer { result ≡ answer_planned plan }
         ensures after { self.new ≡ after_plan self.old plan }
     {
-        let Plan { answered, taken } = plan;
+        let mut plan = plan;
+        let taken = plan.taken.take();
+        let answered = plan.into_answered();
         let Some(taken) = taken else {
             return answered;
         };

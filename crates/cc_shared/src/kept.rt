@@ -24,7 +24,6 @@ use std::sync::ledger::Share;
 
 /// An open book ([`OpenBook`]) of which nothing waits to be stored: what is stored is its whole history. Contracts see its history
 /// since it is shared.
-#[derive(Drop)]
 pub struct KeptBook<L: Sharing, S: RowStore> {
     pub book: Book,
     pub takes: u64,
@@ -32,6 +31,20 @@ pub struct KeptBook<L: Sharing, S: RowStore> {
     pub rest: Share<L>,
     pub seen: Beginning<L>,
     pub journal: Journal<S>,
+}
+
+// By hand, so that each exit of an owner is proved with one call.
+impl<L: Sharing, S: RowStore + Drop> Drop for KeptBook<L, S> {
+    fn drop(self) {
+        let KeptBook {
+            book: _,
+            takes: _,
+            counted: _,
+            rest: _,
+            seen: _,
+            journal: _,
+        } = self;
+    }
 }
 
 impl<L: Sharing, S: RowStore> Model for KeptBook<L, S> {

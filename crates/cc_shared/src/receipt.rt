@@ -8,7 +8,6 @@ use cc_view::{CcReply, CcRequest};
 
 /// The book's answer to a request, with the request. It carries a beginning of the book's one history, in which it stands at its
 /// place.
-#[derive(Drop)]
 pub struct Receipt {
     pub request: CcRequest,
     pub reply: CcReply,
@@ -19,6 +18,19 @@ pub struct Receipt {
     pub fresh: bool,
     /// What was seen of the history as it was handed out. It takes no octets.
     pub seen: SeenHistory,
+}
+
+// By hand, so that each exit of an owner is proved with one call.
+impl Drop for Receipt {
+    fn drop(self) {
+        let Receipt {
+            request: _,
+            reply: _,
+            place: _,
+            fresh: _,
+            seen: _,
+        } = self;
+    }
 }
 
 impl Receipt {

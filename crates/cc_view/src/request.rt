@@ -124,7 +124,7 @@ impl Clone for Services {
 }
 
 /// What a request asks: all that decides what is charged and answered.
-#[derive(Debug, Drop)]
+#[derive(Debug)]
 pub struct CcRequest {
     /// Session-Id.
     pub session: Octets,
@@ -136,6 +136,20 @@ pub struct CcRequest {
     pub action: Option<RequestedAction>,
     pub subscriptions: Listing<Subscription>,
     pub services: Services,
+}
+
+// By hand, so that each exit of an owner is proved with one call.
+impl Drop for CcRequest {
+    fn drop(self) {
+        let CcRequest {
+            session: _,
+            number: _,
+            kind: _,
+            action: _,
+            subscriptions: _,
+            services: _,
+        } = self;
+    }
 }
 
 impl Clone for CcRequest {

@@ -11,12 +11,23 @@ use dia_grammar::{SiteProfile, Tolerance};
 use std::alloc::AllocError;
 
 /// A node. Its number is its place in the list of nodes.
-#[derive(Debug, Drop)]
+#[derive(Debug)]
 pub struct Node {
     pub name: Identity,
     pub kind: NodeKind,
     /// Where it listens, as `127.0.0.1:3868`.
     pub address: Option<Octets>,
+}
+
+// By hand, so that each exit of an owner is proved with one call.
+impl Drop for Node {
+    fn drop(self) {
+        let Node {
+            name: _,
+            kind: _,
+            address: _,
+        } = self;
+    }
 }
 
 /// A link: the first connects to the second.
@@ -37,7 +48,7 @@ pub struct Route {
 }
 
 /// A site.
-#[derive(Debug, Drop)]
+#[derive(Debug)]
 pub struct Site {
     /// The Origin-Realm of each relay and front.
     pub realm: Identity,
@@ -68,6 +79,31 @@ pub struct Site {
     pub routes: Listing<Route>,
     pub tariffs: Listing<Tariff>,
     pub accounts: Listing<Account>,
+}
+
+// By hand, so that each exit of an owner is proved with one call.
+impl Drop for Site {
+    fn drop(self) {
+        let Site {
+            realm: _,
+            validity: _,
+            limit: _,
+            workers: _,
+            queue: _,
+            vendors: _,
+            known: _,
+            tolerate: _,
+            advertise: _,
+            currency: _,
+            exponent: _,
+            watchdog: _,
+            nodes: _,
+            links: _,
+            routes: _,
+            tariffs: _,
+            accounts: _,
+        } = self;
+    }
 }
 
 impl Site {

@@ -60,7 +60,6 @@ struct Unread {
 }
 
 /// A process that is nodes of a site: its sockets, and the node with its connections.
-#[derive(Drop)]
 pub struct Live<N> {
     alloc: Global,
     pub serving: Served<N>,
@@ -80,6 +79,27 @@ pub struct Live<N> {
     dropped: u64,
     timer: Timer,
     interval: u32,
+}
+
+// By hand, so that each exit of an owner is proved with one call.
+impl<N: Drop> Drop for Live<N> {
+    fn drop(self) {
+        let Live {
+            alloc: _,
+            serving: _,
+            sockets: _,
+            dials: _,
+            addresses: _,
+            listens: _,
+            again: _,
+            later: _,
+            outgoing: _,
+            limits: _,
+            dropped: _,
+            timer: _,
+            interval: _,
+        } = self;
+    }
 }
 
 /// The connections that the nodes of a process make.

@@ -43,7 +43,6 @@ struct Caller {
 }
 
 /// Where a process says what it does. It is looked at a few times in a second, and never waits for anybody.
-#[derive(Drop)]
 pub struct StatusPort {
     alloc: Global,
     listener: TcpListener,
@@ -55,6 +54,23 @@ pub struct StatusPort {
     looked: Moment,
     /// Since when it is asked to end.
     asked: Option<Moment>,
+}
+
+// By hand, so that each exit of an owner is proved with one call.
+impl Drop for StatusPort {
+    fn drop(self) {
+        let StatusPort {
+            alloc: _,
+            listener: _,
+            keys: _,
+            token: _,
+            callers: _,
+            timer: _,
+            began: _,
+            looked: _,
+            asked: _,
+        } = self;
+    }
 }
 
 /// What a connection has asked for, by who has shown the token.

@@ -70,7 +70,6 @@ pub struct Ready {
 }
 
 /// The sockets of a process, and what the system reports of them.
-#[derive(Drop)]
 pub struct Sockets {
     poll: Poll,
     events: Events,
@@ -79,6 +78,19 @@ pub struct Sockets {
     pub ready: Vec<Ready>,
     /// What is read.
     pub piece: Vec<u8>,
+}
+
+// By hand, so that each exit of an owner is proved with one call.
+impl Drop for Sockets {
+    fn drop(self) {
+        let Sockets {
+            poll: _,
+            events: _,
+            listeners: _,
+            ready: _,
+            piece: _,
+        } = self;
+    }
 }
 
 /// The token of the waker, which no connection has: their numbers begin with 1.

@@ -46,7 +46,7 @@ pub struct Received {
 ///
 /// A call tells that the connection is lost at most once, and no call after it reads, writes or tells
 /// anything. What is not ready is no loss: the turn ends, and the next one goes on.
-#[derive(Debug, Drop)]
+#[derive(Debug)]
 pub struct Conn<R, W> {
     alloc: Global,
     reader: R,
@@ -54,6 +54,20 @@ pub struct Conn<R, W> {
     frames: Frames,
     outbox: BytesMut,
     stage: Stage,
+}
+
+// By hand, so that each exit of an owner is proved with one call.
+impl<R: Drop, W: Drop> Drop for Conn<R, W> {
+    fn drop(self) {
+        let Conn {
+            alloc: _,
+            reader: _,
+            writer: _,
+            frames: _,
+            outbox: _,
+            stage: _,
+        } = self;
+    }
 }
 
 impl<R, W> Model for Conn<R, W> {

@@ -45,7 +45,6 @@ fn push_if(
 }
 
 /// The farm of a site between two steps, and the lines of the steps so far, where they are asked for.
-#[derive(Drop)]
 pub struct PlayedFarm<'s> {
     alloc: Global,
     site: &'s Site,
@@ -57,6 +56,21 @@ pub struct PlayedFarm<'s> {
     lines: Vec<u8>,
     /// No memory was missing in the middle of a step. What is known of the farm is known only then.
     is_whole: bool,
+}
+
+// By hand, so that each exit of an owner is proved with one call.
+impl<'s> Drop for PlayedFarm<'s> {
+    fn drop(self) {
+        let PlayedFarm {
+            alloc: _,
+            site: _,
+            world: _,
+            steps: _,
+            prints: _,
+            lines: _,
+            is_whole: _,
+        } = self;
+    }
 }
 
 impl<'s> Model for PlayedFarm<'s> {

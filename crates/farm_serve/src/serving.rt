@@ -26,10 +26,17 @@ pub const UNKNOWN_LIMIT: usize = 64;
 
 /// A node with its connections over any readers and writers: what they bring the node is told, and what it says is
 /// sent. The node may be several of the site, as all its fronts over one book are.
-#[derive(Debug, Drop)]
+#[derive(Debug)]
 pub struct Serving<N, R, W> {
     desk: Desk<N, R, W>,
     locals: Vec<LocalNode>,
+}
+
+// By hand, so that each exit of an owner is proved with one call.
+impl<N: Drop, R: Drop, W: Drop> Drop for Serving<N, R, W> {
+    fn drop(self) {
+        let Serving { desk: _, locals: _ } = self;
+    }
 }
 
 /// Whether the connection was made by others, and no node was ever up on it.

@@ -53,7 +53,7 @@ pub enum Goodbyes {
 }
 
 /// What a node knows of itself and of its neighbours, for all of its connections.
-#[derive(Debug, Drop)]
+#[derive(Debug)]
 pub struct WatchSite {
     /// Origin-Host of what it writes.
     pub name: Identity,
@@ -71,6 +71,23 @@ pub struct WatchSite {
     pub goodbyes: Goodbyes,
     /// Its Origin-State-Id, if it tells one: another one says that its sessions were lost (RFC 6733, section 8.16).
     pub state: Option<u32>,
+}
+
+// By hand, so that each exit of an owner is proved with one call.
+impl Drop for WatchSite {
+    fn drop(self) {
+        let WatchSite {
+            name: _,
+            realm: _,
+            address: _,
+            application: _,
+            advertised: _,
+            neighbours: _,
+            interval: _,
+            goodbyes: _,
+            state: _,
+        } = self;
+    }
 }
 
 /// The side of a connection that a node is on.

@@ -23,12 +23,13 @@ pub struct RunError {
 fn trace_of(world: World, skipped: u64) -> Trace
     ensures { result ≡ trace_of skipped world }
 {
+    let (sent, received, book, ends) = world.into_parts();
     Trace {
-        sent: Listing::from_vec(world.sent),
-        received: Listing::from_vec(world.received),
-        book: world.book,
+        sent: Listing::from_vec(sent),
+        received: Listing::from_vec(received),
+        book,
         skipped,
-        ends: Listing::from_vec(world.ends),
+        ends: Listing::from_vec(ends),
     }
 }
 

@@ -12,7 +12,7 @@ use farm_model::{Direction, FrontAt, RelayAt};
 use std::marker::Model;
 
 /// The farm. [`World::open`] makes it, [`World::step`] takes it from one step to the next.
-#[derive(Debug, Drop)]
+#[derive(Debug)]
 pub struct World {
     /// For each connection those to a node that has not dropped it.
     pub(crate) directions: Vec<Direction>,
@@ -25,6 +25,21 @@ pub struct World {
     pub(crate) received: Vec<(ConnId, Message)>,
     /// The two nodes of each connection that was made. Connections are numbered from 1.
     pub(crate) ends: Vec<(NodeNo, NodeNo)>,
+}
+
+// By hand, so that each exit of an owner is proved with one call.
+impl Drop for World {
+    fn drop(self) {
+        let World {
+            directions: _,
+            fronts: _,
+            relays: _,
+            book: _,
+            sent: _,
+            received: _,
+            ends: _,
+        } = self;
+    }
 }
 
 impl Model for World {
@@ -58,6 +73,32 @@ impl World {
         ensures { self.new ≡ record self.old { relays = with_start_of_relay node (start % 2 ^ 31) self.old.relays (relay_at node self.old.relays) } }
     {
         number_from(&mut self.relays, node, start);
+    }
+
+    /// What clients have sent and received, the book, and the nodes of each connection.
+    pub(crate) fn into_parts(
+        self,
+    ) -> (
+        Vec<(ConnId, Message)>,
+        Vec<(ConnId, Message)>,
+        Book,
+        Vec<(NodeNo, NodeNo)>,
+    )
+        ensures sent { result.0.items ≡ self.sent }
+        ensures received { result.1.items ≡ self.received }
+        ensures book { result.2 ≡ self.book }
+        ensures ends { result.3.items ≡ self.ends }
+    {
+        let World {
+            directions: _,
+            fronts: _,
+            relays: _,
+            book,
+            sent,
+            received,
+            ends,
+        } = self;
+        (sent, received, book, ends)
     }
 
     /// The account book, which all fronts share.

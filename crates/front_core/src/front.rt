@@ -21,12 +21,24 @@ use std::collections::VecDeque;
 use std::marker::Model;
 
 /// A front node.
-#[derive(Debug, Drop)]
+#[derive(Debug)]
 pub struct Front {
     site: FrontSite,
     connections: Vec<ConnId>,
     queue: VecDeque<Job>,
     workers: Vec<Worker>,
+}
+
+// By hand, so that each exit of an owner is proved with one call.
+impl Drop for Front {
+    fn drop(self) {
+        let Front {
+            site: _,
+            connections: _,
+            queue: _,
+            workers: _,
+        } = self;
+    }
 }
 
 impl Model for Front {

@@ -33,7 +33,6 @@ const NOT_YET: u64 = 1;
 /// Worker threads on one shared book. Contracts see how many there are, how many jobs may wait for them, the last number given,
 /// the jobs that were handed over and not collected, and all that it has put into its queue of jobs and taken out of that of
 /// finished ones.
-#[derive(Drop)]
 pub struct Pool<L: Pooling> {
     front: NodeNo,
     jobs: Arc<JobQueue>,
@@ -49,6 +48,26 @@ pub struct Pool<L: Pooling> {
     unanswered: Vec<Job>,
     /// Empty, with room for each job that is not collected.
     room: Vec<Finished>,
+}
+
+// By hand, so that each exit of an owner is proved with one call.
+impl<L: Pooling> Drop for Pool<L> {
+    fn drop(self) {
+        let Pool {
+            front: _,
+            jobs: _,
+            job_pass: _,
+            finished: _,
+            finished_pass: _,
+            control: _,
+            workers: _,
+            seats: _,
+            last: _,
+            strangers: _,
+            unanswered: _,
+            room: _,
+        } = self;
+    }
 }
 
 impl<L: Pooling> Model for Pool<L> {

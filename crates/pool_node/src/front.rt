@@ -19,12 +19,23 @@ use std::sync::Wait;
 use std::thread::Threads;
 
 /// A front with worker threads of its own.
-#[derive(Drop)]
 pub struct PoolFront<L: Pooling> {
     node: NodeNo,
     site: PoolSite,
     connections: Vec<ConnId>,
     pool: Pool<L>,
+}
+
+// By hand, so that each exit of an owner is proved with one call.
+impl<L: Pooling> Drop for PoolFront<L> {
+    fn drop(self) {
+        let PoolFront {
+            node: _,
+            site: _,
+            connections: _,
+            pool: _,
+        } = self;
+    }
 }
 
 impl<L: Pooling> Model for PoolFront<L> {

@@ -35,13 +35,25 @@ pub const COLLECT_OCTETS: usize = 262_144;
 
 /// All fronts of a site in one process, on one book, each with workers of its own. `S` is what the book is stored in, `R` what
 /// their threads run on. It waits neither for the book's lock nor for a disk: workers charge, and a sweeper sweeps.
-#[derive(Drop)]
 pub struct PoolFronts<L: Pooling, S: RowStore, R> {
     rt: R,
     shared: SharedBook<L, S>,
     sweeper: Sweeper<L>,
     fronts: Vec<PoolFront<L>>,
     book: Booked,
+}
+
+// By hand, so that each exit of an owner is proved with one call.
+impl<L: Pooling, S: RowStore + Drop, R: Drop> Drop for PoolFronts<L, S, R> {
+    fn drop(self) {
+        let PoolFronts {
+            rt: _,
+            shared: _,
+            sweeper: _,
+            fronts: _,
+            book: _,
+        } = self;
+    }
 }
 
 impl<L: Pooling, S: RowStore, R> Model for PoolFronts<L, S, R> {

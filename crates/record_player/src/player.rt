@@ -20,7 +20,6 @@ use record_state::{BookOrder, Connections, Fronts};
 use std::alloc::{AllocError, Global};
 
 /// The farm that plays, and what was read of the records and is about connections, requests and the book.
-#[derive(Drop)]
 pub struct Player<'s> {
     alloc: Global,
     farm: PlayedFarm<'s>,
@@ -31,6 +30,21 @@ pub struct Player<'s> {
     recorded: Vec<NodeNo>,
     /// The relays of which the start of their identifiers is known since they began.
     numbered: Vec<NodeNo>,
+}
+
+// By hand, so that each exit of an owner is proved with one call.
+impl<'s> Drop for Player<'s> {
+    fn drop(self) {
+        let Player {
+            alloc: _,
+            farm: _,
+            connections: _,
+            fronts: _,
+            book: _,
+            recorded: _,
+            numbered: _,
+        } = self;
+    }
 }
 
 /// The kind of a node.

@@ -27,7 +27,7 @@ pub enum Action {
 }
 
 /// An event of a node on a connection.
-#[derive(Debug, Drop)]
+#[derive(Debug)]
 pub struct NodeEvent {
     pub position: Position,
     pub end: End,
@@ -40,6 +40,20 @@ pub struct NodeEvent {
     pub request: Option<u64>,
 }
 
+// By hand, so that each exit of an owner is proved with one call.
+impl Drop for NodeEvent {
+    fn drop(self) {
+        let NodeEvent {
+            position: _,
+            end: _,
+            action: _,
+            sent: _,
+            is_last: _,
+            request: _,
+        } = self;
+    }
+}
+
 impl NodeEvent {
     /// Whether a message came.
     pub fn is_received(&self) -> bool {
@@ -48,7 +62,7 @@ impl NodeEvent {
 }
 
 /// What a line tells of a request that a worker has finished.
-#[derive(Debug, Drop)]
+#[derive(Debug)]
 pub struct Finished {
     pub position: Position,
     /// The end of the connection that the request came on.
@@ -63,6 +77,23 @@ pub struct Finished {
     pub was_posted: bool,
     /// How many requests were told before this line.
     pub requests_before: u64,
+}
+
+// By hand, so that each exit of an owner is proved with one call.
+impl Drop for Finished {
+    fn drop(self) {
+        let Finished {
+            position: _,
+            end: _,
+            request: _,
+            moment: _,
+            place: _,
+            is_new: _,
+            answer: _,
+            was_posted: _,
+            requests_before: _,
+        } = self;
+    }
 }
 
 /// A sweep that has ended so many sessions.

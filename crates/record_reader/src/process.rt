@@ -32,7 +32,6 @@ struct JobCount {
 }
 
 /// The process that writes a record.
-#[derive(Drop)]
 pub struct Process {
     /// Its nodes; none before it has begun.
     nodes: Vec<NodeNo>,
@@ -40,6 +39,18 @@ pub struct Process {
     /// The requests of which no line tells yet what became of them.
     jobs: Vec<Job>,
     counts: Vec<JobCount>,
+}
+
+// By hand, so that each exit of an owner is proved with one call.
+impl Drop for Process {
+    fn drop(self) {
+        let Process {
+            nodes: _,
+            standing: _,
+            jobs: _,
+            counts: _,
+        } = self;
+    }
 }
 
 impl Process {

@@ -5,7 +5,6 @@ use std::alloc::{AllocError, Global};
 use std::collections::VecDeque;
 
 /// What was told of the book and is not played.
-#[derive(Drop)]
 pub struct BookOrder {
     /// The place of the next entry of the book.
     place: u64,
@@ -14,6 +13,18 @@ pub struct BookOrder {
     /// Requests of which the book has the first already or will have it, and those that were answered without it.
     repeats: Vec<Finished>,
     sweeps: VecDeque<Sweep>,
+}
+
+// By hand, so that each exit of an owner is proved with one call.
+impl Drop for BookOrder {
+    fn drop(self) {
+        let BookOrder {
+            place: _,
+            charges: _,
+            repeats: _,
+            sweeps: _,
+        } = self;
+    }
 }
 
 /// How many requests were told before the first line that tells of one at this place or a later one.

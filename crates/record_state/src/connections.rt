@@ -74,11 +74,21 @@ impl Established {
 }
 
 /// All ends of connections that the records tell of, and the connections that stand.
-#[derive(Drop)]
 pub struct Connections {
     alloc: Global,
     told: Vec<Told>,
     established: Vec<Established>,
+}
+
+// By hand, so that each exit of an owner is proved with one call.
+impl Drop for Connections {
+    fn drop(self) {
+        let Connections {
+            alloc: _,
+            told: _,
+            established: _,
+        } = self;
+    }
 }
 
 impl Connections {

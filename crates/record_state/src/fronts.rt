@@ -89,12 +89,22 @@ impl FrontWork {
 }
 
 /// All fronts, and the requests of them that are not charged.
-#[derive(Drop)]
 pub struct Fronts {
     fronts: Vec<FrontWork>,
     requests: Vec<Request>,
     /// The fronts of which a worker is wanted, and none is idle.
     starved: Vec<NodeNo>,
+}
+
+// By hand, so that each exit of an owner is proved with one call.
+impl Drop for Fronts {
+    fn drop(self) {
+        let Fronts {
+            fronts: _,
+            requests: _,
+            starved: _,
+        } = self;
+    }
 }
 
 impl Fronts {

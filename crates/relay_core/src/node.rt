@@ -51,12 +51,24 @@ fn copied_routes(alloc: Global, routes: &[Route]) -> Result<Listing<Route>, Allo
 
 /// A relay but for its pending requests: itself, its peers with the connections of those that are up, and
 /// its routes (RFC 6733, sections 2.6 and 2.7).
-#[derive(Debug, Drop)]
+#[derive(Debug)]
 pub struct RelayNode {
     pub name: Identity,
     pub realm: Identity,
     pub peers: Peers,
     pub routes: Routes,
+}
+
+// By hand, so that each exit of an owner is proved with one call.
+impl Drop for RelayNode {
+    fn drop(self) {
+        let RelayNode {
+            name: _,
+            realm: _,
+            peers: _,
+            routes: _,
+        } = self;
+    }
 }
 
 impl RelayNode {

@@ -26,10 +26,20 @@ use std::marker::Model;
 
 /// A relay: itself with its peers and routes, and the requests that it has sent and that are not answered
 /// (RFC 6733, section 2.8.1).
-#[derive(Debug, Drop)]
+#[derive(Debug)]
 pub struct Relay {
     node: RelayNode,
     pending: Pending,
+}
+
+// By hand, so that each exit of an owner is proved with one call.
+impl Drop for Relay {
+    fn drop(self) {
+        let Relay {
+            node: _,
+            pending: _,
+        } = self;
+    }
 }
 
 impl Model for Relay {

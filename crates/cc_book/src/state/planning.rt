@@ -72,7 +72,7 @@ impl BookState {
         ensures answer { result ≡ answer_planned plan }
         ensures after { self.new ≡ after_plan self.old plan }
     {
-        let Plan { answered, taken } = plan;
+        let (answered, taken) = plan.into_parts();
         let Some(taken) = taken else {
             return answered;
         };
