@@ -2,142 +2,141 @@
 
 ghost use Rattle.std.specs.Prelude.{◌≡◌, ◌∷◌, [], codes, false, IfOk};
 ghost use Rattle.clap.specs.declared.builder.command.Command.TheViews.{out-Command as fields_of};
-ghost use Rattle.clap.specs.Simple.{with_rule, with_subcommand};
+ghost use Rattle.clap.specs.Simple.{new_app, with_rule, with_subcommand};
+ghost use Rattle.clap.specs.Walk.{rule_of};
 ghost use Rattle.clap.specs.Words.{app_of};
-ghost use Rattle.farm_command.specs.CommandLine.{command_line, line_of, flag_named, operands_named, option_named, program, records_rule, skipped_option, with_lines, with_options};
+ghost use Rattle.farm_command.specs.CommandLine.{command_line, line_of, program, records_rule, skipped_option, with_lines, with_options};
+ghost use Rattle.farm_command.specs.Pieces.{rule_of_piece, with_pieces};
 ghost use Rattle.farm_command.specs.declared.word.Word.TheVariants as word;
 ghost use Rattle.farm_command.specs.declared.subcommand.Subcommand.TheVariants as sub;
 
 use crate::subcommand::Subcommand;
+use crate::word::Word;
 use clap::{Arg, ArgAction, Command as Line};
 use std::alloc::{AllocError, Global};
 
-/// The line with one more option.
-fn with_option<'a>(
-    line: Line<'a>,
-    alloc: Global,
-    id: &'a str,
-    value_name: &'a str,
-    help: &'a str,
-) -> Result<Line<'a>, AllocError>
-    ensures shape { (fields_of line.entry).has_globals ≡ false →
-        IfOk result (λ made. app_of made
-        ≡ with_rule (app_of line.entry) (option_named id.entry.now)) }
-    ensures local { (fields_of line.entry).has_globals ≡ false →
-        IfOk result (λ made. (fields_of made).has_globals ≡ false) }
-{
-    let option = Arg::new(alloc, id)
-        .long(id)
-        .value_name(value_name)
-        .help(help);
-    line.arg(option)
+/// What a subcommand takes, with what help says of it.
+#[derive(Clone, Copy)]
+enum Piece {
+    /// `--NAME VALUE`.
+    Option {
+        word: Word,
+        help: &'static str,
+    },
+    /// `--NAME`.
+    Flag {
+        name: &'static str,
+        help: &'static str,
+    },
+    /// As many operands as there are.
+    Operands {
+        word: Word,
+        help: &'static str,
+    },
 }
 
-/// The line with one more flag.
-fn with_flag<'a>(
-    line: Line<'a>,
-    alloc: Global,
-    name: &'a str,
-    help: &'a str,
-) -> Result<Line<'a>, AllocError>
-    ensures shape { (fields_of line.entry).has_globals ≡ false →
-        IfOk result (λ made. app_of made ≡ with_rule (app_of line.entry) (flag_named name.entry.now)) }
-    ensures local { (fields_of line.entry).has_globals ≡ false →
-        IfOk result (λ made. (fields_of made).has_globals ≡ false) }
+const SITE: Piece = Piece::Option {
+    word: Word::Site,
+    help: "The site file",
+};
+
+const ANY_SITE: Piece = Piece::Option {
+    word: Word::Site,
+    help: "The site file; without it the run is over the row site",
+};
+
+const ANSWERS: Piece = Piece::Option {
+    word: Word::Answers,
+    help: "Ends when so many answers were sent; 0, the default, for never",
+};
+
+const STATUS: Piece = Piece::Option {
+    word: Word::Status,
+    help: "Says there what it does, over HTTP: PORT, of this machine alone, or ADDRESS:PORT",
+};
+
+const TOKEN: Piece = Piece::Option {
+    word: Word::Token,
+    help: "The token that farm stop shows; it is made where the file is not there",
+};
+
+const RECORD: Piece = Piece::Option {
+    word: Word::Record,
+    help: "Writes down what happens, behind what the file has: farm audit plays it",
+};
+
+const LOG: Piece = Piece::Option {
+    word: Word::Log,
+    help: "What is told on standard error: off, error, warn, info (the default) or debug",
+};
+
+const LOG_FORMAT: Piece = Piece::Option {
+    word: Word::LogFormat,
+    help: "How that is spelled: text (the default), or logfmt, as key=value",
+};
+
+/// The argument of a piece.
+fn arg_of<'a>(alloc: Global, piece: Piece) -> Arg<'a>
+    ensures rule { rule_of result ≡ rule_of_piece piece }
+    ensures local { result.global ≡ false }
 {
-    let flag = Arg::new(alloc, name)
-        .long(name)
-        .action(ArgAction::SetTrue)
-        .help(help);
-    line.arg(flag)
+    match piece {
+        Piece::Option { word, help } => Arg::new(alloc, word.id())
+            .long(word.id())
+            .value_name(word.value_name())
+            .help(help),
+        Piece::Flag { name, help } => Arg::new(alloc, name)
+            .long(name)
+            .action(ArgAction::SetTrue)
+            .help(help),
+        Piece::Operands { word, help } => Arg::new(alloc, word.id())
+            .action(ArgAction::Append)
+            .value_name(word.value_name())
+            .help(help),
+    }
 }
 
-/// The line with operands.
-fn with_operands<'a>(
-    line: Line<'a>,
-    alloc: Global,
-    id: &'a str,
-    value_name: &'a str,
-    help: &'a str,
-) -> Result<Line<'a>, AllocError>
-    ensures shape { (fields_of line.entry).has_globals ≡ false →
-        IfOk result (λ made. app_of made
-        ≡ with_rule (app_of line.entry) (operands_named id.entry.now)) }
-    ensures local { (fields_of line.entry).has_globals ≡ false →
-        IfOk result (λ made. (fields_of made).has_globals ≡ false) }
+/// The line with one piece more.
+fn with_piece<'a>(line: Line<'a>, alloc: Global, piece: Piece) -> Result<Line<'a>, AllocError>
+    requires { (fields_of line).has_globals ≡ false }
+    ensures shape { IfOk result (λ made. app_of made ≡ with_rule (app_of line.entry) (rule_of_piece piece)) }
+    ensures local { IfOk result (λ made. (fields_of made).has_globals ≡ false) }
 {
-    let operands = Arg::new(alloc, id)
-        .action(ArgAction::Append)
-        .value_name(value_name)
-        .help(help);
-    line.arg(operands)
+    line.arg(arg_of(alloc, piece))
+}
+
+/// The line of a subcommand that takes these pieces, in their order.
+fn line_with<'a>(
+    alloc: Global,
+    name: &'static str,
+    about: &'static str,
+    pieces: &[Piece],
+) -> Result<Line<'a>, AllocError>
+    ensures shape { IfOk result (λ line. app_of line ≡ with_pieces (new_app name.now) pieces.now) }
+    ensures local { IfOk result (λ line. (fields_of line).has_globals ≡ false) }
+{
+    let mut line = Line::new(alloc, name).about(about);
+    for piece in pieces {
+        line = with_piece(line, alloc, *piece)?;
+    }
+    Ok(line)
 }
 
 /// `replay` or `report`.
-fn run_line<'a>(alloc: Global, name: &'a str, about: &'a str) -> Result<Line<'a>, AllocError>
+fn run_line<'a>(
+    alloc: Global,
+    name: &'static str,
+    about: &'static str,
+) -> Result<Line<'a>, AllocError>
     ensures shape { IfOk result (λ line. app_of line
-        ≡ with_rule (with_options name.entry.now (word.Site ∷ [])) skipped_option) }
+        ≡ with_rule (with_options name.now (word.Site ∷ [])) skipped_option) }
     ensures local { IfOk result (λ line. (fields_of line).has_globals ≡ false) }
 {
-    let bare = Line::new(alloc, name).about(about);
-    let help = "The site file; without it the run is over the row site";
-    let sited = with_option(bare, alloc, "site", "FILE", help)?;
-    let help = "Names the steps that were skipped, on standard error";
-    with_flag(sited, alloc, "skipped", help)
-}
-
-/// The line with `--answers`, `--status` and `--token`, by which a serving node ends.
-fn with_ends<'a>(line: Line<'a>, alloc: Global) -> Result<Line<'a>, AllocError>
-    ensures shape { (fields_of line.entry).has_globals ≡ false → IfOk result (λ made. app_of made ≡
-        with_rule (with_rule (with_rule (app_of line.entry) (option_named (codes "answers")))
-        (option_named (codes "status"))) (option_named (codes "token"))) }
-    ensures local { (fields_of line.entry).has_globals ≡ false →
-        IfOk result (λ made. (fields_of made).has_globals ≡ false) }
-{
-    let help = "Ends when so many answers were sent; 0, the default, for never";
-    let counted = with_option(line, alloc, "answers", "N", help)?;
-    let help = "Says there what it does, over HTTP: PORT, of this machine alone, or ADDRESS:PORT";
-    let stated = with_option(counted, alloc, "status", "ADDRESS", help)?;
-    let help = "The token that farm stop shows; it is made where the file is not there";
-    with_option(stated, alloc, "token", "FILE", help)
-}
-
-/// The line with `--log` and `--log-format`.
-fn with_levels<'a>(line: Line<'a>, alloc: Global) -> Result<Line<'a>, AllocError>
-    ensures shape { (fields_of line.entry).has_globals ≡ false → IfOk result (λ made. app_of made ≡
-        with_rule (with_rule (app_of line.entry) (option_named (codes "log")))
-        (option_named (codes "log-format"))) }
-    ensures local { (fields_of line.entry).has_globals ≡ false →
-        IfOk result (λ made. (fields_of made).has_globals ≡ false) }
-{
-    let help = "What is told on standard error: off, error, warn, info (the default) or debug";
-    let levelled = with_option(line, alloc, "log", "LEVEL", help)?;
-    let help = "How that is spelled: text (the default), or logfmt, as key=value";
-    with_option(levelled, alloc, "log-format", "FORMAT", help)
-}
-
-/// The line with `--record`, `--log` and `--log-format`.
-fn with_log<'a>(line: Line<'a>, alloc: Global) -> Result<Line<'a>, AllocError>
-    ensures shape { (fields_of line.entry).has_globals ≡ false → IfOk result (λ made. app_of made ≡
-        with_rule (with_rule (with_rule (app_of line.entry) (option_named (codes "record")))
-        (option_named (codes "log"))) (option_named (codes "log-format"))) }
-    ensures local { (fields_of line.entry).has_globals ≡ false →
-        IfOk result (λ made. (fields_of made).has_globals ≡ false) }
-{
-    let help = "Writes down what happens, behind what the file has: farm audit plays it";
-    let recorded = with_option(line, alloc, "record", "FILE", help)?;
-    with_levels(recorded, alloc)
-}
-
-/// The line with `--site FILE`, which must be there.
-fn with_site<'a>(line: Line<'a>, alloc: Global) -> Result<Line<'a>, AllocError>
-    ensures shape { (fields_of line.entry).has_globals ≡ false →
-        IfOk result (λ made. app_of made
-        ≡ with_rule (app_of line.entry) (option_named (codes "site"))) }
-    ensures local { (fields_of line.entry).has_globals ≡ false →
-        IfOk result (λ made. (fields_of made).has_globals ≡ false) }
-{
-    with_option(line, alloc, "site", "FILE", "The site file")
+    let skipped = Piece::Flag {
+        name: "skipped",
+        help: "Names the steps that were skipped, on standard error",
+    };
+    line_with(alloc, name, about, &[ANY_SITE, skipped])
 }
 
 /// `relay`.
@@ -145,11 +144,17 @@ fn relay_line<'a>(alloc: Global) -> Result<Line<'a>, AllocError>
     ensures shape { IfOk result (λ line. app_of line ≡ line_of sub.Relay) }
     ensures local { IfOk result (λ line. (fields_of line).has_globals ≡ false) }
 {
-    let bare = Line::new(alloc, "relay").about("Serves as a relay of the site, over TCP");
-    let sited = with_site(bare, alloc)?;
-    let named = with_option(sited, alloc, "name", "NAME", "The relay that serves")?;
-    let ending = with_ends(named, alloc)?;
-    with_log(ending, alloc)
+    let name = Piece::Option {
+        word: Word::Name,
+        help: "The relay that serves",
+    };
+    let pieces = [SITE, name, ANSWERS, STATUS, TOKEN, RECORD, LOG, LOG_FORMAT];
+    line_with(
+        alloc,
+        "relay",
+        "Serves as a relay of the site, over TCP",
+        &pieces,
+    )
 }
 
 /// `front`.
@@ -157,17 +162,27 @@ fn front_line<'a>(alloc: Global) -> Result<Line<'a>, AllocError>
     ensures shape { IfOk result (λ line. app_of line ≡ line_of sub.Front) }
     ensures local { IfOk result (λ line. (fields_of line).has_globals ≡ false) }
 {
-    let bare = Line::new(alloc, "front").about("Serves as all fronts of the site, over TCP");
-    let sited = with_site(bare, alloc)?;
-    let help = "The file with the account book; without it the book is lost with the process";
-    let booked = with_option(sited, alloc, "book", "FILE", help)?;
-    let ending = with_ends(booked, alloc)?;
-    let logged = with_log(ending, alloc)?;
-    let help = "Serves although the system's clock stands more than a day behind the book";
-    let timed = with_flag(logged, alloc, "clock-behind", help)?;
-    let help =
-        "Changes the terms of the book by one entry, where those of the site do not hold in it";
-    with_flag(timed, alloc, "change-terms", help)
+    let book = Piece::Option {
+        word: Word::Book,
+        help: "The file with the account book; without it the book is lost with the process",
+    };
+    let clock = Piece::Flag {
+        name: "clock-behind",
+        help: "Serves although the system's clock stands more than a day behind the book",
+    };
+    let change = Piece::Flag {
+        name: "change-terms",
+        help: "Changes the terms of the book by one entry, where those of the site do not hold in it",
+    };
+    let pieces = [
+        SITE, book, ANSWERS, STATUS, TOKEN, RECORD, LOG, LOG_FORMAT, clock, change,
+    ];
+    line_with(
+        alloc,
+        "front",
+        "Serves as all fronts of the site, over TCP",
+        &pieces,
+    )
 }
 
 /// `send`.
@@ -175,12 +190,17 @@ fn send_line<'a>(alloc: Global) -> Result<Line<'a>, AllocError>
     ensures shape { IfOk result (λ line. app_of line ≡ line_of sub.Send) }
     ensures local { IfOk result (λ line. (fields_of line).has_globals ≡ false) }
 {
+    let client = Piece::Option {
+        word: Word::Client,
+        help: "The client that sends",
+    };
+    let peer = Piece::Option {
+        word: Word::Peer,
+        help: "The node it sends to",
+    };
     let about = "Sends messages, one in hexadecimal on a line, and prints their answers";
-    let bare = Line::new(alloc, "send").about(about);
-    let sited = with_site(bare, alloc)?;
-    let from = with_option(sited, alloc, "client", "NAME", "The client that sends")?;
-    let to = with_option(from, alloc, "peer", "NAME", "The node it sends to")?;
-    with_log(to, alloc)
+    let pieces = [SITE, client, peer, RECORD, LOG, LOG_FORMAT];
+    line_with(alloc, "send", about, &pieces)
 }
 
 /// `check`.
@@ -190,18 +210,24 @@ fn check_line<'a>(alloc: Global) -> Result<Line<'a>, AllocError>
 {
     let about =
         "Says what a site comes to and what may look wrong in it, or where its fault stands";
-    with_site(Line::new(alloc, "check").about(about), alloc)
+    line_with(alloc, "check", about, &[SITE])
 }
 
 /// `audit` or `schedule`.
-fn audit_line<'a>(alloc: Global, name: &'a str, about: &'a str) -> Result<Line<'a>, AllocError>
+fn audit_line<'a>(
+    alloc: Global,
+    name: &'static str,
+    about: &'static str,
+) -> Result<Line<'a>, AllocError>
     ensures shape { IfOk result (λ line. app_of line
-        ≡ with_rule (with_options name.entry.now (word.Site ∷ [])) records_rule) }
+        ≡ with_rule (with_options name.now (word.Site ∷ [])) records_rule) }
     ensures local { IfOk result (λ line. (fields_of line).has_globals ≡ false) }
 {
-    let sited = with_site(Line::new(alloc, name).about(about), alloc)?;
-    let help = "What a process of the farm wrote down";
-    with_operands(sited, alloc, "records", "RECORD", help)
+    let records = Piece::Operands {
+        word: Word::Records,
+        help: "What a process of the farm wrote down",
+    };
+    line_with(alloc, name, about, &[SITE, records])
 }
 
 /// `book`.
@@ -209,11 +235,12 @@ fn book_line<'a>(alloc: Global) -> Result<Line<'a>, AllocError>
     ensures shape { IfOk result (λ line. app_of line ≡ line_of sub.Book) }
     ensures local { IfOk result (λ line. (fields_of line).has_globals ≡ false) }
 {
+    let operands = Piece::Operands {
+        word: Word::TaskAndFile,
+        help: "create, check, report or export, and the file with the book; or backup, it, and a new file",
+    };
     let about = "Makes, checks, prints and copies an account book on disk";
-    let sited = with_site(Line::new(alloc, "book").about(about), alloc)?;
-    let help =
-        "create, check, report or export, and the file with the book; or backup, it, and a new file";
-    with_operands(sited, alloc, "task-and-file", "TASK FILE", help)
+    line_with(alloc, "book", about, &[SITE, operands])
 }
 
 /// `picture`.
@@ -221,11 +248,20 @@ fn picture_line<'a>(alloc: Global) -> Result<Line<'a>, AllocError>
     ensures shape { IfOk result (λ line. app_of line ≡ line_of sub.Picture) }
     ensures local { IfOk result (λ line. (fields_of line).has_globals ≡ false) }
 {
-    let bare = Line::new(alloc, "picture").about("Draws the run, as an SVG");
-    let help = "The site file; without it the run is over the row site";
-    let sited = with_option(bare, alloc, "site", "FILE", help)?;
-    let from = with_option(sited, alloc, "from", "STEP", "The first step that is drawn")?;
-    with_option(from, alloc, "to", "STEP", "The last step that is drawn")
+    let from = Piece::Option {
+        word: Word::From,
+        help: "The first step that is drawn",
+    };
+    let to = Piece::Option {
+        word: Word::To,
+        help: "The last step that is drawn",
+    };
+    line_with(
+        alloc,
+        "picture",
+        "Draws the run, as an SVG",
+        &[ANY_SITE, from, to],
+    )
 }
 
 /// `words`.
