@@ -1,6 +1,8 @@
 #!/usr/bin/env python3
 """The model of `farm audit` and `farm schedule`: audit.py audit|schedule --site FILE RECORD..
 
+It takes no book on disk, as the program does with --book.
+
 Exit statuses are those of the program: 1 for a file that cannot be read, 2 for other words, 3 for what is refused or found.
 """
 import sys
@@ -13,7 +15,7 @@ from site_file import SiteFault, site_of
 
 def main(words):
     if len(words) < 4 or words[0] not in ("audit", "schedule") or words[1] != "--site":
-        print("usage: schedule --site FILE RECORD.., or audit --site FILE RECORD..", file=sys.stderr)
+        print("usage: schedule --site FILE [--book FILE] RECORD.., or audit --site FILE [--book FILE] RECORD..", file=sys.stderr)
         return 2
     try:
         site = site_of(Path(words[2]).read_bytes())

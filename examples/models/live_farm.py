@@ -15,6 +15,7 @@ from diameter import TOO_BUSY, refusal
 from nodes import RisingRelay
 from records import beginning, spelled
 from site_data import CLIENT, FRONT, RELAY
+from stored_book import quoted
 
 CER, CEA = "CER", "CEA"
 PIPE = 12
@@ -163,12 +164,14 @@ class LiveFarm:
     """The processes of a site, and the dice that say what happens next. `requests` chooses what clients send."""
 
     process = Process
+    # Whether the fronts are killed too: their book is on disk then, and outlives their process.
+    is_stored = False
     # How many ports the system has for the connections of one node with another; None where it gives out none again.
     ports = None
 
     def __init__(self, dice, site, requests=None):
         self.dice, self.site, self.moment, self.received, self.label = dice, site, 1000, [], 40_000
-        self.book, self.places, self.told = Book(site), {}, []
+        self.book, self.places, self.told, self.exported = Book(site), {}, [], []
         self.requests, self.dialled = requests, {}
         names = {kind: [name for name, it in site.nodes.items() if it == kind] for kind in (RELAY, FRONT, CLIENT)}
         crowds = [[name] for name in names[RELAY]] + [names[FRONT]] + [[name] for name in names[CLIENT]]
@@ -215,7 +218,7 @@ class LiveFarm:
             case "close":
                 return ends
             case "kill":
-                return [it for it in self.processes if it.kind != FRONT]
+                return [it for it in self.processes if it.kind != FRONT or self.is_stored]
             case "sweep":
                 return [it for it in self.processes if it.kind == FRONT and not it.swept]
 
@@ -306,6 +309,8 @@ class LiveFarm:
         for end in process.ends.values():
             end.is_gone = True
         process.start()
+        # moments go on behind that of the start
+        self.moment += self.is_stored
 
     def pick(self, at):
         pool, worker = at
@@ -323,6 +328,8 @@ class LiveFarm:
             job.answer = credit_control_answer(pool.name, self.site, job.request, request, reply)
             job.is_new = self.book.entries > entries
             job.place = self.places.setdefault((request.session, request.number), entries)
+            if job.is_new:
+                self.export(job.moment, f"charge session {quoted(request.session)} number {request.number}")
         except Refused as fault:
             job.answer = refusal(pool.name, self.site.realm, job.request, fault.code, fault.failed)
         except Full:
@@ -348,6 +355,12 @@ class LiveFarm:
         self.book.sweep(moment)
         if self.book.entries > entries:
             process.swept = (moment, sessions - len(self.book.sessions))
+            self.export(moment, "sweep")
+            self.moment = max(self.moment, moment) if self.is_stored else self.moment
+
+    def export(self, moment, what):
+        """A line of the book's entries."""
+        self.exported.append(f"entry {len(self.exported)} moment {moment} {what}")
 
     # ---- A whole run
 

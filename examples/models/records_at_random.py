@@ -2,30 +2,35 @@
 """Records of live farms chosen at random, put in order and played.
 
     records_at_random.py [--runs N] [--seed S] [--ports P | --wrong]
+    records_at_random.py killed PROGRAM [--runs N] [--seed S] [--keep FOLDER]
     records_at_random.py write FOLDER SEED [--steps N]
 
 runs N live farms (200) from the seed S (1) over all kinds of sites, and puts what their processes wrote down into a schedule,
 clients without a record among them. The farm that plays it has to give each client what it received, octet for octet, and the
 book what it came to. With --wrong the same runs are those of farms in which something goes wrong between the nodes (WRONG),
 and each such farm has to be found out. With --ports each two nodes have so many ports, which are given out again one after
-the other; with fewer than about ten a connection is here and there taken for another of the same port. `write` puts the records of one run over the ring of relays into a folder, with their
-schedule. Exit status: 0, or 1 where something was found that must not be, or was not that must be.
+the other; with fewer than about ten a connection is here and there taken for another of the same port. `killed` runs farms over the ring whose fronts are killed
+too, on a book that outlives them, and has PROGRAM, farm_audit, audit records and book: it has to find no difference, and the same book.
+`write` puts the records of one run over the ring of relays into a folder, with their schedule. Exit status: 0, or 1 where something was found that must not be, or was not that must be.
 """
 import argparse
+import subprocess
 import sys
+import tempfile
 from collections import Counter
 from pathlib import Path
 from types import SimpleNamespace
 
 from at_random import RING, Dice, Requests
 from each_end import scene_of
-from live_farm import LiveFarm, Process
+from live_farm import MOODS, LiveFarm, Process
 from ordering import Audit
 from random_requests import RandomRequests
 from records import Finding
 from site_data import CLIENT
 
 RUNS = 200
+SITES = Path(__file__).resolve().parent.parent / "sites"
 
 
 # ---- Farms in which something goes wrong
@@ -160,6 +165,49 @@ def found_out(runs, seed):
         yield made.__name__, next(((place, told[0]) for place in range(runs) for told in [found(seed, place, made)[0]] if told), None)
 
 
+class Killed(LiveFarm):
+    """The fronts are killed too, and their book is on disk."""
+
+    is_stored = True
+
+
+def audited(program, seed, place, folder):
+    """What the program finds in a farm whose fronts are killed, and how many entries no record tells; None where it finds nothing."""
+    dice = Dice(seed * 1_000_003 + place)
+    farm = Killed(dice, RING.site)
+    farm.weights = dice.one_of([it | {"kill": 3} for it in MOODS])
+    farm.requests = Requests(dice, RING)
+    farm.run(300 + dice.below(600))
+    files = [folder / f"{it.names[0]}.record" for it in farm.processes]
+    for process, file in zip(farm.processes, files):
+        file.write_bytes(bytes(process.file))
+    book = folder / "book.entries"
+    book.write_text("".join(f"{line}\n" for line in farm.exported))
+    ran = subprocess.run([program, "audit", "--site", SITES / "ring.toml", "--book", book, *files], capture_output=True, text=True, timeout=120, check=False)
+    if ran.returncode:
+        return ran.stderr.strip().replace(f"{folder}/", ""), 0
+    _, untold, *report = ran.stdout.splitlines(keepends=True)
+    if "".join(report) != "".join(farm.book.report()):
+        return "another book", 0
+    return None, int(untold.split()[1])
+
+
+def killed(program, runs, seed, keep):
+    """Runs farms whose fronts are killed; the exit status."""
+    faults = total = 0
+    with tempfile.TemporaryDirectory() as room:
+        for place in range(runs):
+            folder = keep / str(place) if keep else Path(room)
+            folder.mkdir(parents=True, exist_ok=True)
+            fault, untold = audited(program, seed, place, folder)
+            total += untold
+            if fault:
+                faults += 1
+                print(f"run {place} of seed {seed}: {fault}")
+    print(f"{runs} random runs whose fronts were killed, {total} entries that no record tells: {faults} faults")
+    return 1 if faults else 0
+
+
 def write(folder, seed, steps):
     dice = Dice(seed)
     farm = LiveFarm(dice, RING.site)
@@ -181,6 +229,10 @@ def main(words):
     parser.add_argument("--seed", type=int, default=1)
     parser.add_argument("--ports", type=int)
     parser.add_argument("--wrong", action="store_true")
+    parser.add_argument("--keep", type=Path)
+    if words[:1] == ["killed"] and len(words) > 1:
+        chosen = parser.parse_args(words[2:])
+        return killed(Path(words[1]).resolve(), chosen.runs, chosen.seed, chosen.keep)
     chosen = parser.parse_args(words)
     if chosen.wrong:
         told = dict(found_out(chosen.runs, chosen.seed))

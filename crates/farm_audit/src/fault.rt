@@ -16,6 +16,8 @@ pub enum AuditFault {
     /// A record, by its place among those of the command line.
     #[error("a record cannot be read")]
     RecordFile { record: usize },
+    #[error("the entries of the book cannot be read")]
+    BookFile,
     #[error("{0}")]
     Play(PlayFault),
     #[error("the output cannot be written")]
@@ -28,8 +30,10 @@ impl AuditFault {
     /// How the program ends by this fault.
     pub fn status(&self) -> Status {
         match self {
-            AuditFault::SiteFile | AuditFault::RecordFile { .. } | AuditFault::Write =>
-                Status::Failed,
+            AuditFault::SiteFile
+            | AuditFault::RecordFile { .. }
+            | AuditFault::BookFile
+            | AuditFault::Write => Status::Failed,
             AuditFault::Site(SiteFault::OutOfMemory) | AuditFault::OutOfMemory =>
                 Status::OutOfMemory,
             AuditFault::Site(_) => Status::Refused,
@@ -54,6 +58,7 @@ impl AuditFault {
                 | PlayFault::Record(RecordFault::OutOfMemory),
             )
             | AuditFault::SiteFile
+            | AuditFault::BookFile
             | AuditFault::Site(_)
             | AuditFault::Write
             | AuditFault::OutOfMemory => None,

@@ -23,7 +23,8 @@ use std::io::Write;
 use std::process::ExitCode;
 
 /// What is told where the words are others.
-const USAGE: &str = "usage: schedule --site FILE RECORD.., or audit --site FILE RECORD..";
+const USAGE: &str =
+    "usage: schedule --site FILE [--book FILE] RECORD.., or audit --site FILE [--book FILE] RECORD..";
 
 /// The octets of a site file, up to one above its size limit.
 fn site_file(rt: &HostRuntime, path: &str) -> Result<Vec<u8>, AuditFault> {
@@ -34,18 +35,19 @@ fn site_file(rt: &HostRuntime, path: &str) -> Result<Vec<u8>, AuditFault> {
     }
 }
 
-/// Puts the records of these files in order and plays them. Writes what they come to, or the steps where they are asked for.
+/// Puts the records that a command names in order and plays them. Writes what they come to, or the steps where they are asked for.
 fn play_files<W: Write>(
     rt: &HostRuntime,
     site: &Site,
-    prints: bool,
-    records: &[&str],
+    command: &AuditCommand<'_>,
     writer: &mut W,
 ) -> Result<(), AuditFault>
     requires { IsChecked site.now }
 {
+    let prints = matches!(&command.action, AuditAction::Schedule);
     let mut audit = Audit::new(rt.alloc(), site, prints)?;
-    add_files(rt, &mut audit, records)?;
+    add_book(rt, &mut audit, command.book)?;
+    add_files(rt, &mut audit, &command.records)?;
     audit.run(writer)?;
     if prints {
         return Ok(());
@@ -55,6 +57,22 @@ fn play_files<W: Write>(
         Ok(()) => Ok(()),
         Err(_) => Err(AuditFault::Write),
     }
+}
+
+/// Hands what was exported of the book to an audit, if the fronts have it on disk.
+fn add_book(
+    rt: &HostRuntime,
+    audit: &mut Audit<'_, File>,
+    book: Option<&str>,
+) -> Result<(), AuditFault> {
+    let Some(path) = book else {
+        return Ok(());
+    };
+    let Ok(file) = File::open(rt, path) else {
+        return Err(AuditFault::BookFile);
+    };
+    audit.set_book(file);
+    Ok(())
 }
 
 /// Hands the records of these files to an audit.
@@ -74,10 +92,9 @@ fn add_files(
 
 /// Puts the records that a command names in order, over its site.
 fn audit_records(rt: &HostRuntime, command: &AuditCommand<'_>) -> Result<(), AuditFault> {
-    let prints = matches!(&command.action, AuditAction::Schedule);
     let octets = site_file(rt, command.site)?;
     match site_of_octets(rt.alloc(), &octets) {
-        Ok(site) => play_files(rt, &site, prints, &command.records, &mut io::writer(rt)),
+        Ok(site) => play_files(rt, &site, command, &mut io::writer(rt)),
         Err(fault) => Err(AuditFault::Site(fault)),
     }
 }
@@ -85,7 +102,7 @@ fn audit_records(rt: &HostRuntime, command: &AuditCommand<'_>) -> Result<(), Aud
 /// Ends by a fault, which is told behind the name of the record where it is found.
 fn end_by(rt: &HostRuntime, command: &AuditCommand<'_>, fault: &AuditFault) -> ExitCode {
     let name = match fault.record() {
-        Some(record) => command.records.get(record).copied(),
+        Some(record) => command.records.get(record).copied().or(command.book),
         None => None,
     };
     if let Some(name) = name {

@@ -120,7 +120,8 @@ HasProcess rows process =
 
 abbrev pub HasAudit : List Row → Audit → Type 0
 HasAudit rows records =
-    (value_in word.Site rows ≡ Some records.site.now) × (all_of (id_of word.Records) rows ≡ Some (map (λ s. s.now) records.records.items))
+    (value_in word.Site rows ≡ Some records.site.now) × (value_in word.Book rows ≡ option_map (λ s. s.now) records.book)
+    × (all_of (id_of word.Records) rows ≡ Some (map (λ s. s.now) records.records.items))
 
 -- the operands of what is done
 abbrev pub HasBook : List Row → BookCommand → Type 0

@@ -104,8 +104,8 @@ line_of sub.Front =
     with_rule (with_rule (with_options (codes "front") (word.Site ∷ word.Book ∷ word.Answers ∷ word.Status ∷ word.Token ∷ word.Record ∷ word.Log ∷ word.LogFormat ∷ [])) clock_option) change_option
 line_of sub.Send = with_options (codes "send") (word.Site ∷ word.Client ∷ word.Peer ∷ word.Record ∷ word.Log ∷ word.LogFormat ∷ [])
 line_of sub.Check = with_options (codes "check") (word.Site ∷ [])
-line_of sub.Audit = with_rule (with_options (codes "audit") (word.Site ∷ [])) records_rule
-line_of sub.Schedule = with_rule (with_options (codes "schedule") (word.Site ∷ [])) records_rule
+line_of sub.Audit = with_rule (with_options (codes "audit") (word.Site ∷ word.Book ∷ [])) records_rule
+line_of sub.Schedule = with_rule (with_options (codes "schedule") (word.Site ∷ word.Book ∷ [])) records_rule
 line_of sub.Book = with_rule (with_options (codes "book") (word.Site ∷ [])) task_and_file_rule
 line_of sub.Picture = with_options (codes "picture") (word.Site ∷ word.From ∷ word.To ∷ [])
 line_of sub.Words = with_options (codes "words") []

@@ -88,6 +88,8 @@ pub struct Audit<'a> {
     pub action: AuditAction,
     /// The path of the site file.
     pub site: &'a str,
+    /// The path of what was exported of the book of the fronts, if it outlives their process.
+    pub book: Option<&'a str>,
     /// The paths of the records, in the order of the words.
     pub records: Vec<&'a str>,
 }

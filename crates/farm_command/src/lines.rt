@@ -220,14 +220,18 @@ fn audit_line<'a>(
     about: &'static str,
 ) -> Result<Line<'a>, AllocError>
     ensures shape { IfOk result (λ line. app_of line
-        ≡ with_rule (with_options name.now (word.Site ∷ [])) records_rule) }
+        ≡ with_rule (with_options name.now (word.Site ∷ word.Book ∷ [])) records_rule) }
     ensures local { IfOk result (λ line. (fields_of line).has_globals ≡ false) }
 {
+    let book = Piece::Option {
+        word: Word::Book,
+        help: "What farm book export printed, if the fronts have their book on disk",
+    };
     let records = Piece::Operands {
         word: Word::Records,
         help: "What a process of the farm wrote down",
     };
-    line_with(alloc, name, about, &[SITE, records])
+    line_with(alloc, name, about, &[SITE, book, records])
 }
 
 /// `book`.

@@ -256,6 +256,7 @@ fn audit_in<'a>(
     Ok(Audit {
         action,
         site,
+        book: value_of(found, Word::Book),
         records,
     })
 }

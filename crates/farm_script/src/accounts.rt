@@ -34,8 +34,8 @@ pub fn accounts_of(alloc: Global, text: &[u8]) -> Result<Vec<Account>, ScriptFau
     Ok(accounts)
 }
 
-/// The account of a line, none where the line says nothing.
-fn account_in(alloc: Global, line: &[u8]) -> Result<Option<Account>, LineFault>
+/// The account of a line, without its end, of such a text: none where the line says nothing.
+pub fn account_in(alloc: Global, line: &[u8]) -> Result<Option<Account>, LineFault>
     ensures { Answers (account_in line.now) result }
 {
     if is_skipped(line) {

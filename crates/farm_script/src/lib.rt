@@ -35,6 +35,7 @@
 //!
 //! - [`steps_of`]: the steps that a text spells, or the fault of the first line that spells none.
 //! - [`accounts_of`]: the accounts that a text spells, one on a line, in the words of `terms`. [`line_of_account`]: on which.
+//!   [`first_line`] and [`account_in`]: the same line by line, for who keeps no list of them.
 //! - [`words_of`], [`node_of`], [`number_of`], [`message_of`]: the words of a line, and what one stands for, for those who
 //!   read other lines in the same words.
 //! - [`LineFault`], [`ScriptFault`]: why a text is no schedule, with the words that are printed.
@@ -68,12 +69,12 @@ mod reading;
 mod terms;
 mod word;
 
-pub use accounts::{accounts_of, line_of_account};
+pub use accounts::{account_in, accounts_of, line_of_account};
 use dia_base::{SCHEDULE_LIMIT, STEP_LIMIT};
 use farm_base::{Site, Step};
 pub use fault::{LineFault, ScriptFault};
-pub use line::words_of;
-use line::{first_line, is_skipped};
+use line::is_skipped;
+pub use line::{first_line, words_of};
 use reading::step_of;
 use std::alloc::Global;
 pub use word::{message_of, node_of, number_of};

@@ -4,10 +4,10 @@ ghost use Rattle.farm_base.specs.CheckedSite.{IsChecked};
 
 use crate::fault::{Difference, PlayFault, found};
 use crate::player::Player;
-use dia_base::NodeNo;
+use dia_base::{Moment, NodeNo};
 use farm_text::write_text;
 use farm_world::Site;
-use record_reader::{Entry, NodeEvent, Position, Records};
+use record_reader::{BookEntries, Entry, NodeEvent, Position, Records};
 use record_state::{NodeEntry, Queues, Reports};
 use std::alloc::{AllocError, Global};
 use std::io::{Read, Write};
@@ -23,6 +23,8 @@ pub struct Audit<'s, R> {
     queues: Queues,
     player: Player<'s>,
     reports: Reports,
+    /// The entries of the book on disk, if it is given.
+    book: Option<BookEntries<R>>,
 }
 
 /// An `accept` that is the next entry of a node, and the dial that it may be of where nothing else may happen.
@@ -30,6 +32,28 @@ pub struct Audit<'s, R> {
 struct LateAccept {
     queue: usize,
     dial: usize,
+}
+
+/// A process that begins.
+#[derive(Clone, Copy)]
+struct Begun {
+    position: Position,
+    is_first: bool,
+    moment: Moment,
+    requests_before: u64,
+}
+
+impl Begun {
+    /// The entry of one of its nodes.
+    fn entry_of(&self, node: NodeNo) -> NodeEntry {
+        NodeEntry::Begin {
+            position: self.position,
+            node,
+            is_first: self.is_first,
+            moment: self.moment,
+            requests_before: self.requests_before,
+        }
+    }
 }
 
 impl<'s, R: Read + Drop> Audit<'s, R> {
@@ -43,7 +67,16 @@ impl<'s, R: Read + Drop> Audit<'s, R> {
             queues: Queues::new(alloc),
             player: Player::new(alloc, site, prints)?,
             reports: Reports::new(alloc),
+            book: None,
         })
+    }
+
+    /// The fronts have their book on disk, which outlives their process: its entries, as they are exported. It comes before the records.
+    /// A position in it has the place of a record that is not there.
+    pub fn set_book(&mut self, reader: R) {
+        self.book = Some(BookEntries::new(self.alloc, reader, usize::MAX));
+        self.records.set_book();
+        self.player.set_book();
     }
 
     /// A record more, of which the first entry is read.
@@ -74,19 +107,48 @@ impl<'s, R: Read + Drop> Audit<'s, R> {
         let (records, events) = (self.records.len(), self.records.entries());
         let steps = self.player.farm().steps();
         let mut text = format!(in self.alloc; "records {records} events {events} steps {steps}\n")?;
+        self.push_untold(&mut text)?;
         let report = self.player.farm().report()?;
         text.push_str(report.as_str())?;
         Ok(text)
     }
 
+    /// The line with the places of entries of which no record tells, if a book on disk is given.
+    fn push_untold(&self, text: &mut String) -> Result<(), PlayFault> {
+        let Some(places) = self.player.untold() else {
+            return Ok(());
+        };
+        let count = places.len();
+        text.push_str(format!(in self.alloc; "untold {count}")?.as_str())?;
+        for place in places {
+            text.push_str(format!(in self.alloc; " {place}")?.as_str())?;
+        }
+        text.push_str("\n")?;
+        Ok(())
+    }
+
+    /// Looks up what the book on disk has at the next place.
+    fn look_up_next(&mut self) -> Result<(), PlayFault> {
+        if let Some(book) = &mut self.book {
+            let next = book.at(self.player.next_place_of_book())?;
+            self.player.set_next_entry(next);
+            if let Some(moment) = self.player.needs_entries_until(self.records.are_at_end()) {
+                self.player.set_needed(book.keys_until(moment)?);
+            }
+        }
+        Ok(())
+    }
+
     /// Plays what may happen next. Whether there was something.
     fn go_on(&mut self) -> Result<bool, PlayFault> {
+        self.look_up_next()?;
         self.player.feed_all();
         Ok(
             self.advance_all()?
                 || self.player.charge_next(self.records.are_at_end())?
                 || self.player.charge_repeat()?
                 || self.read_ahead()?
+                || self.player.play_untold(self.records.are_at_end())?
                 || self.settle()?,
         )
     }
@@ -124,7 +186,17 @@ impl<'s, R: Read + Drop> Audit<'s, R> {
                 position,
                 nodes,
                 is_first,
-            } => self.keep_begin(position, &nodes, is_first)?,
+                moment,
+                requests_before,
+            } => {
+                let begun = Begun {
+                    position,
+                    is_first,
+                    moment,
+                    requests_before,
+                };
+                self.keep_begin(&begun, &nodes)?
+            }
             Entry::Connection { event, label } => {
                 self.player.add_connection(event.end, label)?;
                 self.keep_event(event)?;
@@ -140,30 +212,22 @@ impl<'s, R: Read + Drop> Audit<'s, R> {
         Ok(())
     }
 
-    /// A process begins: that is the next entry of the first of its nodes.
-    fn keep_begin(
-        &mut self,
-        position: Position,
-        nodes: &[NodeNo],
-        is_first: bool,
-    ) -> Result<(), AllocError> {
-        if is_first {
-            for node in nodes {
-                self.queues.add(position.record, *node)?;
+    /// A process begins: that is the next entry of each of its nodes.
+    fn keep_begin(&mut self, begun: &Begun, nodes: &[NodeNo]) -> Result<(), AllocError> {
+        if !begun.is_first {
+            self.reports.forget(begun.position.record);
+        }
+        for node in nodes {
+            if begun.is_first {
+                self.queues.add(begun.position.record, *node)?;
                 self.player.add_node(*node)?;
+            } else {
+                self.player
+                    .add_beginning(*node, begun.moment, begun.requests_before);
             }
+            self.queues.push(*node, begun.entry_of(*node))?;
         }
-        match nodes.first() {
-            Some(node) => self.queues.push(
-                *node,
-                NodeEntry::Begin {
-                    position,
-                    node: *node,
-                    is_first,
-                },
-            ),
-            None => Ok(()),
-        }
+        Ok(())
     }
 
     fn keep_event(&mut self, event: NodeEvent) -> Result<(), AllocError> {
@@ -291,6 +355,9 @@ impl<'s, R: Read + Drop> Audit<'s, R> {
     /// Nothing is left. Where something is, it is told of an entry that waits for nobody else who waits.
     fn look_at_the_rest(&self) -> Result<(), PlayFault> {
         self.player.look_at_places()?;
+        if let Some(position) = self.player.entry_left() {
+            return found(position, Difference::Untold);
+        }
         let left = self.queues.first_that_waits().or(self.player.first_left());
         match left {
             Some(position) => found(position, Difference::CannotHappen),

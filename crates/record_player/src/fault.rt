@@ -23,6 +23,12 @@ pub enum Difference {
     NotNew,
     #[error("this is a new request")]
     IsNew,
+    #[error("the book has another entry at this place")]
+    OtherEntry,
+    #[error("no line tells of this entry, and no request was under way that can have it")]
+    Untold,
+    #[error("this entry changes the terms, as no process does that writes a record")]
+    TermsChange,
     #[error("such a sweep ends other sessions")]
     SweepsOtherwise,
     #[error("the book comes to something else")]

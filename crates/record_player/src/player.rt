@@ -1,13 +1,14 @@
 //! The farm, and what of the records is played with it.
 //!
 //! - `events`: whether an entry of a node may happen, and then it has. `messages`: that of a message that arrives.
-//! - `dials`: connections begin. `handing`: requests at fronts. `charges`: the book.
+//! - `dials`: connections begin. `handing`: requests at fronts. `charges`: the book. `untold`: what only a book on disk tells.
 
 mod charges;
 mod dials;
 mod events;
 mod handing;
 mod messages;
+mod untold;
 
 ghost use Rattle.farm_base.specs.CheckedSite.{IsChecked};
 
@@ -15,9 +16,10 @@ use crate::fault::{Difference, PlayFault, found};
 use dia_base::{NodeKind, NodeNo};
 use farm_player::PlayedFarm;
 use farm_world::{Site, Step};
-use record_reader::{End, Finished, NodeEvent, Position, Sweep};
+use record_reader::{Action, End, Finished, NodeEvent, Position, RequestKey, Sweep};
 use record_state::{BookOrder, Connections, Fronts};
 use std::alloc::{AllocError, Global};
+use untold::StoredBook;
 
 /// The farm that plays, and what was read of the records and is about connections, requests and the book.
 pub struct Player<'s> {
@@ -30,6 +32,8 @@ pub struct Player<'s> {
     recorded: Vec<NodeNo>,
     /// The relays of which the start of their identifiers is known since they began.
     numbered: Vec<NodeNo>,
+    /// The book on disk, if one is given.
+    stored: Option<StoredBook>,
 }
 
 // By hand, so that each exit of an owner is proved with one call.
@@ -43,6 +47,7 @@ impl<'s> Drop for Player<'s> {
             book: _,
             recorded: _,
             numbered: _,
+            stored: _,
         } = self;
     }
 }
@@ -68,6 +73,7 @@ impl<'s> Player<'s> {
             book: BookOrder::new(alloc),
             recorded: Vec::new(alloc),
             numbered: Vec::new(alloc),
+            stored: None,
         })
     }
 
@@ -99,7 +105,8 @@ impl<'s> Player<'s> {
     /// An event was told that is of a request, or for which a front has sent answers at once.
     pub fn add_event(&mut self, event: &NodeEvent) -> Result<(), AllocError> {
         if let Some(number) = event.request {
-            self.fronts.add(number, event.end)?;
+            let key = self.key_of(event);
+            self.fronts.add(number, event.end, key)?;
         }
         if event.is_received() && self.is_front(event.end.node) {
             for (_, message) in &event.sent {
@@ -108,6 +115,16 @@ impl<'s> Player<'s> {
             }
         }
         Ok(())
+    }
+
+    /// By which the request of an event is found in the book on disk, if one is given.
+    fn key_of(&self, event: &NodeEvent) -> Option<RequestKey> {
+        match &event.action {
+            Action::Receive(message) if self.stored.is_some() => {
+                RequestKey::of_message(self.alloc, message)
+            }
+            _ => None,
+        }
     }
 
     /// A line tells what became of a request.
@@ -132,9 +149,13 @@ impl<'s> Player<'s> {
 
     /// Whether a line that was not read yet may tell what stands next in the book, or what keeps a worker busy.
     pub fn may_be_told(&self) -> bool {
-        self.fronts.is_held_up()
-            || (!self.book.is_next_known()
-                && (self.waits_for_request() || self.book.waits_for_sweep()))
+        if self.fronts.is_held_up() || self.book.is_next_known() {
+            return self.fronts.is_held_up();
+        }
+        match &self.stored {
+            Some(stored) => stored.may_be_told(self.book.next_sweep()),
+            None => self.waits_for_request() || self.book.waits_for_sweep(),
+        }
     }
 
     /// Whether a request of which no line tells yet what became of it may have the next place.

@@ -114,6 +114,9 @@ pub enum Entry {
         position: Position,
         nodes: Vec<NodeNo>,
         is_first: bool,
+        moment: Moment,
+        /// How many requests were told before this line.
+        requests_before: u64,
     },
     /// A node dials or accepts a connection, which both ends call by this label.
     Connection {

@@ -20,6 +20,8 @@ pub enum EntryFault {
     TwoRecords,
     #[error("the fronts begin again, and with them the book: this is another run")]
     FrontsAgain,
+    #[error("this is not the next place of the book")]
+    OtherPlace,
     #[error("no such connection can be made here")]
     NoSuchConnection,
     #[error("unknown connection")]

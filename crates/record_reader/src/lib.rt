@@ -6,10 +6,12 @@
 //! - [`Groups`]: the events of a record, each with the messages that were sent for it.
 //! - [`Records`]: all records. An [`Entry`] names the nodes of its connection and the request that it is about, for which a record
 //!   has numbers of its own (`process`).
+//! - [`BookEntries`]: the entries of a book on disk, by their places. A request is found there by its [`RequestKey`].
 //!
 //! docs/RECORD.md has the format.
 #![tactic(auto)]
 
+mod book;
 mod entry;
 mod fault;
 mod group;
@@ -19,6 +21,7 @@ mod process;
 mod reading;
 mod records;
 
+pub use book::{BookEntries, BookEntry, BookEntryKind, RequestKey};
 pub use entry::{Action, End, Entry, Finished, NodeEvent, Sweep};
 pub use fault::{EntryFault, RecordFault};
 pub use group::{Group, GroupFault, Groups};

@@ -72,6 +72,7 @@ impl Process {
     pub fn begin(&mut self) {
         self.standing.clear();
         self.jobs.clear();
+        self.counts.clear();
     }
 
     /// The process is this node too.

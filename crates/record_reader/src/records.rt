@@ -29,6 +29,8 @@ pub struct Records<R> {
     /// How many requests were told that fronts hand to their workers.
     requests: u64,
     entries: u64,
+    /// Whether fronts may begin again, since their book outlives their process.
+    has_book: bool,
 }
 
 /// What a line tells of a job of a front.
@@ -96,6 +98,7 @@ impl<R: Read + Drop> Records<R> {
             ends: 0,
             requests: 0,
             entries: 0,
+            has_book: false,
         }
     }
 
@@ -106,6 +109,11 @@ impl<R: Read + Drop> Records<R> {
             process: Process::new(self.alloc),
         })?;
         Ok(())
+    }
+
+    /// The book of the fronts outlives their process: from now on they may begin again.
+    pub fn set_book(&mut self) {
+        self.has_book = true;
     }
 
     pub fn len(&self) -> usize {
@@ -194,7 +202,7 @@ impl<R: Read + Drop> Records<R> {
     ) -> Result<Option<Entry>, RecordFault> {
         let position = around.position;
         let entry = match event {
-            Event::Begin { nodes, moment: _ } => self.begin(site, position, nodes)?,
+            Event::Begin { nodes, moment } => self.begin(site, position, nodes, moment)?,
             Event::Dial {
                 conn,
                 node,
@@ -262,8 +270,10 @@ impl<R: Read + Drop> Records<R> {
         site: &Site,
         position: Position,
         nodes: Vec<NodeNo>,
+        moment: Moment,
     ) -> Result<Entry, RecordFault> {
-        let is_first = is_first_begin(site, position, &nodes, self.process(position)?.nodes())?;
+        let known = self.process(position)?.nodes();
+        let is_first = is_first_begin(site, position, &nodes, known, self.has_book)?;
         self.process_mut(position)?.begin();
         if is_first {
             for node in &nodes {
@@ -274,6 +284,8 @@ impl<R: Read + Drop> Records<R> {
             position,
             nodes,
             is_first,
+            moment,
+            requests_before: self.requests,
         })
     }
 
@@ -448,12 +460,14 @@ fn is_of_fronts(site: &Site, process: &Process) -> bool {
     }
 }
 
-/// Whether a process of these nodes begins for the first time: its record has named none so far, or the same. Fronts begin once.
+/// Whether a process of these nodes begins for the first time: its record has named none so far, or the same. Fronts begin once, if their
+/// book does not outlive their process.
 fn is_first_begin(
     site: &Site,
     position: Position,
     nodes: &[NodeNo],
     known: &[NodeNo],
+    has_book: bool,
 ) -> Result<bool, RecordFault> {
     let are_fronts = nodes.iter().all(|node| is_front(site, *node));
     if nodes.len() != 1 && !are_fronts {
@@ -465,7 +479,7 @@ fn is_first_begin(
     if known != nodes {
         return found(position, EntryFault::OtherProcess);
     }
-    if are_fronts {
+    if are_fronts && !has_book {
         return found(position, EntryFault::FrontsAgain);
     }
     Ok(false)

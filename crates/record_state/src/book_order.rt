@@ -1,5 +1,6 @@
 //! What the records tell of the book, in the order of its places.
 
+use dia_base::Moment;
 use record_reader::{Finished, Position, Sweep};
 use std::alloc::{AllocError, Global};
 use std::collections::VecDeque;
@@ -136,6 +137,11 @@ impl BookOrder {
     /// Whether a sweep was told.
     pub fn has_sweep(&self) -> bool {
         !self.sweeps.is_empty()
+    }
+
+    /// The moment of the first sweep.
+    pub fn next_sweep(&self) -> Option<Moment> {
+        Some(self.sweeps.front()?.moment)
     }
 
     /// Takes out the first sweep.

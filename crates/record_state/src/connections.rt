@@ -181,6 +181,16 @@ impl Connections {
         }
     }
 
+    /// A node has lost all its connections.
+    pub fn lose_all_of(&mut self, node: NodeNo) {
+        for told in self.told.iter_mut() {
+            if told.node == node {
+                told.is_gone = true;
+                told.is_closing = false;
+            }
+        }
+    }
+
     /// Whether a front has lost it and did not drop it yet.
     pub fn is_closing(&self, conn: usize) -> bool {
         self.told.get(conn).map_or(false, |told| told.is_closing)

@@ -2,7 +2,7 @@
 
 use dia_base::{NodeKind, NodeNo};
 use farm_base::Site;
-use record_reader::End;
+use record_reader::{End, RequestKey};
 use std::alloc::{AllocError, Global};
 use std::collections::VecDeque;
 
@@ -23,6 +23,8 @@ pub struct Request {
     pub number: u64,
     /// The end of the connection that it came on, at the front.
     pub end: End,
+    /// By which it is found in a book on disk, if one is given.
+    pub key: Option<RequestKey>,
     /// Whether a line was read that tells what became of it.
     pub is_finished: bool,
     pub state: RequestState,
@@ -79,6 +81,14 @@ impl FrontWork {
             *held = Some(first);
         }
         Some(worker)
+    }
+
+    /// It has nothing in hand any more.
+    fn clear(&mut self) {
+        self.queue.clear();
+        for worker in self.workers.iter_mut() {
+            *worker = None;
+        }
     }
 
     fn release(&mut self, worker: usize) {
@@ -138,10 +148,16 @@ impl Fronts {
     // ---- requests
 
     /// A request was told that this front hands to its workers.
-    pub fn add(&mut self, number: u64, end: End) -> Result<(), AllocError> {
+    pub fn add(
+        &mut self,
+        number: u64,
+        end: End,
+        key: Option<RequestKey>,
+    ) -> Result<(), AllocError> {
         self.requests.push(Request {
             number,
             end,
+            key,
             is_finished: false,
             state: RequestState::NotSent,
         })?;
@@ -153,6 +169,75 @@ impl Fronts {
             .iter()
             .find(|request| request.number == number)
             .copied()
+    }
+
+    /// The first request with this key that has arrived, and of which no line tells what became of it.
+    pub fn untold(&self, key: RequestKey) -> Option<Request> {
+        self.requests
+            .iter()
+            .find(|request| {
+                request.key == Some(key)
+                    && !request.is_finished
+                    && request.state != RequestState::NotSent
+            })
+            .copied()
+    }
+
+    /// The worker of a front that has a request of which no line tells what became of it, told before this one and with none of these
+    /// keys; and its number.
+    pub fn untold_in_hand(
+        &self,
+        front: NodeNo,
+        before: u64,
+        needed: &[RequestKey],
+    ) -> Option<(usize, u64)> {
+        let workers = &self.front(front)?.workers;
+        for (worker, held) in workers.iter().enumerate() {
+            if let Some(number) = held {
+                if self.is_untold(*number, before, needed) {
+                    return Some((worker, *number));
+                }
+            }
+        }
+        None
+    }
+
+    /// Whether the first request of the queue of a front is one of these.
+    pub fn is_untold_first(&self, front: NodeNo, before: u64, needed: &[RequestKey]) -> bool {
+        let first = match self.front(front) {
+            Some(front) => front.queue.front().copied(),
+            None => None,
+        };
+        match first {
+            Some(number) => self.is_untold(number, before, needed),
+            None => false,
+        }
+    }
+
+    fn is_untold(&self, number: u64, before: u64, needed: &[RequestKey]) -> bool {
+        let Some(request) = self.request(number) else {
+            return false;
+        };
+        let is_needed = match request.key {
+            Some(key) => needed.contains(&key),
+            None => false,
+        };
+        !request.is_finished && number < before && !is_needed
+    }
+
+    /// Whether a line tells what became of a request of a front, told before this one, that is not answered.
+    pub fn has_finished_before(&self, front: NodeNo, number: u64) -> bool {
+        self.requests.iter().any(|request| request.is_finished
+            && request.end.node == front
+            && request.number < number)
+    }
+
+    /// A front begins again: nothing is left of the requests of it that were told before this one.
+    pub fn restart(&mut self, front: NodeNo, number: u64) {
+        self.requests.retain(|request| request.end.node != front || request.number >= number);
+        if let Some(front) = self.front_mut(front) {
+            front.clear();
+        }
     }
 
     fn request_mut(&mut self, number: u64) -> Option<&mut Request> {

@@ -1,6 +1,6 @@
 //! The entries that were read and are not played yet, of each node in the order of its record.
 
-use dia_base::NodeNo;
+use dia_base::{Moment, NodeNo};
 use record_reader::{NodeEvent, Position};
 use std::alloc::{AllocError, Global};
 use std::collections::VecDeque;
@@ -13,6 +13,9 @@ pub enum NodeEntry {
         position: Position,
         node: NodeNo,
         is_first: bool,
+        moment: Moment,
+        /// How many requests were told before.
+        requests_before: u64,
     },
     Event(NodeEvent),
 }

@@ -28,6 +28,11 @@ impl Reports {
         Ok(())
     }
 
+    /// The process of a record begins again: what it told of the book was not the last.
+    pub fn forget(&mut self, record: usize) {
+        self.lines.retain(|told| told.position.record != record);
+    }
+
     /// The first line of a record that is not the one of this report at its place.
     pub fn first_otherwise(&self, record: usize, report: &[&[u8]]) -> Option<Position> {
         let of_record = self

@@ -31,7 +31,7 @@ fn is_too_busy(alloc: Global, answer: &Message) -> bool {
 
 impl<'s> Player<'s> {
     /// How many entries the book has.
-    fn entries(&self) -> u64 {
+    pub(super) fn entries(&self) -> u64 {
         self.farm.book().history().len() as u64
     }
 
@@ -41,7 +41,7 @@ impl<'s> Player<'s> {
             let number = charge.request;
             return self.charge_new(number);
         }
-        if !self.book.has_sweep() || (!are_all_read && self.waits_for_request()) {
+        if !self.may_sweep(are_all_read) {
             return Ok(false);
         }
         match self.book.take_sweep() {
@@ -53,6 +53,14 @@ impl<'s> Player<'s> {
         }
     }
 
+    /// Whether a sweep was told that may have the next place.
+    fn may_sweep(&self, are_all_read: bool) -> bool {
+        match self.is_sweep_next() {
+            Some(is_next) => is_next,
+            None => self.book.has_sweep() && (are_all_read || !self.waits_for_request()),
+        }
+    }
+
     /// The request that has the next place in the book is charged, if it has arrived and a worker may have it.
     fn charge_new(&mut self, number: u64) -> Result<bool, PlayFault> {
         if !self.may_be_charged(number)? {
@@ -61,6 +69,7 @@ impl<'s> Player<'s> {
         let Some(charge) = self.book.take_charge() else {
             return Ok(false);
         };
+        self.check_charge(&charge)?;
         self.charge(&charge)?;
         if self.entries() != self.book.place().saturating_add(1) {
             return found(charge.position, Difference::NotNew);

@@ -16,10 +16,16 @@ impl<'s> Player<'s> {
                 position,
                 node,
                 is_first,
+                moment,
+                requests_before,
             } => {
-                if !*is_first {
-                    self.begin_again(*position, *node)?;
+                if *is_first {
+                    return Ok(true);
                 }
+                if self.is_front(*node) {
+                    return self.front_begins_again(*position, *node, *moment, *requests_before);
+                }
+                self.begin_again(*position, *node)?;
                 Ok(true)
             }
             NodeEntry::Event(event) => self.try_event(event),
@@ -81,7 +87,11 @@ impl<'s> Player<'s> {
     }
 
     /// The clients without a record drop their connections with a node.
-    fn drop_silent_at(&mut self, position: Position, node: NodeNo) -> Result<(), PlayFault> {
+    pub(super) fn drop_silent_at(
+        &mut self,
+        position: Position,
+        node: NodeNo,
+    ) -> Result<(), PlayFault> {
         for link in self.site().links.as_slice() {
             let client = if link.from == node {
                 link.to

@@ -108,7 +108,7 @@ impl<'s> Player<'s> {
     }
 
     /// An idle worker picks the first request of the queue.
-    fn pick(&mut self, position: Position, front: NodeNo) -> Result<(), PlayFault> {
+    pub(super) fn pick(&mut self, position: Position, front: NodeNo) -> Result<(), PlayFault> {
         let Some(worker) = self.fronts.pick(front) else {
             return found(position, Difference::CannotHappen);
         };

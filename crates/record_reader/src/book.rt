@@ -1,0 +1,244 @@
+//! The entries of a book on disk, as `farm book export` prints them.
+
+ghost use Rattle.std.specs.Prelude.{◌<◌, IfOk};
+
+use crate::fault::{EntryFault, RecordFault, found, of_group};
+use crate::group::GroupFault;
+use crate::lines::RecordLines;
+use crate::position::Position;
+use dia_avp::{ViewWire, Wire};
+use dia_base::Moment;
+use dia_message::Message;
+use farm_script::{LineFault, number_of, words_of};
+use std::alloc::Global;
+use std::collections::VecDeque;
+use std::hash::{DefaultHasher, Hash, Hasher};
+use std::io::Read;
+
+/// The codes of the AVPs Session-Id and CC-Request-Number (RFC 6733, section 8.8; RFC 8506, section 8.2).
+const SESSION_ID: u32 = 263;
+
+const REQUEST_NUMBER: u32 = 415;
+
+/// A number that few other requests have: of its Session-Id and its CC-Request-Number.
+#[derive(Clone, Copy, PartialEq, Eq)]
+pub struct RequestKey(u64);
+
+impl RequestKey {
+    fn of(session: &[u8], number: u32) -> RequestKey {
+        let mut hasher = DefaultHasher::new();
+        session.hash(&mut hasher);
+        number.hash(&mut hasher);
+        RequestKey(hasher.finish())
+    }
+
+    /// That of a message; none if it lacks one of both.
+    pub fn of_message(alloc: Global, message: &Message) -> Option<RequestKey> {
+        let avps = ViewWire::split(alloc, &message.body).ok()?;
+        let session = avps
+            .iter()
+            .find(|avp| avp.code == SESSION_ID && avp.vendor == 0)?;
+        let number = avps
+            .iter()
+            .find(|avp| avp.code == REQUEST_NUMBER && avp.vendor == 0)?;
+        let [a, b, c, d] = number.value.as_slice() else {
+            return None;
+        };
+        let number = u32::from_be_bytes([*a, *b, *c, *d]);
+        Some(RequestKey::of(session.value.as_slice(), number))
+    }
+}
+
+/// What an entry of a book is.
+#[derive(Clone, Copy, PartialEq, Eq)]
+pub enum BookEntryKind {
+    /// A request was charged.
+    Charge(RequestKey),
+    Sweep,
+    /// The terms changed.
+    Change,
+}
+
+/// An entry of a book.
+#[derive(Clone, Copy)]
+pub struct BookEntry {
+    pub position: Position,
+    pub moment: Moment,
+    pub kind: BookEntryKind,
+}
+
+/// The entries of a book, one after the other. They take the memory of one line, and of the entries that were looked at ahead.
+#[derive(Drop)]
+pub struct BookEntries<R> {
+    alloc: Global,
+    lines: RecordLines<R>,
+    /// What stands for the book among the records.
+    record: usize,
+    /// The place of the next line.
+    place: u64,
+    /// The entries before it that were read, and not let go.
+    ahead: VecDeque<BookEntry>,
+    is_at_end: bool,
+}
+
+impl<R: Read> BookEntries<R> {
+    /// The entries from where the reader stands. In a position `record` stands for them.
+    pub fn new(alloc: Global, reader: R, record: usize) -> Self {
+        BookEntries {
+            alloc,
+            lines: RecordLines::new(alloc, reader),
+            record,
+            place: 0,
+            ahead: VecDeque::new(alloc),
+            is_at_end: false,
+        }
+    }
+
+    /// The entry at this place; none behind the last one. Places are asked for in their order.
+    pub fn at(&mut self, place: u64) -> Result<Option<BookEntry>, RecordFault> {
+        for _ in 0..u64::MAX {
+            let first = self.place.saturating_sub(self.ahead.len() as u64);
+            if first < place {
+                let _earlier = self.ahead.pop_front();
+            }
+            if !self.ahead.is_empty() && first >= place || self.is_at_end {
+                break;
+            }
+            if self.ahead.is_empty() {
+                self.read()?;
+            }
+        }
+        Ok(self.ahead.front().copied())
+    }
+
+    /// The keys of the requests that were charged up to this moment, from the place on that was asked for last.
+    pub fn keys_until(&mut self, moment: Moment) -> Result<Vec<RequestKey>, RecordFault> {
+        for _ in 0..u64::MAX {
+            let is_behind = match self.ahead.back() {
+                Some(last) => last.moment > moment,
+                None => false,
+            };
+            if is_behind || self.is_at_end {
+                break;
+            }
+            self.read()?;
+        }
+        let mut keys = Vec::new(self.alloc);
+        for entry in self.ahead.iter() {
+            if let BookEntryKind::Charge(key) = entry.kind {
+                keys.push(key)?;
+            }
+        }
+        Ok(keys)
+    }
+
+    /// Reads the next line.
+    fn read(&mut self) -> Result<(), RecordFault> {
+        let line = match self.lines.next_line(self.alloc) {
+            Ok(line) => line,
+            Err(fault) => return Err(of_group(GroupFault::Lines(fault), self.position())),
+        };
+        match line {
+            Some(line) => {
+                let entry = self.entry_of(&line)?;
+                self.ahead.push_back(entry)?;
+                self.place = self.place.saturating_add(1);
+            }
+            None => self.is_at_end = true,
+        }
+        Ok(())
+    }
+
+    fn position(&self) -> Position {
+        Position {
+            record: self.record,
+            line: self.lines.count,
+        }
+    }
+
+    /// The entry that a line tells, which has the next place.
+    fn entry_of(&self, line: &[u8]) -> Result<BookEntry, RecordFault> {
+        let position = self.position();
+        match entry_in(self.alloc, line) {
+            Ok((place, _, _)) if place != self.place => found(position, EntryFault::OtherPlace),
+            Ok((_, moment, kind)) => Ok(BookEntry {
+                position,
+                moment,
+                kind,
+            }),
+            Err(fault) => Err(of_group(GroupFault::Words(fault), position)),
+        }
+    }
+}
+
+/// The place of a line, its moment, and what the entry is.
+fn entry_in(alloc: Global, line: &[u8]) -> Result<(u64, Moment, BookEntryKind), LineFault> {
+    let words = words_of(alloc, line)?;
+    let [entry, place, at, moment, kind, rest @ ..] = words.as_slice() else {
+        return Err(LineFault::WrongCount);
+    };
+    if !is_word(entry, "entry") || !is_word(at, "moment") {
+        return Err(LineFault::UnknownWord);
+    }
+    let (place, moment) = (number_of(place)?, Moment(number_of(moment)?));
+    let kind = if is_word(kind, "charge") {
+        charge_in(alloc, rest)?
+    } else if is_word(kind, "sweep") {
+        BookEntryKind::Sweep
+    } else if is_word(kind, "change") {
+        BookEntryKind::Change
+    } else {
+        return Err(LineFault::UnknownWord);
+    };
+    Ok((place, moment, kind))
+}
+
+/// `session "SESSION" number N`, and what follows.
+fn charge_in(alloc: Global, words: &[&[u8]]) -> Result<BookEntryKind, LineFault> {
+    let [session, text, word, number, ..] = words else {
+        return Err(LineFault::WrongCount);
+    };
+    if !is_word(session, "session") || !is_word(word, "number") {
+        return Err(LineFault::UnknownWord);
+    }
+    let Ok(number) = u32::try_from(number_of(number)?) else {
+        return Err(LineFault::BadNumber);
+    };
+    let session = unquoted(alloc, text)?;
+    Ok(BookEntryKind::Charge(RequestKey::of(session.as_slice(), number)))
+}
+
+fn is_word(word: &[u8], text: &str) -> bool {
+    word == text.as_bytes()
+}
+
+/// The octets of a text in quotes, in which `%` stands before two hexadecimal digits.
+fn unquoted(alloc: Global, word: &[u8]) -> Result<Vec<u8>, LineFault> {
+    let [b'"', text @ .., b'"'] = word else {
+        return Err(LineFault::UnknownWord);
+    };
+    let mut octets = Vec::new(alloc);
+    let mut rest = text;
+    for _ in 0..text.len() {
+        let (octet, behind) = match rest {
+            [b'%', high, low, behind @ ..] => (digit_of(*high)? * 16 + digit_of(*low)?, behind),
+            [octet, behind @ ..] => (*octet, behind),
+            [] => break,
+        };
+        octets.push(octet)?;
+        rest = behind;
+    }
+    Ok(octets)
+}
+
+/// What a hexadecimal digit stands for.
+fn digit_of(digit: u8) -> Result<u8, LineFault>
+    ensures { IfOk result (λ value. value < 16) }
+{
+    match digit {
+        b'0'..=b'9' => Ok(digit - b'0'),
+        b'a'..=b'f' => Ok(digit - b'a' + 10),
+        b'A'..=b'F' => Ok(digit - b'A' + 10),
+        _ => Err(LineFault::BadHex),
+    }
+}
