@@ -1,5 +1,6 @@
 pub mod Changing
 pub mod History
+pub mod Looking
 pub mod Receipts
 pub mod Sharing
 pub mod Serving

@@ -4,12 +4,14 @@ ghost use Rattle.std.specs.Prelude.{◌≡◌, ◌+◌, ◌<◌, ◌^◌, [], If
 ghost use Rattle.cc_book.specs.History.{IsLegal};
 ghost use Rattle.cc_shared.specs.Closing.{FinishesWith};
 ghost use Rattle.cc_shared.specs.History.{book_at, is_closed};
+ghost use Rattle.cc_shared.specs.Looking.{found_in};
 ghost use Rattle.cc_shared.specs.Sharing.{standings_of};
 ghost use Rattle.book_journal.specs.Kept.{IsKeptBy, IsSettled};
 
 use crate::checking::first_stray;
 use crate::error::CloseError;
 use crate::history::Beginning;
+use crate::looks::{Found, Standing};
 use crate::open::OpenBook;
 use crate::receipt::Receipt;
 use crate::seat::Seat;
@@ -17,6 +19,7 @@ use crate::sharing::Sharing;
 use book_journal::Journal;
 use book_store::RowStore;
 use cc_book::Book;
+use cc_view::Subscription;
 use std::alloc::{AllocError, Global};
 use std::marker::Model;
 use std::sync::ledger;
@@ -129,6 +132,13 @@ impl<L: Sharing, S: RowStore + Drop> KeptBook<L, S> {
         standings(alloc, &self.book)
     }
 
+    /// What stands on the account of a Subscription-Id.
+    pub fn account(&self, id: &Subscription) -> Found
+        ensures { result ≡ found_in L.shared.opened.terms (book_at L.shared.opened self.now).history id.now }
+    {
+        found_in(&self.book, id)
+    }
+
     /// The book, where these seats have counted its takes and these receipts stand in its history.
     pub fn close(
         self,
@@ -158,6 +168,25 @@ impl<L: Sharing, S: RowStore + Drop> KeptBook<L, S> {
         }
         Ok(book)
     }
+}
+
+/// What stands on the account of a Subscription-Id: on the first, where several have it.
+fn found_in(book: &Book, id: &Subscription) -> Found
+    ensures { result ≡ found_in book.now.terms book.now.history id.now }
+{
+    let terms = book.terms_now();
+    let Some(account) = terms.accounts.find(id) else {
+        return Found::NoAccount;
+    };
+    let (Some(balance), Some(reserved)) = (book.balance(account), book.reserved(account)) else {
+        unreachable!();
+    };
+    let closed = terms.is_closed(account);
+    Found::Account(Standing {
+        balance,
+        reserved,
+        closed,
+    })
 }
 
 /// Balance and reserved amount of each account.

@@ -4,6 +4,7 @@
 //!   [`SharedBook::serve_all`] takes several, one behind the other, while it holds the lock once; [`SharedBook::finish`] gives
 //!   the book back, once it has seen that every receipt stands in its one history.
 //! - [`SharedBook::sweep`] ends sessions that are due, and [`SharedBook::change_terms`] changes the terms (`specs/Changing`).
+//! - [`SharedBook::snapshot`] shows all accounts, and [`SharedBook::account`] one (`specs/Looking`).
 //! - [`Seat`]: what a thread serves through. It counts its takes, in a ledger whose total stands beside the book.
 //! - [`Sharing`]: names one sharing.
 //!
@@ -49,7 +50,7 @@ pub use asking::{Asked, Served};
 pub use error::{ChangeError, CloseError, ServeError, ServeRefusal};
 pub use history::{Beginning, BlankHistory, Length, OneHistory, SeenHistory};
 pub use logged::Logged;
-pub use looks::{ClosedBook, Snapshot, Swept, TermsChanged};
+pub use looks::{AccountLook, ClosedBook, Found, Snapshot, Standing, Swept, TermsChanged};
 pub use receipt::Receipt;
 pub use seat::Seat;
 pub use shared::SharedBook;

@@ -5,6 +5,7 @@ ghost use Rattle.cc_shared.specs.Receipts.{IsEnteredAt, IsReceiptOf};
 ghost use Rattle.cc_shared.specs.Sharing.{IsSnapshot, IsSweep};
 ghost use Rattle.cc_shared.specs.Serving.{IsRefused, ServesAll, count_after, refused_closed};
 ghost use Rattle.cc_shared.specs.Changing.{IsChange, IsNoChange};
+ghost use Rattle.cc_shared.specs.Looking.{IsAccountLook};
 ghost use Rattle.cc_shared.specs.Closing.{HasCause, IsFinished, IsWhole};
 ghost use Rattle.cc_shared.specs.History.{is_closed};
 ghost use Rattle.cc_shared.specs.declared.logged.Logged.TheVariants.{Closed};
@@ -15,7 +16,7 @@ use crate::batching::Batching;
 use crate::error::{ChangeError, CloseError, ServeError, ServeRefusal};
 use crate::history::{Beginning, BlankHistory, ClosedHistory, Length, SeenHistory};
 use crate::kept::KeptBook;
-use crate::looks::{ClosedBook, Snapshot, Swept, TermsChanged};
+use crate::looks::{AccountLook, ClosedBook, Found, Snapshot, Swept, TermsChanged};
 use crate::open::OpenBook;
 use crate::receipt::Receipt;
 use crate::seat::Seat;
@@ -24,7 +25,7 @@ use crate::untold::Untold;
 use book_journal::Journal;
 use book_store::RowStore;
 use cc_book::{Book, BookRefusal, TermsChange};
-use cc_view::CcRequest;
+use cc_view::{CcRequest, Subscription};
 use dia_base::Moment;
 use std::alloc::{AllocError, Global};
 use std::mem::replace;
@@ -389,6 +390,26 @@ impl<L: Sharing, S: RowStore + Drop> LockedBook<L, S> {
                 let standings = Vec::new(alloc);
                 let seen = closed.history().seen();
                 Ok(Snapshot { standings, seen })
+            }
+            Behind::Nothing => Err(AllocError),
+        }
+    }
+
+    /// What stands on the account of a Subscription-Id, at one moment. Once the book is closed it says so.
+    pub fn account<R: Wait>(&self, rt: &R, id: &Subscription) -> Result<AccountLook, AllocError>
+        ensures { IfOk result (IsAccountLook L.shared id.now) }
+    {
+        let guard = self.lock.lock(rt);
+        match &*guard {
+            Behind::Open(open) => {
+                let found = open.account(id);
+                let seen = open.history().seen();
+                Ok(AccountLook { found, seen })
+            }
+            Behind::Closed(closed) | Behind::Failed(closed) => {
+                let found = Found::Closed;
+                let seen = closed.history().seen();
+                Ok(AccountLook { found, seen })
             }
             Behind::Nothing => Err(AllocError),
         }

@@ -30,6 +30,34 @@ pub struct Snapshot {
     pub seen: SeenHistory,
 }
 
+/// What stands on an account, in minor units.
+#[derive(Clone, Copy, Debug)]
+pub struct Standing {
+    pub balance: i128,
+    /// What its sessions have reserved.
+    pub reserved: i128,
+    /// Whether the account is closed.
+    pub closed: bool,
+}
+
+/// What a look at one account of a shared book has found.
+#[derive(Clone, Copy, Debug)]
+pub enum Found {
+    Account(Standing),
+    /// No account has the Subscription-Id.
+    NoAccount,
+    /// The book is closed.
+    Closed,
+}
+
+/// One account of a shared book at one moment of its history.
+#[derive(Drop)]
+pub struct AccountLook {
+    pub found: Found,
+    /// What was seen of the history then.
+    pub seen: SeenHistory,
+}
+
 /// A book that was closed, with all of its history.
 #[derive(Drop)]
 pub struct ClosedBook {

@@ -5,6 +5,7 @@ ghost use Rattle.cc_shared.specs.Receipts.{IsEnteredAt, IsReceiptOf};
 ghost use Rattle.cc_shared.specs.Sharing.{IsSnapshot, IsSweep};
 ghost use Rattle.cc_shared.specs.Serving.{IsRefused, ServesAll, count_after};
 ghost use Rattle.cc_shared.specs.Changing.{IsChange, IsNoChange};
+ghost use Rattle.cc_shared.specs.Looking.{IsAccountLook};
 ghost use Rattle.cc_shared.specs.Closing.{FinishesWith, HasCause, IsFinished, IsWhole};
 ghost use Rattle.book_journal.specs.Kept.{IsKeptBy, IsSettled};
 
@@ -12,14 +13,14 @@ use crate::asking::{Asked, Served};
 use crate::error::{ChangeError, CloseError, ServeError};
 use crate::history::BlankHistory;
 use crate::locked::LockedBook;
-use crate::looks::{ClosedBook, Snapshot, Swept, TermsChanged};
+use crate::looks::{AccountLook, ClosedBook, Snapshot, Swept, TermsChanged};
 use crate::receipt::Receipt;
 use crate::seat::Seat;
 use crate::sharing::Sharing;
 use book_journal::Journal;
 use book_store::RowStore;
 use cc_book::{Book, BookRefusal, TermsChange};
-use cc_view::CcRequest;
+use cc_view::{CcRequest, Subscription};
 use dia_base::Moment;
 use std::alloc::{AllocError, Global};
 use std::sync::ledger::{Blank, Ledger};
@@ -177,6 +178,14 @@ impl<L: Sharing, S: RowStore + Drop> SharedBook<L, S> {
         ensures { IfOk result (IsSnapshot L.shared) }
     {
         self.locked.snapshot(rt, alloc)
+    }
+
+    /// What stands on the account of a Subscription-Id, all at one moment: balance and reserved amount, and whether it is closed. It says
+    /// so where no account has that Subscription-Id, and once the book is closed. It takes no memory.
+    pub fn account<R: Wait>(&self, rt: &R, id: &Subscription) -> Result<AccountLook, AllocError>
+        ensures { IfOk result (IsAccountLook L.shared id.now) }
+    {
+        self.locked.account(rt, id)
     }
 
     /// Closes the book and gives it back, where each of these receipts stands in its history, and these seats have
