@@ -1,3 +1,4 @@
 pub mod Changes
 pub mod Errands
+pub mod Looks
 pub mod Sweeps

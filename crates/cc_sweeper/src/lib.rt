@@ -8,6 +8,9 @@
 //! - [`Changes`]: stands with whoever asks for changes of the terms. [`Changes::begin`] begins one, in a thread of its own ([`Changer`]),
 //!   and [`Changes::collect`] says what it has come to. One is under way at most.
 //!
+//! - [`Looks`]: the same for looks at accounts. [`Looks::begin`] begins one, in a thread of its own ([`Looker`]), and [`Looks::collect`]
+//!   says what it has found. One is under way at most.
+//!
 //! What a sweeper and who asks it hand each other is one errand, in a cell that no lock guards: nothing, a sweep that is asked for, or what it has come
 //! to. What each of them knows of it stands in `specs/Errands`; so what is collected is the sweep that was asked for, once.
 //!
@@ -28,11 +31,15 @@ mod changes;
 mod desk;
 mod errand;
 mod hand;
+mod looker;
+mod looks;
 mod starting;
 mod sweeper;
 
 pub use changer::{ChangeResult, Changer, start_change};
 pub use changes::{ChangeFault, Changes};
 pub use errand::SweepDone;
+pub use looker::{LookResult, Looker, start_look};
+pub use looks::{LookFault, Looks};
 pub use starting::start_sweeper;
 pub use sweeper::Sweeper;
