@@ -11,8 +11,8 @@ ghost use Rattle.farm_place.specs.Places.{fronts_from};
 ghost use Rattle.farm_terms.specs.SiteAccounts.{IsSoundFor};
 ghost use Rattle.pool_node.specs.Fronts.{site_of};
 
-use crate::changing::BookTerms;
 use crate::fault::Fault;
+use crate::jobs::BookJobs;
 use crate::serving::serve_over;
 use crate::setting::Setting;
 use crate::waker::LoopWaker;
@@ -23,7 +23,6 @@ use book_opening::{identity_at, open_book, renewed, serving_book, state_id_of};
 use book_store::RowStore;
 use cc_book::{Book, Terms};
 use cc_shared::{BlankHistory, SharedBook};
-use cc_sweeper::Changes;
 use dia_avp::ViewWire;
 use dia_base::NodeNo;
 use farm_clock::Timer;
@@ -243,14 +242,14 @@ where
         sockets,
         waker,
     } = listening;
-    let (fronts, changes) = start_on::<L, S, O>(
+    let (fronts, jobs) = start_on::<L, S, O>(
         setting, &nodes, waker, blank, history, book, journal, timing, workers,
     )?;
     serve_over(
         setting,
         &nodes,
         fronts,
-        Some(BookTerms::new(changes, timing.timer)),
+        Some(jobs),
         places,
         sockets,
         timing.timer,
@@ -258,7 +257,7 @@ where
     )
 }
 
-/// Starts these fronts on this book, whose terms may be changed. Their workers wake the loop of the process.
+/// Starts these fronts on this book, and who does jobs on it. Their workers wake the loop of the process.
 fn start_on<L, S, O>(
     setting: &Setting<'_, O>,
     nodes: &[NodeNo],
@@ -269,7 +268,7 @@ fn start_on<L, S, O>(
     journal: Journal<S>,
     timing: Timing,
     workers: u64,
-) -> Result<(PoolFronts<L, S, O>, Changes<L, S>), Fault>
+) -> Result<(PoolFronts<L, S, O>, BookJobs<L, S>), Fault>
 where
     L: Pooling + Send + Sync + 'static,
     S: RowStore + Drop + Send + 'static,
@@ -293,7 +292,7 @@ where
     let Ok((shared, seats)) = shared else {
         return Err(Fault::OutOfMemory);
     };
-    let changes = Changes::new(shared.another()?);
+    let jobs = BookJobs::on(&shared, timing.timer)?;
     let fronts = start_fronts::<ViewWire, L, S, O, LoopWaker>(
         *setting.os,
         alloc,
@@ -308,5 +307,5 @@ where
     if setting.command.record_path.is_some() {
         fronts.begin_record();
     }
-    Ok((fronts, changes))
+    Ok((fronts, jobs))
 }
