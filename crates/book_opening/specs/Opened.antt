@@ -1,5 +1,5 @@
 -- What an opened book is.
-use Rattle.std.specs.Prelude.{◌≡◌, ◌⊎◌, ℕ, Bool, true, List, Option, Some, None, IfSome, Ok}
+use Rattle.std.specs.Prelude.{◌≡◌, ◌⊎◌, ℕ, Bool, true, List, Ok}
 use Rattle.dia_base.specs.declared.number.Moment.{Moment}
 use Rattle.cc_book.specs.declared.terms.Terms.{Terms}
 use Rattle.cc_book.specs.declared.terms_change.TermsChange.{TermsChange}
@@ -7,10 +7,8 @@ use Rattle.cc_book.specs.AccountMachine.{terms_of}
 use Rattle.cc_book.specs.Changing.{with_change}
 use Rattle.cc_book.specs.Taking.{Ledger}
 use Rattle.cc_book.specs.TermsChange.{says_nothing}
-use Rattle.book_entries.specs.Replayed.{stored_in}
 use Rattle.book_rows.specs.declared.about.About.{About}
 use Rattle.book_rows.specs.About.{about as about_form, whole}
-use Rattle.book_store.specs.Table.{Stored, stored_with}
 use Rattle.book_terms.specs.Difference.{Hold, IsNeeded}
 use Rattle.book_terms.specs.Terms.{terms as terms_form}
 
@@ -32,3 +30,11 @@ pub record IsChangedTo (wanted : Terms) (moment : Moment) (old new : Ledger) : T
 -- one entry, if that is allowed.
 abbrev pub IsRenewed : Terms → Moment → Bool → Ledger → Ledger → Type 0
 IsRenewed wanted moment allowed old new = (new ≡ old) ⊎ ((allowed ≡ true) × IsChangedTo wanted moment old new)
+
+-- The same by a change that is handed in: a book that it says nothing to is the one that is stored.
+abbrev pub IsRenewedBy : TermsChange → Moment → Bool → Ledger → Ledger → Type 0
+IsRenewedBy change moment allowed old new = ((says_nothing change ≡ true) × (new ≡ old)) ⊎ ((allowed ≡ true) × (new ≡ with_change old moment change))
+
+-- whichever terms the change leads to, from those that hold in the one book, hold in the other
+abbrev pub HoldsWhereLed : TermsChange → Ledger → Ledger → Type 0
+HoldsWhereLed change old new = (wanted : Terms) → IsNeeded (now_in old) wanted change → Hold (now_in new) wanted

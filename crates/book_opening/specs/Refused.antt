@@ -36,3 +36,14 @@ IsWhyNot wanted allowed book OutOfMemory = Unit {0}
 IsWhyNot wanted allowed book (File error) = ⊥
 IsWhyNot wanted allowed book DamagedTerms = ⊥
 IsWhyNot wanted allowed book (Row error) = ⊥
+
+-- The same where the change is handed in: what it would bring, why the book refuses it, and that what was changed was not stored.
+abbrev pub IsWhyNotBy : TermsChange → Bool → Ledger → BookFault → Type 0
+IsWhyNotBy change allowed book (TermsDiffer difference) = (allowed ≡ false) × (says_nothing change ≡ false) × IsDifference change difference
+IsWhyNotBy change allowed book (NotChanged refusal) = (allowed ≡ true) × (change_answer book change ≡ Err refusal)
+IsWhyNotBy change allowed book (NotStored error) = allowed ≡ true
+IsWhyNotBy change allowed book OutOfMemory = Unit {0}
+IsWhyNotBy change allowed book (OtherTerms key) = ⊥
+IsWhyNotBy change allowed book (File error) = ⊥
+IsWhyNotBy change allowed book DamagedTerms = ⊥
+IsWhyNotBy change allowed book (Row error) = ⊥

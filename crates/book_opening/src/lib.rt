@@ -6,7 +6,7 @@
 //!   book's terms do not give is refused by name, and nothing is begun anew.
 //! - [`serving_book`] is that book, or one in memory where no file is named. [`renew`] brings it under the terms of a site: by one
 //!   entry that changes its terms, if that is allowed.
-//! - [`change_for`] is the change that this entry makes.
+//! - [`change_for`] is the change that this entry makes. [`renew_by`] makes it where it is handed in.
 //! - [`change_book`] does that in one, and lets go of the file.
 //! - [`identity_at`] is the identity of the book in a file, and [`state_id_of`] the Origin-State-Id of who serves on it.
 //! - [`read_book`] opens it so, lets go of the file, and gives the book with the sum of its history. [`empty_under`] is a book under
@@ -22,4 +22,4 @@ pub use opening::{
     StoredBook, change_book, create_book, empty_under, identity_at, open_book, read_book,
     serving_book, state_id_of,
 };
-pub use renewing::{change_for, renew, renewed};
+pub use renewing::{change_for, renew, renew_by, renewed, renewed_by};

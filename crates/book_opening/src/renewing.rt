@@ -9,8 +9,8 @@ ghost use Rattle.book_terms.specs.Difference.{DiffersIn, Hold, IsNeeded};
 ghost use Rattle.book_terms.specs.declared.key.TermsKey.{TermsKey};
 ghost use Rattle.book_store.specs.declared.error.AppendError.{AppendError};
 ghost use Rattle.book_opening.specs.declared.fault.BookFault.TheVariants.{NotChanged, NotStored, OtherTerms, OutOfMemory};
-ghost use Rattle.book_opening.specs.Opened.{IsRenewed, now_in};
-ghost use Rattle.book_opening.specs.Refused.{IsDifference, IsWhyNot};
+ghost use Rattle.book_opening.specs.Opened.{HoldsWhereLed, IsRenewed, IsRenewedBy, now_in};
+ghost use Rattle.book_opening.specs.Refused.{IsDifference, IsWhyNot, IsWhyNotBy};
 
 use crate::fault::{BookFault, TermsDifference};
 use book_journal::Journal;
@@ -88,6 +88,28 @@ pub fn renew<S: RowStore>(
     ensures store { OnOk result (is_some journal.new.store ≡ is_some journal.old.store) }
 {
     let change = change_for(alloc, book, wanted)?;
+    renew_by(alloc, journal, book, change, moment, is_allowed)
+}
+
+/// The same by a change that is handed in, which leads to the terms of the site. It says nothing where they hold already.
+pub fn renew_by<S: RowStore>(
+    alloc: Global,
+    journal: &mut Journal<S>,
+    book: &mut Book,
+    change: TermsChange,
+    moment: Moment,
+    is_allowed: bool,
+) -> Result<(), BookFault>
+    requires kept { IsKeptBy S.is_clean S.is_ready S.rows journal.old book.old }
+    requires settled { IsSettled journal.old }
+    ensures renewed { OnOk result (IsRenewedBy change moment is_allowed book.old book.new) }
+    ensures refused { IfErr result (IsWhyNotBy change is_allowed book.old) }
+    ensures hold { OnOk result (HoldsWhereLed change book.old book.new) }
+    ensures limit { OnOk result (book.new.limit ≡ book.old.limit) }
+    ensures kept { OnOk result (IsKeptBy S.is_clean S.is_ready S.rows journal.new book.new) }
+    ensures settled { OnOk result (IsSettled journal.new) }
+    ensures store { OnOk result (is_some journal.new.store ≡ is_some journal.old.store) }
+{
     if change.says_nothing() {
         return Ok(());
     }
@@ -117,6 +139,31 @@ pub fn renewed<S: RowStore + Drop>(
 {
     let (mut journal, mut book) = opened;
     match renew(alloc, &mut journal, &mut book, wanted, moment, is_allowed) {
+        Ok(()) => Ok((journal, book)),
+        Err(fault) => Err(fault),
+    }
+}
+
+/// The same by a change that is handed in, as [`renew_by`] does it.
+pub fn renewed_by<S: RowStore + Drop>(
+    alloc: Global,
+    opened: (Journal<S>, Book),
+    change: TermsChange,
+    moment: Moment,
+    is_allowed: bool,
+) -> Result<(Journal<S>, Book), BookFault>
+    requires kept { IsKeptBy S.is_clean S.is_ready S.rows opened.0 opened.1 }
+    requires settled { IsSettled opened.0 }
+    ensures renewed { IfOk result (λ served. IsRenewedBy change moment is_allowed opened.1 served.1) }
+    ensures refused { IfErr result (IsWhyNotBy change is_allowed opened.1) }
+    ensures hold { IfOk result (λ served. HoldsWhereLed change opened.1 served.1) }
+    ensures limit { IfOk result (λ served. served.1.limit ≡ opened.1.limit) }
+    ensures kept { IfOk result (λ served. IsKeptBy S.is_clean S.is_ready S.rows served.0 served.1) }
+    ensures settled { IfOk result (λ served. IsSettled served.0) }
+    ensures store { IfOk result (λ served. is_some served.0.store ≡ is_some opened.0.store) }
+{
+    let (mut journal, mut book) = opened;
+    match renew_by(alloc, &mut journal, &mut book, change, moment, is_allowed) {
         Ok(()) => Ok((journal, book)),
         Err(fault) => Err(fault),
     }

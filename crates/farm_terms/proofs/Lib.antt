@@ -1,1 +1,3 @@
 mod Once
+mod Naming
+mod Leading

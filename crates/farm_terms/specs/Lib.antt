@@ -1,2 +1,4 @@
 pub mod Lines
 pub mod SiteAccounts
+pub mod Joining
+pub mod SiteChange

@@ -66,7 +66,7 @@ fn accounts_in(alloc: Global, text: &[u8]) -> Result<Vec<Account>, AccountsFault
 }
 
 /// Whether the last line of a text does not end.
-fn is_cut_off(text: &[u8]) -> bool
+pub(crate) fn is_cut_off(text: &[u8]) -> bool
     ensures { result ≡ not (ends text.now) }
 {
     !text.is_empty() && text[text.len() - 1] != b'\n'

@@ -13,6 +13,8 @@
 //! - [`site_terms`] reads the terms that the book of a site begins with: the site's own, and the accounts of a file that its site file
 //!   names, each `account` on a line of its own ([`accounts_with`]). [`accounts_text`] reads and checks that file first. `specs/SiteAccounts`
 //!   says which these are, and why there are none.
+//! - [`site_change`] gives the change that leads to these terms from those of a book that is there, without a list of all accounts:
+//!   [`read_accounts`] reads the file, and each account of it is looked for in the book (`specs/Joining`, `specs/SiteChange`).
 #![tactic(auto)]
 
 ghost use Rattle.std.specs.Prelude.{◌≡◌, ◌∷◌, [], IfOk};
@@ -21,17 +23,22 @@ ghost use Rattle.farm_base.specs.declared.step.Step.TheVariants.{ChangeTerms};
 ghost use Rattle.farm_terms.specs.Lines.{IsSpelled, blank_of, step_line};
 
 mod accounts;
+mod change;
 mod fault;
 mod finding;
+mod joining;
 mod opening;
 
 pub use accounts::{ACCOUNT_LIMIT, accounts_with, tariffs_of};
 use cc_book::TermsChange;
+pub use change::{SiteChangeFault, site_change};
 use farm_base::{Site, Step};
 use farm_script::{ScriptFault, steps_of};
 pub use fault::{AccountsFault, TextFault};
 use finding::line_with_fault;
-pub use opening::{AccountsText, SiteTermsFault, accounts_file, accounts_text, site_terms};
+pub use opening::{
+    AccountsText, SiteTermsFault, accounts_file, accounts_text, read_accounts, site_terms,
+};
 use std::alloc::{AllocError, Global};
 
 /// The most lines of a text.

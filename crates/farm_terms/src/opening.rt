@@ -1,8 +1,9 @@
-//! The terms that the book of a site begins with.
+//! The terms that the book of a site begins with, and the file that its accounts may stand in.
 
 ghost use Rattle.std.specs.Prelude.{◌≡◌, IfOk, is_some};
 ghost use Rattle.farm_base.specs.CheckedSite.{IsChecked};
 ghost use Rattle.farm_terms.specs.SiteAccounts.{AreTermsOf, IsSoundFor};
+ghost use Rattle.farm_terms.specs.declared.opening.SiteTermsFault.TheVariants as terms;
 
 use crate::accounts::{accounts_with, sound_accounts, terms_with};
 use crate::fault::AccountsFault;
@@ -29,12 +30,16 @@ pub enum SiteTermsFault {
 }
 
 impl From<AllocError> for SiteTermsFault {
+    ghost from_gives = { λ _ e. e ≡ terms.OutOfMemory };
+
     fn from(_e: AllocError) -> SiteTermsFault {
         SiteTermsFault::OutOfMemory
     }
 }
 
 impl From<AccountsFault> for SiteTermsFault {
+    ghost from_gives = { λ fault e. e ≡ terms.Accounts fault };
+
     fn from(fault: AccountsFault) -> SiteTermsFault {
         SiteTermsFault::Accounts(fault)
     }
@@ -50,13 +55,25 @@ pub fn accounts_file(rt: &HostRuntime, path: &str) -> Result<Vec<u8>, SiteTermsF
     }
 }
 
-/// The text of a file of accounts, each of which stands once beside those of a site. None if the site file names no file.
+/// The text of a file of accounts. None if the site file names no file.
 #[derive(Drop)]
 pub struct AccountsText {
     pub text: Option<Vec<u8>>,
 }
 
-/// Reads the file of accounts at a path, if the site file names one, and checks it.
+/// Reads the file of accounts at a path, if the site file names one. [`site_change`](crate::site_change) checks it.
+pub fn read_accounts(rt: &HostRuntime, path: Option<&str>) -> Result<AccountsText, SiteTermsFault>
+    ensures { IfOk result (λ read. is_some read.text ≡ is_some path.entry) }
+{
+    match path {
+        Some(path) => Ok(AccountsText {
+            text: Some(accounts_file(rt, path)?),
+        }),
+        None => Ok(AccountsText { text: None }),
+    }
+}
+
+/// Reads that file, and checks it: each account stands once, also beside those of the site.
 pub fn accounts_text(
     rt: &HostRuntime,
     site: &Site,
