@@ -182,6 +182,12 @@ fn journal_status(error: JournalError) -> Status
     }
 }
 
+impl From<SiteTermsFault> for TaskFault {
+    fn from(fault: SiteTermsFault) -> TaskFault {
+        TaskFault::Terms(fault)
+    }
+}
+
 impl From<AllocError> for TaskFault {
     fn from(_: AllocError) -> TaskFault {
         TaskFault::OutOfMemory

@@ -4,7 +4,10 @@ ghost use Rattle.std.specs.Prelude.{◌≡◌, ◌≤◌, ◌↔◌, [], IfErr, 
 ghost use Rattle.book_lines.specs.Lines.{lines_of};
 ghost use Rattle.farm_base.specs.CheckedSite.{IsChecked};
 ghost use Rattle.farm_report.specs.Report.{report_of};
-ghost use Rattle.farm_terms.specs.SiteAccounts.{AreTermsOf, IsSoundFor};
+ghost use Rattle.book_opening.specs.Opened.{now_in};
+ghost use Rattle.book_terms.specs.Difference.{IsNeeded};
+ghost use Rattle.farm_terms.specs.SiteAccounts.{AreTermsOf};
+ghost use Rattle.farm_terms.specs.SiteChange.{LeadsToSite};
 ghost use Rattle.farm_book.specs.Told.{IsCopyOf, IsStoredFor, IsTold, summary_text, text_of};
 
 use crate::fault::TaskFault;
@@ -15,13 +18,13 @@ use book_opening::{
 };
 use book_place::accounts_path;
 use book_store::FIRST_SUM;
-use cc_book::{Terms, TermsChange};
+use cc_book::{Book, Terms, TermsChange};
 use dia_base::HISTORY_LIMIT;
 use farm_base::Site;
 use farm_command::{BookCommand, BookTask};
 use farm_report::report;
 use farm_site::{SiteDocument, site_document_of_octets};
-use farm_terms::{AccountsText, accounts_text, site_terms};
+use farm_terms::{SiteChangeFault, accounts_text, read_accounts, site_change, site_terms};
 use farm_text::{ReadFault, file_at, write_text};
 use std::alloc::Global;
 use std::io;
@@ -50,27 +53,13 @@ fn accounts_at(alloc: Global, site: &str, document: &Table) -> Result<Option<Str
     }
 }
 
-/// The text of the file of accounts at a path, if the site file names one.
-fn text_at(rt: &HostRuntime, site: &Site, accounts: Option<&str>) -> Result<AccountsText, TaskFault>
-    ensures named { IfOk result (λ read. is_some read.text ≡ is_some accounts.entry) }
-    ensures sound { IfOk result (IsSoundFor site.now) }
+/// The terms that a site wants, with the accounts of the file at a path, if it names one.
+fn wanted_at(rt: &HostRuntime, site: &Site, accounts: Option<&str>) -> Result<Terms, TaskFault>
+    requires { IsChecked site.now }
+    ensures { IfOk result (AreTermsOf site.now (is_some accounts.entry)) }
 {
-    match accounts_text(rt, site, accounts) {
-        Ok(read) => Ok(read),
-        Err(fault) => Err(TaskFault::Terms(fault)),
-    }
-}
-
-/// The terms that a site wants, with the accounts of a text, if there is one.
-fn wanted_by(alloc: Global, site: &Site, read: &AccountsText) -> Result<Terms, TaskFault>
-    requires checked { IsChecked site.now }
-    requires sound { IsSoundFor site.now read.now }
-    ensures { IfOk result (AreTermsOf site.now (is_some read.now.text)) }
-{
-    match site_terms(alloc, site, read) {
-        Ok(terms) => Ok(terms),
-        Err(fault) => Err(TaskFault::Terms(fault)),
-    }
+    let read = accounts_text(rt, site, accounts)?;
+    Ok(site_terms(rt.alloc(), site, &read)?)
 }
 
 /// Makes a book under the terms that a site wants. It is given as it is stored then.
@@ -102,19 +91,48 @@ fn read_for(rt: &HostRuntime, path: &str, site: &Site) -> Result<StoredBook, Tas
     }
 }
 
-/// Reads a book, from whose terms a change leads to those that are wanted.
+/// The change that leads from the terms that hold in a book to those that a site wants, with the accounts of the file at a path, if it
+/// names one.
+fn change_to(
+    rt: &HostRuntime,
+    site: &Site,
+    accounts: Option<&str>,
+    book: &Book,
+) -> Result<TermsChange, TaskFault>
+    requires { IsChecked site.now }
+    ensures { IfOk result (LeadsToSite site.now (is_some accounts.entry) (now_in book.now)) }
+{
+    let read = read_accounts(rt, accounts)?;
+    match site_change(rt.alloc(), site, &read, book.terms_now()) {
+        Ok(change) => Ok(change),
+        Err(SiteChangeFault::Terms(fault)) => Err(TaskFault::Terms(fault)),
+        Err(SiteChangeFault::Stays(key)) => Err(TaskFault::NotRead(BookFault::OtherTerms(key))),
+    }
+}
+
+/// Reads a book, and gives it with that change. The accounts of the file are read behind it, and no list of them is made: so they do not
+/// stand in memory beside those of the book.
 fn read_under(
     rt: &HostRuntime,
     path: &str,
     site: &Site,
-    wanted: &Terms,
-) -> Result<StoredBook, BookFault>
+    accounts: Option<&str>,
+) -> Result<(StoredBook, TermsChange), TaskFault>
     requires { IsChecked site.now }
-    ensures { IfOk result (IsStoredFor site.now) }
+    ensures stored { IfOk result (λ told. IsStoredFor site.now told.0) }
+    ensures leads { IfOk result (λ told. LeadsToSite site.now (is_some accounts.entry) (now_in told.0.book) told.1) }
 {
-    let read = read_book(rt, path, site.limit)?;
-    drop(change_for(rt.alloc(), &read.book, wanted)?);
-    Ok(read)
+    let stored = read_for(rt, path, site)?;
+    let change = change_to(rt, site, accounts, &stored.book)?;
+    Ok((stored, change))
+}
+
+/// A fault of a book that is read, told of its backup.
+fn of_backup(fault: TaskFault) -> TaskFault {
+    match fault {
+        TaskFault::NotRead(fault) => TaskFault::CopyNotRead(fault),
+        fault => fault,
+    }
 }
 
 /// Copies a book to a new file, and reads that.
@@ -123,16 +141,32 @@ fn backed_up(
     path: &str,
     to: &str,
     site: &Site,
-    wanted: &Terms,
-) -> Result<StoredBook, TaskFault>
+    accounts: Option<&str>,
+) -> Result<(StoredBook, TermsChange), TaskFault>
     requires { IsChecked site.now }
-    ensures { IfOk result (IsStoredFor site.now) }
+    ensures stored { IfOk result (λ told. IsStoredFor site.now told.0) }
+    ensures leads { IfOk result (λ told. LeadsToSite site.now (is_some accounts.entry) (now_in told.0.book) told.1) }
 {
-    drop(read_under(rt, path, site, wanted).map_err(TaskFault::NotRead)?);
+    drop(read_under(rt, path, site, accounts)?);
     let copied = copy_file(rt, path, to).map_err(TaskFault::NotCopied)?;
-    match read_under(rt, to, site, wanted) {
-        Ok(copy) => checked_copy(copied, copy),
-        Err(fault) => Err(TaskFault::CopyNotRead(fault)),
+    match read_under(rt, to, site, accounts) {
+        Ok((copy, change)) => Ok((checked_copy(copied, copy)?, change)),
+        Err(fault) => Err(of_backup(fault)),
+    }
+}
+
+/// A book with the change that leads from its terms to those that are wanted.
+fn with_change(
+    alloc: Global,
+    stored: StoredBook,
+    wanted: &Terms,
+) -> Result<(StoredBook, TermsChange), TaskFault>
+    ensures stored { IfOk result (λ told. told.0 ≡ stored) }
+    ensures needed { IfOk result (λ told. IsNeeded (now_in told.0.book) wanted.now told.1) }
+{
+    match change_for(alloc, &stored.book, wanted) {
+        Ok(change) => Ok((stored, change)),
+        Err(fault) => Err(TaskFault::NotRead(fault)),
     }
 }
 
@@ -172,37 +206,59 @@ fn checked_copy(copied: Copied, copy: StoredBook) -> Result<StoredBook, TaskFaul
     }
 }
 
-/// Makes, reads, changes or copies the book that a command names, and gives it with the terms that its site wants, with the accounts of a
-/// text, if there is one. What is only read is read before these terms are made: so the accounts that they have do not stand in memory
-/// beside the octets of those of the book.
+/// Makes a book under the terms that a site wants, with the accounts of the file at a path, if it names one, and gives it with the change
+/// that leads there.
+#[tactic(auto, using(crate::proofs::Stored::none_closed))]
+fn made_under(
+    rt: &HostRuntime,
+    path: &str,
+    site: &Site,
+    accounts: Option<&str>,
+) -> Result<(StoredBook, TermsChange), TaskFault>
+    requires { IsChecked site.now }
+    ensures stored { IfOk result (λ told. IsStoredFor site.now told.0) }
+    ensures leads { IfOk result (λ told. LeadsToSite site.now (is_some accounts.entry) (now_in told.0.book) told.1) }
+{
+    let wanted = wanted_at(rt, site, accounts)?;
+    let stored = made(rt, path, site, &wanted)?;
+    with_change(rt.alloc(), stored, &wanted)
+}
+
+/// Changes the terms of a book to those that a site wants, in the same way.
+fn changed_under(
+    rt: &HostRuntime,
+    path: &str,
+    site: &Site,
+    accounts: Option<&str>,
+) -> Result<(StoredBook, TermsChange), TaskFault>
+    requires { IsChecked site.now }
+    ensures stored { IfOk result (λ told. IsStoredFor site.now told.0) }
+    ensures leads { IfOk result (λ told. LeadsToSite site.now (is_some accounts.entry) (now_in told.0.book) told.1) }
+{
+    let wanted = wanted_at(rt, site, accounts)?;
+    let stored = changed(rt, path, site, &wanted)?;
+    with_change(rt.alloc(), stored, &wanted)
+}
+
+/// Makes, reads, changes or copies the book that a command names, and gives it with the change that leads from its terms to those that its
+/// site wants, with the accounts of the file at a path, if it names one.
 fn stored(
     rt: &HostRuntime,
     command: &BookCommand<'_>,
     site: &Site,
-    read: &AccountsText,
-) -> Result<(StoredBook, Terms), TaskFault>
-    requires checked { IsChecked site.now }
-    requires sound { IsSoundFor site.now read.now }
-    ensures stored { IfOk result (λ opened. IsStoredFor site.now opened.0) }
-    ensures wanted { IfOk result (λ opened. AreTermsOf site.now (is_some read.now.text) opened.1) }
+    accounts: Option<&str>,
+) -> Result<(StoredBook, TermsChange), TaskFault>
+    requires { IsChecked site.now }
+    ensures stored { IfOk result (λ told. IsStoredFor site.now told.0) }
+    ensures leads { IfOk result (λ told. LeadsToSite site.now (is_some accounts.entry) (now_in told.0.book) told.1) }
 {
     match command.task {
         BookTask::Check | BookTask::Report | BookTask::Export => {
-            let stored = read_for(rt, command.file, site)?;
-            Ok((stored, wanted_by(rt.alloc(), site, read)?))
+            read_under(rt, command.file, site, accounts)
         }
-        BookTask::Create => {
-            let wanted = wanted_by(rt.alloc(), site, read)?;
-            Ok((made(rt, command.file, site, &wanted)?, wanted))
-        }
-        BookTask::ChangeTerms => {
-            let wanted = wanted_by(rt.alloc(), site, read)?;
-            Ok((changed(rt, command.file, site, &wanted)?, wanted))
-        }
-        BookTask::Backup { to } => {
-            let wanted = wanted_by(rt.alloc(), site, read)?;
-            Ok((backed_up(rt, command.file, to, site, &wanted)?, wanted))
-        }
+        BookTask::Create => made_under(rt, command.file, site, accounts),
+        BookTask::ChangeTerms => changed_under(rt, command.file, site, accounts),
+        BookTask::Backup { to } => backed_up(rt, command.file, to, site, accounts),
     }
 }
 
@@ -275,7 +331,6 @@ fn text_of(
 }
 
 /// Does what a command asks for, for a site, with the accounts of the file at a path, if it names one. It gives what is printed of it.
-#[tactic(auto, using(crate::proofs::Stored::none_closed))]
 fn told_of(
     rt: &HostRuntime,
     command: &BookCommand<'_>,
@@ -285,13 +340,8 @@ fn told_of(
     requires { IsChecked site.now }
     ensures { IfOk result (λ text. IsTold site.now (is_some accounts.entry) command.now.task text.items) }
 {
-    let alloc = rt.alloc();
-    let read = text_at(rt, site, accounts)?;
-    let (stored, wanted) = stored(rt, command, site, &read)?;
-    match change_for(alloc, &stored.book, &wanted) {
-        Ok(change) => text_of(alloc, command.task, site.limit, &stored, &change),
-        Err(fault) => Err(TaskFault::NotRead(fault)),
-    }
+    let (stored, change) = stored(rt, command, site, accounts)?;
+    text_of(rt.alloc(), command.task, site.limit, &stored, &change)
 }
 
 /// Does what a command asks for, and prints it. Nothing is printed before it is done.

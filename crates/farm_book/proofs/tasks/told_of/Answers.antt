@@ -1,8 +1,6 @@
-use Rattle.std.proofs.Common.{◌≡◌, ℕ, Bool, List, Result, Ok, Err, subst}
+use Rattle.std.proofs.Common.{Result, Ok, Err}
 use Rattle.std.specs.Prelude.{IfOk}
-use Rattle.std.specs.Global.{Vec}
-use Rattle.farm_book.specs.Told.{IsTold, text_of}
-use Rattle.farm_terms.specs.SiteAccounts.{AreTermsOf}
+use Rattle.farm_book.specs.Told.{IsTold}
 use Rattle.farm_book.proofs.tasks.told_of.Goals as goal
 
 -- what follows from what holds of the value of a call that is done
@@ -10,12 +8,9 @@ of_value : {T E : Type 0} {P Q : T → Type 0} (result : Result T E) → ((value
 of_value (Ok value) follows holds = follows value holds
 of_value (Err error) follows holds = tt
 
-pub returns-in-Ok : goal.returns-in-Ok
-returns-in-Ok c =
-    let stored = c.in_ok-stored.stored in
-    let wanted = c.in_ok-stored.wanted in
-    let change = c.in-Ok.change in
-    let are_wanted = subst (λ (with_file : Bool). AreTermsOf c.args.site.now with_file wanted) c.in_ok-read.ensures.named c.in_ok-stored.ensures.wanted in
+pub returns : goal.returns
+returns c =
+    let leads = c.in_ok-stored.ensures.leads in
     of_value c.text_of.result
-    (λ text says. record { wanted = wanted; are_wanted = are_wanted; stored = stored; is_for = c.in_ok-stored.ensures.stored; change = change; leads = c.in-Ok.ensures.needed; says = says })
+    (λ text says. record { wanted = leads.0; are_wanted = leads.1; stored = c.in_ok-stored.stored; is_for = c.in_ok-stored.ensures.stored; change = c.in_ok-stored.change; leads = leads.2; says = says })
     c.text_of.ensures
