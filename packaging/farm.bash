@@ -34,7 +34,7 @@ _farm() {
     account) mapfile -t COMPREPLY < <(compgen -W '--type --at --token' -- "$word") ;;
     stop) mapfile -t COMPREPLY < <(compgen -W '--at --token' -- "$word") ;;
     audit | schedule)
-      mapfile -t COMPREPLY < <(compgen -W '--site' -- "$word"; compgen -f -- "$word")
+      mapfile -t COMPREPLY < <(compgen -W '--site --book' -- "$word"; compgen -f -- "$word")
       ;;
     picture) mapfile -t COMPREPLY < <(compgen -W '--site --from --to' -- "$word") ;;
     book)

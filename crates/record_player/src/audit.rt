@@ -354,10 +354,10 @@ impl<'s, R: Read + Drop> Audit<'s, R> {
 
     /// Nothing is left. Where something is, it is told of an entry that waits for nobody else who waits.
     fn look_at_the_rest(&self) -> Result<(), PlayFault> {
-        self.player.look_at_places()?;
         if let Some(position) = self.player.entry_left() {
             return found(position, Difference::Untold);
         }
+        self.player.look_at_places()?;
         let left = self.queues.first_that_waits().or(self.player.first_left());
         match left {
             Some(position) => found(position, Difference::CannotHappen),

@@ -133,9 +133,9 @@ impl<'s> Player<'s> {
         Some(self.stored.as_ref()?.untold.as_slice())
     }
 
-    /// The entry of the book on disk that was not played.
+    /// The next entry of the book on disk, if no line tells of it.
     pub fn entry_left(&self) -> Option<Position> {
-        Some(self.stored.as_ref()?.next?.position)
+        Some(self.untold_next(true)?.position)
     }
 
     /// The next entry of the book on disk.
