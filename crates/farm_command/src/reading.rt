@@ -253,10 +253,11 @@ fn audit_in<'a>(
 {
     let site = text_in(found, Word::Site)?;
     let records = records_in(alloc, found)?;
+    let book = value_of(found, Word::Book);
     Ok(Audit {
         action,
         site,
-        book: value_of(found, Word::Book),
+        book,
         records,
     })
 }
