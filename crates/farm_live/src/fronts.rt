@@ -7,6 +7,7 @@ ghost use Rattle.book_journal.specs.Kept.{IsKeptBy, IsSettled};
 ghost use Rattle.book_opening.specs.Opened.{HoldsWhereLed, now_in};
 ghost use Rattle.farm_live.specs.Serving.{IsServed};
 ghost use Rattle.farm_place.specs.Places.{fronts_from};
+ghost use Rattle.farm_terms.specs.SiteAccounts.{AreTermsOf};
 ghost use Rattle.farm_terms.specs.SiteChange.{LeadsToSite};
 ghost use Rattle.pool_node.specs.Fronts.{site_of};
 
@@ -20,10 +21,11 @@ use book_file::FileBook;
 use book_journal::Journal;
 use book_opening::{change_for, identity_at, open_book, renewed_by, serving_book, state_id_of};
 use book_store::RowStore;
-use cc_book::{Book, TermsChange};
+use cc_book::{Book, Terms, TermsChange};
 use cc_shared::{BlankHistory, SharedBook};
 use dia_avp::ViewWire;
 use dia_base::NodeNo;
+use farm_base::Site;
 use farm_clock::Timer;
 use farm_command::Process;
 use farm_loop::Sockets;
@@ -114,12 +116,41 @@ fn stored_book<O>(
 {
     let (rt, site) = (setting.rt, setting.site);
     let (journal, book) = open_book(rt, path, site.limit)?;
-    let read = read_accounts(rt, setting.accounts)?;
-    let change = site_change(rt.alloc(), site, &read, book.terms_now())?;
+    let change = change_to(rt, site, setting.accounts, &book)?;
     Ok(((journal, book), change))
 }
 
+/// The change that leads from the terms that hold in a book to those of a site, with the accounts of the file at a path, if it names one.
+fn change_to(
+    rt: &HostRuntime,
+    site: &Site,
+    accounts: Option<&str>,
+    book: &Book,
+) -> Result<TermsChange, Fault>
+    requires { IsChecked site.now }
+    ensures { IfOk result (LeadsToSite site.now (is_some accounts.entry) (now_in book.now)) }
+{
+    let read = read_accounts(rt, accounts)?;
+    match site_change(rt.alloc(), site, &read, book.terms_now()) {
+        Ok(change) => Ok(change),
+        Err(fault) => Err(fault.into()),
+    }
+}
+
+/// The terms that a site wants, with the accounts of the file at a path, if it names one.
+fn wanted_at(rt: &HostRuntime, site: &Site, accounts: Option<&str>) -> Result<Terms, Fault>
+    requires { IsChecked site.now }
+    ensures { IfOk result (AreTermsOf site.now (is_some accounts.entry)) }
+{
+    let read = accounts_text(rt, site, accounts)?;
+    match site_terms(rt.alloc(), site, &read) {
+        Ok(terms) => Ok(terms),
+        Err(fault) => Err(fault.into()),
+    }
+}
+
 /// The same of an empty book in memory, which is under the terms of the site.
+#[tactic(auto, using(crate::proofs::Served::needed_change_leads))]
 fn book_in_memory<O>(
     setting: &Setting<'_, O>,
 ) -> Result<((Journal<FileBook>, Book), TermsChange), Fault>
@@ -130,11 +161,10 @@ fn book_in_memory<O>(
     ensures stored { IfOk result (λ opened. is_some opened.0.0.store ≡ false) }
     ensures leads { IfOk result (λ opened. LeadsToSite setting.now.site.now (is_some setting.now.accounts) (now_in opened.0.1) opened.1) }
 {
-    let (alloc, site) = (setting.rt.alloc(), setting.site);
-    let read = accounts_text(setting.rt, site, setting.accounts)?;
-    let wanted = site_terms(alloc, site, &read)?;
-    let (journal, book) = serving_book(setting.rt, None, site.limit, &wanted)?;
-    let change = change_for(alloc, &book, &wanted)?;
+    let (rt, site) = (setting.rt, setting.site);
+    let wanted = wanted_at(rt, site, setting.accounts)?;
+    let (journal, book) = serving_book(rt, None, site.limit, &wanted)?;
+    let change = change_for(rt.alloc(), &book, &wanted)?;
     Ok(((journal, book), change))
 }
 
