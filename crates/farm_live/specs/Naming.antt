@@ -1,5 +1,5 @@
 -- An account as who asks for it names it: by two words as a schedule has them.
-use Rattle.std.specs.Prelude.{[], ◌∷◌, ℕ, List, Result, Err}
+use Rattle.std.specs.Prelude.{[], ◌∷◌, ℕ, List, Result, Ok, Err}
 use Rattle.cc_view.specs.declared.request.Subscription.{Subscription}
 use Rattle.farm_script.specs.declared.fault.LineFault.{LineFault}
 use Rattle.farm_script.specs.declared.fault.LineFault.TheVariants.{WrongCount}
