@@ -1,6 +1,6 @@
 //! What a serving process says of itself.
 
-use crate::jobs::JobsTold;
+use crate::changing::LastChange;
 use book_store::RowStore;
 use cc_book::Book;
 use dia_base::{NodeNo, PENDING_LIMIT};
@@ -162,8 +162,10 @@ pub struct View<'a, N> {
     pub live: &'a Live<N>,
     /// How long it has served, in milliseconds.
     pub uptime: u64,
-    /// What is told of the jobs on its book.
-    pub told: JobsTold<'a>,
+    /// What has become of the last change of the terms of its book.
+    pub last_change: LastChange,
+    /// How many entries its book had behind the last change that was made, 0 where none was.
+    pub changed_entries: u64,
 }
 
 /// The name of a node of the site.
@@ -327,7 +329,7 @@ impl<N: Node + Drop + Booked> View<'_, N> {
         match self.live.serving.node().book() {
             Some(figures) => {
                 let book = BookStatus {
-                    entries: figures.entries.max(self.told.changed_entries),
+                    entries: figures.entries.max(self.changed_entries),
                     limit: self.site.limit,
                     sessions: figures.sessions(),
                     charges: figures.charges,
@@ -361,15 +363,7 @@ impl<N: Node + Drop + Booked> Source for View<'_, N> {
     }
 
     fn terms(&self) -> Result<String, AllocError> {
-        let last = self.told.last_change;
+        let last = self.last_change;
         format!(in self.rt.alloc(); "{last}\n")
-    }
-
-    fn account(&self) -> Result<String, AllocError> {
-        let alloc = self.rt.alloc();
-        match self.told.last_look {
-            Some(last) => format!(in alloc; "{last}\n"),
-            None => String::from_str(alloc, "there is no book\n"),
-        }
     }
 }

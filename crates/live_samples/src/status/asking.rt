@@ -1,7 +1,7 @@
 //! A request over HTTP, in memory.
 
 use crate::status::fronts::status_of;
-use farm_status::{Answering, Job, Jobs, Source, Status, Token};
+use farm_status::{Answering, Changing, Source, Status, Token};
 use farm_tally::Tally;
 use http_server::{Config, Connection};
 use std::alloc::{AllocError, Global};
@@ -23,10 +23,6 @@ impl Source for Fronts<'_> {
     fn terms(&self) -> Result<String, AllocError> {
         String::from_str(self.alloc, "nothing was changed\n")
     }
-
-    fn account(&self) -> Result<String, AllocError> {
-        String::from_str(self.alloc, "nobody was looked at\n")
-    }
 }
 
 /// Prints the first line that a request is answered with, and whether the node is to end then.
@@ -36,7 +32,7 @@ fn print<S: Source>(
     keys: RandomState,
     source: &S,
     token: &Token,
-    jobs: Jobs,
+    changing: Changing,
     request: &str,
 ) -> anyhow::Result<()> {
     let mut answering = Answering {
@@ -44,9 +40,8 @@ fn print<S: Source>(
         source,
         token: Some(token),
         stops: false,
-        jobs,
+        changing,
         change: None,
-        look: None,
     };
     let mut connection = Connection::new(alloc, keys, Config::default());
     let mut input = request.as_bytes();
@@ -55,15 +50,11 @@ fn print<S: Source>(
     let text = std::str::from_utf8(connection.output())?;
     let (first, _) = text.split_once("\r\n").unwrap_or(("nothing", ""));
     let (asked, _) = request.split_once(" HTTP").unwrap_or(("nothing", ""));
-    let (stops, change, look) = (answering.stops, answering.change, answering.look);
+    let (stops, change) = (answering.stops, answering.change);
     println!(rt; "{asked}: {first}, ends: {stops}")?;
     if let Some(change) = &change {
         let text = std::str::from_utf8(change)?;
         println!(rt; "  changes: {text}")?;
-    }
-    if let Some(look) = &look {
-        let text = std::str::from_utf8(look)?;
-        println!(rt; "  looks at: {text}")?;
     }
     Ok(())
 }
@@ -94,31 +85,6 @@ const TERMS: [&str; 4] = [
     "DELETE /terms HTTP/1.1\r\nHost: localhost\r\nAuthorization: Bearer 0123456789abcdef\r\n\r\n",
 ];
 
-/// Requests at the path of accounts: read and asked for, with the token and without, and by another method.
-const ACCOUNTS: [&str; 5] = [
-    "GET /account HTTP/1.1\r\nHost: localhost\r\n\r\n",
-    "GET /account HTTP/1.1\r\nHost: localhost\r\nAuthorization: Bearer 0123456789abcdef\r\n\r\n",
-    "POST /account HTTP/1.1\r\nHost: localhost\r\nContent-Length: 7\r\n\r\n0 49170",
-    "POST /account HTTP/1.1\r\nHost: localhost\r\nAuthorization: Bearer 0123456789abcdef\r\nContent-Length: 7\r\n\r\n0 49170",
-    "PUT /account HTTP/1.1\r\nHost: localhost\r\nAuthorization: Bearer 0123456789abcdef\r\nContent-Length: 7\r\n\r\n0 49170",
-];
-
-/// Where a node has no book, where the job that is asked for is under way, and where the other one is.
-const UNDER_WAY: [Jobs; 3] = [
-    Jobs {
-        change: Job::Never,
-        look: Job::Never,
-    },
-    Jobs {
-        change: Job::Busy,
-        look: Job::Free,
-    },
-    Jobs {
-        change: Job::Free,
-        look: Job::Busy,
-    },
-];
-
 /// Prints what each request is answered, by a node that has a token.
 pub fn print_all(rt: &(impl Print + RandomSource), alloc: Global) -> anyhow::Result<()> {
     let tally = Tally::nothing(alloc);
@@ -129,14 +95,11 @@ pub fn print_all(rt: &(impl Print + RandomSource), alloc: Global) -> anyhow::Res
     let token = Token::read(alloc, b"0123456789abcdef\n")?;
     let keys = RandomState::new(rt)?;
     for request in REQUESTS {
-        print(rt, alloc, keys, &source, &token, UNDER_WAY[1], request)?;
+        print(rt, alloc, keys, &source, &token, Changing::Free, request)?;
     }
-    for jobs in UNDER_WAY {
+    for changing in [Changing::Never, Changing::Busy, Changing::Free] {
         for request in TERMS {
-            print(rt, alloc, keys, &source, &token, jobs, request)?;
-        }
-        for request in ACCOUNTS {
-            print(rt, alloc, keys, &source, &token, jobs, request)?;
+            print(rt, alloc, keys, &source, &token, changing, request)?;
         }
     }
     Ok(())
