@@ -8,17 +8,13 @@ use crate::lines::RecordLines;
 use crate::position::Position;
 use dia_avp::{ViewWire, Wire};
 use dia_base::Moment;
+use dia_base::codes::{CC_REQUEST_NUMBER, SESSION_ID};
 use dia_message::Message;
 use farm_script::{LineFault, number_of, words_of};
 use std::alloc::Global;
 use std::collections::VecDeque;
 use std::hash::{DefaultHasher, Hash, Hasher};
 use std::io::Read;
-
-/// The codes of the AVPs Session-Id and CC-Request-Number (RFC 6733, section 8.8; RFC 8506, section 8.2).
-const SESSION_ID: u32 = 263;
-
-const REQUEST_NUMBER: u32 = 415;
 
 /// A number that few other requests have: of its Session-Id and its CC-Request-Number.
 #[derive(Clone, Copy, PartialEq, Eq)]
@@ -40,7 +36,7 @@ impl RequestKey {
             .find(|avp| avp.code == SESSION_ID && avp.vendor == 0)?;
         let number = avps
             .iter()
-            .find(|avp| avp.code == REQUEST_NUMBER && avp.vendor == 0)?;
+            .find(|avp| avp.code == CC_REQUEST_NUMBER && avp.vendor == 0)?;
         let [a, b, c, d] = number.value.as_slice() else {
             return None;
         };
