@@ -214,8 +214,7 @@ pub fn create_file(rt: &HostRuntime, path: &str, about: &About) -> Result<FileBo
 
 /// Copies the log into the file, and lets go of both.
 pub fn close_file(book: FileBook) -> Result<(), FileError> {
-    let TreeStore { store, .. } = book;
-    let mut store = store;
+    let mut store = book.into_store();
     store.checkpoint()?;
     drop(store.close());
     Ok(())

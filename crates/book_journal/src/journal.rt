@@ -27,7 +27,6 @@ pub struct NewRow {
 }
 
 /// What is stored of a book, and what waits to be stored. `S` is what it is stored in.
-#[derive(Drop)]
 pub struct Journal<S> {
     /// Of it comes the memory for rows.
     pub alloc: Global,
@@ -37,6 +36,33 @@ pub struct Journal<S> {
     pub sum: Sum,
     /// The octets of the rows that wait to be stored, in their order.
     pub waiting: Vec<Vec<u8>>,
+}
+
+// By hand, so that each exit of an owner is proved with one call.
+impl<S: Drop> Drop for Journal<S> {
+    fn drop(self) {
+        let Journal {
+            alloc: _,
+            store: _,
+            sum: _,
+            waiting: _,
+        } = self;
+    }
+}
+
+impl<S> Journal<S> {
+    /// What it is stored in, and the sum of the last row, of those that wait too.
+    pub fn into_parts(self) -> (Option<S>, Sum)
+        ensures { result ≡ (self.store, self.sum) }
+    {
+        let Journal {
+            alloc: _,
+            store,
+            sum,
+            waiting: _,
+        } = self;
+        (store, sum)
+    }
 }
 
 /// The octets of a row, and its sum.

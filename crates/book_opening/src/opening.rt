@@ -158,13 +158,23 @@ pub fn serving_book(
 }
 
 /// A book as it is stored.
-#[derive(Drop)]
 pub struct StoredBook {
     pub identity: Identity,
     /// It has all entries that are stored, under the terms that it was made under.
     pub book: Book,
     /// The sum of its history, which is that of its last row. It names the whole history.
     pub sum: Sum,
+}
+
+// By hand, so that each exit of an owner is proved with one call.
+impl Drop for StoredBook {
+    fn drop(self) {
+        let StoredBook {
+            identity: _,
+            book: _,
+            sum: _,
+        } = self;
+    }
 }
 
 /// The book in a store, as it is opened, and what it is stored in.
@@ -193,7 +203,7 @@ fn stored_of<S: RowStore + Drop>(
     ensures sum { IfSome result.0 (λ _. result.1.sum.0 ≡ sum_in result.1.book) }
 {
     let (journal, book) = opened;
-    let Journal { store, sum, .. } = journal;
+    let (store, sum) = journal.into_parts();
     let stored = StoredBook {
         identity,
         book,

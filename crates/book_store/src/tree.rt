@@ -30,12 +30,31 @@ pub const BOOK: u32 = 1;
 pub const PLACES: u64 = 1 << 62;
 
 /// A store of rows in two tables of a database.
-#[derive(Drop)]
 pub struct TreeStore<S> {
     /// The database.
     pub store: S,
     /// Where the book stands.
     pub standing: Standing,
+}
+
+// By hand, so that each exit of an owner is proved with one call.
+impl<S: Drop> Drop for TreeStore<S> {
+    fn drop(self) {
+        let TreeStore {
+            store: _,
+            standing: _,
+        } = self;
+    }
+}
+
+impl<S> TreeStore<S> {
+    /// The database.
+    pub fn into_store(self) -> S
+        ensures { result ≡ self.store }
+    {
+        let TreeStore { store, standing: _ } = self;
+        store
+    }
 }
 
 /// Opens the tables of a database in which nothing is under way, and finds the book that they hold. `NoBook` is told where
@@ -109,8 +128,7 @@ pub fn reopen_tree<S: Reopen>(
     ensures found { IfOk result (λ again. IsClean (S.Store.view again.store) → Leaves (S.Store.recovers opened.store) (stored_in (S.Store.view again.store).committed)) }
     ensures reopens { IfOk result (λ again. MayReopen (S.Store.view again.store)) }
 {
-    let TreeStore { store, .. } = opened;
-    let mut store = store;
+    let mut store = opened.into_store();
     match store.crash_and_reopen() {
         Ok(()) => open_tree(alloc, store),
         Err(error) => Err((OpenError::Store(error), store)),

@@ -8,8 +8,7 @@ ghost use Rattle.book_store.specs.Table.{HasTables};
 use super::appending::batch;
 use super::tables;
 use book_store::{
-    Batch, CreateError, OpenError, RowStore, TreeStore, append_all, check_rows, create_tree,
-    open_tree,
+    Batch, CreateError, OpenError, RowStore, append_all, check_rows, create_tree, open_tree,
 };
 use sqlite_trees::memory::MemStore;
 use sqlite_value::value::ValueRef;
@@ -45,8 +44,7 @@ fn print_table(
     first: (i64, ValueRef<'_>),
     second: (i64, ValueRef<'_>),
 ) -> anyhow::Result<()> {
-    let TreeStore { store, .. } = tables::store(alloc)?;
-    let mut store = store;
+    let mut store = tables::store(alloc)?.into_store();
     tables::put(alloc, &mut store, first.0, first.1)?;
     tables::put(alloc, &mut store, second.0, second.1)?;
     tables::commit(&mut store)?;
@@ -55,8 +53,7 @@ fn print_table(
 
 /// The tables of a book with these octets under this number where it is said what it is.
 fn print_book(rt: &impl Print, alloc: Global, number: i64, octets: &[u8]) -> anyhow::Result<()> {
-    let TreeStore { store, .. } = tables::store(alloc)?;
-    let mut store = store;
+    let mut store = tables::store(alloc)?.into_store();
     tables::put_book(alloc, &mut store, number, octets)?;
     tables::commit(&mut store)?;
     print_opening(rt, alloc, store)
@@ -76,7 +73,7 @@ fn is_made_over(alloc: Global, store: MemStore) -> Result<(), CreateError>
 /// Tables with no book, and a book that would be made where one is.
 fn print_making(rt: &impl Print, alloc: Global) -> anyhow::Result<()> {
     print_opening(rt, alloc, tables::empty(alloc)?)?;
-    let TreeStore { store, .. } = tables::store(alloc)?;
+    let store = tables::store(alloc)?.into_store();
     match is_made_over(alloc, store) {
         Ok(()) => println!(rt; "made")?,
         Err(error) => println!(rt; "{error}")?,
