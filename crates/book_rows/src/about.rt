@@ -18,11 +18,11 @@ use std::alloc::{AllocError, Global};
 pub const FORMAT: u32 = 1;
 
 /// Which book it is: 16 octets that are drawn once, as a number whose highest octet is the first.
-#[derive(Clone, Copy, Debug, PartialEq, Eq)]
+#[derive(Clone, Copy, PartialEq, Eq)]
 pub struct Identity(pub u128);
 
 /// What a stored book is. It stays as it is for the book's life.
-#[derive(Debug, Drop)]
+#[derive(Drop)]
 pub struct About {
     pub identity: Identity,
     /// The octets of the terms under which its replies were made.

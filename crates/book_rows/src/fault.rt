@@ -31,7 +31,7 @@ pub enum Fault {
 }
 
 /// Why no row was read.
-#[derive(Debug, Drop)]
+#[derive(Drop)]
 pub enum ReadError {
     OutOfMemory,
     /// The octets spell no row.

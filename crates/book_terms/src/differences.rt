@@ -16,7 +16,7 @@ use dia_base::Listing;
 use std::alloc::{AllocError, Global};
 
 /// Why no change is told that leads from the terms that hold to others.
-#[derive(Clone, Copy, Debug, PartialEq, Eq)]
+#[derive(Clone, Copy, PartialEq, Eq)]
 pub enum NeededFault {
     /// No change can bring it: this is the first key that differs.
     Stays(TermsKey),

@@ -14,7 +14,7 @@ use std::hash::{DefaultHasher, Hash, Hasher};
 use std::marker::Model;
 
 /// The Subscription-Id of an account, to be looked up.
-#[derive(Clone, Copy, Debug, PartialEq, Eq, Hash)]
+#[derive(Clone, Copy, PartialEq, Eq, Hash)]
 pub struct Owner<'a> {
     pub kind: u32,
     pub text: &'a Octets,

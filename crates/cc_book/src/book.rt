@@ -22,7 +22,7 @@ use std::marker::Model;
 use thiserror::Error;
 
 /// What the book answers to a request that it keeps.
-#[derive(Debug, Drop)]
+#[derive(Drop)]
 pub struct Answered {
     pub reply: CcReply,
     /// The place of the request's entry in the history, from 0.

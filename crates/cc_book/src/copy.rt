@@ -10,7 +10,6 @@ use std::marker::Model;
 
 /// A copy of a request, and two more of its Session-Id: the entry keeps the one, the places of requests and the open
 /// sessions the others, where they do not know it yet.
-#[derive(Debug)]
 pub struct RequestCopy {
     request: CcRequest,
     session: Octets,

@@ -20,7 +20,7 @@ use dia_base::{Listing, Moment};
 use std::alloc::{AllocError, Global};
 
 /// What a request does to its session.
-#[derive(Debug, Drop)]
+#[derive(Drop)]
 pub enum Change {
     /// Nothing: there is none, or it is an EVENT.
     Stays,
@@ -33,7 +33,7 @@ pub enum Change {
 }
 
 /// What a request does.
-#[derive(Debug, Drop)]
+#[derive(Drop)]
 pub struct Outcome {
     /// The account that it charges, by its place.
     pub account: Option<usize>,

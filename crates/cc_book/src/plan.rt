@@ -10,7 +10,6 @@ use dia_base::Moment;
 /// What a request does to a book, found out before anything changes: what it is answered and, where the book does
 /// not keep it yet, the entry that it becomes with all that follows from it. It owns what the book keeps of it. It is
 /// good for the history that it was made of, and so for one commit.
-#[derive(Debug)]
 pub struct Plan {
     /// What the request is answered.
     pub answered: Answered,
@@ -29,7 +28,7 @@ impl Drop for Plan {
 }
 
 /// A request that the book does not keep yet, and what it does.
-#[derive(Debug, Drop)]
+#[derive(Drop)]
 pub struct Taken {
     pub moment: Moment,
     pub request: RequestCopy,

@@ -20,7 +20,7 @@ use dia_base::Listing;
 use std::alloc::{AllocError, Global};
 
 /// What services are granted: their replies, and what is reserved for them.
-#[derive(Debug, Drop)]
+#[derive(Drop)]
 pub struct Granted {
     pub replies: Vec<ServiceReply>,
     pub holds: Vec<Hold>,

@@ -19,7 +19,7 @@ use std::marker::Model;
 
 /// An account book without a map and without a total: what is looked for is walked to. Its calls are those of
 /// [`cc_book::Book`], with the same contracts.
-#[derive(Debug, Drop)]
+#[derive(Drop)]
 pub struct ListBook {
     /// The terms that it began with.
     terms: Terms,

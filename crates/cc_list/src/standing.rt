@@ -10,7 +10,7 @@ use dia_base::Moment;
 use std::alloc::{AllocError, Global};
 
 /// What a history has left.
-#[derive(Debug, Drop)]
+#[derive(Drop)]
 pub struct Lists {
     /// The balance of each account.
     pub balances: Vec<i128>,

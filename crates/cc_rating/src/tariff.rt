@@ -46,7 +46,7 @@ pub struct Tariff {
 }
 
 /// The units that are granted.
-#[derive(Clone, Copy, Debug, PartialEq, Eq)]
+#[derive(Clone, Copy, PartialEq, Eq)]
 pub struct Grant {
     pub units: u64,
     /// Their cost in minor units of money.

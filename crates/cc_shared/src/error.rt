@@ -16,7 +16,7 @@ pub enum ServeRefusal {
 }
 
 /// A request that was not served, as it was handed in, and why. The book is as it was.
-#[derive(Debug, Drop)]
+#[derive(Drop)]
 pub struct ServeError {
     pub why: ServeRefusal,
     pub request: CcRequest,
@@ -37,7 +37,7 @@ pub enum ChangeError {
 }
 
 /// Why a shared book was not finished. It is closed all the same, and handed back where it was not closed before.
-#[derive(Debug, Drop)]
+#[derive(Drop)]
 pub enum CloseError {
     /// A receipt does not stand in the history, at the place that it names.
     ReceiptNotInHistory { place: u64, book: Book },

@@ -41,7 +41,7 @@ pub struct Standing {
 }
 
 /// What a look at one account of a shared book has found.
-#[derive(Clone, Copy, Debug)]
+#[derive(Clone, Copy)]
 pub enum Found {
     Account(Standing),
     /// No account has the Subscription-Id.

@@ -11,7 +11,7 @@ use dia_base::Moment;
 use std::marker::PhantomData;
 
 /// What a sweep came to.
-#[derive(Clone, Copy, Debug)]
+#[derive(Clone, Copy)]
 pub struct SweepDone {
     /// At which moment the book was swept.
     pub moment: Moment,

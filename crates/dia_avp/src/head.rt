@@ -9,7 +9,7 @@ use crate::layout::{has_vendor, header_len, padding_of};
 use byteorder::{BigEndian, ByteOrder};
 
 /// What the header of an AVP says, and the places behind it, counted from its first octet.
-#[derive(Clone, Copy, Debug)]
+#[derive(Clone, Copy)]
 pub(crate) struct Head {
     pub code: u32,
     pub flags: u8,

@@ -11,7 +11,7 @@ use crate::octets::Octets;
 use std::alloc::{AllocError, Global};
 
 /// An AVP whose value is lent by the octets that it stands in. The vendor is 0 where the flags have no V.
-#[derive(Clone, Copy, Debug)]
+#[derive(Clone, Copy)]
 pub struct LentAvp<'a> {
     pub code: u32,
     pub flags: u8,

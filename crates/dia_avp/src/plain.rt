@@ -28,7 +28,7 @@ fn front_of<'a>(alloc: Global, at: usize, octets: &'a [u8]) -> Result<(RawAvp, &
 }
 
 /// The plain reading and writing.
-#[derive(Clone, Copy, Debug, PartialEq, Eq)]
+#[derive(Clone, Copy, PartialEq, Eq)]
 pub struct PlainWire;
 
 fn split(alloc: Global, octets: &[u8]) -> Result<Vec<RawAvp>, AvpFault>

@@ -67,7 +67,7 @@ fn split(alloc: Global, body: &Octets) -> Result<Vec<RawAvp>, AvpFault>
 
 /// The reading by cuts. Of octets that are a cut it copies nothing: each value is a cut of the same buffer,
 /// and keeps it alive. Other octets it copies once, and cuts the copy.
-#[derive(Clone, Copy, Debug, PartialEq, Eq)]
+#[derive(Clone, Copy, PartialEq, Eq)]
 pub struct ViewWire;
 
 impl Wire for ViewWire {

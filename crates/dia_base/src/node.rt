@@ -1,7 +1,7 @@
 //! What the nodes of the farm are.
 
 /// What a node does.
-#[derive(Clone, Copy, Debug, PartialEq, Eq)]
+#[derive(Clone, Copy, PartialEq, Eq)]
 pub enum NodeKind {
     Relay,
     Front,

@@ -8,7 +8,7 @@ use crate::text::Text;
 use dia_avp::Octets;
 
 /// The value of an AVP, by its kind (RFC 6733, sections 4.2 to 4.4).
-#[derive(Clone, Debug, Drop, PartialEq, Eq)]
+#[derive(Clone, Drop, PartialEq, Eq)]
 pub enum Typed {
     Unsigned32(u32),
     Unsigned64(u64),

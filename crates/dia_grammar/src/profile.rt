@@ -8,7 +8,7 @@ use std::alloc::{AllocError, Global};
 use std::marker::Model;
 
 /// A deviation of clients that a server may tolerate.
-#[derive(Clone, Copy, Debug, PartialEq, Eq)]
+#[derive(Clone, Copy, PartialEq, Eq)]
 pub enum Tolerance {
     /// A further Origin-Host or Origin-Realm that has the octets of one before it is not counted.
     OriginTwice,
@@ -18,7 +18,7 @@ pub enum Tolerance {
 }
 
 /// What of a request is known beside the dictionary, and what is tolerated beside the grammar.
-#[derive(Clone, Copy, Debug)]
+#[derive(Clone, Copy)]
 pub struct Profile<'a> {
     /// Vendors whose AVPs are known.
     pub vendors: &'a [u32],
@@ -62,7 +62,7 @@ impl<'a> Profile<'a> {
 }
 
 /// A profile that a server keeps: what a [`Profile`] lends.
-#[derive(Debug, Drop)]
+#[derive(Drop)]
 pub struct SiteProfile {
     /// Vendors whose AVPs are known.
     pub vendors: Listing<u32>,

@@ -46,7 +46,7 @@ const LENGTH_END: usize = 4;
 ///
 /// It keeps the octets that are not read yet, and nothing of the messages that it has given: the beginning of one
 /// message, or what stands at a fault.
-#[derive(Debug, Drop)]
+#[derive(Drop)]
 pub struct Frames {
     rest: Vec<u8>,
 }

@@ -41,7 +41,7 @@ pub struct Header {
 }
 
 /// A header with the version and the message length that stand in its octets.
-#[derive(Clone, Copy, Debug, PartialEq, Eq)]
+#[derive(Clone, Copy, PartialEq, Eq)]
 pub struct ReadHeader {
     /// The other fields.
     pub header: Header,

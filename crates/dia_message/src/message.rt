@@ -18,7 +18,7 @@ pub struct Message {
 }
 
 /// What a node sends for one event: messages and the connections that they go out on, in order.
-#[derive(Debug, Drop)]
+#[derive(Drop)]
 pub struct Out {
     /// Each message with its connection.
     pub items: Listing<(ConnId, Message)>,

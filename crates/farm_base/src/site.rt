@@ -11,7 +11,6 @@ use dia_grammar::{SiteProfile, Tolerance};
 use std::alloc::AllocError;
 
 /// A node. Its number is its place in the list of nodes.
-#[derive(Debug)]
 pub struct Node {
     pub name: Identity,
     pub kind: NodeKind,
@@ -31,14 +30,14 @@ impl Drop for Node {
 }
 
 /// A link: the first connects to the second.
-#[derive(Clone, Copy, Debug, PartialEq, Eq)]
+#[derive(Clone, Copy, PartialEq, Eq)]
 pub struct Link {
     pub from: NodeNo,
     pub to: NodeNo,
 }
 
 /// A route of a relay (RFC 6733, section 2.7): the peers for a realm and an application, the best first.
-#[derive(Debug, Drop)]
+#[derive(Drop)]
 pub struct Route {
     pub at: NodeNo,
     pub realm: Identity,
@@ -48,7 +47,6 @@ pub struct Route {
 }
 
 /// A site.
-#[derive(Debug)]
 pub struct Site {
     /// The Origin-Realm of each relay and front.
     pub realm: Identity,

@@ -5,7 +5,7 @@ use dia_base::{Moment, NodeNo};
 use dia_message::Message;
 
 /// One step of the farm. A step that does not apply is skipped when the schedule is run.
-#[derive(Debug, Drop)]
+#[derive(Drop)]
 pub enum Step {
     /// A connection between two nodes comes up, and both know it: `Accept` and then `Opened`.
     Up {

@@ -17,7 +17,7 @@ use std::alloc::{AllocError, Global};
 use toml::Table;
 
 /// The files that a site file names, as their paths stand there.
-#[derive(Debug, Drop)]
+#[derive(Drop)]
 pub struct Files {
     pub book: Option<String>,
     pub accounts: Option<String>,
@@ -68,7 +68,7 @@ fn place_text(alloc: Global, file: &[u8], key: FileKey) -> Result<String, AllocE
 }
 
 /// Why the accounts of a file are not had.
-#[derive(Debug, Drop)]
+#[derive(Drop)]
 pub enum AccountsRefusal {
     /// The file cannot be read.
     NotRead,

@@ -8,7 +8,7 @@ use farm_base::Site;
 use std::alloc::{AllocError, Global};
 
 /// The lines that are told.
-#[derive(Debug, Drop)]
+#[derive(Drop)]
 pub struct Lines {
     text: String,
 }

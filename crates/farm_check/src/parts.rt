@@ -10,7 +10,7 @@ use toml::Table;
 pub const TABLES: [&str; 5] = ["node", "link", "route", "tariff", "account"];
 
 /// What of a site file a fault is told of.
-#[derive(Clone, Copy, Debug, PartialEq, Eq)]
+#[derive(Clone, Copy, PartialEq, Eq)]
 pub enum Part {
     /// The file's own keys, which stand above its tables.
     Own,

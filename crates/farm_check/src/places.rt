@@ -4,7 +4,7 @@ use crate::parts::Entry;
 use std::fmt;
 
 /// A place in a text. Lines and columns count from 1, columns in characters.
-#[derive(Clone, Copy, Debug, PartialEq, Eq)]
+#[derive(Clone, Copy, PartialEq, Eq)]
 pub struct Place {
     line: usize,
     column: usize,

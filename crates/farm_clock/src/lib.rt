@@ -16,7 +16,7 @@ use std::time::{Duration, Instant, SystemTime, UNIX_EPOCH};
 
 /// Moments in milliseconds since 1970, as the system's clock had them when the timer was started. Two timers that were
 /// started one after the other tell the same moments, unless that clock was set between.
-#[derive(Clone, Copy, Debug)]
+#[derive(Clone, Copy)]
 pub struct Timer {
     began: Instant,
     first: u64,

@@ -34,7 +34,7 @@ pub enum Task<'a> {
 }
 
 /// How the log is spelled.
-#[derive(Clone, Copy, Debug, PartialEq, Eq)]
+#[derive(Clone, Copy, PartialEq, Eq)]
 pub enum LogFormat {
     /// As text, for people.
     Text,

@@ -14,7 +14,7 @@ use std::sync::Wait;
 use std::thread::Threads;
 
 /// What has become of the change of the terms that was asked for last.
-#[derive(Clone, Copy, Debug)]
+#[derive(Clone, Copy)]
 pub enum LastChange {
     /// None was asked for yet.
     Nothing,

@@ -7,7 +7,7 @@ ghost use Rattle.farm_log.specs.Limits.{after_line, after_look, is_due, no_lines
 pub const LINE_LIMIT: u32 = 10;
 
 /// Lines of one kind from one peer: what was written lately, and how many are held back.
-#[derive(Clone, Copy, Debug, PartialEq, Eq)]
+#[derive(Clone, Copy, PartialEq, Eq)]
 pub struct Count {
     /// The second of the line that was written last.
     pub second: u64,

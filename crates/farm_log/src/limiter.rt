@@ -16,7 +16,7 @@ pub struct Held {
 }
 
 /// How many lines of each kind from each peer there are. Kinds and peers are numbered from 0; the memory for them is taken once.
-#[derive(Debug, Drop)]
+#[derive(Drop)]
 pub struct Limiter {
     /// How many kinds there are.
     pub kinds: usize,

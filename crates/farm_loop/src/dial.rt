@@ -9,7 +9,7 @@ use farm_serve::{Link, Standing};
 use farm_watch::DisconnectCause;
 
 /// Where a connection that is to be made stands.
-#[derive(Clone, Copy, Debug, PartialEq, Eq)]
+#[derive(Clone, Copy, PartialEq, Eq)]
 pub enum DialState {
     /// It is to be made, at this moment or later.
     Due { at: Moment },
@@ -20,7 +20,7 @@ pub enum DialState {
 }
 
 /// A connection that a node of this process makes, again and again.
-#[derive(Clone, Copy, Debug, PartialEq, Eq)]
+#[derive(Clone, Copy, PartialEq, Eq)]
 pub struct Dial {
     pub local: NodeNo,
     pub peer: NodeNo,

@@ -21,7 +21,7 @@ pub const PATIENCE: u64 = 1_000;
 const _: () = prove!(BEHIND + MESSAGE_LIMIT + 2 * TURN_LIMIT as usize * PIECE <= UNSENT_LIMIT);
 
 /// What a connection brings.
-#[derive(Clone, Copy, Debug, PartialEq, Eq)]
+#[derive(Clone, Copy, PartialEq, Eq)]
 pub enum Traffic {
     /// Requests alone.
     Requests,
@@ -63,7 +63,7 @@ fn others_behind(behind: usize, unsent: usize) -> usize
 }
 
 /// How the connections of a process stand on which requests go out.
-#[derive(Clone, Copy, Debug)]
+#[derive(Clone, Copy)]
 pub struct Pause {
     /// How many of them are behind.
     pub behind: usize,

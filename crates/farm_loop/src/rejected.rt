@@ -14,7 +14,7 @@ use std::fmt;
 use std::net::IpAddr;
 
 /// Why a node that has connected is not welcome.
-#[derive(Clone, Copy, Debug, PartialEq, Eq)]
+#[derive(Clone, Copy, PartialEq, Eq)]
 pub enum Rejection {
     /// The site has no node of this name.
     UnknownName,

@@ -28,7 +28,7 @@ pub struct Listening {
 }
 
 /// Whether connections wait at a listener.
-#[derive(Clone, Copy, Debug, PartialEq, Eq)]
+#[derive(Clone, Copy, PartialEq, Eq)]
 pub enum Callers {
     /// None does, until some are reported.
     Nobody,

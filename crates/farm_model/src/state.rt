@@ -8,7 +8,7 @@ use relay_core::Relay;
 
 /// One direction of a connection, with the messages in flight in it. A connection that is made has two, each of
 /// which stands until the node that it goes to has dropped the connection.
-#[derive(Debug, Drop)]
+#[derive(Drop)]
 pub struct Direction {
     pub conn: ConnId,
     pub from: NodeNo,
@@ -20,14 +20,14 @@ pub struct Direction {
 }
 
 /// A front, with the node that it is.
-#[derive(Debug, Drop)]
+#[derive(Drop)]
 pub struct FrontAt {
     pub node: NodeNo,
     pub front: Front,
 }
 
 /// A relay, with the node that it is.
-#[derive(Debug, Drop)]
+#[derive(Drop)]
 pub struct RelayAt {
     pub node: NodeNo,
     pub relay: Relay,

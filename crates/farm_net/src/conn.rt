@@ -22,7 +22,7 @@ use std::marker::Model;
 pub const UNSENT_LIMIT: usize = 1_048_576;
 
 /// Where a connection stands.
-#[derive(Clone, Copy, Debug, PartialEq, Eq)]
+#[derive(Clone, Copy, PartialEq, Eq)]
 pub enum Stage {
     /// Messages come in and go out.
     Open,
@@ -33,7 +33,7 @@ pub enum Stage {
 }
 
 /// What a turn of reading has brought.
-#[derive(Debug, Drop)]
+#[derive(Drop)]
 pub struct Received {
     /// The messages that are whole now, in order. They came before the loss, if there is one.
     pub messages: Vec<Message>,
@@ -46,7 +46,6 @@ pub struct Received {
 ///
 /// A call tells that the connection is lost at most once, and no call after it reads, writes or tells
 /// anything. What is not ready is no loss: the turn ends, and the next one goes on.
-#[derive(Debug)]
 pub struct Conn<R, W> {
     alloc: Global,
     reader: R,

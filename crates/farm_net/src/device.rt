@@ -20,7 +20,7 @@ pub trait Device {
 }
 
 /// A reader or a writer whose failures are counted.
-#[derive(Debug, Drop)]
+#[derive(Drop)]
 pub struct Counted<S> {
     device: S,
     faults: u64,

@@ -13,7 +13,7 @@ use dia_message::{Message, Out};
 use std::alloc::Global;
 
 /// What a node does at an event.
-#[derive(Debug, Drop)]
+#[derive(Drop)]
 pub struct Reaction {
     /// What it sends, in order. It may be something where the outcome is an error too.
     pub out: Out,

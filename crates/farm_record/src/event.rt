@@ -4,7 +4,7 @@ use dia_base::{ConnId, Moment, NodeNo};
 use dia_message::Message;
 
 /// Whether a request was new to the book.
-#[derive(Clone, Copy, Debug, PartialEq, Eq)]
+#[derive(Clone, Copy, PartialEq, Eq)]
 pub enum Age {
     New,
     /// It has the place of the first with its key.
@@ -12,7 +12,7 @@ pub enum Age {
 }
 
 /// What a line of a record tells. Connections have the numbers that their process gives them.
-#[derive(Debug, Drop)]
+#[derive(Drop)]
 pub enum Event {
     /// A process begins, which is these nodes of the site, at this moment.
     Begin {

@@ -9,7 +9,7 @@ use dia_message::Message;
 use std::alloc::{AllocError, Global};
 
 /// A connection of the process, and what both ends call it.
-#[derive(Clone, Copy, Debug)]
+#[derive(Clone, Copy)]
 struct Labelled {
     conn: ConnId,
     label: u64,
@@ -27,7 +27,6 @@ pub trait Recorded {
 }
 
 /// The lines of a record that are not written yet. One that is off takes none.
-#[derive(Debug)]
 pub struct Recorder {
     lines: Vec<u8>,
     /// The names of the site's nodes.

@@ -57,14 +57,14 @@ const OPENING_LIMIT: u64 = 4_611_686_018_427_387_904;
 const KEY_LIMIT: u64 = 4_294_967_295;
 
 /// How far items are read: whether they stand behind `tariffs`, and how many words are left of the last one.
-#[derive(Clone, Copy, Debug)]
+#[derive(Clone, Copy)]
 struct Form {
     in_tariffs: bool,
     left: usize,
 }
 
 /// What is said of an account.
-#[derive(Debug, Drop)]
+#[derive(Drop)]
 enum AccountItem {
     Joins(Account),
     Closes(Subscription),
@@ -72,7 +72,7 @@ enum AccountItem {
 }
 
 /// What is said of accounts, by what they do, in the order in which it is said.
-#[derive(Debug, Drop)]
+#[derive(Drop)]
 struct Parted {
     joining: Vec<Account>,
     closing: Vec<Subscription>,

@@ -33,7 +33,7 @@ use std::alloc::{AllocError, Global};
 use std::io::{Read, Write};
 
 /// A node with its connections, in the order of their numbers.
-#[derive(Debug, Drop)]
+#[derive(Drop)]
 pub struct Desk<N, R, W> {
     pub alloc: Global,
     pub node: N,

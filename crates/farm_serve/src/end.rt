@@ -32,7 +32,7 @@ pub enum End {
 }
 
 /// A connection that has ended, for those who have its sockets.
-#[derive(Debug, Drop)]
+#[derive(Drop)]
 pub struct Ended<R, W> {
     pub conn: ConnId,
     /// The node of this process whose connection it was.
@@ -62,7 +62,7 @@ pub enum Refusal {
 }
 
 /// A connection that is not made: its reader and its writer as they were handed in, and why.
-#[derive(Debug, Drop)]
+#[derive(Drop)]
 pub struct NotTaken<R, W> {
     pub reader: R,
     pub writer: W,

@@ -46,7 +46,7 @@ impl Standing {
 }
 
 /// A connection with all that is kept of it.
-#[derive(Debug, Drop)]
+#[derive(Drop)]
 pub struct Link<R, W> {
     pub id: ConnId,
     /// The node of this process whose connection it is.

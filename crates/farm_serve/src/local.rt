@@ -4,7 +4,7 @@ use dia_base::NodeNo;
 use farm_watch::WatchSite;
 
 /// A node that is served here, with what its connections know of it.
-#[derive(Debug, Drop)]
+#[derive(Drop)]
 pub struct LocalNode {
     pub node: NodeNo,
     pub site: WatchSite,

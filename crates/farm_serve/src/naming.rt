@@ -12,7 +12,7 @@ use farm_watch::{MessageKind, Waits, WatchSite, is_named_in, kind_of};
 use std::alloc::{AllocError, Global};
 
 /// By which name a node comes up that was connected to, and answers.
-#[derive(Clone, Copy, Debug)]
+#[derive(Clone, Copy)]
 pub enum NameRule {
     /// By any.
     Any,

@@ -15,7 +15,7 @@ use std::collections::VecDeque;
 pub const NOTE_LIMIT: usize = 1_024;
 
 /// Something that has happened. Whoever writes a log chooses the words.
-#[derive(Debug, Drop)]
+#[derive(Drop)]
 pub enum Note {
     /// The node at the other end of a connection is up.
     Up {
@@ -71,7 +71,7 @@ pub enum Note {
 }
 
 /// Notes that wait to be read, the oldest first.
-#[derive(Debug, Drop)]
+#[derive(Drop)]
 pub struct Notes {
     waiting: VecDeque<Note>,
     dropped: u64,

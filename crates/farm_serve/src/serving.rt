@@ -26,7 +26,6 @@ pub const UNKNOWN_LIMIT: usize = 64;
 
 /// A node with its connections over any readers and writers: what they bring the node is told, and what it says is
 /// sent. The node may be several of the site, as all its fronts over one book are.
-#[derive(Debug)]
 pub struct Serving<N, R, W> {
     desk: Desk<N, R, W>,
     locals: Vec<LocalNode>,

@@ -31,7 +31,7 @@ const ID_KIND_LIMIT: u32 = 4;
 const OPENING_LIMIT: u64 = 4_611_686_018_427_387_904;
 
 /// The Subscription-Id of an account.
-#[derive(Clone, Copy, Debug, PartialEq, Eq, PartialOrd, Ord)]
+#[derive(Clone, Copy, PartialEq, Eq, PartialOrd, Ord)]
 struct Owner<'a> {
     id_kind: u32,
     id: &'a [u8],

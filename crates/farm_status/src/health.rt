@@ -9,7 +9,7 @@ use http::StatusCode;
 use std::fmt;
 
 /// Whether a node can do its work: a relay forwards requests, and fronts charge them.
-#[derive(Clone, Copy, Debug, PartialEq, Eq)]
+#[derive(Clone, Copy, PartialEq, Eq)]
 pub enum Health {
     Well,
     /// No neighbour is up that the routes of the relay name.

@@ -6,7 +6,7 @@ ghost use Rattle.farm_status.specs.Replies.{is_change, is_read, is_stop, read_at
 use http::StatusCode;
 
 /// Whether a node may be asked to change the terms of its book.
-#[derive(Clone, Copy, Debug, PartialEq, Eq)]
+#[derive(Clone, Copy, PartialEq, Eq)]
 pub enum Changing {
     /// It has no book.
     Never,
@@ -16,7 +16,7 @@ pub enum Changing {
 }
 
 /// What a request is answered.
-#[derive(Clone, Copy, Debug, PartialEq, Eq)]
+#[derive(Clone, Copy, PartialEq, Eq)]
 pub enum Reply {
     Page,
     Metrics,

@@ -3,7 +3,7 @@
 use farm_tally::Tally;
 
 /// Where the connection with a neighbour stands.
-#[derive(Clone, Copy, Debug, PartialEq, Eq)]
+#[derive(Clone, Copy, PartialEq, Eq)]
 pub enum PeerState {
     /// The two nodes have exchanged their capabilities.
     Up,
@@ -14,7 +14,7 @@ pub enum PeerState {
 }
 
 /// A neighbour of a node of this process, by the site file.
-#[derive(Debug, Drop)]
+#[derive(Drop)]
 pub struct Peer {
     /// The node of this process.
     pub local: String,
@@ -27,7 +27,7 @@ pub struct Peer {
 }
 
 /// The connections of the process by their state.
-#[derive(Clone, Copy, Debug, PartialEq, Eq)]
+#[derive(Clone, Copy, PartialEq, Eq)]
 pub struct Connections {
     /// The nodes at both ends are up.
     pub up: u64,
@@ -38,7 +38,7 @@ pub struct Connections {
 }
 
 /// A front, and what is under way there.
-#[derive(Debug, Drop)]
+#[derive(Drop)]
 pub struct FrontStatus {
     pub name: String,
     /// Requests that wait for a worker or are with one.
@@ -50,7 +50,7 @@ pub struct FrontStatus {
 }
 
 /// The account book of the fronts.
-#[derive(Clone, Copy, Debug, PartialEq, Eq)]
+#[derive(Clone, Copy, PartialEq, Eq)]
 pub struct BookStatus {
     /// Entries of its history, and how many it takes at most.
     pub entries: u64,
@@ -62,7 +62,7 @@ pub struct BookStatus {
 }
 
 /// What the process does.
-#[derive(Debug, Drop)]
+#[derive(Drop)]
 pub enum Work {
     /// It is a relay: how many requests wait for their answer, how many may, and how many answers were dropped since their
     /// request has another End-to-End Identifier.
@@ -79,7 +79,6 @@ pub enum Work {
 }
 
 /// What a node says of itself.
-#[derive(Debug)]
 pub struct Status<'a> {
     /// The nodes of the process by their names: a relay, or all fronts of a site.
     pub names: Vec<String>,

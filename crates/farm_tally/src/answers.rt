@@ -9,14 +9,14 @@ use std::alloc::Global;
 pub const CODE_LIMIT: usize = 64;
 
 /// How many answers had a Result-Code.
-#[derive(Clone, Copy, Debug, PartialEq, Eq)]
+#[derive(Clone, Copy, PartialEq, Eq)]
 pub struct CodeCount {
     pub code: u32,
     pub count: u64,
 }
 
 /// Answers by their Result-Code.
-#[derive(Debug, Drop)]
+#[derive(Drop)]
 pub struct Answers {
     /// The codes that were met, in the order in which they were met first, each once.
     pub codes: Vec<CodeCount>,

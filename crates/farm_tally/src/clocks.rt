@@ -10,7 +10,7 @@ use std::alloc::Global;
 pub const CLOCK_LIMIT: usize = 4_096;
 
 /// A request that waits for its answer: its connection, its Hop-by-Hop Identifier there, and when it came.
-#[derive(Clone, Copy, Debug, PartialEq, Eq)]
+#[derive(Clone, Copy, PartialEq, Eq)]
 pub struct Clocked {
     pub conn: ConnId,
     pub hop: u32,
@@ -18,7 +18,7 @@ pub struct Clocked {
 }
 
 /// Since when requests are waiting. Each has its place by its connection and its identifier, and nothing is ever looked for.
-#[derive(Debug, Drop)]
+#[derive(Drop)]
 pub struct Clocks {
     places: Vec<Option<Clocked>>,
 }

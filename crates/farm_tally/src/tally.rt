@@ -10,7 +10,7 @@ use dia_base::{ConnId, Moment};
 use std::alloc::Global;
 
 /// What a node counts while it serves.
-#[derive(Debug, Drop)]
+#[derive(Drop)]
 pub struct Tally {
     /// Requests that nodes which are up have sent to it.
     pub requests: u64,

@@ -4,7 +4,7 @@ ghost use Rattle.std.specs.Prelude.{◌≡◌, ◌+◌, map};
 ghost use Rattle.farm_tally.specs.Counting.{new_rows, plus, row_after, rows_after, times_after};
 
 /// How many times were no longer than a bound, in milliseconds.
-#[derive(Clone, Copy, Debug, PartialEq, Eq)]
+#[derive(Clone, Copy, PartialEq, Eq)]
 pub struct TimeRow {
     pub bound: u64,
     pub count: u64,
@@ -23,7 +23,7 @@ impl TimeRow {
 
 /// How long requests took: how many no longer than each bound, how many there are, and the sum of their times. Nothing is kept
 /// of a single one.
-#[derive(Clone, Copy, Debug, PartialEq, Eq)]
+#[derive(Clone, Copy, PartialEq, Eq)]
 pub struct Times {
     /// A row for each bound, from 1 to 5,000 milliseconds: a time is counted in the first row that it is within, and in each
     /// further one.

@@ -16,7 +16,7 @@ use farm_base::Site;
 use std::alloc::{AllocError, Global};
 
 /// Why no change leads from the terms of a book to those of a site.
-#[derive(Clone, Copy, Debug)]
+#[derive(Clone, Copy)]
 pub enum SiteChangeFault {
     /// The site has no terms.
     Terms(SiteTermsFault),

@@ -8,7 +8,7 @@ use dia_message::Message;
 use std::marker::Model;
 
 /// What is to be done with a connection.
-#[derive(Debug, Drop)]
+#[derive(Drop)]
 pub enum Act {
     /// The message goes out on it.
     Send(Message),
@@ -23,7 +23,7 @@ pub enum Act {
 }
 
 /// The acts of one event, in their order: two at most. They take no memory of their own.
-#[derive(Debug, Drop)]
+#[derive(Drop)]
 pub struct Acts {
     first: Option<Act>,
     second: Option<Act>,

@@ -7,7 +7,7 @@ use crate::codes::{CAPABILITIES_EXCHANGE, DEVICE_WATCHDOG, DISCONNECT_PEER};
 use dia_message::Header;
 
 /// The messages between neighbours by their short names (RFC 6733, section 3.1), and all others.
-#[derive(Clone, Copy, Debug, PartialEq, Eq)]
+#[derive(Clone, Copy, PartialEq, Eq)]
 pub enum MessageKind {
     /// Capabilities-Exchange-Request.
     Cer,

@@ -15,7 +15,7 @@ const SECONDS: u64 = 4_096;
 
 /// How the requests of the lives of a process's connections are numbered from end to end: capabilities, watchdogs and
 /// goodbyes. It is one for the process, so that no two of its connections give one identifier.
-#[derive(Clone, Copy, Debug)]
+#[derive(Clone, Copy)]
 pub enum Numbering {
     /// Each has its Hop-by-Hop Identifier, which counts from 1 on each connection.
     HopByHop,

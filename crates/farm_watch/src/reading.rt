@@ -14,7 +14,7 @@ use dia_base::{Identity, NodeNo};
 use std::alloc::{AllocError, Global};
 
 /// What becomes of a node that has connected and says who it is.
-#[derive(Clone, Copy, Debug, PartialEq, Eq)]
+#[derive(Clone, Copy, PartialEq, Eq)]
 pub enum Greeting {
     /// It says it in no way that can be read, it may not connect, or it is connected.
     Unwelcome,

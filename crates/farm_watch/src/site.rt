@@ -8,7 +8,7 @@ use dia_base::codes::CREDIT_CONTROL_APPLICATION;
 use dia_base::{Identity, Listing, NodeNo};
 
 /// The application that a node advertises to its neighbours (RFC 6733, section 2.4).
-#[derive(Clone, Copy, Debug, PartialEq, Eq)]
+#[derive(Clone, Copy, PartialEq, Eq)]
 pub enum Application {
     /// A relay forwards the messages of any application.
     Relay,
@@ -29,14 +29,14 @@ impl Application {
 }
 
 /// The address that a node tells its neighbours (RFC 6733, section 4.3.1, Address).
-#[derive(Clone, Copy, Debug, PartialEq, Eq)]
+#[derive(Clone, Copy, PartialEq, Eq)]
 pub enum HostAddress {
     V4([u8; 4]),
     V6([u8; 16]),
 }
 
 /// A node that may connect, by the identity under which it does.
-#[derive(Debug, Drop)]
+#[derive(Drop)]
 pub struct Neighbour {
     pub name: Identity,
     pub node: NodeNo,
@@ -44,7 +44,7 @@ pub struct Neighbour {
 
 /// What a node does with a connection whose other end says goodbye, by Disconnect-Peer-Request (RFC 6733, section 5.4). It
 /// answers that in either case.
-#[derive(Clone, Copy, Debug, PartialEq, Eq)]
+#[derive(Clone, Copy, PartialEq, Eq)]
 pub enum Goodbyes {
     /// It ends the connection at once.
     EndAtOnce,
@@ -53,7 +53,6 @@ pub enum Goodbyes {
 }
 
 /// What a node knows of itself and of its neighbours, for all of its connections.
-#[derive(Debug)]
 pub struct WatchSite {
     /// Origin-Host of what it writes.
     pub name: Identity,
@@ -91,7 +90,7 @@ impl Drop for WatchSite {
 }
 
 /// The side of a connection that a node is on.
-#[derive(Clone, Copy, Debug, PartialEq, Eq)]
+#[derive(Clone, Copy, PartialEq, Eq)]
 pub enum Side {
     /// It has connected to this node.
     Connects(NodeNo),

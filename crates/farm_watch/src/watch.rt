@@ -25,7 +25,7 @@ use std::marker::Model;
 const HIGHEST_IDENTIFIER: u32 = 0x7fff_ffff;
 
 /// What a connection waits for, and since when.
-#[derive(Clone, Copy, Debug, PartialEq, Eq)]
+#[derive(Clone, Copy, PartialEq, Eq)]
 pub enum Waits {
     /// This side was connected to: the other one has to say who it is.
     ForCer { since: Moment },
@@ -48,7 +48,7 @@ pub enum Waits {
 /// It keeps no clock and no socket: events come with their moment, and what is to be done comes out
 /// as [`Acts`]. What is the same for all connections of a node is a [`WatchSite`], and which nodes are
 /// up is told with each message by those who keep the connections.
-#[derive(Debug, Drop)]
+#[derive(Drop)]
 pub struct Watch {
     waits: Waits,
     sent: u32,

@@ -12,7 +12,6 @@ use farm_model::{Direction, FrontAt, RelayAt};
 use std::marker::Model;
 
 /// The farm. [`World::open`] makes it, [`World::step`] takes it from one step to the next.
-#[derive(Debug)]
 pub struct World {
     /// For each connection those to a node that has not dropped it.
     pub(crate) directions: Vec<Direction>,

@@ -5,7 +5,7 @@ use dia_base::{ConnId, Moment};
 use dia_message::Message;
 
 /// One event of a front. Workers are numbered from 0.
-#[derive(Debug, Drop)]
+#[derive(Drop)]
 pub enum FrontEvent {
     /// A connection comes up.
     Up { conn: ConnId },

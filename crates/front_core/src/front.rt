@@ -21,7 +21,6 @@ use std::collections::VecDeque;
 use std::marker::Model;
 
 /// A front node.
-#[derive(Debug)]
 pub struct Front {
     site: FrontSite,
     connections: Vec<ConnId>,

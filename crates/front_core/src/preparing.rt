@@ -14,7 +14,7 @@ use dia_message::Message;
 use std::alloc::Global;
 
 /// What a message is for a front, before the book is asked.
-#[derive(Debug, Drop)]
+#[derive(Drop)]
 pub enum Prepared {
     /// It is refused: this is the answer.
     Refused(Message),

@@ -4,7 +4,7 @@ use dia_base::Identity;
 use dia_grammar::SiteProfile;
 
 /// The configuration of one front.
-#[derive(Debug, Drop)]
+#[derive(Drop)]
 pub struct FrontSite {
     /// Its Origin-Host.
     pub name: Identity,

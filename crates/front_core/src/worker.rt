@@ -4,14 +4,14 @@ use dia_base::ConnId;
 use dia_message::Message;
 
 /// A request in the queue, with the connection that it came on.
-#[derive(Debug, Drop)]
+#[derive(Drop)]
 pub struct Job {
     pub conn: ConnId,
     pub request: Message,
 }
 
 /// What a worker holds.
-#[derive(Debug, Drop)]
+#[derive(Drop)]
 pub enum Worker {
     /// Nothing: it can pick a request.
     Idle,

@@ -6,7 +6,7 @@ use cc_shared::{Seat, SharedBook};
 use dia_message::Message;
 
 /// A request that was not handed over. The pool is as it was.
-#[derive(Debug, Drop)]
+#[derive(Drop)]
 pub enum SubmitError {
     /// As many jobs wait as may, or all numbers are given.
     PoolFull { request: Message },

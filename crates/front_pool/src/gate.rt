@@ -18,7 +18,7 @@ pub trait Wake {
 }
 
 /// The gate that holds nobody.
-#[derive(Clone, Copy, Debug)]
+#[derive(Clone, Copy)]
 pub struct NoGate;
 
 impl Gate for NoGate {
@@ -28,7 +28,7 @@ impl Gate for NoGate {
 }
 
 /// The gate that holds nobody, and wakes after each answer.
-#[derive(Debug, Drop)]
+#[derive(Drop)]
 pub struct Wakes<K> {
     pub waker: K,
 }

@@ -9,7 +9,7 @@ use dia_base::{ConnId, Moment, NodeNo};
 use dia_message::Message;
 
 /// A request that was handed over: its number, which no other of its pool has, and the connection that it came on.
-#[derive(Debug, Drop)]
+#[derive(Drop)]
 pub struct Job {
     pub number: u64,
     pub conn: ConnId,

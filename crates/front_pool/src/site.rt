@@ -7,7 +7,7 @@ use farm_clock::Timer;
 use std::marker::Brand;
 
 /// What a pool is made with.
-#[derive(Debug, Drop)]
+#[derive(Drop)]
 pub struct PoolQueue {
     /// The front in whose name its answers are.
     pub front: NodeNo,
@@ -24,7 +24,7 @@ pub struct PoolQueue {
 }
 
 /// The front in whose name a pool answers.
-#[derive(Debug, Drop)]
+#[derive(Drop)]
 pub struct PoolSite {
     /// Its Origin-Host.
     pub name: Identity,

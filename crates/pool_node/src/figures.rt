@@ -9,7 +9,7 @@ use cc_view::{RequestKind, ResultCode};
 use front_pool::Finished;
 
 /// What a book has come to, as far as the answers of its fronts were collected.
-#[derive(Clone, Copy, Debug, PartialEq, Eq)]
+#[derive(Clone, Copy, PartialEq, Eq)]
 pub struct BookFigures {
     /// Entries of the history.
     pub entries: u64,

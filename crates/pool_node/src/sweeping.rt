@@ -11,7 +11,7 @@ use dia_base::Moment;
 pub const SWEEP_INTERVAL: u64 = 1_000;
 
 /// When the book is swept next.
-#[derive(Clone, Copy, Debug, PartialEq, Eq)]
+#[derive(Clone, Copy, PartialEq, Eq)]
 pub enum NextSweep {
     /// From this moment on.
     From { moment: Moment },

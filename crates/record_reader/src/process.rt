@@ -16,7 +16,7 @@ pub struct Standing {
 }
 
 /// A request that is with the workers of a front: its number there, and its number among all.
-#[derive(Clone, Copy, Debug)]
+#[derive(Clone, Copy)]
 pub struct Job {
     pub front: NodeNo,
     pub number: u64,
@@ -25,7 +25,7 @@ pub struct Job {
 }
 
 /// How many requests a front has handed to its workers.
-#[derive(Clone, Copy, Debug)]
+#[derive(Clone, Copy)]
 struct JobCount {
     front: NodeNo,
     count: u64,

@@ -21,7 +21,7 @@ use relay_hops::{Held, Hop, Origin, Pending};
 use std::alloc::{AllocError, Global};
 
 /// What is to be sent for a request whose connection has ended.
-#[derive(Debug, Drop)]
+#[derive(Drop)]
 pub enum FailoverChoice {
     /// Nothing: nobody waits for its answer.
     Forget,
@@ -32,7 +32,7 @@ pub enum FailoverChoice {
 }
 
 /// The same with the identifier under which the request is pending.
-#[derive(Debug, Drop)]
+#[derive(Drop)]
 pub struct PlannedFailover {
     pub hop: Hop,
     pub choice: FailoverChoice,

@@ -14,7 +14,7 @@ use dia_message::{Message, Out};
 use std::alloc::Global;
 
 /// By which identifiers of its header, on its connection, a relay matches an answer with the request that it answers.
-#[derive(Clone, Copy, Debug, PartialEq, Eq)]
+#[derive(Clone, Copy, PartialEq, Eq)]
 pub enum Matching {
     /// By the Hop-by-Hop Identifier alone (RFC 6733, section 6.2.1).
     HopByHop,
@@ -36,7 +36,6 @@ impl Matching {
 }
 
 /// A relay, and by which identifiers it matches answers. Only its `on_message` is another one than that of the relay.
-#[derive(Debug)]
 pub struct MatchingRelay {
     pub relay: Relay,
     pub matching: Matching,

@@ -13,7 +13,7 @@ use std::alloc::{AllocError, Global};
 
 /// A relay as the site describes it: its identity and realm, the nodes that it is linked with, and its
 /// routes.
-#[derive(Debug, Drop)]
+#[derive(Drop)]
 pub struct RelaySite {
     pub name: Identity,
     pub realm: Identity,
@@ -51,7 +51,6 @@ fn copied_routes(alloc: Global, routes: &[Route]) -> Result<Listing<Route>, Allo
 
 /// A relay but for its pending requests: itself, its peers with the connections of those that are up, and
 /// its routes (RFC 6733, sections 2.6 and 2.7).
-#[derive(Debug)]
 pub struct RelayNode {
     pub name: Identity,
     pub realm: Identity,

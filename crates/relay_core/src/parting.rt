@@ -20,7 +20,6 @@ use std::alloc::Global;
 
 /// A relay that matches answers its way, and those of its peers that stay. A peer that leaves has said goodbye: it gets no new
 /// request, and none goes to it again. What it sends is taken until its connection ends, and its answers go where they went.
-#[derive(Debug)]
 pub struct PartingRelay {
     pub matched: MatchingRelay,
     pub staying: Staying,

@@ -15,7 +15,7 @@ use dia_base::codes::{DESTINATION_HOST, DESTINATION_REALM, ROUTE_RECORD};
 use relay_routes::loop_check::loops;
 
 /// What was read in the body of a request, which lends it.
-#[derive(Clone, Copy, Debug)]
+#[derive(Clone, Copy)]
 pub struct Reading<'a> {
     /// The value of the first Destination-Host.
     pub host: Option<&'a [u8]>,

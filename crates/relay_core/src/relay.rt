@@ -26,7 +26,6 @@ use std::marker::Model;
 
 /// A relay: itself with its peers and routes, and the requests that it has sent and that are not answered
 /// (RFC 6733, section 2.8.1).
-#[derive(Debug)]
 pub struct Relay {
     node: RelayNode,
     pending: Pending,

@@ -16,7 +16,7 @@ use dia_message::{Message, Out};
 use std::alloc::Global;
 
 /// What happens to a relay.
-#[derive(Debug, Drop)]
+#[derive(Drop)]
 pub enum RelayEvent {
     /// A peer's connection is made.
     Up { peer: NodeNo, conn: ConnId },

@@ -25,7 +25,7 @@ pub enum PendingRefusal {
 }
 
 /// A request that did not become pending, as it was handed in, and why.
-#[derive(Debug, Drop)]
+#[derive(Drop)]
 pub struct NotAdded {
     pub why: PendingRefusal,
     pub request: Message,
@@ -38,7 +38,6 @@ pub struct NotAdded {
 /// are at least twice as many places as requests may be pending. So one that was settled comes back late: of a
 /// relay's table `identifiers_come_back_late` of `relay_core` says how late. `sent_to`, `orphan` and `clear` take time in proportion to the places, and every
 /// other call takes the same time however many requests are pending, but `add` where it passes over some.
-#[derive(Debug)]
 pub struct Pending {
     limit: u32,
     places: Places,

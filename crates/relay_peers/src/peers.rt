@@ -13,7 +13,7 @@ use thiserror::Error;
 
 /// A node that the site links with the relay: its number, the identity under which it sends, and what
 /// it is.
-#[derive(Clone, Debug, Drop)]
+#[derive(Clone, Drop)]
 pub struct LinkedPeer {
     pub peer: NodeNo,
     pub name: Identity,
@@ -21,7 +21,7 @@ pub struct LinkedPeer {
 }
 
 /// A peer that is up, and its connection.
-#[derive(Clone, Copy, Debug, PartialEq, Eq)]
+#[derive(Clone, Copy, PartialEq, Eq)]
 pub struct Link {
     pub peer: NodeNo,
     pub conn: ConnId,
@@ -40,7 +40,7 @@ pub enum UpFault {
 
 /// The linked peers, and the connection of each that is up. Contracts see a finite map from peers
 /// to connections beside the list of linked peers.
-#[derive(Debug, Drop)]
+#[derive(Drop)]
 pub struct Peers {
     linked: Vec<LinkedPeer>,
     links: Vec<Link>,

@@ -10,7 +10,7 @@ use std::marker::Model;
 
 /// The connections of the peers that are up and stay: all but those that have said goodbye (RFC 6733, section 5.4). Contracts
 /// see them as links, as those of [`Peers`](crate::Peers), with which they can be exchanged.
-#[derive(Debug, Drop)]
+#[derive(Drop)]
 pub struct Staying {
     pub(crate) links: Vec<Link>,
 }

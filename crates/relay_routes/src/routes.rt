@@ -10,7 +10,7 @@ use std::marker::Model;
 use thiserror::Error;
 
 /// Where requests of an application go to reach a realm: to the first of the peers that is up.
-#[derive(Debug, Drop)]
+#[derive(Drop)]
 pub struct Route {
     pub realm: Identity,
     /// The Application-ID.
@@ -28,7 +28,7 @@ pub enum RouteFault {
 }
 
 /// The routes of a relay, which contracts see as a list.
-#[derive(Debug, Drop)]
+#[derive(Drop)]
 pub struct Routes {
     routes: Vec<Route>,
 }
