@@ -2,7 +2,7 @@
 _farm() {
   local word=${COMP_WORDS[COMP_CWORD]} before=${COMP_WORDS[COMP_CWORD - 1]} site i
   if [ "$COMP_CWORD" -eq 1 ]; then
-    mapfile -t COMPREPLY < <(compgen -W 'relay front send topup stop check book audit schedule replay report words picture --help --version' -- "$word")
+    mapfile -t COMPREPLY < <(compgen -W 'relay front send topup account stop check book audit schedule replay report words picture --help --version' -- "$word")
     return
   fi
   case $before in
@@ -31,6 +31,7 @@ _farm() {
     front) mapfile -t COMPREPLY < <(compgen -W '--site --book --clock-behind --change-terms --answers --status --token --record --log --log-format' -- "$word") ;;
     send) mapfile -t COMPREPLY < <(compgen -W '--site --client --peer --record --log --log-format' -- "$word") ;;
     topup) mapfile -t COMPREPLY < <(compgen -W '--site --client --peer --type --id --key --ident --group --unit --count' -- "$word") ;;
+    account) mapfile -t COMPREPLY < <(compgen -W '--type --at --token' -- "$word") ;;
     stop) mapfile -t COMPREPLY < <(compgen -W '--at --token' -- "$word") ;;
     audit | schedule)
       mapfile -t COMPREPLY < <(compgen -W '--site --book' -- "$word"; compgen -f -- "$word")

@@ -24,7 +24,7 @@ use farm_base::Site;
 use farm_command::{BookCommand, BookTask};
 use farm_report::report;
 use farm_site::{SiteDocument, site_document_of_octets};
-use farm_terms::{SiteChangeFault, accounts_text, read_accounts, site_change, site_terms};
+use farm_terms::{SiteChangeFault, site_change, site_terms};
 use farm_text::{ReadFault, file_at, write_text};
 use std::alloc::Global;
 use std::io;
@@ -51,15 +51,6 @@ fn accounts_at(alloc: Global, site: &str, document: &Table) -> Result<Option<Str
         Ok(path) => Ok(path),
         Err(fault) => Err(TaskFault::FileKey(fault)),
     }
-}
-
-/// The terms that a site wants, with the accounts of the file at a path, if it names one.
-fn wanted_at(rt: &HostRuntime, site: &Site, accounts: Option<&str>) -> Result<Terms, TaskFault>
-    requires { IsChecked site.now }
-    ensures { IfOk result (AreTermsOf site.now (is_some accounts.entry)) }
-{
-    let read = accounts_text(rt, site, accounts)?;
-    Ok(site_terms(rt.alloc(), site, &read)?)
 }
 
 /// Makes a book under the terms that a site wants. It is given as it is stored then.
@@ -102,8 +93,7 @@ fn change_to(
     requires { IsChecked site.now }
     ensures { IfOk result (LeadsToSite site.now (is_some accounts.entry) (now_in book.now)) }
 {
-    let read = read_accounts(rt, accounts)?;
-    match site_change(rt.alloc(), site, &read, book.terms_now()) {
+    match site_change(rt, site, accounts, book.terms_now()) {
         Ok(change) => Ok(change),
         Err(SiteChangeFault::Terms(fault)) => Err(TaskFault::Terms(fault)),
         Err(SiteChangeFault::Stays(key)) => Err(TaskFault::NotRead(BookFault::OtherTerms(key))),
@@ -219,7 +209,7 @@ fn made_under(
     ensures stored { IfOk result (λ told. IsStoredFor site.now told.0) }
     ensures leads { IfOk result (λ told. LeadsToSite site.now (is_some accounts.entry) (now_in told.0.book) told.1) }
 {
-    let wanted = wanted_at(rt, site, accounts)?;
+    let wanted = site_terms(rt, site, accounts)?;
     let stored = made(rt, path, site, &wanted)?;
     with_change(rt.alloc(), stored, &wanted)
 }
@@ -235,7 +225,7 @@ fn changed_under(
     ensures stored { IfOk result (λ told. IsStoredFor site.now told.0) }
     ensures leads { IfOk result (λ told. LeadsToSite site.now (is_some accounts.entry) (now_in told.0.book) told.1) }
 {
-    let wanted = wanted_at(rt, site, accounts)?;
+    let wanted = site_terms(rt, site, accounts)?;
     let stored = changed(rt, path, site, &wanted)?;
     with_change(rt.alloc(), stored, &wanted)
 }

@@ -6,7 +6,7 @@ use cc_book::TermsChange;
 use cc_shared::{ChangeError, Sharing};
 use cc_sweeper::{ChangeFault, ChangeResult, Changes};
 use farm_clock::Timer;
-use farm_status::Changing;
+use farm_status::Job;
 use farm_terms::{TextFault, change_in};
 use std::fmt;
 use std::rt::Clock;
@@ -111,11 +111,11 @@ where
     }
 
     /// Whether a change may be asked for.
-    pub fn changing(&self) -> Changing {
+    pub fn job(&self) -> Job {
         if self.changes.is_under_way() {
-            Changing::Busy
+            Job::Busy
         } else {
-            Changing::Free
+            Job::Free
         }
     }
 

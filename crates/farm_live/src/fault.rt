@@ -100,6 +100,12 @@ impl From<SiteTermsFault> for Fault {
     }
 }
 
+impl From<BookFault> for Fault {
+    fn from(fault: BookFault) -> Fault {
+        Fault::Book(fault)
+    }
+}
+
 impl From<StartFault> for Fault {
     fn from(fault: StartFault) -> Fault {
         Fault::Start(fault)

@@ -1,36 +1,38 @@
 //! A process that serves as all fronts of the site.
 
-ghost use Rattle.std.specs.Prelude.{◌≡◌, ◌<◌, ◌≤◌, ◌*◌, is_some, length, IfOk};
+ghost use Rattle.std.specs.Prelude.{◌≡◌, ◌<◌, ◌≤◌, ◌*◌, false, is_some, length, IfOk, true};
 ghost use Rattle.dia_base.specs.declared.number.NodeNo.{NodeNo};
 ghost use Rattle.farm_base.specs.CheckedSite.{IsChecked};
 ghost use Rattle.book_journal.specs.Kept.{IsKeptBy, IsSettled};
-ghost use Rattle.book_opening.specs.Opened.{now_in};
-ghost use Rattle.book_terms.specs.Difference.{Hold};
+ghost use Rattle.book_opening.specs.Opened.{HoldsWhereLed, now_in};
 ghost use Rattle.farm_live.specs.Serving.{IsServed};
 ghost use Rattle.farm_place.specs.Places.{fronts_from};
-ghost use Rattle.farm_terms.specs.SiteAccounts.{IsSoundFor};
+ghost use Rattle.farm_terms.specs.SiteAccounts.{AreTermsOf};
+ghost use Rattle.farm_terms.specs.SiteChange.{LeadsToSite};
 ghost use Rattle.pool_node.specs.Fronts.{site_of};
 
-use crate::changing::BookTerms;
 use crate::fault::Fault;
+use crate::jobs::BookJobs;
 use crate::serving::serve_over;
 use crate::setting::Setting;
 use crate::waker::LoopWaker;
 use book_clock::check_clock;
 use book_file::FileBook;
 use book_journal::Journal;
-use book_opening::{identity_at, open_book, renewed, serving_book, state_id_of};
+use book_opening::{
+    BookFault, change_for, identity_at, open_book, renewed_by, serving_book, state_id_of,
+};
 use book_store::RowStore;
-use cc_book::{Book, Terms};
+use cc_book::{Book, Terms, TermsChange};
 use cc_shared::{BlankHistory, SharedBook};
-use cc_sweeper::Changes;
 use dia_avp::ViewWire;
 use dia_base::NodeNo;
+use farm_base::Site;
 use farm_clock::Timer;
 use farm_command::Process;
 use farm_loop::Sockets;
 use farm_place::{Place, fronts_of, place_of};
-use farm_terms::{AccountsText, accounts_text, site_terms};
+use farm_terms::{SiteChangeFault, site_change, site_terms};
 use front_pool::Pooling;
 use pool_node::{PoolFronts, Timing, seats_for, start_fronts};
 use std::alloc::Global;
@@ -52,7 +54,7 @@ struct FrontSockets {
 
 /// Serves as all fronts of the site, each with as many workers as the site says, until so many answers were sent, 0 for
 /// ever, or until it is asked to end. Its book is opened before anything is connected or listens.
-#[tactic(auto, using(crate::proofs::Served::wanted_terms_hold))]
+#[tactic(auto, using(crate::proofs::Served::led_terms_hold))]
 pub fn serve_fronts<O>(setting: &Setting<'_, O>, answers: u64) -> Result<(), Fault>
 where
     O: Threads + Wait + Net + Clock + RandomSource + Copy + Send + 'static,
@@ -67,11 +69,8 @@ where
         return Err(Fault::OutOfMemory);
     };
     let workers = workers.max(1);
-    let read = accounts_text(setting.rt, site, setting.accounts)?;
-    let opened = book_of(setting, &read)?;
-    let wanted = site_terms(alloc, site, &read)?;
-    drop(read);
-    match allowed_to_serve(alloc, opened, wanted, timer, setting.command) {
+    let (opened, change) = book_of(setting)?;
+    match allowed_to_serve(alloc, opened, change, timer, setting.command) {
         Ok((journal, book, timing)) => serve_on::<Brand, FileBook, O>(
             setting,
             nodes,
@@ -88,46 +87,89 @@ where
     }
 }
 
-/// The book that serves: that of the file, or where none is named an empty one under the terms of the site, with the accounts of a text,
-/// if there is one. That of a file is opened before these terms are made: so the accounts that they have do not stand in memory beside the
-/// octets of those of the book.
-fn book_of<O>(
-    setting: &Setting<'_, O>,
-    read: &AccountsText,
-) -> Result<(Journal<FileBook>, Book), Fault>
-    requires checked { IsChecked setting.now.site.now }
-    requires sound { IsSoundFor setting.now.site.now read.now }
-    ensures kept { IfOk result (λ opened. IsKeptBy ⟦<FileBook as RowStore>⟧.is_clean ⟦<FileBook as RowStore>⟧.is_ready ⟦<FileBook as RowStore>⟧.rows opened.0 opened.1) }
-    ensures settled { IfOk result (λ opened. IsSettled opened.0) }
-    ensures limit { IfOk result (λ opened. opened.1.limit ≡ setting.now.site.now.limit) }
-    ensures stored { IfOk result (λ opened. is_some opened.0.store ≡ is_some setting.now.book) }
+/// The book that serves, with the change that leads from its terms to those of the site: that of the file, or where none is named an empty
+/// one.
+fn book_of<O>(setting: &Setting<'_, O>) -> Result<((Journal<FileBook>, Book), TermsChange), Fault>
+    requires { IsChecked setting.now.site.now }
+    ensures kept { IfOk result (λ opened. IsKeptBy ⟦<FileBook as RowStore>⟧.is_clean ⟦<FileBook as RowStore>⟧.is_ready ⟦<FileBook as RowStore>⟧.rows opened.0.0 opened.0.1) }
+    ensures settled { IfOk result (λ opened. IsSettled opened.0.0) }
+    ensures limit { IfOk result (λ opened. opened.0.1.limit ≡ setting.now.site.now.limit) }
+    ensures stored { IfOk result (λ opened. is_some opened.0.0.store ≡ is_some setting.now.book) }
+    ensures leads { IfOk result (λ opened. LeadsToSite setting.now.site.now (is_some setting.now.accounts) (now_in opened.0.1) opened.1) }
 {
-    let (alloc, site) = (setting.rt.alloc(), setting.site);
-    let opened = match setting.book {
-        Some(path) => open_book(setting.rt, path, site.limit),
-        None => {
-            let wanted = site_terms(alloc, site, read)?;
-            serving_book(setting.rt, None, site.limit, &wanted)
-        }
-    };
-    match opened {
-        Ok(opened) => Ok(opened),
-        Err(fault) => Err(Fault::Book(fault)),
+    match setting.book {
+        Some(path) => stored_book(setting, path),
+        None => book_in_memory(setting),
     }
 }
 
-/// A book that was opened, under the terms of the site, and the timing of who serves on it. It is let go of as it was if the clock stands
-/// far behind it, or if the terms of the site do not hold in it and it may not change its own.
+/// The same of the book in a file. The accounts of a file beside the site's are read behind it, and no list of them is made: so they do not
+/// stand in memory beside those of the book.
+fn stored_book<O>(
+    setting: &Setting<'_, O>,
+    path: &str,
+) -> Result<((Journal<FileBook>, Book), TermsChange), Fault>
+    requires { IsChecked setting.now.site.now }
+    ensures kept { IfOk result (λ opened. IsKeptBy ⟦<FileBook as RowStore>⟧.is_clean ⟦<FileBook as RowStore>⟧.is_ready ⟦<FileBook as RowStore>⟧.rows opened.0.0 opened.0.1) }
+    ensures settled { IfOk result (λ opened. IsSettled opened.0.0) }
+    ensures limit { IfOk result (λ opened. opened.0.1.limit ≡ setting.now.site.now.limit) }
+    ensures stored { IfOk result (λ opened. is_some opened.0.0.store ≡ true) }
+    ensures leads { IfOk result (λ opened. LeadsToSite setting.now.site.now (is_some setting.now.accounts) (now_in opened.0.1) opened.1) }
+{
+    let (rt, site) = (setting.rt, setting.site);
+    let (journal, book) = open_book(rt, path, site.limit)?;
+    let change = change_to(rt, site, setting.accounts, &book)?;
+    Ok(((journal, book), change))
+}
+
+/// The change that leads from the terms that hold in a book to those of a site, with the accounts of the file at a path, if it names one.
+fn change_to(
+    rt: &HostRuntime,
+    site: &Site,
+    accounts: Option<&str>,
+    book: &Book,
+) -> Result<TermsChange, Fault>
+    requires { IsChecked site.now }
+    ensures { IfOk result (LeadsToSite site.now (is_some accounts.entry) (now_in book.now)) }
+{
+    match site_change(rt, site, accounts, book.terms_now()) {
+        Ok(change) => Ok(change),
+        Err(SiteChangeFault::Terms(fault)) => Err(Fault::Terms(fault)),
+        Err(SiteChangeFault::Stays(key)) => Err(Fault::Book(BookFault::OtherTerms(key))),
+    }
+}
+
+/// The same of an empty book in memory, which is under the terms of the site.
+#[tactic(auto, using(crate::proofs::Served::needed_change_leads))]
+fn book_in_memory<O>(
+    setting: &Setting<'_, O>,
+) -> Result<((Journal<FileBook>, Book), TermsChange), Fault>
+    requires { IsChecked setting.now.site.now }
+    ensures kept { IfOk result (λ opened. IsKeptBy ⟦<FileBook as RowStore>⟧.is_clean ⟦<FileBook as RowStore>⟧.is_ready ⟦<FileBook as RowStore>⟧.rows opened.0.0 opened.0.1) }
+    ensures settled { IfOk result (λ opened. IsSettled opened.0.0) }
+    ensures limit { IfOk result (λ opened. opened.0.1.limit ≡ setting.now.site.now.limit) }
+    ensures stored { IfOk result (λ opened. is_some opened.0.0.store ≡ false) }
+    ensures leads { IfOk result (λ opened. LeadsToSite setting.now.site.now (is_some setting.now.accounts) (now_in opened.0.1) opened.1) }
+{
+    let (rt, site) = (setting.rt, setting.site);
+    let wanted = site_terms(rt, site, setting.accounts)?;
+    let (journal, book) = serving_book(rt, None, site.limit, &wanted)?;
+    let change = change_for(rt.alloc(), &book, &wanted)?;
+    Ok(((journal, book), change))
+}
+
+/// A book that was opened, under the terms to which a change leads, and the timing of who serves on it. It is let go of as it was if the
+/// clock stands far behind it, or if the change says something and the book may not change its terms.
 fn allowed_to_serve<S: RowStore + Drop>(
     alloc: Global,
     opened: (Journal<S>, Book),
-    wanted: Terms,
+    change: TermsChange,
     timer: Timer,
     command: &Process<'_>,
 ) -> Result<(Journal<S>, Book, Timing), Fault>
     requires kept { IsKeptBy S.is_clean S.is_ready S.rows opened.0 opened.1 }
     requires settled { IsSettled opened.0 }
-    ensures hold { IfOk result (λ served. Hold (now_in served.1) wanted) }
+    ensures hold { IfOk result (λ served. HoldsWhereLed change opened.1 served.1) }
     ensures limit { IfOk result (λ served. served.1.limit ≡ opened.1.limit) }
     ensures kept { IfOk result (λ served. IsKeptBy S.is_clean S.is_ready S.rows served.0 served.1) }
     ensures settled { IfOk result (λ served. IsSettled served.0) }
@@ -136,7 +178,7 @@ fn allowed_to_serve<S: RowStore + Drop>(
     let timing = Timing::on(timer, &opened.1);
     check_timing(timer, timing, command.clock_behind)?;
     let moment = timing.timer.first();
-    match renewed(alloc, opened, &wanted, moment, command.change_terms) {
+    match renewed_by(alloc, opened, change, moment, command.change_terms) {
         Ok((journal, book)) => {
             let timing = Timing::on(timing.timer, &book);
             Ok((journal, book, timing))
@@ -243,14 +285,14 @@ where
         sockets,
         waker,
     } = listening;
-    let (fronts, changes) = start_on::<L, S, O>(
+    let (fronts, jobs) = start_on::<L, S, O>(
         setting, &nodes, waker, blank, history, book, journal, timing, workers,
     )?;
     serve_over(
         setting,
         &nodes,
         fronts,
-        Some(BookTerms::new(changes, timing.timer)),
+        Some(jobs),
         places,
         sockets,
         timing.timer,
@@ -258,7 +300,7 @@ where
     )
 }
 
-/// Starts these fronts on this book, whose terms may be changed. Their workers wake the loop of the process.
+/// Starts these fronts on this book, and who does jobs on it. Their workers wake the loop of the process.
 fn start_on<L, S, O>(
     setting: &Setting<'_, O>,
     nodes: &[NodeNo],
@@ -269,7 +311,7 @@ fn start_on<L, S, O>(
     journal: Journal<S>,
     timing: Timing,
     workers: u64,
-) -> Result<(PoolFronts<L, S, O>, Changes<L, S>), Fault>
+) -> Result<(PoolFronts<L, S, O>, BookJobs<L, S>), Fault>
 where
     L: Pooling + Send + Sync + 'static,
     S: RowStore + Drop + Send + 'static,
@@ -293,7 +335,7 @@ where
     let Ok((shared, seats)) = shared else {
         return Err(Fault::OutOfMemory);
     };
-    let changes = Changes::new(shared.another()?);
+    let jobs = BookJobs::on(&shared, timing.timer)?;
     let fronts = start_fronts::<ViewWire, L, S, O, LoopWaker>(
         *setting.os,
         alloc,
@@ -308,5 +350,5 @@ where
     if setting.command.record_path.is_some() {
         fronts.begin_record();
     }
-    Ok((fronts, changes))
+    Ok((fronts, jobs))
 }

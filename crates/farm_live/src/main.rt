@@ -6,7 +6,8 @@
 //! - `label`: how the log is spelled, and what it calls the process.
 //! - `waker`: how the workers of fronts end the wait of the loop.
 //! - `watching`, `rising`, `view`, `token`: what it says of itself in its log and on its status port, and who may end it there.
-//! - `changing`: changes of the terms of the book that are asked for at its status port.
+//! - `jobs`: what is asked for at its status port and done on the book: `changing`, changes of its terms, and `looking`, looks at its
+//!   accounts, which `naming` reads.
 //! - `recording`: the record of what happens, which is written before anything goes to the sockets.
 //! - `fault`: why the program does not do it, and its exit status.
 #![tactic(auto)]
@@ -14,7 +15,10 @@
 mod changing;
 mod fault;
 mod fronts;
+mod jobs;
 mod label;
+mod looking;
+mod naming;
 mod program;
 mod recording;
 mod relay;

@@ -2,8 +2,8 @@
 
 ghost use Rattle.std.specs.Prelude.{◌≡◌, true, false};
 
-use crate::changing::BookTerms;
 use crate::fault::Fault;
+use crate::jobs::BookJobs;
 use crate::recording::Record;
 use crate::setting::Setting;
 use crate::turns::serve;
@@ -111,12 +111,12 @@ where
     )
 }
 
-/// Serves as these nodes, which stand at these places, over these sockets and by this timer. `terms` changes the terms of their book, if they have one.
+/// Serves as these nodes, which stand at these places, over these sockets and by this timer. `jobs` are done on their book, if they have one.
 pub fn serve_over<N, L, S, O>(
     setting: &Setting<'_, O>,
     numbers: &[NodeNo],
     node: N,
-    terms: Option<BookTerms<L, S>>,
+    jobs: Option<BookJobs<L, S>>,
     places: Vec<Place>,
     sockets: Sockets,
     timer: Timer,
@@ -132,7 +132,7 @@ where
     let places = parting_places(setting, places)?;
     let mut live = Live::over(setting.os, alloc, site, sockets, node, places, timer)?;
     live.serving.number(numbering_of(setting));
-    serve_recorded(setting, numbers, live, terms, answers)
+    serve_recorded(setting, numbers, live, jobs, answers)
 }
 
 /// Serves as nodes that nobody is connected with yet.
@@ -140,7 +140,7 @@ fn serve_recorded<N, L, S, O>(
     setting: &Setting<'_, O>,
     numbers: &[NodeNo],
     live: Live<N>,
-    terms: Option<BookTerms<L, S>>,
+    jobs: Option<BookJobs<L, S>>,
     answers: u64,
 ) -> Result<(), Fault>
 where
@@ -152,7 +152,7 @@ where
     let mut live = live;
     let recording = Record::begin(setting, numbers, false, &mut live)?;
     let watching = Watching::begin(setting, numbers)?;
-    serve_to_end(setting, live, recording, watching, terms, answers)
+    serve_to_end(setting, live, recording, watching, jobs, answers)
 }
 
 /// Serves until so many answers were sent, 0 for ever, or until it is asked to end. Then it ends in good order.
@@ -161,7 +161,7 @@ fn serve_to_end<N, L, S, O>(
     live: Live<N>,
     recording: Record,
     watching: Watching,
-    terms: Option<BookTerms<L, S>>,
+    jobs: Option<BookJobs<L, S>>,
     answers: u64,
 ) -> Result<(), Fault>
 where
@@ -171,7 +171,7 @@ where
     O: Threads + Wait + Net + Clock + Copy + Send + 'static,
 {
     let (mut live, mut recording) = (live, recording);
-    serve(setting, watching, terms, &mut recording, &mut live, answers)?;
+    serve(setting, watching, jobs, &mut recording, &mut live, answers)?;
     end(setting, recording, live);
     Ok(())
 }

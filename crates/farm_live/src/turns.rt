@@ -1,7 +1,7 @@
 //! The turns of a process, until it has ended in good order.
 
-use crate::changing::BookTerms;
 use crate::fault::Fault;
+use crate::jobs::BookJobs;
 use crate::recording::Record;
 use crate::setting::Setting;
 use crate::view::Booked;
@@ -41,7 +41,7 @@ pub fn turn<O: Net + Clock, N: Booked>(
 pub fn serve<N, L, S, O>(
     setting: &Setting<'_, O>,
     watching: Watching,
-    terms: Option<BookTerms<L, S>>,
+    jobs: Option<BookJobs<L, S>>,
     recording: &mut Record,
     live: &mut Live<N>,
     answers: u64,
@@ -52,15 +52,15 @@ where
     S: RowStore + Drop + Send + 'static,
     O: Threads + Wait + Net + Clock + Copy + Send + 'static,
 {
-    let (mut watching, mut terms) = (watching, terms);
-    serve_watched(setting, &mut watching, &mut terms, recording, live, answers)
+    let (mut watching, mut jobs) = (watching, jobs);
+    serve_watched(setting, &mut watching, &mut jobs, recording, live, answers)
 }
 
 /// The same, with the status port.
 fn serve_watched<N, L, S, O>(
     setting: &Setting<'_, O>,
     watching: &mut Watching,
-    terms: &mut Option<BookTerms<L, S>>,
+    jobs: &mut Option<BookJobs<L, S>>,
     recording: &mut Record,
     live: &mut Live<N>,
     answers: u64,
@@ -73,7 +73,7 @@ where
 {
     for _ in setting.os.forever() {
         turn(setting, recording, live)?;
-        let is_asked_to_end = watching.look(setting, live, terms)?;
+        let is_asked_to_end = watching.look(setting, live, jobs)?;
         let has_answered = answers > 0 && live.serving.answers() >= answers;
         if is_asked_to_end || has_answered {
             return close(setting, recording, live);

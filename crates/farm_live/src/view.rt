@@ -1,6 +1,6 @@
 //! What a serving process says of itself.
 
-use crate::changing::LastChange;
+use crate::jobs::JobsTold;
 use book_store::RowStore;
 use cc_book::Book;
 use dia_base::{NodeNo, PENDING_LIMIT};
@@ -154,7 +154,7 @@ impl<L: Pooling, S: RowStore + Drop, R: Wait + Drop> Booked for PoolFronts<L, S,
 
 /// A serving process, for those who want to know what it does.
 #[derive(Drop)]
-pub struct View<'a, N> {
+pub struct View<'a, 'b, N> {
     pub rt: &'a HostRuntime,
     pub site: &'a Site,
     /// The nodes of the process.
@@ -162,10 +162,8 @@ pub struct View<'a, N> {
     pub live: &'a Live<N>,
     /// How long it has served, in milliseconds.
     pub uptime: u64,
-    /// What has become of the last change of the terms of its book.
-    pub last_change: LastChange,
-    /// How many entries its book had behind the last change that was made, 0 where none was.
-    pub changed_entries: u64,
+    /// What is told of the jobs on its book.
+    pub told: JobsTold<'b>,
 }
 
 /// The name of a node of the site.
@@ -266,7 +264,7 @@ fn sends_to(site: &Site, local: NodeNo, peer: NodeNo) -> bool {
         && route.peers.as_slice().contains(&peer))
 }
 
-impl<N: Node + Drop + Booked> View<'_, N> {
+impl<N: Node + Drop + Booked> View<'_, '_, N> {
     /// A neighbour, and where the connection with it stands.
     fn peer(&self, local: NodeNo, peer: NodeNo) -> Result<Peer, AllocError> {
         let alloc = self.rt.alloc();
@@ -329,7 +327,7 @@ impl<N: Node + Drop + Booked> View<'_, N> {
         match self.live.serving.node().book() {
             Some(figures) => {
                 let book = BookStatus {
-                    entries: figures.entries.max(self.changed_entries),
+                    entries: figures.entries.max(self.told.changed_entries),
                     limit: self.site.limit,
                     sessions: figures.sessions(),
                     charges: figures.charges,
@@ -349,7 +347,7 @@ impl<N: Node + Drop + Booked> View<'_, N> {
     }
 }
 
-impl<N: Node + Drop + Booked> Source for View<'_, N> {
+impl<N: Node + Drop + Booked> Source for View<'_, '_, N> {
     fn status(&self) -> Result<Status<'_>, AllocError> {
         Ok(Status {
             names: self.names()?,
@@ -363,7 +361,15 @@ impl<N: Node + Drop + Booked> Source for View<'_, N> {
     }
 
     fn terms(&self) -> Result<String, AllocError> {
-        let last = self.last_change;
+        let last = self.told.last_change;
         format!(in self.rt.alloc(); "{last}\n")
+    }
+
+    fn account(&self) -> Result<String, AllocError> {
+        let alloc = self.rt.alloc();
+        match self.told.last_look {
+            Some(last) => format!(in alloc; "{last}\n"),
+            None => String::from_str(alloc, "there is no book\n"),
+        }
     }
 }

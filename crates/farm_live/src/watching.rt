@@ -1,9 +1,10 @@
-//! What a serving process does beside serving: it says what it does, is asked to end, changes the terms of its book, and tells when
-//! that gets full.
+//! What a serving process does beside serving: it says what it does, is asked to end and for jobs on its book, and tells when that gets
+//! full.
 
 use crate::Logger;
-use crate::changing::{BookTerms, LastChange};
+use crate::changing::LastChange;
 use crate::fault::Fault;
+use crate::jobs::{BookJobs, told_of};
 use crate::rising::Rising;
 use crate::setting::Setting;
 use crate::token::token_at;
@@ -16,7 +17,7 @@ use farm_clock::Timer;
 use farm_command::Process;
 use farm_loop::{Live, StatusPort};
 use farm_node::Node;
-use farm_status::{Changing, Token};
+use farm_status::Token;
 use log::{error, info, warn};
 use std::net::{IpAddr, Ipv4Addr, Net, SocketAddr};
 use std::random::RandomSource;
@@ -101,30 +102,6 @@ fn port_of<O: Net + Clock + RandomSource>(
     }
 }
 
-/// Whether the terms of the book may be changed, if the process has one, and what has become of the last change.
-fn changing_of<L, S>(terms: &Option<BookTerms<L, S>>) -> (Changing, LastChange)
-where
-    L: Sharing + Send + Sync + 'static,
-    S: RowStore + Drop + Send + 'static,
-{
-    match terms {
-        Some(terms) => (terms.changing(), terms.last()),
-        None => (Changing::Never, LastChange::Nothing),
-    }
-}
-
-/// How many entries the book had behind the last change of its terms, 0 where none was made.
-fn changed_entries_of<L, S>(terms: &Option<BookTerms<L, S>>) -> u64
-where
-    L: Sharing + Send + Sync + 'static,
-    S: RowStore + Drop + Send + 'static,
-{
-    match terms {
-        Some(terms) => terms.entries(),
-        None => 0,
-    }
-}
-
 /// Tells what a change of the terms has come to.
 fn tell_change(log: &Logger, last: LastChange) {
     match last {
@@ -153,13 +130,13 @@ impl Watching {
         })
     }
 
-    /// Answers who asks what the process does, and hands a change of the terms on that is asked for; whether the process is to end: it is
-    /// asked to, and no request is under way, or it was asked [`GRACE`] ago.
+    /// Answers who asks what the process does, and hands the jobs on that are asked for; whether the process is to end: it is asked to,
+    /// and no request is under way, or it was asked [`GRACE`] ago.
     pub fn look<N, L, S, O>(
         &mut self,
         setting: &Setting<'_, O>,
         live: &Live<N>,
-        terms: &mut Option<BookTerms<L, S>>,
+        jobs: &mut Option<BookJobs<L, S>>,
     ) -> Result<bool, Fault>
     where
         N: Node + Drop + Booked,
@@ -167,13 +144,13 @@ impl Watching {
         S: RowStore + Drop + Send + 'static,
         O: Threads + Wait + Clock + Copy + Send + 'static,
     {
-        if let Some(terms) = terms
-            && terms.look(setting.os)
+        if let Some(jobs) = jobs
+            && jobs.look(setting.os)
         {
-            tell_change(setting.log, terms.last());
+            tell_change(setting.log, jobs.last_change());
         }
-        self.tell(setting, live, changed_entries_of(terms))?;
-        self.serve_port(setting, live, terms)
+        self.tell(setting, live, told_of(jobs).changed_entries)?;
+        self.serve_port(setting, live, jobs)
     }
 
     /// Tells what the log says of the process now. Its book has `entries` at least.
@@ -195,7 +172,7 @@ impl Watching {
         &mut self,
         setting: &Setting<'_, O>,
         live: &Live<N>,
-        terms: &mut Option<BookTerms<L, S>>,
+        jobs: &mut Option<BookJobs<L, S>>,
     ) -> Result<bool, Fault>
     where
         N: Node + Drop + Booked,
@@ -209,20 +186,18 @@ impl Watching {
         let Some(uptime) = port.due(setting.os)? else {
             return Ok(false);
         };
-        let (changing, last_change) = changing_of(terms);
+        let told = told_of(jobs);
         let view = View {
             rt: setting.rt,
             site: setting.site,
             nodes: &self.nodes,
             live,
             uptime,
-            last_change,
-            changed_entries: changed_entries_of(terms),
+            told,
         };
-        if let Some(text) = port.look(&view, changing)
-            && let Some(terms) = terms
-        {
-            terms.ask(setting, &text);
+        let wanted = port.look(&view, told.jobs);
+        if let Some(jobs) = jobs {
+            jobs.ask(setting, &wanted);
         }
         match port.asked_to_end() {
             Some(millis) => Ok(millis >= GRACE || open_in(&live.serving) == 0),

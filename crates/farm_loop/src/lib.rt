@@ -39,7 +39,7 @@ pub use half::Half;
 pub use live::Live;
 pub use outgoing::Outgoing;
 pub use pause::{BEHIND, PATIENCE, PIECE, Pause, Traffic, is_behind, traffic_on};
-pub use port::StatusPort;
+pub use port::{StatusPort, Wanted};
 pub use sockets::Sockets;
 
 /// A node with its connections over sockets.

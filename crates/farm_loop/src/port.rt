@@ -1,9 +1,9 @@
-//! The status port of a process: who connects there reads what the node says of itself, asks it to end, or to change the terms of its
-//! book.
+//! The status port of a process: who connects there reads what the node says of itself, asks it to end, to change the terms of its book,
+//! or to look at an account.
 
 use dia_base::Moment;
 use farm_clock::Timer;
-use farm_status::{Answering, Changing, Source, Token};
+use farm_status::{Answering, Job, Jobs, Source, Token};
 use http_server::{Config, Connection, Service};
 use mio::net::{TcpListener, TcpStream};
 use std::alloc::Global;
@@ -73,13 +73,21 @@ impl Drop for StatusPort {
     }
 }
 
+/// What who has shown the token has asked of the node's book.
+#[derive(Drop)]
+pub struct Wanted {
+    /// Its terms are to change so.
+    pub change: Option<Vec<u8>>,
+    /// This account is to be looked at.
+    pub look: Option<Vec<u8>>,
+}
+
 /// What a connection has asked for, by who has shown the token.
 #[derive(Drop)]
 struct Asked {
     /// The node is to end.
     stops: bool,
-    /// The terms of its book are to change so.
-    change: Option<Vec<u8>>,
+    wanted: Wanted,
 }
 
 /// What a connection may hold.
@@ -161,28 +169,57 @@ fn asked_by<'a, S: Source>(
     caller: &mut Caller,
     source: &'a S,
     token: Option<&'a Token>,
-    changing: Changing,
+    jobs: Jobs,
 ) -> Asked {
     let mut answering = Answering {
         alloc,
         source,
         token,
         stops: false,
-        changing,
+        jobs,
         change: None,
+        look: None,
     };
     caller.serve(&mut answering);
     Asked {
         stops: answering.stops,
-        change: answering.change,
+        wanted: Wanted {
+            change: answering.change,
+            look: answering.look,
+        },
     }
 }
 
-/// Whether another change may be asked for in the same look, in which this one was.
-fn behind(changing: Changing, change: &Option<Vec<u8>>) -> Changing {
-    match change {
-        Some(_) => Changing::Busy,
-        None => changing,
+/// Whether another such job may be asked for in the same look, in which this one was.
+fn behind(job: Job, asked: &Option<Vec<u8>>) -> Job {
+    match asked {
+        Some(_) => Job::Busy,
+        None => job,
+    }
+}
+
+impl Wanted {
+    fn nothing() -> Wanted {
+        Wanted {
+            change: None,
+            look: None,
+        }
+    }
+
+    /// Which jobs may be asked for behind these.
+    fn left_of(&self, jobs: Jobs) -> Jobs {
+        Jobs {
+            change: behind(jobs.change, &self.change),
+            look: behind(jobs.look, &self.look),
+        }
+    }
+
+    /// These, and those of another connection.
+    fn and(self, other: Wanted) -> Wanted {
+        Wanted {
+            change: other.change.or(self.change),
+            look: other.look.or(self.look),
+        }
     }
 }
 
@@ -219,20 +256,18 @@ impl StatusPort {
         Ok(Some(moment.0.saturating_sub(self.began.0)))
     }
 
-    /// Takes who waits, and reads, answers and writes what may be done at once. It gives the change of the terms that somebody has asked for
-    /// who may, where the node may be asked for one.
-    pub fn look<S: Source>(&mut self, source: &S, changing: Changing) -> Option<Vec<u8>> {
+    /// Takes who waits, and reads, answers and writes what may be done at once. It gives the jobs that somebody has asked for who may, of
+    /// those that the node may be asked for.
+    pub fn look<S: Source>(&mut self, source: &S, jobs: Jobs) -> Wanted {
         let moment = self.looked;
         self.take_all(moment);
-        let mut change = None;
+        let mut wanted = Wanted::nothing();
         for at in 0..self.callers.len() {
-            let may = behind(changing, &change);
-            if let Some(asked) = self.serve_at(at, source, may, moment) {
-                change = Some(asked);
-            }
+            let left = wanted.left_of(jobs);
+            wanted = wanted.and(self.serve_at(at, source, left, moment));
         }
         self.callers.retain(|caller| !caller.gone);
-        change
+        wanted
     }
 
     /// How many milliseconds ago somebody who may has asked for the node's end first.
@@ -259,23 +294,19 @@ impl StatusPort {
         }
     }
 
-    /// Serves one who is connected. The change of the terms that it has asked for, if it has.
-    fn serve_at<S: Source>(
-        &mut self,
-        at: usize,
-        source: &S,
-        changing: Changing,
-        moment: Moment,
-    ) -> Option<Vec<u8>> {
+    /// Serves one who is connected. The jobs that it has asked for.
+    fn serve_at<S: Source>(&mut self, at: usize, source: &S, jobs: Jobs, moment: Moment) -> Wanted {
         let (alloc, token) = (self.alloc, self.token.as_ref());
-        let caller = self.callers.get_mut(at)?;
-        let asked = asked_by(alloc, caller, source, token, changing);
+        let Some(caller) = self.callers.get_mut(at) else {
+            return Wanted::nothing();
+        };
+        let asked = asked_by(alloc, caller, source, token, jobs);
         if asked.stops {
             caller.wait_for_end();
             self.asked = Some(self.asked.unwrap_or(moment));
         } else if caller.is_overdue(moment) {
             caller.gone = true;
         }
-        asked.change
+        asked.wanted
     }
 }

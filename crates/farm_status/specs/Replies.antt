@@ -10,10 +10,11 @@ use Rattle.http_header.specs.FieldValue.{FieldValue}
 use Rattle.farm_status.specs.declared.health.Health.{Health as HealthState}
 use Rattle.farm_status.specs.declared.token.Token.{Token}
 use Rattle.farm_status.specs.Health.{status_of_health}
-use Rattle.farm_status.specs.declared.reply.Changing.{Changing}
-use Rattle.farm_status.specs.declared.reply.Changing.TheVariants as may_change
+use Rattle.farm_status.specs.declared.reply.Job.{Job}
+use Rattle.farm_status.specs.declared.reply.Job.TheVariants as job
+use Rattle.farm_status.specs.declared.reply.Jobs.{Jobs}
 use Rattle.farm_status.specs.declared.reply.Reply.{Reply}
-use Rattle.farm_status.specs.declared.reply.Reply.TheVariants.{Page, Metrics, Json, Health, Terms, Stops, Changes, Busy, Forbidden, NotFound, OnlyRead, OnlyPost, ReadOrPost}
+use Rattle.farm_status.specs.declared.reply.Reply.TheVariants.{Page, Metrics, Json, Health, Terms, Account, Stops, Changes, Looks, Busy, Forbidden, NotFound, OnlyRead, OnlyPost, ReadOrPost}
 
 -- two texts are the same
 abbrev pub is_text : List ℕ → List ℕ → Bool
@@ -50,15 +51,32 @@ reply_on_terms method shows_token is_busy =
     else ReadOrPost
 
 -- a node without a book has no such path
-abbrev pub reply_at_terms : List ℕ → Bool → Changing → Reply
-reply_at_terms method shows_token may_change.Never = NotFound
-reply_at_terms method shows_token may_change.Busy = reply_on_terms method shows_token true
-reply_at_terms method shows_token may_change.Free = reply_on_terms method shows_token false
+abbrev pub reply_at_terms : List ℕ → Bool → Job → Reply
+reply_at_terms method shows_token job.Never = NotFound
+reply_at_terms method shows_token job.Busy = reply_on_terms method shows_token true
+reply_at_terms method shows_token job.Free = reply_on_terms method shows_token false
+
+-- to whoever shows the token of a node: what the last look at an account has come to, or that another one begins, while none is under way
+abbrev pub reply_to_holder : List ℕ → Bool → Reply
+reply_to_holder method is_busy = if is_read method then Account else if is_busy then Busy else Looks
+
+-- For an account a node is posted to; whoever reads is told what came of the last look. Both want its token.
+abbrev pub reply_on_account : List ℕ → Bool → Bool → Reply
+reply_on_account method shows_token is_busy =
+    if is_read method || is_text method (codes "POST") then (if shows_token then reply_to_holder method is_busy else Forbidden)
+    else ReadOrPost
+
+-- a node without a book has no such path
+abbrev pub reply_at_account : List ℕ → Bool → Job → Reply
+reply_at_account method shows_token job.Never = NotFound
+reply_at_account method shows_token job.Busy = reply_on_account method shows_token true
+reply_at_account method shows_token job.Free = reply_on_account method shows_token false
 
 -- what is read at the path, or what is done there
-abbrev pub reply_for : List ℕ → List ℕ → Bool → Changing → Reply
-reply_for method path shows_token changing =
-    if is_text path (codes "/terms") then reply_at_terms method shows_token changing
+abbrev pub reply_for : List ℕ → List ℕ → Bool → Jobs → Reply
+reply_for method path shows_token jobs =
+    if is_text path (codes "/terms") then reply_at_terms method shows_token jobs.change
+    else if is_text path (codes "/account") then reply_at_account method shows_token jobs.look
     else reply_of_read (read_at path) method path shows_token
 
 abbrev pub status_for : Reply → ℕ
@@ -67,8 +85,10 @@ status_for Metrics = 200
 status_for Json = 200
 status_for Health = 200
 status_for Terms = 200
+status_for Account = 200
 status_for Stops = 202
 status_for Changes = 202
+status_for Looks = 202
 status_for Busy = 409
 status_for Forbidden = 403
 status_for NotFound = 404
@@ -83,7 +103,9 @@ is_stop Metrics = false
 is_stop Json = false
 is_stop Health = false
 is_stop Terms = false
+is_stop Account = false
 is_stop Changes = false
+is_stop Looks = false
 is_stop Busy = false
 is_stop Forbidden = false
 is_stop NotFound = false
@@ -98,7 +120,9 @@ is_change Metrics = false
 is_change Json = false
 is_change Health = false
 is_change Terms = false
+is_change Account = false
 is_change Stops = false
+is_change Looks = false
 is_change Busy = false
 is_change Forbidden = false
 is_change NotFound = false
@@ -110,6 +134,27 @@ is_change ReadOrPost = false
 abbrev pub change_by : Reply → List ℕ → Option (List ℕ)
 change_by reply body = if is_change reply then Some body else None
 
+abbrev pub is_look : Reply → Bool
+is_look Looks = true
+is_look Page = false
+is_look Metrics = false
+is_look Json = false
+is_look Health = false
+is_look Terms = false
+is_look Account = false
+is_look Stops = false
+is_look Changes = false
+is_look Busy = false
+is_look Forbidden = false
+is_look NotFound = false
+is_look OnlyRead = false
+is_look OnlyPost = false
+is_look ReadOrPost = false
+
+-- the account that is asked for by a request with this body
+abbrev pub look_by : Reply → List ℕ → Option (List ℕ)
+look_by reply body = if is_look reply then Some body else None
+
 -- the status of an answer: where it is asked whether the node can do its work, that of how it is
 abbrev pub HasStatus : Reply → ℕ → Type 0
 HasStatus Health status = (health : HealthState) × (status ≡ status_of_health health)
@@ -117,8 +162,10 @@ HasStatus Page status = status ≡ 200
 HasStatus Metrics status = status ≡ 200
 HasStatus Json status = status ≡ 200
 HasStatus Terms status = status ≡ 200
+HasStatus Account status = status ≡ 200
 HasStatus Stops status = status ≡ 202
 HasStatus Changes status = status ≡ 202
+HasStatus Looks status = status ≡ 202
 HasStatus Busy status = status ≡ 409
 HasStatus Forbidden status = status ≡ 403
 HasStatus NotFound status = status ≡ 404
@@ -144,9 +191,9 @@ is_of (Some token) (Some shown) = is_text shown token.octets.items
 is_of (Some token) None = false
 is_of None shown = false
 
--- by its method and its path, by whether it shows the token of the node, and by whether the terms may be changed
-abbrev pub reply_by : Option Token → Changing → Request (List ℕ) → Reply
-reply_by token changing request = reply_for (head_of request).method (uri_path (head_of request).uri) (is_of token (token_of request)) changing
+-- by its method and its path, by whether it shows the token of the node, and by which jobs the node may be asked for
+abbrev pub reply_by : Option Token → Jobs → Request (List ℕ) → Reply
+reply_by token jobs request = reply_for (head_of request).method (uri_path (head_of request).uri) (is_of token (token_of request)) jobs
 
 -- the type of its text
 abbrev pub type_for : Reply → List ℕ
@@ -155,8 +202,10 @@ type_for Metrics = codes "text/plain; version=0.0.4; charset=utf-8"
 type_for Json = codes "application/json"
 type_for Health = codes "text/plain; charset=utf-8"
 type_for Terms = codes "text/plain; charset=utf-8"
+type_for Account = codes "text/plain; charset=utf-8"
 type_for Stops = codes "text/plain; charset=utf-8"
 type_for Changes = codes "text/plain; charset=utf-8"
+type_for Looks = codes "text/plain; charset=utf-8"
 type_for Busy = codes "text/plain; charset=utf-8"
 type_for Forbidden = codes "text/plain; charset=utf-8"
 type_for NotFound = codes "text/plain; charset=utf-8"
@@ -171,8 +220,10 @@ methods_for Metrics = None
 methods_for Json = None
 methods_for Health = None
 methods_for Terms = None
+methods_for Account = None
 methods_for Stops = None
 methods_for Changes = None
+methods_for Looks = None
 methods_for Busy = None
 methods_for Forbidden = None
 methods_for NotFound = None
@@ -190,7 +241,7 @@ lines_for reply =
     (codes "content-type", type_for reply) ∷ (codes "cache-control", codes "no-store") ∷ (codes "connection", codes "close") ∷ allow_line (methods_for reply)
 
 -- The answer has the status and the lines of its reply, and the node is to end from then on where that reply says so.
-pub record IsAnswered (token : Option Token) (changing : Changing) (stopped : Bool) (request : Request (List ℕ)) (status : ℕ) (lines : List (List ℕ × List ℕ)) (stops : Bool) : Type 0 where
-  pub status_is : HasStatus (reply_by token changing request) status
-  pub lines_are : lines ≡ lines_for (reply_by token changing request)
-  pub stops_is : stops ≡ (stopped || is_stop (reply_by token changing request))
+pub record IsAnswered (token : Option Token) (jobs : Jobs) (stopped : Bool) (request : Request (List ℕ)) (status : ℕ) (lines : List (List ℕ × List ℕ)) (stops : Bool) : Type 0 where
+  pub status_is : HasStatus (reply_by token jobs request) status
+  pub lines_are : lines ≡ lines_for (reply_by token jobs request)
+  pub stops_is : stops ≡ (stopped || is_stop (reply_by token jobs request))

@@ -5,13 +5,13 @@ ghost use Rattle.std.specs.Option.{option_or};
 ghost use Rattle.http.specs.Request.{body_of};
 ghost use Rattle.http_header.specs.FieldValue.{plain_value};
 ghost use Rattle.http_server.specs.Response.{fields_of};
-ghost use Rattle.farm_status.specs.Replies.{HasStatus, IsAnswered, change_by, is_of, methods_for, reply_by, token_of, type_for};
+ghost use Rattle.farm_status.specs.Replies.{HasStatus, IsAnswered, change_by, is_of, look_by, methods_for, reply_by, token_of, type_for};
 
 use crate::health::health_of;
 use crate::json::push_json;
 use crate::metrics::push_metrics;
 use crate::page::push_page;
-use crate::reply::{Changing, Reply, reply_to};
+use crate::reply::{Jobs, Reply, reply_to};
 use crate::status::Status;
 use crate::token::Token;
 use bytes::Bytes;
@@ -26,6 +26,9 @@ pub trait Source {
 
     /// What the last change of the terms has come to, on a line.
     fn terms(&self) -> Result<String, AllocError>;
+
+    /// What the last look at an account has come to, on a line.
+    fn account(&self) -> Result<String, AllocError>;
 }
 
 /// Answers requests for a node.
@@ -37,10 +40,12 @@ pub struct Answering<'a, S> {
     pub token: Option<&'a Token>,
     /// Somebody has asked for the node's end and has shown the token.
     pub stops: bool,
-    /// Whether the node may be asked to change the terms of its book.
-    pub changing: Changing,
+    /// Which jobs on its book the node may be asked for.
+    pub jobs: Jobs,
     /// The change of the terms that somebody has asked for who has shown the token.
     pub change: Option<Vec<u8>>,
+    /// The account that somebody wants to be looked at who has shown the token.
+    pub look: Option<Vec<u8>>,
 }
 
 /// The token that a request shows: `Authorization: Bearer TOKEN` (RFC 6750, section 2.1).
@@ -62,14 +67,14 @@ fn shows_token(token: Option<&Token>, request: &Request<Bytes>) -> bool
 }
 
 /// What a request is answered, and whether the node is to end.
-fn reply_of(token: Option<&Token>, changing: Changing, request: &Request<Bytes>) -> Reply
-    ensures { result ≡ reply_by (option_copied token.entry) changing request.now }
+fn reply_of(token: Option<&Token>, jobs: Jobs, request: &Request<Bytes>) -> Reply
+    ensures { result ≡ reply_by (option_copied token.entry) jobs request.now }
 {
     reply_to(
         request.method().as_str(),
         request.uri().path(),
         shows_token(token, request),
-        changing,
+        jobs,
     )
 }
 
@@ -88,6 +93,31 @@ fn change_by(
     Ok(Some(text))
 }
 
+/// The account that a request asks for, if its reply is that it is looked at.
+fn look_by(
+    alloc: Global,
+    reply: Reply,
+    request: &Request<Bytes>,
+) -> Result<Option<Vec<u8>>, AllocError>
+    ensures { IfOk result (λ look. option_map (λ octets. octets.items) look ≡ look_by reply (body_of request.now)) }
+{
+    if !reply.looks() {
+        return Ok(None);
+    }
+    let text = Vec::from_slice(alloc, request.body().as_slice())?;
+    Ok(Some(text))
+}
+
+/// What was asked for last: this, or what was before.
+fn last_of(asked: Option<Vec<u8>>, before: Option<Vec<u8>>) -> Option<Vec<u8>>
+    ensures { option_map (λ octets. octets.items) result ≡ option_or (option_map (λ octets. octets.items) asked) (option_map (λ octets. octets.items) before) }
+{
+    match asked {
+        Some(octets) => Some(octets),
+        None => before,
+    }
+}
+
 /// The type of the text that a reply has.
 fn type_of(reply: Reply) -> HeaderValue
     ensures { result ≡ plain_value (type_for reply) }
@@ -98,8 +128,10 @@ fn type_of(reply: Reply) -> HeaderValue
         Reply::Json => HeaderValue::from_static("application/json"),
         Reply::Health
         | Reply::Terms
+        | Reply::Account
         | Reply::Stops
         | Reply::Changes
+        | Reply::Looks
         | Reply::Busy
         | Reply::Forbidden
         | Reply::NotFound
@@ -122,8 +154,10 @@ fn allowed_by(reply: Reply) -> Option<HeaderValue>
         | Reply::Json
         | Reply::Health
         | Reply::Terms
+        | Reply::Account
         | Reply::Stops
         | Reply::Changes
+        | Reply::Looks
         | Reply::Busy
         | Reply::Forbidden
         | Reply::NotFound => None,
@@ -135,13 +169,15 @@ fn text_of<S: Source>(alloc: Global, source: &S, reply: Reply) -> Result<String,
     let mut text = String::new(alloc);
     match reply {
         Reply::Terms => return source.terms(),
+        Reply::Account => return source.account(),
         Reply::Page => push_page(&mut text, &source.status()?)?,
         Reply::Metrics => push_metrics(&mut text, &source.status()?)?,
         Reply::Json => push_json(&mut text, &source.status()?)?,
         Reply::Health => {}
         Reply::Stops => text.push_str("the node ends\n")?,
         Reply::Changes => text.push_str("/terms tells what comes of it\n")?,
-        Reply::Busy => text.push_str("another change of the terms is under way\n")?,
+        Reply::Looks => text.push_str("/account tells what comes of it\n")?,
+        Reply::Busy => text.push_str("another one is under way\n")?,
         Reply::Forbidden => text.push_str("the token of the node is missing\n")?,
         Reply::NotFound => text.push_str(
             "there is /, /metrics, /status.json and /health to read, and /stop to post to\n",
@@ -170,15 +206,16 @@ fn told<S: Source>(
 }
 
 impl<S: Source> Service for Answering<'_, S> {
-    ghost answers = { λ old request response new. IsAnswered (option_copied old.token) old.changing old.stops request response.status (fields_of response) new.stops
-        × (option_map (λ octets. octets.items) new.change ≡ option_or (change_by (reply_by (option_copied old.token) old.changing request) (body_of request)) (option_map (λ octets. octets.items) old.change)) };
+    ghost answers = { λ old request response new. IsAnswered (option_copied old.token) old.jobs old.stops request response.status (fields_of response) new.stops
+        × (option_map (λ octets. octets.items) new.change ≡ option_or (change_by (reply_by (option_copied old.token) old.jobs request) (body_of request)) (option_map (λ octets. octets.items) old.change))
+        × (option_map (λ octets. octets.items) new.look ≡ option_or (look_by (reply_by (option_copied old.token) old.jobs request) (body_of request)) (option_map (λ octets. octets.items) old.look)) };
 
     fn call(
         &mut self,
         request: &Request<Bytes>,
         response: &mut Response,
     ) -> Result<(), AllocError> {
-        let reply = reply_of(self.token, self.changing, request);
+        let reply = reply_of(self.token, self.jobs, request);
         let (status, text) = told(self.alloc, self.source, reply)?;
         response.add_header(CONTENT_TYPE, type_of(reply))?;
         response.add_header(CACHE_CONTROL, HeaderValue::from_static("no-store"))?;
@@ -189,9 +226,9 @@ impl<S: Source> Service for Answering<'_, S> {
         response.body.push(Bytes::from_string(text)?)?;
         response.status = status;
         let change = change_by(self.alloc, reply, request)?;
-        if change.is_some() {
-            self.change = change;
-        }
+        let look = look_by(self.alloc, reply, request)?;
+        self.change = last_of(change, self.change.take());
+        self.look = last_of(look, self.look.take());
         self.stops = self.stops || reply.stops();
         Ok(())
     }

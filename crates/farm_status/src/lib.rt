@@ -6,8 +6,8 @@
 //! - [`health_of`]: whether it can do its work, which a relay is to forward requests, and fronts to charge them.
 //! - [`Answering`]: what a request over HTTP is answered: `GET /` the page, `GET /metrics` the text, `GET
 //!   /status.json` the JSON, `GET /health` 200 or 503 with the reason, `POST /stop` with the node's [`Token`] the word that the node is
-//!   to end, `POST /terms` with it the change of the terms of its book, `GET /terms` what the last one has come to, and all else 403,
-//!   404, 405 or 409.
+//!   to end, `POST /terms` with it the change of the terms of its book, `GET /terms` what the last one has come to, `POST /account` with
+//!   it the look at an account, `GET /account` with it what the last one has come to, and all else 403, 404, 405 or 409.
 //!
 //! There is no socket here: whoever has one hands octets to a connection of `http_server`.
 #![tactic(auto)]
@@ -33,6 +33,6 @@ pub use json::push_json;
 pub use metrics::push_metrics;
 pub use names::code_name;
 pub use page::push_page;
-pub use reply::{Changing, Reply, reply_to};
+pub use reply::{Job, Jobs, Reply, reply_to};
 pub use status::{BookStatus, Connections, FrontStatus, Peer, PeerState, Status, Work};
 pub use token::{TOKEN_LEAST, TOKEN_MOST, Token, TokenFault};

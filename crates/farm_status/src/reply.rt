@@ -1,18 +1,27 @@
 //! What a request is answered, by its method, its path and the token that it shows.
 
 ghost use Rattle.std.specs.Prelude.{◌≡◌};
-ghost use Rattle.farm_status.specs.Replies.{is_change, is_read, is_stop, read_at, reply_at_terms, reply_for, reply_on_terms, reply_with, status_for};
+ghost use Rattle.farm_status.specs.Replies.{is_change, is_look, is_read, is_stop, read_at, reply_at_account, reply_at_terms, reply_for, reply_on_account, reply_on_terms, reply_with, status_for};
 
 use http::StatusCode;
 
-/// Whether a node may be asked to change the terms of its book.
+/// Whether a node may be asked for a job on its book.
 #[derive(Clone, Copy, PartialEq, Eq)]
-pub enum Changing {
+pub enum Job {
     /// It has no book.
     Never,
-    /// A change is under way.
+    /// One such job is under way.
     Busy,
     Free,
+}
+
+/// Which jobs on its book a node may be asked for.
+#[derive(Clone, Copy, PartialEq, Eq)]
+pub struct Jobs {
+    /// To change the terms.
+    pub change: Job,
+    /// To look at an account.
+    pub look: Job,
 }
 
 /// What a request is answered.
@@ -25,11 +34,15 @@ pub enum Reply {
     Health,
     /// What the last change of the terms has come to.
     Terms,
+    /// What the last look at an account has come to.
+    Account,
     /// The node is to end.
     Stops,
     /// The terms of the book are to change.
     Changes,
-    /// Another change of the terms is under way.
+    /// An account is to be looked at.
+    Looks,
+    /// Another such job is under way.
     Busy,
     /// Whoever asked for that has not shown the node's token; or the node has none.
     Forbidden,
@@ -100,23 +113,56 @@ fn reply_on_terms(method: &str, shows_token: bool, is_busy: bool) -> Reply
 }
 
 /// What a request is answered at the path of the terms.
-fn reply_at_terms(method: &str, shows_token: bool, changing: Changing) -> Reply
-    ensures { result ≡ reply_at_terms method.now shows_token changing }
+fn reply_at_terms(method: &str, shows_token: bool, change: Job) -> Reply
+    ensures { result ≡ reply_at_terms method.now shows_token change }
 {
-    match changing {
-        Changing::Never => Reply::NotFound,
-        Changing::Busy => reply_on_terms(method, shows_token, true),
-        Changing::Free => reply_on_terms(method, shows_token, false),
+    match change {
+        Job::Never => Reply::NotFound,
+        Job::Busy => reply_on_terms(method, shows_token, true),
+        Job::Free => reply_on_terms(method, shows_token, false),
     }
 }
 
-/// What a request is answered, by its method, its path, whether it shows the node's token, and whether the node may be asked to change
-/// the terms of its book.
-pub fn reply_to(method: &str, path: &str, shows_token: bool, changing: Changing) -> Reply
-    ensures { result ≡ reply_for method.now path.now shows_token changing }
+/// What a request is answered that asks a node that has a book for an account, or what it was found to be.
+fn reply_on_account(method: &str, shows_token: bool, is_busy: bool) -> Reply
+    ensures { result ≡ reply_on_account method.now shows_token is_busy }
+{
+    if !is_read(method) && method != "POST" {
+        return Reply::ReadOrPost;
+    }
+    if !shows_token {
+        return Reply::Forbidden;
+    }
+    if is_read(method) {
+        return Reply::Account;
+    }
+    if is_busy {
+        return Reply::Busy;
+    }
+    Reply::Looks
+}
+
+/// What a request is answered at the path of accounts.
+fn reply_at_account(method: &str, shows_token: bool, look: Job) -> Reply
+    ensures { result ≡ reply_at_account method.now shows_token look }
+{
+    match look {
+        Job::Never => Reply::NotFound,
+        Job::Busy => reply_on_account(method, shows_token, true),
+        Job::Free => reply_on_account(method, shows_token, false),
+    }
+}
+
+/// What a request is answered, by its method, its path, whether it shows the node's token, and which jobs on its book the node may be
+/// asked for.
+pub fn reply_to(method: &str, path: &str, shows_token: bool, jobs: Jobs) -> Reply
+    ensures { result ≡ reply_for method.now path.now shows_token jobs }
 {
     if path == "/terms" {
-        return reply_at_terms(method, shows_token, changing);
+        return reply_at_terms(method, shows_token, jobs.change);
+    }
+    if path == "/account" {
+        return reply_at_account(method, shows_token, jobs.look);
     }
     match read_at(path) {
         Some(reply) => {
@@ -136,10 +182,13 @@ impl Reply {
         ensures { result ≡ status_for self }
     {
         match self {
-            Reply::Page | Reply::Metrics | Reply::Json | Reply::Health | Reply::Terms => {
-                StatusCode::OK
-            }
-            Reply::Stops | Reply::Changes => StatusCode::ACCEPTED,
+            Reply::Page
+            | Reply::Metrics
+            | Reply::Json
+            | Reply::Health
+            | Reply::Terms
+            | Reply::Account => StatusCode::OK,
+            Reply::Stops | Reply::Changes | Reply::Looks => StatusCode::ACCEPTED,
             Reply::Forbidden => StatusCode::FORBIDDEN,
             Reply::NotFound => StatusCode::NOT_FOUND,
             Reply::OnlyRead | Reply::OnlyPost | Reply::ReadOrPost => {
@@ -161,5 +210,12 @@ impl Reply {
         ensures { result ≡ is_change self }
     {
         self == Reply::Changes
+    }
+
+    /// Whether an account is to be looked at.
+    pub fn looks(self) -> bool
+        ensures { result ≡ is_look self }
+    {
+        self == Reply::Looks
     }
 }

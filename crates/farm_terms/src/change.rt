@@ -9,7 +9,7 @@ ghost use Rattle.farm_terms.specs.declared.opening.SiteTermsFault.TheVariants as
 
 use crate::accounts::{accounts_with, terms_with};
 use crate::joining::joining_in;
-use crate::opening::{AccountsText, SiteTermsFault};
+use crate::opening::{AccountsText, SiteTermsFault, read_accounts};
 use book_terms::{NeededFault, TermsKey, needed_change};
 use cc_book::{Accounts, Terms, TermsChange};
 use farm_base::Site;
@@ -43,7 +43,7 @@ impl From<AllocError> for SiteChangeFault {
 /// The change that leads from the terms that hold in a book to those of a site, with the accounts of a text, if there is one. The text is
 /// checked. Its accounts are looked for in the book one after another, and only those that join take memory. Where it is refused, or a key
 /// stays, all of them are read once more into a list, which tells the fault: one of the text before one of the terms.
-pub fn site_change(
+pub(crate) fn change_of_text(
     alloc: Global,
     site: &Site,
     read: &AccountsText,
@@ -133,4 +133,19 @@ fn checked_accounts(
         Some(text) => Ok(accounts_with(alloc, site, text)?),
         None => Ok(Accounts::list(site.accounts.as_slice().to_vec(alloc)?)),
     }
+}
+
+/// The change that leads from the terms that hold in a book to those of a site, with the accounts of the file at a path, if the site file
+/// names one. No list of the file's accounts is made: only those that join take memory.
+pub fn site_change(
+    rt: &HostRuntime,
+    site: &Site,
+    path: Option<&str>,
+    now: &Terms,
+) -> Result<TermsChange, SiteChangeFault>
+    requires { IsChecked site.now }
+    ensures { IfOk result (LeadsToSite site.now (is_some path.entry) now.now) }
+{
+    let read = read_accounts(rt, path)?;
+    change_of_text(rt.alloc(), site, &read, now)
 }

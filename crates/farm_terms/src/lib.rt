@@ -11,10 +11,9 @@
 //! - [`change_in`] reads a change, all of it or nothing, by [`farm_script`]. Each line ends an item where it pleases. What a text spells
 //!   stands in `specs/Lines`.
 //! - [`site_terms`] reads the terms that the book of a site begins with: the site's own, and the accounts of a file that its site file
-//!   names, each `account` on a line of its own ([`accounts_with`]). [`accounts_text`] reads and checks that file first. `specs/SiteAccounts`
-//!   says which these are, and why there are none.
-//! - [`site_change`] gives the change that leads to these terms from those of a book that is there, without a list of all accounts:
-//!   [`read_accounts`] reads the file, and each account of it is looked for in the book (`specs/Joining`, `specs/SiteChange`).
+//!   names, each `account` on a line of its own ([`accounts_with`]). `specs/SiteAccounts` says which these are, and why there are none.
+//! - [`site_change`] gives the change that leads to these terms from those of a book that is there, without a list of all accounts: each
+//!   account of the file is looked for in the book (`specs/Joining`, `specs/SiteChange`).
 #![tactic(auto)]
 
 ghost use Rattle.std.specs.Prelude.{◌≡◌, ◌∷◌, [], IfOk};
@@ -36,9 +35,7 @@ use farm_base::{Site, Step};
 use farm_script::{ScriptFault, steps_of};
 pub use fault::{AccountsFault, TextFault};
 use finding::line_with_fault;
-pub use opening::{
-    AccountsText, SiteTermsFault, accounts_file, accounts_text, read_accounts, site_terms,
-};
+pub use opening::{AccountsText, SiteTermsFault, accounts_file, site_terms};
 use std::alloc::{AllocError, Global};
 
 /// The most lines of a text.

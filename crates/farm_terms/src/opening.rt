@@ -61,8 +61,11 @@ pub struct AccountsText {
     pub text: Option<Vec<u8>>,
 }
 
-/// Reads the file of accounts at a path, if the site file names one. [`site_change`](crate::site_change) checks it.
-pub fn read_accounts(rt: &HostRuntime, path: Option<&str>) -> Result<AccountsText, SiteTermsFault>
+/// Reads the file of accounts at a path, if the site file names one. Nothing is checked yet.
+pub(crate) fn read_accounts(
+    rt: &HostRuntime,
+    path: Option<&str>,
+) -> Result<AccountsText, SiteTermsFault>
     ensures { IfOk result (λ read. is_some read.text ≡ is_some path.entry) }
 {
     match path {
@@ -74,7 +77,7 @@ pub fn read_accounts(rt: &HostRuntime, path: Option<&str>) -> Result<AccountsTex
 }
 
 /// Reads that file, and checks it: each account stands once, also beside those of the site.
-pub fn accounts_text(
+pub(crate) fn accounts_text(
     rt: &HostRuntime,
     site: &Site,
     path: Option<&str>,
@@ -90,9 +93,12 @@ pub fn accounts_text(
     Ok(AccountsText { text: Some(text) })
 }
 
-/// The terms that the book of a site begins with: its accounts and, behind them, those of a text, if there is one. The accounts are a list
-/// alone. They take memory of their own, some 90 octets each, so they are best made last.
-pub fn site_terms(alloc: Global, site: &Site, read: &AccountsText) -> Result<Terms, SiteTermsFault>
+/// The terms that the book of a site begins with: its accounts and, behind them, those of a text, if there is one.
+pub(crate) fn terms_of_text(
+    alloc: Global,
+    site: &Site,
+    read: &AccountsText,
+) -> Result<Terms, SiteTermsFault>
     requires checked { IsChecked site.now }
     requires sound { IsSoundFor site.now read.now }
     ensures { IfOk result (AreTermsOf site.now (is_some read.now.text)) }
@@ -102,4 +108,18 @@ pub fn site_terms(alloc: Global, site: &Site, read: &AccountsText) -> Result<Ter
         None => Accounts::list(site.accounts.as_slice().to_vec(alloc)?),
     };
     Ok(terms_with(alloc, site, accounts)?)
+}
+
+/// The terms that the book of a site begins with: its accounts and, behind them, those of the file at a path, if the site file names one.
+/// The accounts are a list alone. They take memory of their own, some 90 octets each, so they are best made last.
+pub fn site_terms(
+    rt: &HostRuntime,
+    site: &Site,
+    path: Option<&str>,
+) -> Result<Terms, SiteTermsFault>
+    requires { IsChecked site.now }
+    ensures { IfOk result (AreTermsOf site.now (is_some path.entry)) }
+{
+    let read = accounts_text(rt, site, path)?;
+    terms_of_text(rt.alloc(), site, &read)
 }

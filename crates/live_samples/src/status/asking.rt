@@ -1,7 +1,7 @@
 //! A request over HTTP, in memory.
 
 use crate::status::fronts::status_of;
-use farm_status::{Answering, Changing, Source, Status, Token};
+use farm_status::{Answering, Job, Jobs, Source, Status, Token};
 use farm_tally::Tally;
 use http_server::{Config, Connection};
 use std::alloc::{AllocError, Global};
@@ -23,6 +23,10 @@ impl Source for Fronts<'_> {
     fn terms(&self) -> Result<String, AllocError> {
         String::from_str(self.alloc, "nothing was changed\n")
     }
+
+    fn account(&self) -> Result<String, AllocError> {
+        String::from_str(self.alloc, "nobody was looked at\n")
+    }
 }
 
 /// Prints the first line that a request is answered with, and whether the node is to end then.
@@ -32,7 +36,7 @@ fn print<S: Source>(
     keys: RandomState,
     source: &S,
     token: &Token,
-    changing: Changing,
+    jobs: Jobs,
     request: &str,
 ) -> anyhow::Result<()> {
     let mut answering = Answering {
@@ -40,8 +44,9 @@ fn print<S: Source>(
         source,
         token: Some(token),
         stops: false,
-        changing,
+        jobs,
         change: None,
+        look: None,
     };
     let mut connection = Connection::new(alloc, keys, Config::default());
     let mut input = request.as_bytes();
@@ -50,11 +55,15 @@ fn print<S: Source>(
     let text = std::str::from_utf8(connection.output())?;
     let (first, _) = text.split_once("\r\n").unwrap_or(("nothing", ""));
     let (asked, _) = request.split_once(" HTTP").unwrap_or(("nothing", ""));
-    let (stops, change) = (answering.stops, answering.change);
+    let (stops, change, look) = (answering.stops, answering.change, answering.look);
     println!(rt; "{asked}: {first}, ends: {stops}")?;
     if let Some(change) = &change {
         let text = std::str::from_utf8(change)?;
         println!(rt; "  changes: {text}")?;
+    }
+    if let Some(look) = &look {
+        let text = std::str::from_utf8(look)?;
+        println!(rt; "  looks at: {text}")?;
     }
     Ok(())
 }
@@ -85,6 +94,31 @@ const TERMS: [&str; 4] = [
     "DELETE /terms HTTP/1.1\r\nHost: localhost\r\nAuthorization: Bearer 0123456789abcdef\r\n\r\n",
 ];
 
+/// Requests at the path of accounts: read and asked for, with the token and without, and by another method.
+const ACCOUNTS: [&str; 5] = [
+    "GET /account HTTP/1.1\r\nHost: localhost\r\n\r\n",
+    "GET /account HTTP/1.1\r\nHost: localhost\r\nAuthorization: Bearer 0123456789abcdef\r\n\r\n",
+    "POST /account HTTP/1.1\r\nHost: localhost\r\nContent-Length: 7\r\n\r\n0 49170",
+    "POST /account HTTP/1.1\r\nHost: localhost\r\nAuthorization: Bearer 0123456789abcdef\r\nContent-Length: 7\r\n\r\n0 49170",
+    "PUT /account HTTP/1.1\r\nHost: localhost\r\nAuthorization: Bearer 0123456789abcdef\r\nContent-Length: 7\r\n\r\n0 49170",
+];
+
+/// Where a node has no book, where the job that is asked for is under way, and where the other one is.
+const UNDER_WAY: [Jobs; 3] = [
+    Jobs {
+        change: Job::Never,
+        look: Job::Never,
+    },
+    Jobs {
+        change: Job::Busy,
+        look: Job::Free,
+    },
+    Jobs {
+        change: Job::Free,
+        look: Job::Busy,
+    },
+];
+
 /// Prints what each request is answered, by a node that has a token.
 pub fn print_all(rt: &(impl Print + RandomSource), alloc: Global) -> anyhow::Result<()> {
     let tally = Tally::nothing(alloc);
@@ -95,11 +129,14 @@ pub fn print_all(rt: &(impl Print + RandomSource), alloc: Global) -> anyhow::Res
     let token = Token::read(alloc, b"0123456789abcdef\n")?;
     let keys = RandomState::new(rt)?;
     for request in REQUESTS {
-        print(rt, alloc, keys, &source, &token, Changing::Free, request)?;
+        print(rt, alloc, keys, &source, &token, UNDER_WAY[1], request)?;
     }
-    for changing in [Changing::Never, Changing::Busy, Changing::Free] {
+    for jobs in UNDER_WAY {
         for request in TERMS {
-            print(rt, alloc, keys, &source, &token, changing, request)?;
+            print(rt, alloc, keys, &source, &token, jobs, request)?;
+        }
+        for request in ACCOUNTS {
+            print(rt, alloc, keys, &source, &token, jobs, request)?;
         }
     }
     Ok(())
