@@ -26,6 +26,9 @@ use std::{fs, io};
 /// How many octets a page of the file has.
 const PAGE: usize = 4096;
 
+/// How many pages that were read are kept in memory. A book is read once from its beginning, and then grows at its end.
+const CACHED: usize = 128;
+
 const ENTRIES: &str = "CREATE TABLE entry (octets BLOB NOT NULL)";
 
 const BOOKS: &str = "CREATE TABLE book (octets BLOB NOT NULL)";
@@ -57,7 +60,9 @@ fn unopened<D: Disk + Drop>(
     let Some(size) = PageSize::new(PAGE) else {
         return Err(FileError::Full);
     };
-    let pager = match Pager::new(alloc, files, size, Options::new(seed)) {
+    let mut options = Options::new(seed);
+    options.cache_pages = CACHED;
+    let pager = match Pager::new(alloc, files, size, options) {
         Ok(pager) => pager,
         Err(_) => return Err(FileError::OutOfMemory),
     };
