@@ -118,7 +118,7 @@ def audited(farm):
     (farm.folder / "book.entries").write_text(exported.stdout)
     report = farm.run("farm_book", "book", "report", farm.book, "--site", farm.site)
     records = [farm.folder / f"{name}.record" for name in ("fronts", "r1", "r2", "c1")]
-    audit = farm.run("farm_audit", "audit", "--site", farm.site, "--book", farm.folder / "book.entries", *records)
+    audit = farm.run("farm_runs", "audit", "--site", farm.site, "--book", farm.folder / "book.entries", *records)
     if audit.returncode:
         sys.exit(f"the audit finds a difference: {audit.stderr.strip()[-400:]}")
     lines = audit.stdout.splitlines()

@@ -33,7 +33,7 @@ sys.path.insert(0, str(ROOT / "examples/models"))
 from diameter import (ORIGIN_HOST, ORIGIN_REALM, REQUEST, RESULT_CODE, RETRANSMITTED, SESSION_ID, Avp, Message, first, group, number,  # noqa: E402
                       split, spelled, text)
 
-PROGRAM, AUDIT = ROOT / "crates/farm_live/out/farm_live", ROOT / "crates/farm_audit/out/farm_audit"
+PROGRAM, AUDIT = ROOT / "crates/farm_live/out/farm_live", ROOT / "crates/farm_runs/out/farm_runs"
 CAPABILITIES, CREDIT_CONTROL = 257, 272
 REQUEST_NUMBER, SERVICES = 415, 456
 EVENT, INITIAL, UPDATE, TERMINATION = 4, 1, 2, 3

@@ -226,7 +226,7 @@ def restart(farm, client, kind):
     """Changes the site file, ends r1 and starts it again, while the client asks."""
     farm.write("f2.example", "f1.example")
     client.tell("the site file is changed: r1 prefers f2.example")
-    check = ROOT / "crates/farm_check/out/farm_check"
+    check = ROOT / "crates/farm_inspect/out/farm_inspect"
     if check.exists():
         done = subprocess.run([check, "check", "--site", farm.site], capture_output=True, text=True)
         client.tell(f"farm check: status {done.returncode}")

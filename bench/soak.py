@@ -4,7 +4,7 @@
 Two relays, two fronts in one process with three workers each, and four clients, over TCP on this machine; bench/loaded.py says
 what is done to them. Clients send debits and sessions (INITIAL, UPDATEs, TERMINATION; some are left, and swept), over five
 accounts of which one is soon empty, now and then with 50 kB in a request. Then the nodes end in good order, and
-`farm_audit audit` puts what they wrote down into one order and has the proved farm play it (docs/RECORD.md). It is as it is to
+`farm_runs audit` puts what they wrote down into one order and has the proved farm play it (docs/RECORD.md). It is as it is to
 be where the audit finds no difference, no line tells a request as new to the book that was charged before, no connection was
 answered otherwise than it was asked, and every process has ended with status 0.
 

@@ -10,7 +10,7 @@ clients without a record among them. The farm that plays it has to give each cli
 book what it came to. With --wrong the same runs are those of farms in which something goes wrong between the nodes (WRONG),
 and each such farm has to be found out. With --ports each two nodes have so many ports, which are given out again one after
 the other; with fewer than about ten a connection is here and there taken for another of the same port. `killed` runs farms over the ring whose fronts are killed
-too, on a book that outlives them, and has PROGRAM, farm_audit, audit records and book: it has to find no difference, and the same book.
+too, on a book that outlives them, and has PROGRAM, farm_runs, audit records and book: it has to find no difference, and the same book.
 `write` puts the records of one run over the ring of relays into a folder, with their schedule. Exit status: 0, or 1 where something was found that must not be, or was not that must be.
 """
 import argparse

@@ -1,5 +1,5 @@
-//! Reads a site file for somebody who runs a farm: what it comes to, and what may look wrong in it, or where its fault
-//! stands and what was expected there.
+//! Reads a site file for somebody who runs a farm: [`check_site`] prints what it comes to, and what may look wrong in it, or where its
+//! fault stands and what was expected there.
 #![tactic(auto)]
 
 ghost use Rattle.std.specs.Prelude.{◌≡◌, ◌≢◌, IfErr, IfOk, OnOk, Some};
@@ -29,7 +29,7 @@ mod told;
 use book_place::{FileKey, path_from};
 use cc_book::Account;
 use farm_access::Access;
-use farm_command::{Check, CliFault, Command, command_of, end, refuse, words_of};
+use farm_command::{Check, end};
 use farm_site::{SiteDocument, SiteFault, site_document_of_octets};
 use farm_text::{ReadFault, file_at, write_text};
 use fault::CheckFault;
@@ -47,9 +47,6 @@ use std::process::ExitCode;
 use summary::push_summary;
 use told::fault_text;
 use toml::Table;
-
-/// What is told where the words are others.
-const USAGE: &str = "usage: check --site FILE";
 
 /// What a site file says that is accepted.
 #[derive(Drop)]
@@ -176,21 +173,10 @@ fn check(rt: &HostRuntime, command: &Check<'_>) -> Result<(), CheckFault> {
     check_file(rt, command.site, &file, &mut io::writer(rt))
 }
 
-/// Does what the words behind the program's name ask for.
-fn carry_out(rt: &HostRuntime, words: &[String]) -> ExitCode {
-    match command_of(rt.alloc(), words) {
-        Ok(Command::Check(command)) => match check(rt, &command) {
-            Ok(()) => ExitCode::SUCCESS,
-            Err(fault) => end(rt, fault.status(), Some(&fault)),
-        },
-        Ok(_) => refuse(rt, &CliFault::Elsewhere, USAGE),
-        Err(fault) => refuse(rt, &fault, USAGE),
-    }
-}
-
-fn main(rt: HostRuntime) -> ExitCode {
-    match words_of(&rt) {
-        Ok(words) => carry_out(&rt, &words),
-        Err(fault) => refuse(&rt, &fault, USAGE),
+/// Checks the site file that a command names, and prints what it comes to, or its fault.
+pub fn check_site(rt: &HostRuntime, command: &Check<'_>) -> ExitCode {
+    match check(rt, command) {
+        Ok(()) => ExitCode::SUCCESS,
+        Err(fault) => end(rt, fault.status(), Some(&fault)),
     }
 }

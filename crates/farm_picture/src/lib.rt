@@ -1,4 +1,4 @@
-//! A run of the farm as a picture: it reads a schedule from standard input, runs it over the row site,
+//! A run of the farm as a picture: [`draw_run`] reads a schedule from standard input, runs it over the row site,
 //! or over the site of a file with `--site FILE`, and writes an SVG of its first steps, or of those that `--from` and `--to`
 //! name.
 #![tactic(auto)]
@@ -25,7 +25,7 @@ mod ways;
 
 use dia_avp::ViewWire;
 use drawing::draw;
-use farm_command::{CliFault, Command, Picture, command_of, end, refuse, words_of};
+use farm_command::{Picture, end};
 use farm_script::steps_of;
 use farm_site::site_of_octets;
 use farm_text::{ReadFault, file_at, read_text, write_text};
@@ -37,10 +37,6 @@ use std::io;
 use std::io::{Read, Write};
 use std::process::ExitCode;
 use timeline::timeline_of;
-
-/// What is told where the words are others.
-const USAGE: &str =
-    "usage: picture [--site FILE] [--from STEP] [--to STEP] < SCHEDULE > PICTURE.svg";
 
 /// The picture of a schedule's run over the site, from an empty history.
 fn picture_of(alloc: Global, site: &Site, part: Part, text: &[u8]) -> Result<String, PictureFault>
@@ -142,21 +138,10 @@ fn picture(rt: &HostRuntime, command: &Picture<'_>) -> Result<(), PictureFault> 
     }
 }
 
-/// Does what the words behind the program's name ask for.
-fn carry_out(rt: &HostRuntime, words: &[String]) -> ExitCode {
-    match command_of(rt.alloc(), words) {
-        Ok(Command::Picture(command)) => match picture(rt, &command) {
-            Ok(()) => ExitCode::SUCCESS,
-            Err(fault) => end(rt, fault.status(), Some(&fault)),
-        },
-        Ok(_) => refuse(rt, &CliFault::Elsewhere, USAGE),
-        Err(fault) => refuse(rt, &fault, USAGE),
-    }
-}
-
-fn main(rt: HostRuntime) -> ExitCode {
-    match words_of(&rt) {
-        Ok(words) => carry_out(&rt, &words),
-        Err(fault) => refuse(&rt, &fault, USAGE),
+/// Draws what a command asks for of the schedule on standard input.
+pub fn draw_run(rt: &HostRuntime, command: &Picture<'_>) -> ExitCode {
+    match picture(rt, command) {
+        Ok(()) => ExitCode::SUCCESS,
+        Err(fault) => end(rt, fault.status(), Some(&fault)),
     }
 }

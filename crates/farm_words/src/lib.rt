@@ -1,5 +1,4 @@
-//! Diameter messages in words: it prints what it reads from standard input, with each message as a
-//! person reads it.
+//! Diameter messages in words: [`tell_words`] prints what it reads from standard input, with each message as a person reads it.
 #![tactic(auto)]
 
 ghost use Rattle.std.specs.Prelude.{◌≢◌, IfErr};
@@ -12,7 +11,7 @@ mod names;
 mod streams;
 mod values;
 
-use farm_command::{CliFault, Command, Status, command_of, end, refuse, words_of};
+use farm_command::{Status, end};
 use farm_text::write_text;
 use lines::in_words;
 use std::alloc::Global;
@@ -20,9 +19,6 @@ use std::io;
 use std::io::{Read, Write};
 use std::process::ExitCode;
 use streams::{WordsFault, read_all};
-
-/// What is told where the words are others.
-const USAGE: &str = "usage: words < LINES";
 
 /// Reads the text, and writes it with its messages in words.
 fn tell<R: Read, W: Write>(alloc: Global, reader: &mut R, writer: &mut W) -> Result<(), WordsFault>
@@ -43,21 +39,10 @@ fn status_of(fault: WordsFault) -> Status {
     }
 }
 
-/// Does what the words behind the program's name ask for.
-fn carry_out(rt: &HostRuntime, words: &[String]) -> ExitCode {
-    match command_of(rt.alloc(), words) {
-        Ok(Command::Words) => match tell(rt.alloc(), &mut rt.reader(), &mut io::writer(rt)) {
-            Ok(()) => ExitCode::SUCCESS,
-            Err(fault) => end(rt, status_of(fault), Some(&fault)),
-        },
-        Ok(_) => refuse(rt, &CliFault::Elsewhere, USAGE),
-        Err(fault) => refuse(rt, &fault, USAGE),
-    }
-}
-
-fn main(rt: HostRuntime) -> ExitCode {
-    match words_of(&rt) {
-        Ok(words) => carry_out(&rt, &words),
-        Err(fault) => refuse(&rt, &fault, USAGE),
+/// Prints what stands on standard input, with its messages in words.
+pub fn tell_words(rt: &HostRuntime) -> ExitCode {
+    match tell(rt.alloc(), &mut rt.reader(), &mut io::writer(rt)) {
+        Ok(()) => ExitCode::SUCCESS,
+        Err(fault) => end(rt, status_of(fault), Some(&fault)),
     }
 }

@@ -1,17 +1,15 @@
-//! Puts the records of a farm into one order and plays it with the proved farm: `schedule` prints the steps, `audit` says that
+//! Puts the records of a farm into one order and plays it with the proved farm ([`audit`]): `schedule` prints the steps, `audit` says that
 //! each client received what the farm gives, that each request was charged as it charges, and what the book comes to. Where
 //! the records contradict one another or the farm, it tells the first place.
 //!
-//! `record_player` does it; here are the command line, the files and the exit statuses.
+//! `record_player` does it; here are the files and the exit statuses.
 #![tactic(auto)]
 
 ghost use Rattle.farm_base.specs.CheckedSite.{IsChecked};
 
 mod fault;
 
-use farm_command::{
-    Audit as AuditCommand, AuditAction, CliFault, Command, command_of, end, refuse, words_of,
-};
+use farm_command::{Audit as AuditCommand, AuditAction, end};
 use farm_site::site_of_octets;
 use farm_text::{ReadFault, file_at, write_text};
 use farm_world::Site;
@@ -21,10 +19,6 @@ use std::fs::File;
 use std::io;
 use std::io::Write;
 use std::process::ExitCode;
-
-/// What is told where the words are others.
-const USAGE: &str =
-    "usage: schedule --site FILE [--book FILE] RECORD.., or audit --site FILE [--book FILE] RECORD..";
 
 /// The octets of a site file, up to one above its size limit.
 fn site_file(rt: &HostRuntime, path: &str) -> Result<Vec<u8>, AuditFault> {
@@ -112,21 +106,10 @@ fn end_by(rt: &HostRuntime, command: &AuditCommand<'_>, fault: &AuditFault) -> E
     end(rt, fault.status(), Some(fault))
 }
 
-/// Does what the words behind the program's name ask for.
-fn carry_out(rt: &HostRuntime, words: &[String]) -> ExitCode {
-    match command_of(rt.alloc(), words) {
-        Ok(Command::Audit(command)) => match audit_records(rt, &command) {
-            Ok(()) => ExitCode::SUCCESS,
-            Err(fault) => end_by(rt, &command, &fault),
-        },
-        Ok(_) => refuse(rt, &CliFault::Elsewhere, USAGE),
-        Err(fault) => refuse(rt, &fault, USAGE),
-    }
-}
-
-fn main(rt: HostRuntime) -> ExitCode {
-    match words_of(&rt) {
-        Ok(words) => carry_out(&rt, &words),
-        Err(fault) => refuse(&rt, &fault, USAGE),
+/// Audits the records that a command names, and prints what they come to, or their steps where these are asked for.
+pub fn audit(rt: &HostRuntime, command: &AuditCommand<'_>) -> ExitCode {
+    match audit_records(rt, command) {
+        Ok(()) => ExitCode::SUCCESS,
+        Err(fault) => end_by(rt, command, &fault),
     }
 }
