@@ -3,7 +3,7 @@
 use farm_command::Status;
 use farm_site::SiteFault;
 use record_player::PlayFault;
-use record_reader::RecordFault;
+use record_reader::{RecordFault, Source};
 use std::alloc::{AllocError, AllocFailed};
 use thiserror::Error;
 
@@ -41,17 +41,17 @@ impl AuditFault {
         }
     }
 
-    /// The record of which something is told.
-    pub fn record(&self) -> Option<usize> {
+    /// The record or the book of which something is told.
+    pub fn source(&self) -> Option<Source> {
         match self {
-            AuditFault::RecordFile { record }
-            | AuditFault::Play(PlayFault::Record(RecordFault::Unreadable { record })) => Some(
-                *record,
+            AuditFault::RecordFile { record } => Some(Source::Record(*record)),
+            AuditFault::Play(PlayFault::Record(RecordFault::Unreadable { source })) => Some(
+                *source,
             ),
             AuditFault::Play(
                 PlayFault::Found { position, .. }
                 | PlayFault::Record(RecordFault::Found { position, .. }),
-            ) => Some(position.record),
+            ) => Some(position.source),
             AuditFault::Play(
                 PlayFault::Write
                 | PlayFault::OutOfMemory

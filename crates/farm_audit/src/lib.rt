@@ -15,6 +15,7 @@ use farm_text::{ReadFault, file_at, write_text};
 use farm_world::Site;
 use fault::AuditFault;
 use record_player::Audit;
+use record_reader::Source;
 use std::fs::File;
 use std::io;
 use std::io::Write;
@@ -93,10 +94,11 @@ fn audit_records(rt: &HostRuntime, command: &AuditCommand<'_>) -> Result<(), Aud
     }
 }
 
-/// Ends by a fault, which is told behind the name of the record where it is found.
+/// Ends by a fault, which is told behind the name of the file where it is found.
 fn end_by(rt: &HostRuntime, command: &AuditCommand<'_>, fault: &AuditFault) -> ExitCode {
-    let name = match fault.record() {
-        Some(record) => command.records.get(record).copied().or(command.book),
+    let name = match fault.source() {
+        Some(Source::Record(record)) => command.records.get(record).copied(),
+        Some(Source::Book) => command.book,
         None => None,
     };
     if let Some(name) = name {

@@ -72,9 +72,8 @@ impl<'s, R: Read + Drop> Audit<'s, R> {
     }
 
     /// The fronts have their book on disk, which outlives their process: its entries, as they are exported. It comes before the records.
-    /// A position in it has the place of a record that is not there.
     pub fn set_book(&mut self, reader: R) {
-        self.book = Some(BookEntries::new(self.alloc, reader, usize::MAX));
+        self.book = Some(BookEntries::new(self.alloc, reader));
         self.records.set_book();
         self.player.set_book();
     }
@@ -215,11 +214,11 @@ impl<'s, R: Read + Drop> Audit<'s, R> {
     /// A process begins: that is the next entry of each of its nodes.
     fn keep_begin(&mut self, begun: &Begun, nodes: &[NodeNo]) -> Result<(), AllocError> {
         if !begun.is_first {
-            self.reports.forget(begun.position.record);
+            self.reports.forget(begun.position.source);
         }
         for node in nodes {
             if begun.is_first {
-                self.queues.add(begun.position.record, *node)?;
+                self.queues.add(begun.position.source, *node)?;
                 self.player.add_node(*node)?;
             } else {
                 self.player

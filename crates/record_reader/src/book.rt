@@ -5,27 +5,30 @@ ghost use Rattle.std.specs.Prelude.{◌<◌, IfOk};
 use crate::fault::{EntryFault, RecordFault, found, of_group};
 use crate::group::GroupFault;
 use crate::lines::RecordLines;
-use crate::position::Position;
+use crate::position::{Position, Source};
+use byteorder::{BigEndian, ByteOrder};
 use dia_avp::{ViewWire, Wire};
 use dia_base::Moment;
 use dia_base::codes::{CC_REQUEST_NUMBER, SESSION_ID};
 use dia_message::Message;
 use farm_script::{LineFault, number_of, words_of};
+use sha2::{Digest, Sha256};
 use std::alloc::Global;
 use std::collections::VecDeque;
-use std::hash::{DefaultHasher, Hash, Hasher};
 use std::io::Read;
 
-/// A number that few other requests have: of its Session-Id and its CC-Request-Number.
+/// By what a request is found: 16 octets of the SHA-256 of its Session-Id with, behind it, the four octets of its CC-Request-Number.
 #[derive(Clone, Copy, PartialEq, Eq)]
-pub struct RequestKey(u64);
+pub struct RequestKey(u128);
 
 impl RequestKey {
     fn of(session: &[u8], number: u32) -> RequestKey {
-        let mut hasher = DefaultHasher::new();
-        session.hash(&mut hasher);
-        number.hash(&mut hasher);
-        RequestKey(hasher.finish())
+        let octets = number.to_be_bytes();
+        let mut hasher = Sha256::new();
+        hasher.update(session);
+        hasher.update(octets.as_slice());
+        let digest = hasher.finalize();
+        RequestKey(BigEndian::read_u128(&digest))
     }
 
     /// That of a message; none if it lacks one of both.
@@ -68,8 +71,6 @@ pub struct BookEntry {
 pub struct BookEntries<R> {
     alloc: Global,
     lines: RecordLines<R>,
-    /// What stands for the book among the records.
-    record: usize,
     /// The place of the next line.
     place: u64,
     /// The entries before it that were read, and not let go.
@@ -78,12 +79,11 @@ pub struct BookEntries<R> {
 }
 
 impl<R: Read> BookEntries<R> {
-    /// The entries from where the reader stands. In a position `record` stands for them.
-    pub fn new(alloc: Global, reader: R, record: usize) -> Self {
+    /// The entries from where the reader stands.
+    pub fn new(alloc: Global, reader: R) -> Self {
         BookEntries {
             alloc,
             lines: RecordLines::new(alloc, reader),
-            record,
             place: 0,
             ahead: VecDeque::new(alloc),
             is_at_end: false,
@@ -147,7 +147,7 @@ impl<R: Read> BookEntries<R> {
 
     fn position(&self) -> Position {
         Position {
-            record: self.record,
+            source: Source::Book,
             line: self.lines.count,
         }
     }

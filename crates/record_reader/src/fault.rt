@@ -2,7 +2,7 @@
 
 use crate::group::GroupFault;
 use crate::lines::LinesFault;
-use crate::position::Position;
+use crate::position::{Position, Source};
 use farm_script::LineFault;
 use std::alloc::{AllocError, AllocFailed};
 use thiserror::Error;
@@ -37,9 +37,8 @@ pub enum EntryFault {
 pub enum RecordFault {
     #[error("line {}: {why}", position.line)]
     Found { position: Position, why: EntryFault },
-    /// A record, by its place among all.
     #[error("a record cannot be read")]
-    Unreadable { record: usize },
+    Unreadable { source: Source },
     #[error("out of memory")]
     OutOfMemory,
 }
@@ -56,7 +55,7 @@ pub fn of_group(fault: GroupFault, position: Position) -> RecordFault {
         | GroupFault::Lines(LinesFault::OutOfMemory)
         | GroupFault::Words(LineFault::OutOfMemory) => RecordFault::OutOfMemory,
         GroupFault::Lines(LinesFault::Failed) => RecordFault::Unreadable {
-            record: position.record,
+            source: position.source,
         },
         GroupFault::Lines(LinesFault::TooLong)
         | GroupFault::Words(_)

@@ -26,6 +26,6 @@ pub use entry::{Action, End, Entry, Finished, NodeEvent, Sweep};
 pub use fault::{EntryFault, RecordFault};
 pub use group::{Group, GroupFault, Groups};
 pub use lines::{LINE_LIMIT, LinesFault, RecordLines};
-pub use position::Position;
+pub use position::{Position, Source};
 pub use reading::event_of;
 pub use records::{Records, is_front};

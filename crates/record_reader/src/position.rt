@@ -1,8 +1,15 @@
-//! Where something stands in the records.
+//! Where something stands in what is read.
 
-/// The record, by its place among all, and the line, from 1.
+/// What is read: a record, by its place among all, or the entries of the book.
+#[derive(Clone, Copy, Debug, PartialEq, Eq)]
+pub enum Source {
+    Record(usize),
+    Book,
+}
+
+/// What is read, and the line there, from 1.
 #[derive(Clone, Copy, Debug)]
 pub struct Position {
-    pub record: usize,
+    pub source: Source,
     pub line: u64,
 }

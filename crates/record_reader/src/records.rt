@@ -3,7 +3,7 @@
 use crate::entry::{Action, End, Entry, Finished, NodeEvent, Sweep};
 use crate::fault::{EntryFault, RecordFault, found, of_group};
 use crate::group::{Group, Groups};
-use crate::position::Position;
+use crate::position::{Position, Source};
 use crate::process::{Process, Standing};
 use dia_base::{ConnId, Moment, NodeKind, NodeNo};
 use dia_message::Message;
@@ -141,14 +141,22 @@ impl<R: Read + Drop> Records<R> {
     }
 
     fn process(&self, position: Position) -> Result<&Process, RecordFault> {
-        match self.records.get(position.record) {
+        let record = match position.source {
+            Source::Record(record) => self.records.get(record),
+            Source::Book => None,
+        };
+        match record {
             Some(record) => Ok(&record.process),
             None => found(position, EntryFault::UnknownConnection),
         }
     }
 
     fn process_mut(&mut self, position: Position) -> Result<&mut Process, RecordFault> {
-        match self.records.get_mut(position.record) {
+        let record = match position.source {
+            Source::Record(record) => self.records.get_mut(record),
+            Source::Book => None,
+        };
+        match record {
             Some(record) => Ok(&mut record.process),
             None => found(position, EntryFault::UnknownConnection),
         }
@@ -165,7 +173,8 @@ impl<R: Read + Drop> Records<R> {
             Ok(Some(group)) => self.entry_of(site, record, group),
             Err(fault) => {
                 let line = from.groups.line();
-                Err(of_group(fault, Position { record, line }))
+                let source = Source::Record(record);
+                Err(of_group(fault, Position { source, line }))
             }
         }
     }
@@ -184,7 +193,8 @@ impl<R: Read + Drop> Records<R> {
             outs,
             is_last,
         } = group;
-        let position = Position { record, line };
+        let source = Source::Record(record);
+        let position = Position { source, line };
         let sent = self.sent_to(position, outs)?;
         let around = Around {
             position,

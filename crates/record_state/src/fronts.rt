@@ -30,19 +30,28 @@ pub struct Request {
     pub state: RequestState,
 }
 
-/// The requests of a front that were handed over, by their numbers.
+/// A request that a front has in its queue, or that a worker has.
+#[derive(Clone, Copy, PartialEq, Eq)]
+pub enum InHand {
+    /// One that a line tells, by its number among all.
+    Told(u64),
+    /// One that the front hands back, or that no line tells: a worker is done with it before another one comes.
+    Passing,
+}
+
+/// The requests of a front that were handed over.
 #[derive(Drop)]
 struct FrontWork {
     node: NodeNo,
-    queue: VecDeque<u64>,
-    workers: Vec<Option<u64>>,
+    queue: VecDeque<InHand>,
+    workers: Vec<Option<InHand>>,
 }
 
 impl FrontWork {
     /// A front with so many workers, which has nothing in hand.
     fn new(alloc: Global, node: NodeNo, count: usize) -> Result<Self, AllocError> {
         let mut workers = Vec::new(alloc);
-        workers.resize(count, None::<u64>)?;
+        workers.resize(count, None::<InHand>)?;
         Ok(FrontWork {
             node,
             queue: VecDeque::new(alloc),
@@ -57,8 +66,8 @@ impl FrontWork {
             .count()
     }
 
-    fn worker_of(&self, number: u64) -> Option<usize> {
-        self.workers.iter().position(|held| *held == Some(number))
+    fn worker_of(&self, request: InHand) -> Option<usize> {
+        self.workers.iter().position(|held| *held == Some(request))
     }
 
     fn first_idle(&self) -> Option<usize> {
@@ -66,10 +75,10 @@ impl FrontWork {
     }
 
     /// How many requests stand before this one in the queue: all, where it is not there.
-    fn ahead_of(&self, number: u64) -> usize {
+    fn ahead_of(&self, request: InHand) -> usize {
         self.queue
             .iter()
-            .position(|waiting| *waiting == number)
+            .position(|waiting| *waiting == request)
             .unwrap_or(self.queue.len())
     }
 
@@ -193,7 +202,7 @@ impl Fronts {
     ) -> Option<(usize, u64)> {
         let workers = &self.front(front)?.workers;
         for (worker, held) in workers.iter().enumerate() {
-            if let Some(number) = held {
+            if let Some(InHand::Told(number)) = held {
                 if self.is_untold(*number, before, needed) {
                     return Some((worker, *number));
                 }
@@ -209,8 +218,8 @@ impl Fronts {
             None => None,
         };
         match first {
-            Some(number) => self.is_untold(number, before, needed),
-            None => false,
+            Some(InHand::Told(number)) => self.is_untold(number, before, needed),
+            Some(InHand::Passing) | None => false,
         }
     }
 
@@ -335,25 +344,25 @@ impl Fronts {
     }
 
     /// The worker of a front that has this request.
-    pub fn worker_of(&self, front: NodeNo, number: u64) -> Option<usize> {
-        self.front(front)?.worker_of(number)
+    pub fn worker_of(&self, front: NodeNo, request: InHand) -> Option<usize> {
+        self.front(front)?.worker_of(request)
     }
 
     /// Whether a worker has the request, or may have it at once: those before it in the queue need one too.
     pub fn may_start(&self, request: &Request) -> bool {
+        let told = InHand::Told(request.number);
         match self.front(request.end.node) {
             Some(front) => {
-                front.worker_of(request.number).is_some()
-                    || front.ahead_of(request.number) < front.idle()
+                front.worker_of(told).is_some() || front.ahead_of(told) < front.idle()
             }
             None => false,
         }
     }
 
     /// A request comes into the queue of a front.
-    pub fn push(&mut self, front: NodeNo, number: u64) -> Result<(), AllocError> {
+    pub fn push(&mut self, front: NodeNo, request: InHand) -> Result<(), AllocError> {
         if let Some(front) = self.front_mut(front) {
-            front.queue.push_back(number)?;
+            front.queue.push_back(request)?;
         }
         Ok(())
     }

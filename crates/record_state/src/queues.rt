@@ -1,7 +1,7 @@
 //! The entries that were read and are not played yet, of each node in the order of its record.
 
 use dia_base::{Moment, NodeNo};
-use record_reader::{NodeEvent, Position};
+use record_reader::{NodeEvent, Position, Source};
 use std::alloc::{AllocError, Global};
 use std::collections::VecDeque;
 
@@ -40,7 +40,7 @@ impl NodeEntry {
 /// The entries of a node.
 #[derive(Drop)]
 struct Queue {
-    record: usize,
+    source: Source,
     node: NodeNo,
     entries: VecDeque<NodeEntry>,
 }
@@ -75,10 +75,10 @@ impl Queues {
     }
 
     /// A node more, which this record is of.
-    pub fn add(&mut self, record: usize, node: NodeNo) -> Result<(), AllocError> {
+    pub fn add(&mut self, source: Source, node: NodeNo) -> Result<(), AllocError> {
         let entries = VecDeque::new(self.alloc);
         self.queues.push(Queue {
-            record,
+            source,
             node,
             entries,
         })?;
@@ -96,12 +96,16 @@ impl Queues {
 
     /// The record that a queue is read from.
     pub fn record_of(&self, place: usize) -> Option<usize> {
-        Some(self.queues.get(place)?.record)
+        match self.queues.get(place)?.source {
+            Source::Record(record) => Some(record),
+            Source::Book => None,
+        }
     }
 
     /// Whether entries of a record are left.
     pub fn has_entries_of(&self, record: usize) -> bool {
-        self.queues.iter().any(|queue| queue.record == record && !queue.entries.is_empty())
+        self.queues.iter().any(|queue| queue.source == Source::Record(record)
+            && !queue.entries.is_empty())
     }
 
     /// The next entry of a queue.

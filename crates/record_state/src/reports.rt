@@ -1,6 +1,6 @@
 //! What the records tell of the book at the ends of processes.
 
-use record_reader::Position;
+use record_reader::{Position, Source};
 use std::alloc::{AllocError, Global};
 
 /// A line of what the book has come to.
@@ -29,8 +29,8 @@ impl Reports {
     }
 
     /// The process of a record begins again: what it told of the book was not the last.
-    pub fn forget(&mut self, record: usize) {
-        self.lines.retain(|told| told.position.record != record);
+    pub fn forget(&mut self, source: Source) {
+        self.lines.retain(|told| told.position.source != source);
     }
 
     /// The first line of a record that is not the one of this report at its place.
@@ -38,7 +38,7 @@ impl Reports {
         let of_record = self
             .lines
             .iter()
-            .filter(|told| told.position.record == record);
+            .filter(|told| told.position.source == Source::Record(record));
         for (place, told) in of_record.enumerate() {
             if !is_line(report, place, &told.line) {
                 return Some(told.position);

@@ -5,10 +5,7 @@ use crate::player::Player;
 use dia_base::NodeNo;
 use farm_world::Step;
 use record_reader::{End, NodeEvent, Position};
-use record_state::{Request, RequestState};
-
-/// What stands in the place of a request's number where a front hands one back.
-const HANDED_BACK: u64 = u64::MAX;
+use record_state::{InHand, Request, RequestState};
 
 impl<'s> Player<'s> {
     /// A message arrives at a front. A request stays in flight; one that is handed back is answered at once.
@@ -33,7 +30,7 @@ impl<'s> Player<'s> {
     fn hand_back(&mut self, event: &NodeEvent) -> Result<bool, PlayFault> {
         let (position, node, peer) = (event.position, event.end.node, event.end.peer);
         let queued = self.fronts.queued(node);
-        let waiting = self.fronts.arrived_up_to(node, HANDED_BACK);
+        let waiting = self.fronts.arrived_up_to(node, u64::MAX);
         let limit = self.site().queue as usize;
         let is_full = queued.saturating_add(waiting) >= limit;
         if !is_full && queued >= self.fronts.idle(node) {
@@ -72,8 +69,7 @@ impl<'s> Player<'s> {
 
     /// A worker refuses the request that was handed over last.
     fn refuse(&mut self, position: Position, front: NodeNo) -> Result<(), PlayFault> {
-        self.fronts.push(front, HANDED_BACK)?;
-        let worker = self.picked(position, front, HANDED_BACK)?;
+        let worker = self.pick_passing(position, front)?;
         let step = Step::Refuse {
             front,
             worker: worker as u64,
@@ -133,8 +129,28 @@ impl<'s> Player<'s> {
         if has_arrived {
             self.hand_over(position, number)?;
         }
+        self.pick_until(position, front, InHand::Told(number))
+    }
+
+    /// The worker that has picked a request which no line tells, or which is handed back. It stands behind all others in the queue.
+    pub(super) fn pick_passing(
+        &mut self,
+        position: Position,
+        front: NodeNo,
+    ) -> Result<usize, PlayFault> {
+        self.fronts.push(front, InHand::Passing)?;
+        self.pick_until(position, front, InHand::Passing)
+    }
+
+    /// The worker that has a request, once those before it in the queue are picked, and it.
+    fn pick_until(
+        &mut self,
+        position: Position,
+        front: NodeNo,
+        request: InHand,
+    ) -> Result<usize, PlayFault> {
         for _ in 0..u64::MAX {
-            match self.fronts.worker_of(front, number) {
+            match self.fronts.worker_of(front, request) {
                 Some(worker) => return Ok(worker),
                 None => self.pick(position, front)?,
             }
@@ -164,7 +180,7 @@ impl<'s> Player<'s> {
         let place = self.fronts.arrived_on_before(conn, number);
         self.play_arrival(position, peer, node, place)?;
         self.fronts.set_state(number, RequestState::HandedOver);
-        self.fronts.push(node, number)?;
+        self.fronts.push(node, InHand::Told(number))?;
         Ok(())
     }
 

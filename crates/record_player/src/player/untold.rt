@@ -9,9 +9,6 @@ use record_reader::{BookEntry, BookEntryKind, Finished, Position, RequestKey};
 use record_state::Request;
 use std::alloc::{AllocError, Global};
 
-/// What stands in the place of a request's number that no line tells of.
-const UNTOLD: u64 = u64::MAX - 1;
-
 /// A book on disk.
 pub struct StoredBook {
     /// The entry at the place of the farm's next one; none behind the last.
@@ -334,8 +331,7 @@ impl<'s> Player<'s> {
     fn charge_in_flight(&mut self, entry: &BookEntry, request: InFlight) -> Result<(), PlayFault> {
         let InFlight { from, front, place } = request;
         self.play_arrival(entry.position, from, front, place)?;
-        self.fronts.push(front, UNTOLD)?;
-        let worker = self.picked(entry.position, front, UNTOLD)?;
+        let worker = self.pick_passing(entry.position, front)?;
         self.charge_by(entry, front, worker)
     }
 
