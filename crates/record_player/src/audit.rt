@@ -98,6 +98,7 @@ impl<'s, R: Read + Drop> Audit<'s, R> {
         }
         self.look_at_the_rest()?;
         self.compare_reports()?;
+        self.change_last()?;
         self.write_lines(writer, 1)
     }
 
@@ -146,10 +147,48 @@ impl<'s, R: Read + Drop> Audit<'s, R> {
             self.advance_all()?
                 || self.player.charge_next(self.records.are_at_end())?
                 || self.player.charge_repeat()?
+                || self.change_between()?
                 || self.read_ahead()?
                 || self.player.play_untold(self.records.are_at_end())?
                 || self.settle()?,
         )
+    }
+
+    /// Changes the terms, if the next entry of the book on disk does, and others than changes stand behind it. Whether it did.
+    fn change_between(&mut self) -> Result<bool, PlayFault> {
+        let has_other_ahead = match &mut self.book {
+            Some(book) => book.has_other_ahead()?,
+            None => false,
+        };
+        if has_other_ahead {
+            self.change_terms()
+        } else {
+            Ok(false)
+        }
+    }
+
+    /// Changes the terms as the last entries of the book on disk do: they stand there since the fronts have ended.
+    fn change_last(&mut self) -> Result<(), PlayFault> {
+        for _ in 0..u64::MAX {
+            self.look_up_next()?;
+            if !self.change_terms()? {
+                break;
+            }
+        }
+        Ok(())
+    }
+
+    /// Changes the terms, if the next entry of the book on disk does. Whether it does.
+    fn change_terms(&mut self) -> Result<bool, PlayFault> {
+        let Some(book) = &mut self.book else {
+            return Ok(false);
+        };
+        let Some(entry) = self.player.next_change() else {
+            return Ok(false);
+        };
+        let step = book.take_change(self.player.farm().site(), &entry)?;
+        self.player.change_terms(&entry, &step)?;
+        Ok(true)
     }
 
     /// Writes the lines of steps where they are at least so many octets.

@@ -27,8 +27,8 @@ pub enum Difference {
     OtherEntry,
     #[error("no line tells of this entry, and no request was under way that can have it")]
     Untold,
-    #[error("this entry changes the terms, as no process does that writes a record")]
-    TermsChange,
+    #[error("the terms cannot be changed so")]
+    OtherTerms,
     #[error("such a sweep ends other sessions")]
     SweepsOtherwise,
     #[error("the book comes to something else")]

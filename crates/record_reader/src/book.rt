@@ -1,16 +1,17 @@
 //! The entries of a book on disk, as `farm book export` prints them.
 
-ghost use Rattle.std.specs.Prelude.{◌<◌, IfOk};
-
 use crate::fault::{EntryFault, RecordFault, found, of_group};
 use crate::group::GroupFault;
 use crate::lines::RecordLines;
 use crate::position::{Position, Source};
+use crate::quoted::{is_word, unquoted};
+use crate::terms::{items_in, step_in};
 use byteorder::{BigEndian, ByteOrder};
 use dia_avp::{ViewWire, Wire};
 use dia_base::Moment;
 use dia_base::codes::{CC_REQUEST_NUMBER, SESSION_ID};
 use dia_message::Message;
+use farm_base::{Site, Step};
 use farm_script::{LineFault, number_of, words_of};
 use sha2::{Digest, Sha256};
 use std::alloc::Global;
@@ -54,7 +55,7 @@ pub enum BookEntryKind {
     /// A request was charged.
     Charge(RequestKey),
     Sweep,
-    /// The terms changed.
+    /// The terms changed ([`BookEntries::take_change`]).
     Change,
 }
 
@@ -75,6 +76,8 @@ pub struct BookEntries<R> {
     place: u64,
     /// The entries before it that were read, and not let go.
     ahead: VecDeque<BookEntry>,
+    /// Of each change of the terms that was read and not taken, the items of a schedule's step.
+    changes: VecDeque<Vec<u8>>,
     is_at_end: bool,
 }
 
@@ -86,6 +89,7 @@ impl<R: Read> BookEntries<R> {
             lines: RecordLines::new(alloc, reader),
             place: 0,
             ahead: VecDeque::new(alloc),
+            changes: VecDeque::new(alloc),
             is_at_end: false,
         }
     }
@@ -105,6 +109,35 @@ impl<R: Read> BookEntries<R> {
             }
         }
         Ok(self.ahead.front().copied())
+    }
+
+    /// Whether an entry that is no change of the terms stands at the place that was asked for last, or behind it.
+    pub fn has_other_ahead(&mut self) -> Result<bool, RecordFault> {
+        for _ in 0..u64::MAX {
+            if self
+                .ahead
+                .iter()
+                .any(|entry| entry.kind != BookEntryKind::Change)
+            {
+                return Ok(true);
+            }
+            if self.is_at_end {
+                break;
+            }
+            self.read()?;
+        }
+        Ok(false)
+    }
+
+    /// The step that changes the terms as the first change does that was not taken: that of this entry.
+    pub fn take_change(&mut self, site: &Site, entry: &BookEntry) -> Result<Step, RecordFault> {
+        let Some(items) = self.changes.pop_front() else {
+            return found(entry.position, EntryFault::OtherPlace);
+        };
+        match step_in(self.alloc, site, entry.moment, &items) {
+            Ok(step) => Ok(step),
+            Err(fault) => Err(of_group(fault, entry.position)),
+        }
     }
 
     /// The keys of the requests that were charged up to this moment, from the place on that was asked for last.
@@ -153,22 +186,43 @@ impl<R: Read> BookEntries<R> {
     }
 
     /// The entry that a line tells, which has the next place.
-    fn entry_of(&self, line: &[u8]) -> Result<BookEntry, RecordFault> {
+    fn entry_of(&mut self, line: &[u8]) -> Result<BookEntry, RecordFault> {
         let position = self.position();
         match entry_in(self.alloc, line) {
-            Ok((place, _, _)) if place != self.place => found(position, EntryFault::OtherPlace),
-            Ok((_, moment, kind)) => Ok(BookEntry {
-                position,
-                moment,
-                kind,
-            }),
+            Ok(told) if told.place != self.place => found(position, EntryFault::OtherPlace),
+            Ok(told) => {
+                let Told {
+                    place: _,
+                    moment,
+                    kind,
+                    change,
+                } = told;
+                if let Some(items) = change {
+                    self.changes.push_back(items)?;
+                }
+                Ok(BookEntry {
+                    position,
+                    moment,
+                    kind,
+                })
+            }
             Err(fault) => Err(of_group(GroupFault::Words(fault), position)),
         }
     }
 }
 
-/// The place of a line, its moment, and what the entry is.
-fn entry_in(alloc: Global, line: &[u8]) -> Result<(u64, Moment, BookEntryKind), LineFault> {
+/// What a line tells of an entry.
+#[derive(Drop)]
+struct Told {
+    place: u64,
+    moment: Moment,
+    kind: BookEntryKind,
+    /// The items of a schedule's step, if the entry changes the terms.
+    change: Option<Vec<u8>>,
+}
+
+/// What a line tells.
+fn entry_in(alloc: Global, line: &[u8]) -> Result<Told, LineFault> {
     let words = words_of(alloc, line)?;
     let [entry, place, at, moment, kind, rest @ ..] = words.as_slice() else {
         return Err(LineFault::WrongCount);
@@ -177,16 +231,21 @@ fn entry_in(alloc: Global, line: &[u8]) -> Result<(u64, Moment, BookEntryKind), 
         return Err(LineFault::UnknownWord);
     }
     let (place, moment) = (number_of(place)?, Moment(number_of(moment)?));
-    let kind = if is_word(kind, "charge") {
-        charge_in(alloc, rest)?
+    let (kind, change) = if is_word(kind, "charge") {
+        (charge_in(alloc, rest)?, None)
     } else if is_word(kind, "sweep") {
-        BookEntryKind::Sweep
+        (BookEntryKind::Sweep, None)
     } else if is_word(kind, "change") {
-        BookEntryKind::Change
+        (BookEntryKind::Change, Some(items_in(alloc, rest)?))
     } else {
         return Err(LineFault::UnknownWord);
     };
-    Ok((place, moment, kind))
+    Ok(Told {
+        place,
+        moment,
+        kind,
+        change,
+    })
 }
 
 /// `session "SESSION" number N`, and what follows.
@@ -202,39 +261,4 @@ fn charge_in(alloc: Global, words: &[&[u8]]) -> Result<BookEntryKind, LineFault>
     };
     let session = unquoted(alloc, text)?;
     Ok(BookEntryKind::Charge(RequestKey::of(session.as_slice(), number)))
-}
-
-fn is_word(word: &[u8], text: &str) -> bool {
-    word == text.as_bytes()
-}
-
-/// The octets of a text in quotes, in which `%` stands before two hexadecimal digits.
-fn unquoted(alloc: Global, word: &[u8]) -> Result<Vec<u8>, LineFault> {
-    let [b'"', text @ .., b'"'] = word else {
-        return Err(LineFault::UnknownWord);
-    };
-    let mut octets = Vec::new(alloc);
-    let mut rest = text;
-    for _ in 0..text.len() {
-        let (octet, behind) = match rest {
-            [b'%', high, low, behind @ ..] => (digit_of(*high)? * 16 + digit_of(*low)?, behind),
-            [octet, behind @ ..] => (*octet, behind),
-            [] => break,
-        };
-        octets.push(octet)?;
-        rest = behind;
-    }
-    Ok(octets)
-}
-
-/// What a hexadecimal digit stands for.
-fn digit_of(digit: u8) -> Result<u8, LineFault>
-    ensures { IfOk result (λ value. value < 16) }
-{
-    match digit {
-        b'0'..=b'9' => Ok(digit - b'0'),
-        b'a'..=b'f' => Ok(digit - b'a' + 10),
-        b'A'..=b'F' => Ok(digit - b'A' + 10),
-        _ => Err(LineFault::BadHex),
-    }
 }

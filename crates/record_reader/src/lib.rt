@@ -18,8 +18,10 @@ mod group;
 mod lines;
 mod position;
 mod process;
+mod quoted;
 mod reading;
 mod records;
+mod terms;
 
 pub use book::{BookEntries, BookEntry, BookEntryKind, RequestKey};
 pub use entry::{Action, End, Entry, Finished, NodeEvent, Sweep};

@@ -130,9 +130,13 @@ impl<'s> Player<'s> {
         Some(self.stored.as_ref()?.untold.as_slice())
     }
 
-    /// The next entry of the book on disk, if no line tells of it.
+    /// The next entry of the book on disk, if no line tells of it, and should.
     pub fn entry_left(&self) -> Option<Position> {
-        Some(self.untold_next(true)?.position)
+        let entry = self.untold_next(true)?;
+        if entry.kind == BookEntryKind::Change {
+            return None;
+        }
+        Some(entry.position)
     }
 
     /// The next entry of the book on disk.
@@ -204,7 +208,7 @@ impl<'s> Player<'s> {
         let what = match entry.kind {
             BookEntryKind::Charge(key) => self.charge_untold(&entry, key, are_all_read)?,
             BookEntryKind::Sweep => self.sweep_untold(&entry)?,
-            BookEntryKind::Change => return found(entry.position, Difference::TermsChange),
+            BookEntryKind::Change => Untold::Waits,
         };
         if what == Untold::Played {
             self.keep_untold()?;
@@ -223,6 +227,25 @@ impl<'s> Player<'s> {
         } else {
             None
         }
+    }
+
+    /// The next entry of the book on disk, if it changes the terms. No line tells of it: fronts that write a record change none while
+    /// they serve.
+    pub fn next_change(&self) -> Option<BookEntry> {
+        let entry = self.next_entry()?;
+        if entry.kind == BookEntryKind::Change && !self.book.is_next_known() {
+            Some(entry)
+        } else {
+            None
+        }
+    }
+
+    /// The terms change so, as this entry tells.
+    pub fn change_terms(&mut self, entry: &BookEntry, step: &Step) -> Result<(), PlayFault> {
+        self.play(entry.position, step)?;
+        self.has_one_more(entry.position, Difference::OtherTerms)?;
+        self.book.advance();
+        Ok(())
     }
 
     /// The entry was played, of which no line tells.
