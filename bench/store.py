@@ -1,14 +1,16 @@
 #!/usr/bin/env python3
-"""What a row takes to store in a file, by batches, and how long a book takes to open: bench/store.py [--unproved] [FOLDER]
+"""What a row takes to store in a file, by batches, beside SQLite itself, and how long a book takes to open: bench/store.py [--unproved] [FOLDER]
 
 It lays bench/store beside the crates of a copy of the repository, proves and builds it (`rt run`; what was proved here is taken
 along), or builds it unproved (`rt try`, some hundred times slower: only to see that it runs). It writes books of 100,000 rows
 (1,000 unproved) in batches of 1, 32 and 256 rows, each of which is a commit with one sync, and opens the last one again. FOLDER
 is where the files lie, and so the disk that is measured; without it they lie in a folder of the system's for temporary files.
 A row holds a request of one service and its reply, some 230 octets; to make and spell it is part of what is measured. Beside it
-stands what a sync alone takes there. Nothing of it is part of the gate.
+stands what a sync alone takes there, and what the same rows take in the same tables and batches by Python's sqlite3, which is handed
+their octets as they are (WAL, synchronous = FULL: one sync a commit). Nothing of it is part of the gate.
 """
 import os
+import sqlite3
 import subprocess
 import sys
 import tempfile
@@ -41,6 +43,24 @@ def microseconds(words):
     return [int(line.split()[-1]) for line in done.stdout.splitlines()]
 
 
+def by_sqlite(file, batch):
+    """The microseconds that the rows of a file take in the same batches by SQLite itself."""
+    ours, other = sqlite3.connect(file), sqlite3.connect(f"{file}.stock", isolation_level=None)
+    rows, (book,) = ours.execute("SELECT octets FROM entry ORDER BY rowid").fetchall(), ours.execute("SELECT octets FROM book").fetchone()
+    ours.close()
+    for words in ("PRAGMA page_size = 4096", "PRAGMA journal_mode = WAL", "PRAGMA synchronous = FULL", "CREATE TABLE entry (octets BLOB NOT NULL)", "CREATE TABLE book (octets BLOB NOT NULL)"):
+        other.execute(words)
+    began = time.perf_counter()
+    for first in range(0, len(rows), batch):
+        other.execute("BEGIN IMMEDIATE")
+        other.executemany("INSERT INTO entry (octets) VALUES (?)", rows[first : first + batch])
+        other.execute("REPLACE INTO book (rowid, octets) VALUES (1, ?)", (book,))
+        other.execute("COMMIT")
+    took = time.perf_counter() - began
+    other.close()
+    return took * 1e6
+
+
 def measure(run, folder, rows):
     print(f"a sync of 288 octets: {sync_alone(folder):.0f} microseconds")
     for batch in BATCHES:
@@ -48,6 +68,8 @@ def measure(run, folder, rows):
         wrote, closed = microseconds([*run, "write", str(file), str(rows), str(batch)])
         size = file.stat().st_size
         print(f"batches of {batch}: {rows * 1e6 / wrote:.0f} rows a second, {wrote / rows:.1f} microseconds a row; closed in {closed / 1000:.0f} ms; {size / rows:.0f} octets a row")
+        took = by_sqlite(file, batch)
+        print(f"  by SQLite itself: {rows * 1e6 / took:.0f} rows a second; ours are {took / wrote:.2f} times as many")
     opened, checked = microseconds([*run, "open", str(file)])
     print(f"{rows} rows opened in {opened / 1000:.0f} ms, and read and checked in {checked / 1000:.0f} ms")
 
