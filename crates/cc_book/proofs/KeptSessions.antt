@@ -1,16 +1,19 @@
 -- Open sessions under their Session-Ids, and the totals of what they hold.
-use Rattle.std.proofs.Common.{◌≡◌, ℕ, zero, suc, ◌+◌, ◌<◌, ◌≤◌, Bool, true, false, cond, not, eqb, ltb, List, [], ◌∷◌, ◌++◌, length, take, drop, add-one, filter, get_or, Some, None, refl, sym, ap, subst, ◌∙◌, arith, remove, slice_get, slice_set, get_or-set_same, get_or-set_other, length-set}
+use Rattle.std.proofs.Common.{◌≡◌, ℕ, zero, suc, ◌+◌, ◌-◌, ◌<◌, ◌≤◌, Bool, true, false, cond, not, eqb, ltb, List, [], ◌∷◌, ◌++◌, length, get_or, Some, None, refl, sym, ap, subst, ◌∙◌, arith, remove, swap_remove, slice_get, slice_set, get_or-set_same, get_or-set_other, length-set}
 use Rattle.std.specs.List.{AllByRecursion, position, position_or_len}
 use Rattle.std.specs.Map.{keys_of, values_of}
-use Rattle.std.proofs.lemmas.List.{append-nil, drop_all, get_or_default, map-append, take_all}
+use Rattle.std.proofs.lemmas.List.{get_or_default, length-map, map-append, map-set}
+use Rattle.std.proofs.lemmas.Option.{slice_get-get_or, slice_get_within}
 use Rattle.indexmap.specs.Layout.{set_value_at}
 use Rattle.indexmap.specs.IndexMap.{insert_entry}
 use Rattle.dia_base.specs.declared.number.Moment.{Moment}
 use Rattle.cc_book.specs.declared.session.OpenSession.{OpenSession}
 use Rattle.cc_book.specs.Duplicate.{same_session}
-use Rattle.cc_book.specs.OpenSessions.{AreTotals, GoesOnAt, IsKept}
-use Rattle.cc_book.specs.Standing.{held_in, is_due, is_session, place_in, reserved_in, without_due}
-use Rattle.cc_book.proofs.Sessions.{Others, equal_number, others-closed, same_number, same_session-equal, same_session-self, same_session-turned}
+use Rattle.cc_book.specs.OpenSessions.{AreTotals, GoesOnAt, IsKept, lasts_of}
+use Rattle.cc_book.specs.Standing.{held_in, is_due, is_session, place_in, reserved_in, without_at, without_due}
+use Rattle.cc_book.proofs.Shuffling.{reserved-shuffled}
+use Rattle.cc_book.proofs.WithoutAt.{all-shuffled, map-without, without-behind, without-is, without-shuffled}
+use Rattle.cc_book.proofs.Sessions.{Others, equal_number, others-closed, same_number, same_session-turns}
 
 abbrev pub Rows : Type 0
 Rows = List (List ℕ × OpenSession)
@@ -35,11 +38,8 @@ values-set [] place s = refl
 values-set (e ∷ es) zero s = refl
 values-set (e ∷ es) (suc place) s = ap (λ (ss : List OpenSession). e.1 ∷ ss) (values-set es place s)
 
-pub values-remove : (es : Rows) (place : ℕ) → values_of (remove es place) ≡ remove (values_of es) place
-values-remove [] zero = refl
-values-remove [] (suc place) = refl
-values-remove (e ∷ es) zero = refl
-values-remove (e ∷ es) (suc place) = ap (λ (ss : List OpenSession). e.1 ∷ ss) (values-remove es place)
+pub values-without : (es : Rows) (place : ℕ) (e : List ℕ × OpenSession) → slice_get es place ≡ Some e → values_of (without_at es place) ≡ without_at (values_of es) place
+values-without es place e there = map-without (λ (x : List ℕ × OpenSession). x.1) es place e there
 
 pub values-at : (es : Rows) (place : ℕ) (e : List ℕ × OpenSession) → slice_get es place ≡ Some e → slice_get (values_of es) place ≡ Some e.1
 values-at [] place e there = absurd cc
@@ -61,21 +61,9 @@ own-remove [] (suc place) own = tt
 own-remove (e ∷ es) zero own = own.1
 own-remove (e ∷ es) (suc place) own = (own.0, own-remove es place own.1)
 
-pub own-filter : (test : List ℕ × OpenSession → Bool) (es : Rows) → Own es → Own (filter test es)
-own-filter test [] own = tt
-own-filter test (e ∷ es) own = by (test e) (own-filter test es own.1) where
-  by : (b : Bool) → Own (filter test es) → Own (cond b (e ∷ filter test es) (filter test es))
-  by true more = (own.0, more)
-  by false more = more
-
-pub values-filter : (test : OpenSession → Bool) (es : Rows) → values_of (filter (λ (e : List ℕ × OpenSession). test e.1) es) ≡ filter test (values_of es)
-values-filter test [] = refl
-values-filter test (e ∷ es) = by (test e.1) (values-filter test es) where
-  by : (b : Bool) → values_of (filter (λ (x : List ℕ × OpenSession). test x.1) es) ≡ filter test (values_of es)
-      → values_of (cond b (e ∷ filter (λ (x : List ℕ × OpenSession). test x.1) es) (filter (λ (x : List ℕ × OpenSession). test x.1) es))
-      ≡ cond b (e.1 ∷ filter test (values_of es)) (filter test (values_of es))
-  by true more = ap (λ (ss : List OpenSession). e.1 ∷ ss) more
-  by false more = more
+pub own-without : (es : Rows) (place : ℕ) (e : List ℕ × OpenSession) → slice_get es place ≡ Some e → Own es → Own (without_at es place)
+own-without es place e there own =
+    all-shuffled (λ (x : List ℕ × OpenSession). x.0 ≡ x.1.id) (remove es place) (without_at es place) (without-shuffled es place e there) (own-remove es place own)
 
 -- ---- accounts that are known
 
@@ -94,12 +82,9 @@ known-remove n [] (suc place) known = tt
 known-remove n (x ∷ ss) zero known = known.1
 known-remove n (x ∷ ss) (suc place) known = (known.0, known-remove n ss place known.1)
 
-pub known-filter : (n : ℕ) (test : OpenSession → Bool) (ss : List OpenSession) → Known n ss → Known n (filter test ss)
-known-filter n test [] known = tt
-known-filter n test (x ∷ ss) known = by (test x) (known-filter n test ss known.1) where
-  by : (b : Bool) → Known n (filter test ss) → Known n (cond b (x ∷ filter test ss) (filter test ss))
-  by true more = (known.0, more)
-  by false more = more
+pub known-without : (n : ℕ) (ss : List OpenSession) (place : ℕ) (s : OpenSession) → slice_get ss place ≡ Some s → Known n ss → Known n (without_at ss place)
+known-without n ss place s there known =
+    all-shuffled (λ (x : OpenSession). x.account < n) (remove ss place) (without_at ss place) (without-shuffled ss place s there) (known-remove n ss place known)
 
 pub known-at : (n : ℕ) (ss : List OpenSession) (place : ℕ) (s : OpenSession) → slice_get ss place ≡ Some s → Known n ss → s.account < n
 known-at n [] place s there known = absurd cc
@@ -108,14 +93,8 @@ known-at n (x ∷ ss) (suc place) s there known = known-at n ss place s there kn
 
 -- ---- the place of a Session-Id
 
-same_turned : (xs ys : List ℕ) → same_session xs ys ≡ same_session ys xs
-same_turned xs ys = by (same_session xs ys) refl where
-  by : (b : Bool) → same_session xs ys ≡ b → same_session xs ys ≡ same_session ys xs
-  by true e = let same = same_session-equal xs ys e in e ∙ sym (subst (λ (zs : List ℕ). same_session zs xs ≡ true) same (same_session-self xs))
-  by false e = e ∙ sym (same_session-turned xs ys e)
-
 own_test : (id own : List ℕ) (s : OpenSession) → own ≡ s.id → same_session id own ≡ is_session id s
-own_test id own s same = same_turned id own ∙ ap (λ (zs : List ℕ). same_session zs id) same
+own_test id own s same = same_session-turns id own ∙ ap (λ (zs : List ℕ). same_session zs id) same
 
 place_or-same : (id : List ℕ) (es : Rows) → Own es → position_or_len (same_session id) (keys_of es) ≡ position_or_len (is_session id) (values_of es)
 place_or-same id [] own = refl
@@ -159,6 +138,13 @@ pub reserved-remove : (a : ℕ) (ss : List OpenSession) (place : ℕ) (o : OpenS
 reserved-remove a [] place o there = absurd cc
 reserved-remove a (x ∷ ss) zero o there = let same : x ≡ o = cc in let held = ap (held_of a) same in omega arith
 reserved-remove a (x ∷ ss) (suc place) o there = let more = reserved-remove a ss place o there in omega arith
+
+pub reserved-without : (a : ℕ) (ss : List OpenSession) (place : ℕ) (o : OpenSession) → slice_get ss place ≡ Some o
+    → reserved_in a (without_at ss place) + held_of a o ≡ reserved_in a ss
+reserved-without a ss place o there =
+    let same = reserved-shuffled a (remove ss place) (without_at ss place) (without-shuffled ss place o there) in
+    let all = reserved-remove a ss place o there in
+    omega arith
 
 get-set : (ts : List ℕ) (i v a : ℕ) → i < length ts → get_or (slice_set ts i v) a 0 ≡ cond (eqb i a) v (get_or ts a 0)
 get-set ts i v a lt = by (eqb i a) refl where
@@ -234,31 +220,19 @@ IsKept-go_on es ts place s v kept at sum =
     }
 
 pub IsKept-end : (es : Rows) (ts : List ℕ) (place : ℕ) (e : List ℕ × OpenSession) (v : ℕ) → IsKept es ts → slice_get es place ≡ Some e
-    → v + held_in e.1.holds ≡ get_or ts e.1.account 0 → IsKept (remove es place) (slice_set ts e.1.account v)
+    → v + held_in e.1.holds ≡ get_or ts e.1.account 0 → IsKept (without_at es place) (slice_set ts e.1.account v)
 IsKept-end es ts place e v kept there sum =
     let at = values-at es place e there in
     let lt = known-at (length ts) (values_of es) place e.1 at kept.known in
     let long = length-set ts e.1.account v in
     record {
-      own = own-remove es place kept.own;
-      known = subst (λ (n : ℕ). Known n (values_of (remove es place))) (sym long)
-          (subst (Known (length ts)) (sym (values-remove es place)) (known-remove (length ts) (values_of es) place kept.known));
-      summed = subst (AreTotals (slice_set ts e.1.account v)) (sym (values-remove es place))
-          (totals-set ts (values_of es) (remove (values_of es) place) e.1.account v 0 (held_in e.1.holds) kept.summed lt (omega arith)
+      own = own-without es place e there kept.own;
+      known = subst (λ (n : ℕ). Known n (values_of (without_at es place))) (sym long)
+          (subst (Known (length ts)) (sym (values-without es place e there)) (known-without (length ts) (values_of es) place e.1 at kept.known));
+      summed = subst (AreTotals (slice_set ts e.1.account v)) (sym (values-without es place e there))
+          (totals-set ts (values_of es) (without_at (values_of es) place) e.1.account v 0 (held_in e.1.holds) kept.summed lt (omega arith)
           (λ a. let none : cond {A = ℕ} (eqb e.1.account a) 0 0 ≡ 0 = nothing (eqb e.1.account a) in
-          let moved = reserved-remove a (values_of es) place e.1 at in omega arith));
-    }
-
-pub IsKept-sweep : (test : OpenSession → Bool) (es : Rows) (ts totals : List ℕ) → IsKept es ts → AreTotals totals (filter test (values_of es))
-    → length totals ≡ length ts
-    → IsKept (filter (λ (e : List ℕ × OpenSession). test e.1) es) totals
-IsKept-sweep test es ts totals kept summed long =
-    let same = values-filter test es in
-    record {
-      own = own-filter (λ (e : List ℕ × OpenSession). test e.1) es kept.own;
-      known = subst (λ (n : ℕ). Known n (values_of (filter (λ (e : List ℕ × OpenSession). test e.1) es))) (sym long)
-          (subst (Known (length ts)) (sym same) (known-filter (length ts) test (values_of es) kept.known));
-      summed = subst (AreTotals totals) (sym same) summed;
+          let moved = reserved-without a (values_of es) place e.1 at in omega arith));
     }
 
 pub same_value : (x y : OpenSession) → Some x ≡ Some y → x ≡ y
@@ -282,73 +256,107 @@ total-there es ts place s read total held kept at there is holds =
     let mine = ap (λ (n : ℕ). reserved_in n (values_of es)) at.account in
     (same, before, omega arith)
 
--- ---- sessions that are looked at one after the other, and end where they are due
-
-abbrev pub left_at : ℕ → Moment → ℕ → List OpenSession → List OpenSession
-left_at validity moment place sessions = without_due validity moment (take place sessions) ++ drop place sessions
+-- ---- sessions that are looked at from the last place on, and end where they are due
 
 module _ (validity : ℕ) (moment : Moment) where
-  due_then : (x : OpenSession) (b : Bool) (xs ys : List OpenSession) → xs ≡ ys → cond b (x ∷ xs) xs ≡ cond b (x ∷ ys) ys
-  due_then x b xs ys same = ap (λ (zs : List OpenSession). cond b (x ∷ zs) zs) same
+  -- what is left of sessions, where those from a place on have been looked at
+  abbrev pub left_at : ℕ → List OpenSession → List OpenSession
+  left_at zero sessions = without_due validity moment sessions
+  left_at (suc place) [] = []
+  left_at (suc place) (session ∷ sessions) = session ∷ left_at place sessions
 
-  onto : (b : Bool) (x : OpenSession) (xs ys : List OpenSession) → cond b (x ∷ xs) xs ++ ys ≡ cond b (x ∷ (xs ++ ys)) (xs ++ ys)
-  onto true x xs ys = refl
-  onto false x xs ys = refl
+  -- those before the place stand where they stood
+  pub left-there : (ss : List OpenSession) (place : ℕ) (s : OpenSession) → slice_get ss place ≡ Some s → slice_get (left_at (suc place) ss) place ≡ Some s
+  left-there [] place s there = absurd cc
+  left-there (x ∷ ss) zero s there = there
+  left-there (x ∷ ss) (suc place) s there = left-there ss place s there
 
   pub left-kept : (ss : List OpenSession) (place : ℕ) (s : OpenSession) → slice_get ss place ≡ Some s → is_due validity moment s ≡ false
-      → left_at validity moment (suc place) ss ≡ left_at validity moment place ss
+      → left_at place ss ≡ left_at (suc place) ss
   left-kept [] place s there lasts = absurd cc
   left-kept (x ∷ ss) zero s there lasts =
       let same : x ≡ s = same_value x s there in
-      ap (λ (b : Bool). cond (not b) (x ∷ []) [] ++ ss) (ap (is_due validity moment) same ∙ lasts)
-  left-kept (x ∷ ss) (suc place) s there lasts =
-      onto (not (is_due validity moment x)) x (without_due validity moment (take (suc place) ss)) (drop (suc place) ss)
-      ∙ due_then x (not (is_due validity moment x)) (left_at validity moment (suc place) ss) (left_at validity moment place ss)
-      (left-kept ss place s there lasts)
-      ∙ sym (onto (not (is_due validity moment x)) x (without_due validity moment (take place ss)) (drop place ss))
+      ap (λ (b : Bool). cond b (without_at (x ∷ without_due validity moment ss) 0) (x ∷ without_due validity moment ss)) (ap (is_due validity moment) same ∙ lasts)
+  left-kept (x ∷ ss) (suc place) s there lasts = ap (λ (ys : List OpenSession). x ∷ ys) (left-kept ss place s there lasts)
 
-  reserved_by_first : (a : ℕ) (b : Bool) (x : OpenSession) (xs ys : List OpenSession) (more : ℕ) → reserved_in a xs + more ≡ reserved_in a ys
-      → reserved_in a (cond b (x ∷ xs) xs) + more ≡ reserved_in a (cond b (x ∷ ys) ys)
-  reserved_by_first a true x xs ys more same = omega arith
-  reserved_by_first a false x xs ys more same = same
-
-  pub left-due : (a : ℕ) (ss : List OpenSession) (place : ℕ) (s : OpenSession) → slice_get ss place ≡ Some s → is_due validity moment s ≡ true
-      → reserved_in a (left_at validity moment (suc place) ss) + held_of a s ≡ reserved_in a (left_at validity moment place ss)
-  left-due a [] place s there due = absurd cc
-  left-due a (x ∷ ss) zero s there due =
+  pub left-due : (ss : List OpenSession) (place : ℕ) (s : OpenSession) → slice_get ss place ≡ Some s → is_due validity moment s ≡ true
+      → left_at place ss ≡ without_at (left_at (suc place) ss) place
+  left-due [] place s there due = absurd cc
+  left-due (x ∷ ss) zero s there due =
       let same : x ≡ s = same_value x s there in
-      let held = ap (held_of a) same in
-      let gone : cond (not (is_due validity moment x)) (x ∷ []) [] ++ ss ≡ ss =
-      ap (λ (b : Bool). cond (not b) (x ∷ []) [] ++ ss) (ap (is_due validity moment) same ∙ due) in
-      let all = ap (reserved_in a) gone in
-      omega arith
-  left-due a (x ∷ ss) (suc place) s there due =
-      let later = ap (reserved_in a) (onto (not (is_due validity moment x)) x (without_due validity moment (take (suc place) ss)) (drop (suc place) ss)) in
-      let before = ap (reserved_in a) (onto (not (is_due validity moment x)) x (without_due validity moment (take place ss)) (drop place ss)) in
-      let more = reserved_by_first a (not (is_due validity moment x)) x (left_at validity moment (suc place) ss) (left_at validity moment place ss)
-      (held_of a s) (left-due a ss place s there due) in
-      omega arith
+      ap (λ (b : Bool). cond b (without_at (x ∷ without_due validity moment ss) 0) (x ∷ without_due validity moment ss)) (ap (is_due validity moment) same ∙ due)
+  left-due (x ∷ ss) (suc place) s there due =
+      ap (λ (ys : List OpenSession). x ∷ ys) (left-due ss place s there due)
+      ∙ sym (without-behind x (left_at (suc place) ss) place s (left-there ss place s there))
 
-  pub left-all : (ss : List OpenSession) (place : ℕ) → place ≡ length ss → left_at validity moment place ss ≡ without_due validity moment ss
-  left-all ss place all =
-      ap (λ (n : ℕ). left_at validity moment n ss) all
-      ∙ ap (λ (xs : List OpenSession). without_due validity moment xs ++ drop (length ss) ss) (take_all (length ss) ss (omega arith))
-      ∙ ap (λ (xs : List OpenSession). without_due validity moment ss ++ xs) (drop_all (length ss) ss (omega arith))
-      ∙ append-nil (without_due validity moment ss)
+  pub left-all : (ss : List OpenSession) (place : ℕ) → place ≡ length ss → left_at place ss ≡ ss
+  left-all [] zero all = refl
+  left-all [] (suc place) all = absurd (omega arith)
+  left-all (x ∷ ss) zero all = absurd (omega arith)
+  left-all (x ∷ ss) (suc place) all = ap (λ (ys : List OpenSession). x ∷ ys) (left-all ss place (omega arith))
 
-  pub released : (ts : List ℕ) (ss : List OpenSession) (place : ℕ) (s : OpenSession) (v : ℕ) → AreTotals ts (left_at validity moment place ss)
-      → s.account < length ts → slice_get ss place ≡ Some s
-      → is_due validity moment s ≡ true → v + held_in s.holds ≡ get_or ts s.account 0
-      → AreTotals (slice_set ts s.account v) (left_at validity moment (place + 1) ss)
-  released ts ss place s v totals lt there due sum =
-      subst (λ (n : ℕ). AreTotals (slice_set ts s.account v) (left_at validity moment n ss)) (sym (add-one place))
-      (totals-set ts (left_at validity moment place ss) (left_at validity moment (suc place) ss) s.account v 0 (held_in s.holds) totals lt (omega arith)
-      (λ a. let none : cond {A = ℕ} (eqb s.account a) 0 0 ≡ 0 = nothing (eqb s.account a) in let moved = left-due a ss place s there due in omega arith))
+  -- ---- one more of them is looked at
 
-  -- what a session holds that is due is a part of what is left
-  pub due-part : (ss : List OpenSession) (place : ℕ) (s : OpenSession) → slice_get ss place ≡ Some s → is_due validity moment s ≡ true
-      → held_in s.holds ≤ reserved_in s.account (left_at validity moment place ss)
-  due-part ss place s there due =
-      let all = left-due s.account ss place s there due in
-      let own : held_of s.account s ≡ held_in s.holds = ap (λ (b : Bool). cond {A = ℕ} b (held_in s.holds) 0) (same_number s.account) in
-      omega arith
+  pub left-within : (ss : List OpenSession) (place : ℕ) → 0 < place → place ≤ length ss → place - 1 < length (left_at place ss)
+  left-within ss zero some within = absurd (omega arith)
+  left-within [] (suc place) some within = absurd (omega arith)
+  left-within (x ∷ ss) (suc zero) some within = omega arith
+  left-within (x ∷ ss) (suc (suc place)) some within = let more = left-within ss (suc place) (omega arith) (omega arith) in omega arith
+
+  -- the session that is looked at
+  abbrev pub Looked : List OpenSession → ℕ → Bool → Type 0
+  Looked ss place due = (s : OpenSession) → slice_get (left_at place ss) (place - 1) ≡ Some s → is_due validity moment s ≡ due
+
+  at_next : (ss : List OpenSession) (place : ℕ) → place < length ss
+      → (s : OpenSession) × (slice_get ss place ≡ Some s) × (slice_get (left_at (suc place) ss) (suc place - 1) ≡ Some s)
+  at_next [] place within = absurd (omega arith)
+  at_next (x ∷ ss) place within =
+      let s = get_or (x ∷ ss) place x in
+      let there = slice_get-get_or (x ∷ ss) place x within in
+      let back : place ≡ suc place - 1 = omega arith in
+      (s, there, subst (λ (n : ℕ). slice_get (left_at (suc place) (x ∷ ss)) n ≡ Some s) back (left-there (x ∷ ss) place s there))
+
+  pub next-kept : (ss : List OpenSession) (place : ℕ) → 0 < place → place ≤ length ss → Looked ss place false → left_at place ss ≡ left_at (place - 1) ss
+  next-kept ss zero some within looked = absurd (omega arith)
+  next-kept ss (suc place) some within looked =
+      let at = at_next ss place (omega arith) in
+      let back : place ≡ suc place - 1 = omega arith in
+      sym (left-kept ss place at.0 at.1 (looked at.0 at.2)) ∙ ap (λ (n : ℕ). left_at n ss) back
+
+  pub next-due : (ss : List OpenSession) (place : ℕ) → 0 < place → place ≤ length ss → Looked ss place true
+      → without_at (left_at place ss) (place - 1) ≡ left_at (place - 1) ss
+  next-due ss zero some within looked = absurd (omega arith)
+  next-due ss (suc place) some within looked =
+      let at = at_next ss place (omega arith) in
+      let back : place ≡ suc place - 1 = omega arith in
+      ap (λ (n : ℕ). without_at (left_at (suc place) ss) n) (sym back) ∙ sym (left-due ss place at.0 at.1 (looked at.0 at.2)) ∙ ap (λ (n : ℕ). left_at n ss) back
+
+pub reserved-less : (ss : List OpenSession) (place : ℕ) (a : ℕ) → place < length ss → reserved_in a (without_at ss place) ≤ reserved_in a ss
+reserved-less [] place a within = absurd (omega arith)
+reserved-less (x ∷ ss) place a within =
+    let all = reserved-without a (x ∷ ss) place (get_or (x ∷ ss) place x) (slice_get-get_or (x ∷ ss) place x within) in omega arith
+
+-- ---- the moments of their last requests
+
+pub lasts-push : (ss : List OpenSession) (s : OpenSession) → lasts_of ss ++ s.last ∷ [] ≡ lasts_of (ss ++ s ∷ [])
+lasts-push ss s = sym (map-append (λ (x : OpenSession). x.last) ss (s ∷ []))
+
+pub lasts-set : (ss : List OpenSession) (place : ℕ) (s : OpenSession) → slice_set (lasts_of ss) place s.last ≡ lasts_of (slice_set ss place s)
+lasts-set ss place s = sym (map-set (λ (x : OpenSession). x.last) ss place s)
+
+pub lasts-without : (ss : List OpenSession) (place : ℕ) (s : OpenSession) → slice_get ss place ≡ Some s → without_at (lasts_of ss) place ≡ lasts_of (without_at ss place)
+lasts-without ss place s there = sym (map-without (λ (x : OpenSession). x.last) ss place s there)
+
+-- the moments of those that are left, where one of them was taken out that is read at the place
+pub lasts-left : (ss now : List OpenSession) (lasts left : List Moment) (place : ℕ) (s : OpenSession) (read : Moment) → lasts ≡ lasts_of ss
+    → slice_get ss place ≡ Some s → now ≡ without_at ss place
+    → read ≡ get_or lasts place read → left ≡ swap_remove lasts place read → left ≡ lasts_of now
+lasts-left ss now lasts left place s read is there gone value taken =
+    let within = slice_get_within ss place s there in
+    let long = length-map ss (λ (x : OpenSession). x.last) in
+    let lt : place < length lasts = omega (arith, ap length is) in
+    let here : slice_get lasts place ≡ Some read = slice_get-get_or lasts place read lt ∙ ap Some (sym value) in
+    taken ∙ sym (without-is lasts place read here) ∙ ap (λ (l : List Moment). without_at l place) is ∙ lasts-without ss place s there ∙ sym (ap lasts_of gone)
+
+pub lasts-long : (kept ss : List OpenSession) (lasts : List Moment) → kept ≡ ss → lasts ≡ lasts_of kept → length lasts ≡ length ss
+lasts-long kept ss lasts items is = ap length is ∙ length-map kept (λ (x : OpenSession). x.last) ∙ ap length items

@@ -34,6 +34,8 @@ pub mod Postings
 pub mod Replies
 pub mod SameRequests
 pub mod Sessions
+pub mod Shuffling
 pub mod Stands
 pub mod Sums
 pub mod Sweeps
+pub mod WithoutAt

@@ -1,5 +1,5 @@
 -- What stands after one more request.
-use Rattle.std.proofs.Common.{◌≡◌, ℕ, ◌+◌, ◌<◌, Bool, true, false, cond, not, ◌&&◌, eqb, List, [], ◌∷◌, ◌++◌, length, Option, Some, None, is_some, refl, sym, ap, subst, ◌∙◌, arith, slice_get, slice_index_or, find, option_map, unwrap_or, length-set, get_or-set_same, get_or-set_other, MatchOption}
+use Rattle.std.proofs.Common.{◌≡◌, ℕ, ◌+◌, ◌<◌, Bool, true, false, cond, not, ◌&&◌, eqb, List, [], ◌∷◌, ◌++◌, length, Option, Some, None, is_some, refl, sym, ap, subst, ◌∙◌, arith, slice_get, slice_index_or, remove, find, option_map, unwrap_or, length-set, get_or-set_same, get_or-set_other, MatchOption}
 use Rattle.std.specs.Prelude.{ℤ, pos, ◌-ℤ◌}
 use Rattle.std.proofs.lemmas.Bool.{and_parts, and_right, eqb-false}
 use Rattle.std.proofs.lemmas.Int.{ints}
@@ -16,10 +16,12 @@ use Rattle.cc_book.specs.declared.terms.Terms.{Terms}
 use Rattle.cc_book.specs.AccountMachine.{account_by, account_of, charged_account, free_to_grant, grants_after, grants_by, grants_with, holds_on, opener_account, posting_of, reply_after, settles_after, settles_by}
 use Rattle.cc_book.specs.Posting.{Posting, debit_to, is_account}
 use Rattle.cc_book.specs.Session.{Opened, is_initial_kind, is_open, is_success, next_session, opens, session_by}
-use Rattle.cc_book.specs.Standing.{IsOutcome, Stands, after_change, after_debit, change_at, change_closed, change_of, change_open, grants_weight, holds_beside, holds_weight, is_session, opened_as, place_in, opened_session}
+use Rattle.cc_book.specs.Standing.{IsOutcome, Stands, after_change, after_debit, change_at, change_closed, change_of, change_open, grants_weight, holds_beside, holds_weight, is_session, opened_as, place_in, opened_session, without_at}
 use Rattle.cc_book.proofs.Alive.{Weight, grants_weight-own, holds_weight-append, holds_weight-beside, holds_weight-left, is_ending, kept, left-others, left-quiet}
 use Rattle.cc_book.proofs.Changes.{Sit, next-there, next-unopened, no_grants, sits-ended, sits-going_on, sits-opened, sits-same}
 use Rattle.cc_book.proofs.Sessions.{IsAt, Others, equal_number, find-at, find-others, is_at_place, open_at_place, others-closed}
+use Rattle.cc_book.proofs.Shuffling.{sit-shuffled}
+use Rattle.cc_book.proofs.WithoutAt.{without-shuffled}
 use Rattle.cc_book.proofs.Stands.{closed-stands, open-stands, update_settles}
 use Rattle.cc_book.proofs.Postings.{debits_to-push}
 use Rattle.cc_book.proofs.Looking.{account_of-within}
@@ -226,8 +228,9 @@ module _ {terms : Terms} {before : List Posting} {balances : List ℤ} {sessions
     -- a TERMINATION ends its session, and all that it holds
     sits-termination : request.kind ≡ Termination → SitsAfter (change_open request moment posted Termination place session)
     sits-termination kind =
-        sits-ended s moment request posted place session there at
-        (unopened-by_kind terms before moment request (ap is_initial_kind kind)) kind (none-ending terms before moment request kind)
+        sit-shuffled (remove sessions place) (without_at sessions place) (without-shuffled sessions place session there)
+        (sits-ended s moment request posted place session there at
+        (unopened-by_kind terms before moment request (ap is_initial_kind kind)) kind (none-ending terms before moment request kind))
 
     -- an EVENT touches no session
     sits-event : request.kind ≡ Event → SitsAfter (change_open request moment posted Event place session)

@@ -41,6 +41,12 @@ same_session-other xs ys other = by (same_session xs ys) refl where
 pub same_session-turned : (xs ys : List ℕ) → same_session xs ys ≡ false → same_session ys xs ≡ false
 same_session-turned xs ys e = same_session-other ys xs (λ same. let met = same_session-met xs ys (sym same) in absurd cc)
 
+pub same_session-turns : (xs ys : List ℕ) → same_session xs ys ≡ same_session ys xs
+same_session-turns xs ys = by (same_session xs ys) refl where
+  by : (b : Bool) → same_session xs ys ≡ b → same_session xs ys ≡ same_session ys xs
+  by true e = e ∙ sym (same_session-met ys xs (sym (same_session-equal xs ys e)))
+  by false e = e ∙ sym (same_session-turned xs ys e)
+
 -- ---- sessions of other ids
 
 abbrev pub Others : List ℕ → List OpenSession → Type 0

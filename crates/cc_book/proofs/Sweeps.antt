@@ -34,6 +34,8 @@ use Rattle.cc_book.proofs.Ending.{all_keep}
 use Rattle.cc_book.proofs.Keys.{IsLegal-sweep}
 use Rattle.cc_book.proofs.Postings.{all_push, debits_to-push, postings_of-push}
 use Rattle.cc_book.proofs.Sessions.{Others, OwnIds, find-at, find-others, is_at, others_after, same_session-equal}
+use Rattle.cc_book.proofs.Shuffling.{due-shuffled, not_due, reserved-shuffled, stands-shuffled}
+use Rattle.std.proofs.lemmas.List.Sorted.{length_permutation}
 use Rattle.cc_book.proofs.Stands.{open_count-stands}
 use Rattle.cc_book.specs.Pricing.{price_in, price_of}
 use Rattle.cc_book.proofs.Pricing.{price-push}
@@ -50,7 +52,7 @@ module _ (validity : ℕ) (moment : Moment) where
   due = is_due validity moment
 
   abbrev kept : List OpenSession → List OpenSession
-  kept = without_due validity moment
+  kept = not_due validity moment
 
   -- whether an open session is due is what the definition of sessions says
   abbrev IsRight : States → OpenSession → Type 0
@@ -174,8 +176,8 @@ module _ (terms : Terms) (history : List Entry) {balances : List ℤ} {sessions 
       ∙ ap (λ (o : Option OpenSession). due_in moment (option_map (opened_as terms.validity) o)) found)
       sessions (finds sessions s.own_ids)
 
-  pub sweep-stands : Stands (terms_of terms history) (before ++ swept moment ∷ []) balances (without_due terms.validity moment sessions)
-  sweep-stands = record {
+  in_order : Stands (terms_of terms history) (before ++ swept moment ∷ []) balances (not_due terms.validity moment sessions)
+  in_order = record {
     accounts = s.accounts;
     balance = λ account lt. (let old = s.balance account lt in let debits = debits_to-push account before (swept moment) in omega (arith, ints));
     session = λ id. fold-append (next_session terms.validity id) None before (swept moment ∷ []) ∙ ap (option_and_then (left moment)) (s.session id)
@@ -189,10 +191,13 @@ module _ (terms : Terms) (history : List Entry) {balances : List ℤ} {sessions 
         open_weight-swept terms.validity moment (λ id. None) weight before
         ∙ s.count (lasting_ids moment states weight) ∙ ids_weight-kept terms.validity moment states weight sessions rights;
     prices = λ id name.
-        subst (λ (price : Option Tariff). IfSome (find (is_session id) (without_due terms.validity moment sessions))
+        subst (λ (price : Option Tariff). IfSome (find (is_session id) (not_due terms.validity moment sessions))
         (λ session. price_in session.prices name ≡ price)) (sym (price-push id name before (swept moment)))
         (found-kept terms.validity moment (λ session. price_in session.prices name ≡ price_of id name before) id sessions s.own_ids (s.prices id name));
   }
+
+  pub sweep-stands : Stands (terms_of terms history) (before ++ swept moment ∷ []) balances (without_due terms.validity moment sessions)
+  sweep-stands = stands-shuffled (not_due terms.validity moment sessions) (without_due terms.validity moment sessions) (due-shuffled terms.validity moment sessions) in_order
 
   -- ---- how many sessions it ends
 
@@ -206,6 +211,7 @@ module _ (terms : Terms) (history : List Entry) {balances : List ℤ} {sessions 
       let now = open_sessions_of-is terms history s in
       let later : open_sessions_of terms (history ++ Sweep moment ∷ []) ≡ length (without_due terms.validity moment sessions) =
       ap (open_count terms.validity) (postings_of-push terms history (Sweep moment)) ∙ open_count-stands sweep-stands in
+      let same = length_permutation (not_due terms.validity moment sessions) (without_due terms.validity moment sessions) (due-shuffled terms.validity moment sessions) in
       let parts = length-filter_both (λ (x : OpenSession). not (is_due terms.validity moment x)) (is_due terms.validity moment)
       (λ x. not_not (is_due terms.validity moment x)) sessions in
       let count = length-filter (is_due terms.validity moment) sessions in
@@ -233,7 +239,9 @@ IsBook-sweep terms limit history replies balances sessions moment book room some
         balance = book.bounded.balance;
         held = λ account. (
             let old = book.bounded.held account in
-            let less = reserved_in-kept terms.validity moment account sessions in omega arith);
+            let less = reserved_in-kept terms.validity moment account sessions in
+            let same = reserved-shuffled account (not_due terms.validity moment sessions) (without_due terms.validity moment sessions)
+            (due-shuffled terms.validity moment sessions) in omega arith);
       };
       openings = opens-push terms history (Sweep moment) book.openings;
       moved = subst (AllByRecursion MovesLittle) (sym next)

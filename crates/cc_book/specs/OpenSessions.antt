@@ -1,13 +1,14 @@
 -- The open sessions as the book keeps them: each under its Session-Id, beside what they hold of each account.
-use Rattle.std.specs.Prelude.{◌≡◌, ℕ, ◌<◌, ◌≤◌, ◌^◌, List, length, slice_get, slice_index_or, Some, None}
+use Rattle.std.specs.Prelude.{◌≡◌, ℕ, ◌<◌, ◌≤◌, ◌^◌, List, length, map, slice_get, slice_index_or, Some, None}
 use Rattle.std.specs.List.{AllByRecursion}
 use Rattle.std.specs.Map.{values_of}
+use Rattle.dia_base.specs.declared.number.Moment.{Moment}
 use Rattle.cc_book.specs.declared.outcome.Change.{Change}
 use Rattle.cc_book.specs.declared.outcome.Change.TheVariants.{Stays, Opens, GoesOn, Ends}
 use Rattle.cc_book.specs.declared.session.OpenSession.{OpenSession}
 use Rattle.cc_book.specs.Standing.{held_in, place_in, reserved_in}
 
--- the open sessions, as contracts see them: in the order in which they opened, with the room for more, the count of the
+-- the open sessions, as contracts see them: with the room for more, the count of the
 -- accounts whose totals are kept, and the room for more of these
 pub record Sessions : Type 0 where
   pub items : List OpenSession
@@ -18,6 +19,10 @@ pub record Sessions : Type 0 where
 -- the totals are what the sessions hold, account by account
 abbrev pub AreTotals : List ℕ → List OpenSession → Type 0
 AreTotals totals sessions = (account : ℕ) → slice_index_or totals account 0 ≡ reserved_in account sessions
+
+-- the moments of the last requests of sessions
+abbrev pub lasts_of : List OpenSession → List Moment
+lasts_of sessions = map (λ session. session.last) sessions
 
 -- each session stands under its own Session-Id, and the totals of its account are kept
 pub record IsKept (entries : List (List ℕ × OpenSession)) (totals : List ℕ) : Type 0 where

@@ -1,8 +1,8 @@
 -- What a history has left: the balances of the accounts, and the sessions that are open with what they hold. It is
 -- all that the book looks at to answer a request.
-use Rattle.std.specs.Prelude.{◌≡◌, ◌≢◌, ℕ, ◌+◌, ◌-◌, ◌^◌, ◌<◌, ◌≤◌, List, [], ◌∷◌, ◌++◌, length, remove, slice_get, slice_index_or, slice_set, map, All, AllPairs, Bool, ◌&&◌, not, ◌==◌, nat_le, if◌then◌else◌, Option, Some, None, IfSome, unwrap_or, find, ℤ, pos, negsuc, ◌-ℤ◌, ◌≤ℤ◌}
+use Rattle.std.specs.Prelude.{◌≡◌, ◌≢◌, ℕ, ◌+◌, ◌-◌, ◌^◌, ◌<◌, ◌≤◌, List, [], ◌∷◌, ◌++◌, length, swap_remove, slice_get, slice_index_or, slice_set, map, All, AllPairs, Bool, ◌&&◌, not, ◌==◌, nat_le, if◌then◌else◌, Option, Some, None, IfSome, unwrap_or, find, ℤ, pos, negsuc, ◌-ℤ◌, ◌≤ℤ◌}
 use Rattle.std.specs.List.{filter, fold, list_any, position}
-use Rattle.std.specs.Option.{option_map}
+use Rattle.std.specs.Option.{option_map, option_map_or}
 use Rattle.dia_base.specs.declared.number.Moment.{Moment}
 use Rattle.cc_view.specs.declared.request.CcRequest.{CcRequest}
 use Rattle.cc_view.specs.declared.request.RequestKind.{RequestKind}
@@ -113,19 +113,27 @@ abbrev pub change_of : List OpenSession → CcRequest → Moment → Posting →
 change_of sessions request moment posting =
     change_at request moment posting (place_in sessions request.session) (find (is_session request.session) sessions)
 
+-- a list without what stands at a place, which the last takes
+abbrev pub without_at : {X : Type 0} → List X → ℕ → List X
+without_at xs place = option_map_or (λ x. swap_remove xs place x) (slice_get xs place) xs
+
 abbrev pub after_change : List OpenSession → Change → List OpenSession
 after_change sessions Stays = sessions
 after_change sessions (Opens session) = sessions ++ session ∷ []
 after_change sessions (GoesOn place session) = slice_set sessions place session
-after_change sessions (Ends place) = remove sessions place
+after_change sessions (Ends place) = without_at sessions place
 
 -- whether a session has ended by a moment
 abbrev pub is_due : ℕ → Moment → OpenSession → Bool
 is_due validity moment session = nat_le (deadline_at validity session.last.0) moment.0
 
--- the sessions that go on after a look at the clock
+-- the sessions that go on after a look at the clock: those that have ended leave from the last place on
 abbrev pub without_due : ℕ → Moment → List OpenSession → List OpenSession
-without_due validity moment sessions = filter (λ session. not (is_due validity moment session)) sessions
+without_due validity moment [] = []
+without_due validity moment (session ∷ sessions) =
+    if is_due validity moment session
+    then without_at (session ∷ without_due validity moment sessions) 0
+    else session ∷ without_due validity moment sessions
 
 -- the sessions that are open after an entry with this posting, where these were before it
 abbrev pub sessions_with : ℕ → List OpenSession → Posting → Entry → List OpenSession
@@ -136,7 +144,7 @@ sessions_with validity sessions posting (ChangeTerms moment change) = sessions
 abbrev pub next_sessions : ℕ → List OpenSession → Posting → List OpenSession
 next_sessions validity sessions posting = sessions_with validity sessions posting posting.entry
 
--- the sessions that postings have left open, in the order in which they opened
+-- the sessions that postings have left open: their order says nothing
 unfoldable pub sessions_after : ℕ → List Posting → List OpenSession
 sessions_after validity postings = fold (next_sessions validity) [] postings
 

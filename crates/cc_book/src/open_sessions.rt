@@ -1,23 +1,24 @@
 //! The sessions that are open, by their Session-Id, and what they hold of each account.
 
-ghost use Rattle.std.specs.Prelude.{◌≡◌, ℕ, ◌+◌, ◌<◌, ◌≤◌, ◌^◌, ◌++◌, ◌∷◌, [], length, remove, replicate, slice_set, count_by, not, None, IfOk, OnOk, OnErr, MatchOption};
-ghost use Rattle.std.specs.List.{AllByRecursion};
-ghost use Rattle.indexmap.specs.IndexMap.{values};
-ghost use Rattle.cc_book.specs.OpenSessions.{AreTotals, GoesOnAt};
-ghost use Rattle.cc_book.specs.Standing.{IsOpenAt, held_in, is_due, place_in, reserved_in, without_due};
+ghost use Rattle.std.specs.Prelude.{◌≡◌, ℕ, ◌+◌, ◌<◌, ◌≤◌, ◌^◌, ◌++◌, ◌∷◌, [], length, replicate, slice_get, slice_set, count_by, None, Some, IfOk, OnOk, OnErr, MatchOption, nat_le};
+ghost use Rattle.cc_book.specs.Session.{deadline_at};
+ghost use Rattle.cc_book.specs.OpenSessions.{GoesOnAt};
+ghost use Rattle.cc_book.specs.Standing.{IsOpenAt, held_in, is_due, place_in, reserved_in, without_at, without_due};
 
-use crate::session::{OpenSession, held_in};
+use crate::session::{OpenSession, held_in, is_past};
 use dia_avp::Octets;
 use dia_base::Moment;
 use indexmap::IndexMap;
 use std::alloc::{AllocError, Global};
 use std::marker::Model;
 
-/// The sessions that are open, in the order in which they opened. Each is found by its Session-Id, and what they hold
-/// of an account is kept as a total, so that neither takes a walk.
+/// The sessions that are open. Each is found by its Session-Id, and what they hold of an account is kept as a total, so
+/// that neither takes a walk. The last takes the place of one that ends.
 #[derive(Debug)]
 pub struct OpenSessions {
     sessions: IndexMap<Octets, OpenSession>,
+    /// The moment of the last request of each, by its place. A look at the clock reads these alone.
+    lasts: Vec<Moment>,
     /// What they hold of each account.
     totals: Vec<u128>,
 }
@@ -27,21 +28,22 @@ impl Drop for OpenSessions {
     fn drop(self) {
         let OpenSessions {
             sessions: _,
+            lasts: _,
             totals: _,
         } = self;
     }
 }
 
 impl Model for OpenSessions {
-    ghost use Rattle.std.specs.Prelude.{◌-◌, length, vec_capacity};
+    ghost use Rattle.std.specs.Prelude.{◌≡◌, ◌-◌, length, min, vec_capacity};
     ghost use Rattle.indexmap.specs.IndexMap.{spare, values};
-    ghost use Rattle.cc_book.specs.OpenSessions.{IsKept, Sessions};
+    ghost use Rattle.cc_book.specs.OpenSessions.{IsKept, Sessions, lasts_of};
 
     ghost Value = { Sessions };
 
-    ghost view = { λ sessions. record { items = values sessions.sessions; room = spare sessions.sessions; accounts = length sessions.totals.items; account_room = vec_capacity sessions.totals - length sessions.totals.items } };
+    ghost view = { λ sessions. record { items = values sessions.sessions; room = min (spare sessions.sessions) (vec_capacity sessions.lasts - length sessions.lasts.items); accounts = length sessions.totals.items; account_room = vec_capacity sessions.totals - length sessions.totals.items } };
 
-    ghost invariant = { λ sessions. IsKept sessions.sessions.entries sessions.totals.items };
+    ghost invariant = { λ sessions. IsKept sessions.sessions.entries sessions.totals.items × (sessions.lasts.items ≡ lasts_of (values sessions.sessions)) };
 }
 
 impl OpenSessions {
@@ -53,6 +55,7 @@ impl OpenSessions {
     {
         Ok(OpenSessions {
             sessions: IndexMap::with_capacity(alloc, room)?,
+            lasts: Vec::with_capacity(alloc, room)?,
             totals: vec![in alloc; 0; accounts]?,
         })
     }
@@ -83,10 +86,7 @@ impl OpenSessions {
     pub fn count_due(&self, validity: u32, moment: Moment) -> usize
         ensures { result ≡ count_by (is_due validity moment) self.now.items }
     {
-        self.sessions
-            .values()
-            .filter(|session| session.is_due(validity, moment))
-            .count()
+        count_past(&self.lasts, validity, moment)
     }
 
     /// A session opens, which is not open yet. There is room for it.
@@ -102,6 +102,7 @@ impl OpenSessions {
         ensures accounts { self.new.accounts ≡ self.old.accounts }
     {
         self.totals[session.account] += held_in(session.holds.as_slice());
+        self.lasts.push_reserved(session.last);
         self.sessions.insert(id, session).unwrap();
     }
 
@@ -140,21 +141,31 @@ impl OpenSessions {
         let before = held_in(self.sessions[place].holds.as_slice());
         let left = self.totals[session.account] - before;
         self.totals[session.account] = left + held_in(session.holds.as_slice());
+        self.lasts[place] = session.last;
         self.sessions[place] = session;
     }
 
-    /// The session at a place ends, and all that it holds.
+    /// The session at a place ends, and all that it holds. The last takes its place.
     pub fn end(&mut self, place: usize)
         requires there { place < length self.old.items }
         requires held { (account : ℕ) → reserved_in account self.old.items ≤ 2 ^ 124 }
-        ensures items { self.new.items ≡ remove self.old.items place }
+        ensures items { self.new.items ≡ without_at self.old.items place }
         ensures room { self.old.room ≤ self.new.room }
         ensures accounts { self.new.accounts ≡ self.old.accounts }
     {
-        if let Some((id, ended)) = self.sessions.shift_remove_index(place) {
+        if let Some((id, ended)) = self.sessions.swap_remove_index(place) {
             self.totals[ended.account] -= held_in(ended.holds.as_slice());
+            let _last = self.lasts.swap_remove(place);
             drop((id, ended));
         }
+    }
+
+    /// Whether the session at a place has ended by a moment.
+    fn is_due_at(&self, place: usize, validity: u32, moment: Moment) -> bool
+        requires { place < length self.now.items }
+        ensures { (session : OpenSession) → slice_get self.now.items place ≡ Some session → result ≡ is_due validity moment session }
+    {
+        is_past(validity, self.lasts[place], moment)
     }
 
     /// Ends the sessions that have ended by a moment, with all that they hold.
@@ -164,32 +175,20 @@ impl OpenSessions {
         ensures room { self.old.room ≤ self.new.room }
         ensures accounts { self.new.accounts ≡ self.old.accounts }
     {
-        release(&mut self.totals, &self.sessions, validity, moment);
-        self.sessions.retain(
-            |_id: &Octets, session: &mut OpenSession| -> bool
-                ensures { (result ≡ not (is_due validity moment session.old)) × (session.new ≡ session.old) }
-            { !session.is_due(validity, moment) },
-        );
+        for place in (0..self.lasts.len()).rev() {
+            if self.is_due_at(place, validity, moment) {
+                self.end(place);
+            }
+        }
     }
 }
 
-/// Takes off the totals what the sessions hold that have ended by a moment.
-fn release(
-    totals: &mut Vec<u128>,
-    sessions: &IndexMap<Octets, OpenSession>,
-    validity: u32,
-    moment: Moment,
-)
-    requires totals { AreTotals totals.old.items (values sessions.now) }
-    requires known { AllByRecursion (λ session. session.account < length totals.old.items) (values sessions.now) }
-    requires held { (account : ℕ) → reserved_in account (values sessions.now) ≤ 2 ^ 124 }
-    ensures totals { AreTotals totals.new.items (without_due validity moment (values sessions.now)) }
-    ensures len { length totals.new.items ≡ length totals.old.items }
+/// How many of the sessions whose last requests came at these moments have ended by another.
+fn count_past(lasts: &[Moment], validity: u32, moment: Moment) -> usize
+    ensures { result ≡ count_by (λ last. nat_le (deadline_at validity last.0) moment.0) lasts.now }
 {
-    for place in 0..sessions.len() {
-        let session = &sessions[place];
-        if session.is_due(validity, moment) {
-            totals[session.account] -= held_in(session.holds.as_slice());
-        }
-    }
+    lasts
+        .iter()
+        .filter(|last| is_past(validity, **last, moment))
+        .count()
 }

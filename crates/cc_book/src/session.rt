@@ -1,6 +1,7 @@
 //! Open sessions, and what they hold (RFC 8506, sections 5.1 and 5.2).
 
-ghost use Rattle.std.specs.Prelude.{◌≡◌, ◌≤◌, ◌^◌, IfOk};
+ghost use Rattle.std.specs.Prelude.{◌≡◌, ◌≤◌, ◌^◌, IfOk, nat_le};
+ghost use Rattle.cc_book.specs.Session.{deadline_at};
 ghost use Rattle.cc_book.specs.Reservation.{has_name};
 ghost use Rattle.cc_book.specs.Standing.{held_in, holds_beside, is_due, is_named, prolonged};
 
@@ -69,7 +70,7 @@ impl OpenSession {
     pub fn is_due(&self, validity: u32, moment: Moment) -> bool
         ensures { result ≡ is_due validity moment self.now }
     {
-        self.last.0 as u128 + 2000 * validity as u128 <= moment.0 as u128
+        is_past(validity, self.last, moment)
     }
 
     /// The holds for other services than these.
@@ -83,6 +84,13 @@ impl OpenSession {
             .filter(|hold| !is_named(services, hold))
             .collect(alloc)
     }
+}
+
+/// Whether a session whose last request came at this moment has ended by another.
+pub fn is_past(validity: u32, last: Moment, moment: Moment) -> bool
+    ensures { result ≡ nat_le (deadline_at validity last.0) moment.0 }
+{
+    last.0 as u128 + 2000 * validity as u128 <= moment.0 as u128
 }
 
 /// What the holds add up to.

@@ -14,7 +14,7 @@ use std::alloc::{AllocError, Global};
 pub struct Lists {
     /// The balance of each account.
     pub balances: Vec<i128>,
-    /// The sessions that are open, in the order in which they opened.
+    /// The sessions that are open.
     pub sessions: Vec<OpenSession>,
 }
 
@@ -108,8 +108,11 @@ impl Lists {
         ensures room { vec_capacity self.new.sessions ≡ vec_capacity self.old.sessions }
         ensures balances { self.new.balances ≡ self.old.balances }
     {
-        self.sessions
-            .retain(|session| !session.is_due(validity, moment));
+        for place in (0..self.sessions.len()).rev() {
+            if self.sessions[place].is_due(validity, moment) {
+                let _swept = self.sessions.swap_remove(place);
+            }
+        }
     }
 
     /// Debits an account.
@@ -140,7 +143,7 @@ impl Lists {
             Change::Opens { session } => self.sessions.push_reserved(session),
             Change::GoesOn { place, session } => self.sessions[place] = session,
             Change::Ends { place } => {
-                let _ended = self.sessions.remove(place);
+                let _ended = self.sessions.swap_remove(place);
             }
         }
     }

@@ -1,4 +1,4 @@
-use Rattle.std.proofs.Common.{◌≡◌, ℕ, cond, length, true, false, Some, ◌∙◌, rules}
+use Rattle.std.proofs.Common.{◌≡◌, ℕ, cond, length, true, false, Some, rules}
 use Rattle.std.specs.Prelude.{is_some, nat_eq}
 use Rattle.indexmap.specs.IndexMap.{get}
 use Rattle.cc_book.specs.Owners.{confirmed, digest_of, has_digest, owner_of}

@@ -1,5 +1,4 @@
 use Rattle.std.proofs.Common.{◌≡◌, ◌<◌, length, get_or, Option, ℕ, Some, None, true, sym, ap, ◌∙◌, rules}
-use Rattle.cc_book.specs.declared.account.Account.{Account}
 use Rattle.cc_view.specs.declared.request.Subscription.{Subscription}
 use Rattle.cc_book.specs.TermsChange.{owns}
 use Rattle.std.specs.List.{position}

@@ -4,9 +4,10 @@ use Rattle.std.proofs.lemmas.List.{get_or_default}
 use Rattle.indexmap.specs.IndexMap.{insert_entry, values}
 use Rattle.cc_book.specs.declared.session.OpenSession.{OpenSession}
 use Rattle.cc_book.specs.Duplicate.{same_session}
-use Rattle.cc_book.specs.OpenSessions.{Sessions}
+use Rattle.cc_book.specs.OpenSessions.{Sessions, lasts_of}
 use Rattle.cc_book.specs.Standing.{held_in, place_in, reserved_in}
-use Rattle.cc_book.proofs.KeptSessions.{IsKept-add}
+use Rattle.cc_book.proofs.KeptSessions.{IsKept-add, lasts-push}
+use Rattle.dia_base.specs.declared.number.Moment.{Moment}
 use Rattle.cc_book.proofs.open_sessions.OpenSessions.add.Goals as goal
 
 pub held_in-requires : goal.held_in-requires
@@ -19,7 +20,7 @@ overflow_add-index_mut c =
     let items : values c.self.inside.sessions ≡ c.args.self.now.items = ap (λ (s : Sessions). s.items) c.self.view_is in
     let few : reserved_in account (values c.self.inside.sessions) ≤ 2 ^ 124 = subst (λ (ss : List OpenSession). reserved_in account ss ≤ 2 ^ 124) (sym items)
     (c.requires.held account) in
-    let total = c.self.invariant.summed account in
+    let total = c.self.invariant.0.summed account in
     let lt : account < length c.self.inside.totals.items =
     subst (λ (n : ℕ). account < n) (sym (ap (λ (s : Sessions). s.accounts) c.self.view_is)) c.requires.known in
     let value : c.index_mut.result.now ≡ get_or c.self.inside.totals.items account 0 = c.index_mut.ensures.value
@@ -38,9 +39,13 @@ invariant_of-self c =
     let same = ap held_in c.as_slice.ensures in
     let entries = subst (λ r. OnOk r (c.insert.new.self.entries ≡ insert_entry same_session c.self.inside.sessions.entries c.args.id c.args.session))
     c.unwrap.ensures c.insert.ensures.entries in
-    (IsKept-add c.self.inside.sessions.entries c.insert.new.self.entries c.self.inside.totals.items c.args.id c.args.session
-    (c.index_mut.result.now + c.held_in.result) c.self.invariant c.requires.own
-    (ap (λ (ss : List OpenSession). place_in ss c.args.session.id) items ∙ c.requires.closed) lt (omega (arith, c.held_in.ensures)) entries).1
+    let kept = IsKept-add c.self.inside.sessions.entries c.insert.new.self.entries c.self.inside.totals.items c.args.id c.args.session
+    (c.index_mut.result.now + c.held_in.result) c.self.invariant.0 c.requires.own
+    (ap (λ (ss : List OpenSession). place_in ss c.args.session.id) items ∙ c.requires.closed) lt (omega (arith, c.held_in.ensures)) entries in (
+      kept.1,
+      c.push_reserved.ensures.items ∙ ap (λ (l : List Moment). l ++ c.args.session.last ∷ []) c.self.invariant.1
+          ∙ lasts-push (values c.self.inside.sessions) c.args.session ∙ sym (ap lasts_of kept.0),
+    )
 
 pub returns-clause-items : goal.returns-clause-items
 returns-clause-items c =
@@ -52,5 +57,5 @@ returns-clause-items c =
     c.unwrap.ensures c.insert.ensures.entries in
     (IsKept-add c.self.inside.sessions.entries c.insert.new.self.entries c.self.inside.totals.items c.args.id c.args.session
     (get_or c.self.inside.totals.items account 0 + held_in c.args.session.holds)
-    c.self.invariant c.requires.own (ap (λ (ss : List OpenSession). place_in ss c.args.session.id) items ∙ c.requires.closed) lt (omega arith) entries).0
+    c.self.invariant.0 c.requires.own (ap (λ (ss : List OpenSession). place_in ss c.args.session.id) items ∙ c.requires.closed) lt (omega arith) entries).0
     ∙ ap (λ (ss : List OpenSession). ss ++ c.args.session ∷ []) items

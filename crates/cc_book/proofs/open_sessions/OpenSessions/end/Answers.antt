@@ -1,4 +1,4 @@
-use Rattle.std.proofs.Common.{◌≡◌, ◌-◌, ◌≤◌, ◌^◌, List, length, subst, sym, ap, ◌∙◌, arith, get_or, remove}
+use Rattle.std.proofs.Common.{◌≡◌, ◌-◌, ◌≤◌, ◌^◌, List, length, subst, sym, ap, ◌∙◌, arith, get_or}
 use Rattle.std.specs.Prelude.{slice_set}
 use Rattle.std.proofs.lemmas.List.{get_or_default}
 use Rattle.indexmap.specs.IndexMap.{values}
@@ -6,7 +6,9 @@ use Rattle.std.specs.Map.{values_of}
 use Rattle.cc_book.specs.declared.session.OpenSession.{OpenSession}
 use Rattle.cc_book.specs.OpenSessions.{IsKept, Sessions}
 use Rattle.cc_book.specs.Standing.{held_in, reserved_in}
-use Rattle.cc_book.proofs.KeptSessions.{IsKept-end, Rows, held-total, known-at, values-at, values-remove}
+use Rattle.cc_book.proofs.KeptSessions.{IsKept-end, Rows, held-total, known-at, lasts-left, values-at, values-without}
+use Rattle.cc_book.specs.Standing.{without_at}
+use Rattle.cc_book.proofs.WithoutAt.{without-is}
 use Rattle.cc_book.proofs.open_sessions.OpenSessions.end.Goals as goal
 
 pub held_in-requires : goal.held_in-requires
@@ -23,16 +25,16 @@ held_in-requires c =
 pub index_mut-requires : goal.index_mut-requires
 index_mut-requires c =
     let there = values-at c.self.inside.sessions.entries c.args.place (c.in-Some.id, c.in-Some.ended) (sym c.in-Some.ensures.entry) in
-    let lt = known-at (length c.self.inside.totals.items) (values c.self.inside.sessions) c.args.place c.in-Some.ended there c.self.invariant.known in
+    let lt = known-at (length c.self.inside.totals.items) (values c.self.inside.sessions) c.args.place c.in-Some.ended there c.self.invariant.0.known in
     omega (arith, c.self.inside.totals.ok.0)
 
 pub overflow_sub-index_mut : goal.overflow_sub-index_mut
 overflow_sub-index_mut c =
     let account = c.in-Some.ended.account in
     let there = values-at c.self.inside.sessions.entries c.args.place (c.in-Some.id, c.in-Some.ended) (sym c.in-Some.ensures.entry) in
-    let lt = known-at (length c.self.inside.totals.items) (values c.self.inside.sessions) c.args.place c.in-Some.ended there c.self.invariant.known in
+    let lt = known-at (length c.self.inside.totals.items) (values c.self.inside.sessions) c.args.place c.in-Some.ended there c.self.invariant.0.known in
     let own = held-total (values c.self.inside.sessions) c.args.place c.in-Some.ended there in
-    let total = c.self.invariant.summed account in
+    let total = c.self.invariant.0.summed account in
     let value : c.index_mut.result.now ≡ get_or c.self.inside.totals.items account 0 = c.index_mut.ensures.value
     ∙ get_or_default c.self.inside.totals.items account c.index_mut.result.now 0 lt in
     let same = ap held_in c.as_slice.ensures in
@@ -43,20 +45,27 @@ invariant_of-self c =
     let account = c.in-Some.ended.account in
     let at = sym c.in-Some.ensures.entry in
     let there = values-at c.self.inside.sessions.entries c.args.place (c.in-Some.id, c.in-Some.ended) at in
-    let lt = known-at (length c.self.inside.totals.items) (values c.self.inside.sessions) c.args.place c.in-Some.ended there c.self.invariant.known in
+    let lt = known-at (length c.self.inside.totals.items) (values c.self.inside.sessions) c.args.place c.in-Some.ended there c.self.invariant.0.known in
     let own = held-total (values c.self.inside.sessions) c.args.place c.in-Some.ended there in
-    let total = c.self.invariant.summed account in
+    let total = c.self.invariant.0.summed account in
     let value : c.index_mut.result.now ≡ get_or c.self.inside.totals.items account 0 = c.index_mut.ensures.value
     ∙ get_or_default c.self.inside.totals.items account c.index_mut.result.now 0 lt in
     let same = ap held_in c.as_slice.ensures in
     let left = c.index_mut.result.now - c.held_in.result in
-    subst (λ (es : Rows). IsKept es (slice_set c.self.inside.totals.items account left)) (sym c.shift_remove_index.ensures.entries)
-    (IsKept-end c.self.inside.sessions.entries c.self.inside.totals.items c.args.place (c.in-Some.id, c.in-Some.ended) left c.self.invariant at
-    (omega (arith, c.held_in.ensures)))
+    let entries = without-is c.self.inside.sessions.entries c.args.place (c.in-Some.id, c.in-Some.ended) at ∙ sym c.in-Some.ensures.entries in
+    let gone = ap (λ (es : Rows). values_of es) (sym entries) ∙ values-without c.self.inside.sessions.entries c.args.place (c.in-Some.id, c.in-Some.ended) at in (
+      subst (λ (es : Rows). IsKept es (slice_set c.self.inside.totals.items account left))
+          entries
+          (IsKept-end c.self.inside.sessions.entries c.self.inside.totals.items c.args.place (c.in-Some.id, c.in-Some.ended) left c.self.invariant.0 at
+          (omega (arith, c.held_in.ensures))),
+      lasts-left (values c.self.inside.sessions) _ c.self.inside.lasts.items _ c.args.place c.in-Some.ended c.swap_remove-last.result c.self.invariant.1 there gone
+          c.swap_remove-last.ensures.value c.swap_remove-last.ensures.items,
+    )
 
 pub returns-in-Some-clause-items : goal.returns-in-Some-clause-items
 returns-in-Some-clause-items c =
     let items : values c.self.inside.sessions ≡ c.args.self.now.items = ap (λ (s : Sessions). s.items) c.self.view_is in
-    ap (λ (es : Rows). values_of es) c.shift_remove_index.ensures.entries
-    ∙ values-remove c.self.inside.sessions.entries c.args.place
-    ∙ ap (λ (ss : List OpenSession). remove ss c.args.place) items
+    let at = sym c.in-Some.ensures.entry in
+    ap (λ (es : Rows). values_of es) (c.in-Some.ensures.entries ∙ sym (without-is c.self.inside.sessions.entries c.args.place (c.in-Some.id, c.in-Some.ended) at))
+    ∙ values-without c.self.inside.sessions.entries c.args.place (c.in-Some.id, c.in-Some.ended) at
+    ∙ ap (λ (ss : List OpenSession). without_at ss c.args.place) items

@@ -4,10 +4,11 @@ use Rattle.std.proofs.lemmas.List.{length-map}
 use Rattle.std.proofs.lemmas.Option.{slice_get_within}
 use Rattle.indexmap.specs.IndexMap.{values}
 use Rattle.cc_book.specs.declared.session.OpenSession.{OpenSession}
-use Rattle.cc_book.specs.OpenSessions.{GoesOnAt, Sessions}
+use Rattle.cc_book.specs.OpenSessions.{GoesOnAt, Sessions, lasts_of}
 use Rattle.cc_book.specs.Standing.{held_in, reserved_in}
 use Rattle.cc_book.proofs.Amounts.{held-at}
-use Rattle.cc_book.proofs.KeptSessions.{IsKept-go_on, held-there, known-at, total-there, values-set}
+use Rattle.cc_book.proofs.KeptSessions.{IsKept-go_on, held-there, known-at, lasts-set, total-there, values-set}
+use Rattle.dia_base.specs.declared.number.Moment.{Moment}
 use Rattle.cc_book.proofs.open_sessions.OpenSessions.go_on.Goals as goal
 
 pub held_in-before-requires : goal.held_in-before-requires
@@ -25,14 +26,14 @@ pub index-requires-2 : goal.index-requires-2
 index-requires-2 c =
     let items : values c.self.inside.sessions ≡ c.args.self.now.items = ap (λ (s : Sessions). s.items) c.self.view_is in
     let at = subst (λ (ss : List OpenSession). GoesOnAt ss c.args.place c.args.session) (sym items) c.requires.there in
-    let lt = known-at (length c.self.inside.totals.items) (values c.self.inside.sessions) c.args.place at.before at.there c.self.invariant.known in
+    let lt = known-at (length c.self.inside.totals.items) (values c.self.inside.sessions) c.args.place at.before at.there c.self.invariant.0.known in
     omega (arith, at.account, c.self.inside.totals.ok.0)
 
 pub index_mut-requires : goal.index_mut-requires
 index_mut-requires c =
     let items : values c.self.inside.sessions ≡ c.args.self.now.items = ap (λ (s : Sessions). s.items) c.self.view_is in
     let at = subst (λ (ss : List OpenSession). GoesOnAt ss c.args.place c.args.session) (sym items) c.requires.there in
-    let lt = known-at (length c.self.inside.totals.items) (values c.self.inside.sessions) c.args.place at.before at.there c.self.invariant.known in
+    let lt = known-at (length c.self.inside.totals.items) (values c.self.inside.sessions) c.args.place at.before at.there c.self.invariant.0.known in
     omega (arith, at.account, c.self.inside.totals.ok.0)
 
 pub overflow_sub-left : goal.overflow_sub-left
@@ -40,7 +41,7 @@ overflow_sub-left c =
     let items : values c.self.inside.sessions ≡ c.args.self.now.items = ap (λ (s : Sessions). s.items) c.self.view_is in
     let at = subst (λ (ss : List OpenSession). GoesOnAt ss c.args.place c.args.session) (sym items) c.requires.there in
     let sums = total-there c.self.inside.sessions.entries c.self.inside.totals.items c.args.place c.args.session c.index.result.now c.index-2.result.now
-    c.held_in-before.result c.self.invariant at c.index.ensures c.index-2.ensures (c.held_in-before.ensures ∙ ap held_in c.as_slice.ensures) in
+    c.held_in-before.result c.self.invariant.0 at c.index.ensures c.index-2.ensures (c.held_in-before.ensures ∙ ap held_in c.as_slice.ensures) in
     omega (arith, sums.2)
 
 pub held_in-requires : goal.held_in-requires
@@ -51,7 +52,7 @@ overflow_add-left c =
     let items : values c.self.inside.sessions ≡ c.args.self.now.items = ap (λ (s : Sessions). s.items) c.self.view_is in
     let at = subst (λ (ss : List OpenSession). GoesOnAt ss c.args.place c.args.session) (sym items) c.requires.there in
     let sums = total-there c.self.inside.sessions.entries c.self.inside.totals.items c.args.place c.args.session c.index.result.now c.index-2.result.now
-    c.held_in-before.result c.self.invariant at c.index.ensures c.index-2.ensures (c.held_in-before.ensures ∙ ap held_in c.as_slice.ensures) in
+    c.held_in-before.result c.self.invariant.0 at c.index.ensures c.index-2.ensures (c.held_in-before.ensures ∙ ap held_in c.as_slice.ensures) in
     let few : reserved_in c.args.session.account (values c.self.inside.sessions) ≤ 2 ^ 124 =
     subst (λ (ss : List OpenSession). reserved_in c.args.session.account ss ≤ 2 ^ 124) (sym items) (c.requires.held c.args.session.account) in
     let more = ap held_in c.as_slice-2.ensures in
@@ -65,6 +66,16 @@ index_mut-requires-2 c =
     let at = subst (λ (ss : List OpenSession). GoesOnAt ss c.args.place c.args.session) (sym items) c.requires.there in
     let within = slice_get_within (values c.self.inside.sessions) c.args.place at.before at.there in
     let long = length-map c.self.inside.sessions.entries (λ (e : List ℕ × OpenSession). e.1) in
+    let lasts = ap length c.self.invariant.1 in
+    let timed = length-map (values c.self.inside.sessions) (λ (s : OpenSession). s.last) in
+    omega (arith, c.self.inside.lasts.ok.0)
+
+pub index_mut-requires-3 : goal.index_mut-requires-3
+index_mut-requires-3 c =
+    let items : values c.self.inside.sessions ≡ c.args.self.now.items = ap (λ (s : Sessions). s.items) c.self.view_is in
+    let at = subst (λ (ss : List OpenSession). GoesOnAt ss c.args.place c.args.session) (sym items) c.requires.there in
+    let within = slice_get_within (values c.self.inside.sessions) c.args.place at.before at.there in
+    let long = length-map c.self.inside.sessions.entries (λ (e : List ℕ × OpenSession). e.1) in
     omega arith
 
 pub invariant_of-self : goal.invariant_of-self
@@ -72,12 +83,16 @@ invariant_of-self c =
     let items : values c.self.inside.sessions ≡ c.args.self.now.items = ap (λ (s : Sessions). s.items) c.self.view_is in
     let at = subst (λ (ss : List OpenSession). GoesOnAt ss c.args.place c.args.session) (sym items) c.requires.there in
     let sums = total-there c.self.inside.sessions.entries c.self.inside.totals.items c.args.place c.args.session c.index.result.now c.index-2.result.now
-    c.held_in-before.result c.self.invariant at c.index.ensures c.index-2.ensures (c.held_in-before.ensures ∙ ap held_in c.as_slice.ensures) in
-    let total = c.self.invariant.summed c.args.session.account in
-    let more = ap held_in c.as_slice-2.ensures in
-    IsKept-go_on c.self.inside.sessions.entries c.self.inside.totals.items c.args.place c.args.session
-    ((c.index-2.result.now - c.held_in-before.result) + c.held_in.result) c.self.invariant at
-    (omega (arith, sums.0, sums.1, sums.2, c.held_in.ensures))
+    c.held_in-before.result c.self.invariant.0 at c.index.ensures c.index-2.ensures (c.held_in-before.ensures ∙ ap held_in c.as_slice.ensures) in
+    let total = c.self.invariant.0.summed c.args.session.account in
+    let more = ap held_in c.as_slice-2.ensures in (
+      IsKept-go_on c.self.inside.sessions.entries c.self.inside.totals.items c.args.place c.args.session
+          ((c.index-2.result.now - c.held_in-before.result) + c.held_in.result) c.self.invariant.0 at
+          (omega (arith, sums.0, sums.1, sums.2, c.held_in.ensures)),
+      ap (λ (l : List Moment). slice_set l c.args.place c.args.session.last) c.self.invariant.1
+          ∙ lasts-set (values c.self.inside.sessions) c.args.place c.args.session
+          ∙ ap lasts_of (sym (values-set c.self.inside.sessions.entries c.args.place c.args.session)),
+    )
 
 pub returns-clause-items : goal.returns-clause-items
 returns-clause-items c =

@@ -7,4 +7,5 @@ invariant-loop-account l = record {
   items : l.self-inside.totals.items ≡ l.initial.self-inside.totals.items ++ replicate l._account 0;
   room : vec_len l.self-inside.totals + (l.joining - l._account) ≤ vec_capacity l.self-inside.totals;
   sessions : l.self-inside.sessions ≡ l.initial.self-inside.sessions;
+  lasts : l.self-inside.lasts ≡ l.initial.self-inside.lasts;
 }
