@@ -211,7 +211,7 @@ class Changer:
 
     def change(self):
         text, told, (known, name) = self.next_of()
-        status, said = self.ask("POST", text)
+        status, said = self.ask("POST", text + "\n")
         if status == 202:
             said = self.outcome()
         if not said.startswith(MADE):

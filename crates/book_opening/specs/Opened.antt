@@ -1,13 +1,17 @@
 -- What an opened book is.
-use Rattle.std.specs.Prelude.{◌≡◌, ◌⊎◌, ℕ, Bool, true, List, Ok}
+use Rattle.std.specs.Prelude.{◌≡◌, ◌⊎◌, ◌-◌, ℕ, Bool, true, List, length, slice_get, Ok}
+use Rattle.std.specs.Option.{option_map_or}
 use Rattle.dia_base.specs.declared.number.Moment.{Moment}
 use Rattle.cc_book.specs.declared.terms.Terms.{Terms}
 use Rattle.cc_book.specs.declared.terms_change.TermsChange.{TermsChange}
+use Rattle.cc_book.specs.declared.entry.Entry.{Entry}
+use Rattle.cc_book.specs.Session.{moment_of}
 use Rattle.cc_book.specs.AccountMachine.{terms_of}
 use Rattle.cc_book.specs.Changing.{with_change}
 use Rattle.cc_book.specs.Taking.{Ledger}
 use Rattle.cc_book.specs.TermsChange.{says_nothing}
 use Rattle.book_rows.specs.declared.about.About.{About}
+use Rattle.book_rows.specs.declared.about.Identity.{Identity}
 use Rattle.book_rows.specs.About.{about as about_form, whole}
 use Rattle.book_terms.specs.Difference.{Hold, IsNeeded}
 use Rattle.book_terms.specs.Terms.{terms as terms_form}
@@ -15,6 +19,14 @@ use Rattle.book_terms.specs.Terms.{terms as terms_form}
 -- the octets say what a book is, which was made under these terms
 abbrev pub IsOfTerms : List ℕ → Terms → Type 0
 IsOfTerms octets terms = (about : About) × (whole about_form octets ≡ Ok about) × (whole terms_form about.terms ≡ Ok terms)
+
+-- the octets say what a book is, and that this is its identity
+abbrev pub HasIdentity : List ℕ → Identity → Type 0
+HasIdentity octets identity = (about : About) × (whole about_form octets ≡ Ok about) × (identity ≡ about.identity)
+
+-- the moment of the last entry, in milliseconds; 0 where there is none
+abbrev pub last_in : List Entry → ℕ
+last_in history = option_map_or moment_of (slice_get history (length history - 1)) 0
 
 -- the terms that hold in a book
 abbrev pub now_in : Ledger → Terms

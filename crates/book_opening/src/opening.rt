@@ -1,10 +1,10 @@
 //! Making a book on disk, and opening it.
 
-ghost use Rattle.std.specs.Prelude.{◌≡◌, ◌≤◌, ◌/◌, ◌%◌, ◌^◌, [], IfNone, IfOk, IfSome, None, Ok, OnOk, is_some, true};
-ghost use Rattle.book_entries.specs.Replayed.{sum_in};
+ghost use Rattle.std.specs.Prelude.{◌≡◌, ◌≤◌, ◌/◌, ◌%◌, ◌^◌, [], IfNone, IfOk, IfSome, None, Ok, OnOk, is_some, max, true};
+ghost use Rattle.book_entries.specs.Replayed.{stored_in, sum_in};
 ghost use Rattle.book_rows.specs.About.{whole};
 ghost use Rattle.book_terms.specs.Terms.{terms as terms_form};
-ghost use Rattle.book_opening.specs.Opened.{IsOfTerms, now_in};
+ghost use Rattle.book_opening.specs.Opened.{HasIdentity, IsOfTerms, last_in, now_in};
 ghost use Rattle.book_terms.specs.Difference.{Hold};
 ghost use Rattle.book_journal.specs.Kept.{IsKeptBy, IsSettled};
 
@@ -44,7 +44,10 @@ pub fn state_id_of(identity: Identity) -> u32
 /// The identity of the book in a store, and the store.
 fn identity_in<S: RowStore + Drop>(alloc: Global, store: S) -> Result<(S, Identity), BookFault>
     requires { S.is_clean store → S.is_ready store }
-    ensures { IfOk result (λ told. S.is_clean told.0 → S.is_ready told.0) }
+    ensures clean { IfOk result (λ told. S.is_clean told.0 → S.is_clean store) }
+    ensures ready { IfOk result (λ told. S.is_clean told.0 → S.is_ready told.0) }
+    ensures identity { IfOk result (λ told. S.is_clean told.0 → HasIdentity (S.about store) told.1) }
+    ensures same { IfOk result (λ told. S.is_clean told.0 → (S.rows told.0 ≡ S.rows store) × (S.about told.0 ≡ S.about store)) }
 {
     let mut store = store;
     let about = about_of(alloc, &mut store)?;
@@ -93,6 +96,8 @@ fn open_in<S: RowStore + Drop>(
     ensures stored { IfOk result (λ opened. is_some opened.0.store ≡ true) }
     ensures limit { IfOk result (λ opened. opened.1.limit ≡ limit) }
     ensures terms { IfOk result (λ opened. IfSome opened.0.store (λ now. S.is_clean now → IsOfTerms (S.about now) opened.1.terms)) }
+    ensures clean { IfOk result (λ opened. IfSome opened.0.store (λ now. S.is_clean now → S.is_clean store)) }
+    ensures same { IfOk result (λ opened. IfSome opened.0.store (λ now. S.is_clean now → (S.rows now ≡ S.rows store) × (S.about now ≡ S.about store))) }
 {
     let mut store = store;
     let about = about_of(alloc, &mut store)?;
@@ -187,6 +192,9 @@ fn read_in<S: RowStore + Drop>(
     requires limit { limit ≤ HISTORY_LIMIT }
     ensures limit { IfOk result (λ read. read.1.book.limit ≡ limit) }
     ensures sum { IfOk result (λ read. IfSome read.0 (λ _. read.1.sum.0 ≡ sum_in read.1.book)) }
+    ensures identity { IfOk result (λ read. IfSome read.0 (λ now. S.is_clean now → HasIdentity (S.about store) read.1.identity)) }
+    ensures terms { IfOk result (λ read. IfSome read.0 (λ now. S.is_clean now → IsOfTerms (S.about store) read.1.book.terms)) }
+    ensures read { IfOk result (λ read. IfSome read.0 (λ now. S.is_clean now → (S.rows now ≡ S.rows store) × (S.rows store ≡ stored_in read.1.book))) }
 {
     let (store, identity) = identity_in(alloc, store)?;
     let opened = open_in(alloc, store, limit)?;
@@ -198,8 +206,12 @@ fn stored_of<S: RowStore + Drop>(
     identity: Identity,
     opened: (Journal<S>, Book),
 ) -> (Option<S>, StoredBook)
-    requires { IsKeptBy S.is_clean S.is_ready S.rows opened.0 opened.1 }
+    requires kept { IsKeptBy S.is_clean S.is_ready S.rows opened.0 opened.1 }
+    requires settled { IsSettled opened.0 }
+    ensures identity { result.1.identity ≡ identity }
     ensures book { result.1.book ≡ opened.1 }
+    ensures store { result.0 ≡ opened.0.store }
+    ensures rows { IfSome result.0 (λ store. S.is_clean store → S.rows store ≡ stored_in result.1.book) }
     ensures sum { IfSome result.0 (λ _. result.1.sum.0 ≡ sum_in result.1.book) }
 {
     let (journal, book) = opened;
@@ -236,7 +248,7 @@ fn change_in<S: RowStore + Drop>(
 
 /// This moment, or that of the last entry where it stands behind.
 fn not_before(history: &[Entry], moment: Moment) -> Moment
-    ensures { moment.0 ≤ result.0 }
+    ensures { result.0 ≡ max moment.0 (last_in history.now) }
 {
     let last = match history.last() {
         None => 0,

@@ -20,10 +20,12 @@ is_closed [] = false
 is_closed (Entered entry ∷ log) = is_closed log
 is_closed (Closed ∷ log) = true
 
--- A book as it was when it was shared, and the history that it has from then on, by its name.
+-- A book as it was when it was shared, the history that it has from then on, by its name, and whether it is stored: else it is kept in
+-- memory alone.
 pub record SharedLedger : Type 0 where
   pub opened : Ledger
   pub log : Book
+  pub stored : Bool
 
 -- the book that was shared, as it was when this much of its history had happened
 abbrev pub book_at : Ledger → List Logged → Ledger

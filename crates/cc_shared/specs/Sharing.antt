@@ -3,6 +3,7 @@ use Rattle.std.specs.Prelude.{◌≡◌, ℕ, zero, suc, List, [], ◌∷◌, �
 use Rattle.std.specs.List.{range_with_len}
 use Rattle.dia_base.specs.declared.number.Moment.{Moment}
 use Rattle.cc_book.specs.declared.book.BookRefusal.{BookRefusal}
+use Rattle.cc_book.specs.declared.book.BookRefusal.TheVariants.{Full, OutOfMemory}
 use Rattle.cc_book.specs.declared.entry.Entry.{Entry}
 use Rattle.cc_book.specs.declared.entry.Entry.TheVariants.{Take, Sweep, ChangeTerms}
 use Rattle.cc_book.specs.declared.terms.Terms.{Terms}
@@ -69,6 +70,13 @@ pub record HasSwept (opened : Ledger) (moment : Moment) (swept : Swept) : Type 0
 -- A sweep through the lock: a book that is closed ends no session, and no other one answers so without a look.
 abbrev pub IsSweep : SharedLedger → Moment → Swept → Type 0
 IsSweep shared moment swept = (swept.seen.book ≡ shared.log) × MatchBool (is_closed swept.seen.log) (swept.ended ≡ 0) (HasSwept shared.opened moment swept)
+
+-- A sweep that is refused as by a full book: a book with this opening and some open, legal history refuses one at this moment.
+abbrev pub IsNoSweep : SharedLedger → Moment → BookRefusal → Type 0
+IsNoSweep shared moment OutOfMemory = Unit {0}
+IsNoSweep shared moment (Full limit) =
+    (before : List Logged) × (is_closed before ≡ false) × IsLegal shared.opened.terms (book_at shared.opened before).history
+    × (sweep_answer (book_at shared.opened before) moment ≡ Err (Full limit))
 
 -- An open book was looked at: these are its accounts.
 pub record IsShown (book : Ledger) (pairs : List (ℤ × ℤ)) : Type 0 where

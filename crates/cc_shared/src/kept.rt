@@ -1,6 +1,6 @@
 //! A book that is open, of which everything is stored: what stands behind the lock until it is closed.
 
-ghost use Rattle.std.specs.Prelude.{◌≡◌, ◌+◌, ◌<◌, ◌^◌, [], IfOk, length, sum, false};
+ghost use Rattle.std.specs.Prelude.{◌≡◌, ◌+◌, ◌<◌, ◌^◌, [], IfOk, is_some, length, sum, false};
 ghost use Rattle.cc_book.specs.History.{IsLegal};
 ghost use Rattle.cc_shared.specs.Closing.{FinishesWith};
 ghost use Rattle.cc_shared.specs.History.{book_at, is_closed};
@@ -51,7 +51,7 @@ impl<L: Sharing, S: RowStore + Drop> Drop for KeptBook<L, S> {
 }
 
 impl<L: Sharing, S: RowStore> Model for KeptBook<L, S> {
-    ghost use Rattle.std.specs.Prelude.{◌≡◌, List, false};
+    ghost use Rattle.std.specs.Prelude.{◌≡◌, List, false, is_some};
     ghost use Rattle.book_journal.specs.Kept.{IsKeptBy, IsSettled};
     ghost use Rattle.cc_shared.specs.declared.logged.Logged.{Logged as Record};
     ghost use Rattle.cc_shared.specs.History.{book_at, entries_in, is_closed};
@@ -63,7 +63,7 @@ impl<L: Sharing, S: RowStore> Model for KeptBook<L, S> {
 
     ghost invariant = { λ b. (b.book ≡ book_at L.shared.opened b.seen) × (is_closed b.seen ≡ false) × (takes_in (entries_in b.seen) ≡ b.takes)
         × (b.counted.total ≡ b.takes) × (b.rest.parts ≡ 0) × (b.rest.amount ≡ 0)
-        × IsKeptBy S.is_clean S.is_ready S.rows b.journal b.book × IsSettled b.journal };
+        × IsKeptBy S.is_clean S.is_ready S.rows b.journal b.book × IsSettled b.journal × (is_some b.journal.store ≡ L.shared.stored) };
 }
 
 impl<L: Sharing, S: RowStore + Drop> KeptBook<L, S> {
@@ -81,6 +81,7 @@ impl<L: Sharing, S: RowStore + Drop> KeptBook<L, S> {
         requires seen { seen ≡ [] }
         requires kept { IsKeptBy S.is_clean S.is_ready S.rows journal book }
         requires settled { IsSettled journal }
+        requires stored { is_some journal.store ≡ L.shared.stored }
         ensures { result ≡ [] }
     {
         KeptBook {

@@ -1,14 +1,15 @@
 //! A book behind its lock.
 
-ghost use Rattle.std.specs.Prelude.{◌≡◌, ◌≤◌, ◌<◌, [], ◌∷◌, ◌++◌, Err, IfErr, IfOk, IfSome, MatchResult, length, map, replicate, true, vec_capacity};
+ghost use Rattle.std.specs.Prelude.{◌≡◌, ◌≤◌, ◌<◌, [], ◌∷◌, ◌++◌, Err, IfErr, IfOk, IfSome, MatchResult, is_some, length, map, replicate, true, vec_capacity};
 ghost use Rattle.cc_shared.specs.Receipts.{IsEnteredAt, IsReceiptOf};
-ghost use Rattle.cc_shared.specs.Sharing.{IsSnapshot, IsSweep};
+ghost use Rattle.cc_shared.specs.Sharing.{IsNoSweep, IsSnapshot, IsSweep};
 ghost use Rattle.cc_shared.specs.Serving.{IsRefused, ServesAll, count_after, refused_closed};
 ghost use Rattle.cc_shared.specs.Changing.{IsChange, IsNoChange};
 ghost use Rattle.cc_shared.specs.Looking.{IsAccountLook};
 ghost use Rattle.cc_shared.specs.Closing.{HasCause, IsFinished, IsWhole};
 ghost use Rattle.cc_shared.specs.History.{is_closed};
 ghost use Rattle.cc_shared.specs.declared.logged.Logged.TheVariants.{Closed};
+ghost use Rattle.cc_book.specs.declared.book.BookRefusal.TheVariants.{OutOfMemory};
 ghost use Rattle.book_journal.specs.Kept.{IsKeptBy, IsSettled};
 
 use crate::asking::{Asked, Served};
@@ -124,7 +125,8 @@ impl<L: Sharing, S: RowStore> Behind<L, S> {
 
     /// A sweep of a book that is closed, which ends nobody.
     fn sweep(&self) -> Result<Swept, BookRefusal>
-        ensures { IfOk result (λ swept. (swept.seen.book ≡ L.shared.log) × (is_closed swept.seen.log ≡ true) × (swept.ended ≡ 0)) }
+        ensures swept { IfOk result (λ swept. (swept.seen.book ≡ L.shared.log) × (is_closed swept.seen.log ≡ true) × (swept.ended ≡ 0)) }
+        ensures memory { IfErr result (λ refusal. refusal ≡ OutOfMemory) }
     {
         match self {
             Behind::Closed(closed) | Behind::Failed(closed) => {
@@ -153,6 +155,7 @@ impl<L: Sharing, S: RowStore + Drop> LockedBook<L, S> {
         requires history { history ≡ L.shared.log }
         requires kept { IsKeptBy S.is_clean S.is_ready S.rows journal book }
         requires settled { IsSettled journal }
+        requires stored { is_some journal.store ≡ L.shared.stored }
         ensures seats { IfOk result (λ shared. shared.1.items ≡ replicate seats 0) }
         ensures err { IfErr result (λ returned. returned ≡ book) }
     {
@@ -333,7 +336,8 @@ impl<L: Sharing, S: RowStore + Drop> LockedBook<L, S> {
     /// book is closed it ends none. It is refused for want of memory also where it was not stored: the book is closed then
     /// ([`LockedBook::has_failed`]).
     pub fn sweep<R: Wait>(&self, rt: &R, moment: Moment) -> Result<Swept, BookRefusal>
-        ensures { IfOk result (IsSweep L.shared moment) }
+        ensures swept { IfOk result (IsSweep L.shared moment) }
+        ensures refused { IfErr result (IsNoSweep L.shared moment) }
     {
         let mut guard = self.lock.lock(rt);
         let Some(mut open) = take_open(&mut guard) else {

@@ -9,7 +9,7 @@ ghost use Rattle.cc_book.specs.Planning.{IsGoodFor, after_plan, answer_planned};
 ghost use Rattle.cc_book.specs.Taking.{AnswersWith, SweepsWith, answer_of, is_fresh, sweep_answer, with_take};
 ghost use Rattle.cc_shared.specs.declared.logged.Logged.TheVariants.{Entered};
 ghost use Rattle.cc_shared.specs.Serving.{ServesEach, ServesOne, count_after, why_of};
-ghost use Rattle.cc_shared.specs.Sharing.{IsSweep, log_after_sweep};
+ghost use Rattle.cc_shared.specs.Sharing.{IsNoSweep, IsSweep, log_after_sweep};
 ghost use Rattle.cc_shared.specs.Changing.{IsChange, IsUnchanged};
 ghost use Rattle.cc_shared.specs.Closing.{FinishesWith};
 ghost use Rattle.cc_shared.specs.History.{book_at, is_closed};
@@ -49,7 +49,7 @@ pub struct OpenBook<L: Sharing, S: RowStore> {
 }
 
 impl<L: Sharing, S: RowStore> Model for OpenBook<L, S> {
-    ghost use Rattle.std.specs.Prelude.{◌≡◌, List, false};
+    ghost use Rattle.std.specs.Prelude.{◌≡◌, List, false, is_some};
     ghost use Rattle.book_journal.specs.Kept.{IsKeptBy};
     ghost use Rattle.cc_shared.specs.declared.logged.Logged.{Logged as Record};
     ghost use Rattle.cc_shared.specs.History.{book_at, entries_in, is_closed};
@@ -61,7 +61,7 @@ impl<L: Sharing, S: RowStore> Model for OpenBook<L, S> {
 
     ghost invariant = { λ b. (b.book ≡ book_at L.shared.opened b.seen) × (is_closed b.seen ≡ false) × (takes_in (entries_in b.seen) ≡ b.takes)
         × (b.counted.total ≡ b.takes) × (b.rest.parts ≡ 0) × (b.rest.amount ≡ 0)
-        × IsKeptBy S.is_clean S.is_ready S.rows b.journal b.book };
+        × IsKeptBy S.is_clean S.is_ready S.rows b.journal b.book × (is_some b.journal.store ≡ L.shared.stored) };
 }
 
 impl<L: Sharing, S: RowStore + Drop> OpenBook<L, S> {
@@ -256,6 +256,7 @@ impl<L: Sharing, S: RowStore + Drop> OpenBook<L, S> {
         moment: Moment,
     ) -> Untold<L, Result<Swept, BookRefusal>>
         ensures swept { IfOk result.told (IsSweep L.shared moment) }
+        ensures refused { IfErr result.told (IsNoSweep L.shared moment) }
         ensures behind { result.behind ≡ self.new }
     {
         let swept = match self.sweep(word, moment) {
@@ -345,6 +346,7 @@ fn change_kept<S: RowStore>(
     ensures made { IfOk result (λ made. (made.1 ≡ change) × (change_answer book.old change ≡ Ok made.0) × (book.new ≡ with_change book.old moment change)) }
     ensures refused { IfErr result (λ refusal. ChangesWith (change_answer book.old change) (Err refusal) × (book.new ≡ book.old)) }
     ensures kept { IsKeptBy S.is_clean S.is_ready S.rows journal.new book.new }
+    ensures store { journal.new.store ≡ journal.old.store }
 {
     let place = book.quote_change(&change)?;
     let again = change.copy(alloc)?;

@@ -1,8 +1,8 @@
 //! A book that threads share.
 
-ghost use Rattle.std.specs.Prelude.{◌≡◌, ◌≤◌, ◌<◌, IfErr, IfOk, MatchResult, replicate, true};
+ghost use Rattle.std.specs.Prelude.{◌≡◌, ◌≤◌, ◌<◌, IfErr, IfOk, MatchResult, false, is_some, replicate, true};
 ghost use Rattle.cc_shared.specs.Receipts.{IsEnteredAt, IsReceiptOf};
-ghost use Rattle.cc_shared.specs.Sharing.{IsSnapshot, IsSweep};
+ghost use Rattle.cc_shared.specs.Sharing.{IsNoSweep, IsSnapshot, IsSweep};
 ghost use Rattle.cc_shared.specs.Serving.{IsRefused, ServesAll, count_after};
 ghost use Rattle.cc_shared.specs.Changing.{IsChange, IsNoChange};
 ghost use Rattle.cc_shared.specs.Looking.{IsAccountLook};
@@ -49,6 +49,7 @@ impl<L: Sharing, S: RowStore + Drop> SharedBook<L, S> {
         requires some { 0 < seats }
         requires book { book ≡ L.shared.opened }
         requires history { history ≡ L.shared.log }
+        requires memory { L.shared.stored ≡ false }
         ensures seats { IfOk result (λ shared. shared.1.items ≡ replicate seats 0) }
         ensures err { IfErr result (λ returned. returned ≡ book) }
     {
@@ -72,6 +73,7 @@ impl<L: Sharing, S: RowStore + Drop> SharedBook<L, S> {
         requires history { history ≡ L.shared.log }
         requires kept { IsKeptBy S.is_clean S.is_ready S.rows journal book }
         requires settled { IsSettled journal }
+        requires stored { is_some journal.store ≡ L.shared.stored }
         ensures seats { IfOk result (λ shared. shared.1.items ≡ replicate seats 0) }
         ensures err { IfErr result (λ returned. returned ≡ book) }
     {
@@ -152,7 +154,8 @@ impl<L: Sharing, S: RowStore + Drop> SharedBook<L, S> {
     /// book is closed it ends none. It is refused for want of memory also where it was not stored: the book is closed then
     /// ([`SharedBook::has_failed`]).
     pub fn sweep<R: Wait>(&self, rt: &R, moment: Moment) -> Result<Swept, BookRefusal>
-        ensures { IfOk result (IsSweep L.shared moment) }
+        ensures swept { IfOk result (IsSweep L.shared moment) }
+        ensures refused { IfErr result (IsNoSweep L.shared moment) }
     {
         self.locked.sweep(rt, moment)
     }

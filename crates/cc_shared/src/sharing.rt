@@ -3,8 +3,8 @@
 use std::marker::Brand;
 use std::sync::ledger::Ledger;
 
-/// Names one sharing of a book: the ledger of its takes, the book that was handed in, and its history from then on. Each call of
-/// a program that shares a book picks it.
+/// Names one sharing of a book: the ledger of its takes, the book that was handed in, its history from then on, and whether it is
+/// stored. Each call of a program that shares a book picks it.
 pub trait Sharing: Ledger {
     ghost use Rattle.cc_shared.specs.History.{SharedLedger};
 
@@ -12,7 +12,7 @@ pub trait Sharing: Ledger {
 }
 
 impl Sharing for Brand {
-    ghost use Rattle.std.specs.Prelude.{[], pos};
+    ghost use Rattle.std.specs.Prelude.{[], false, pos};
 
     ghost shared = { record {
       opened = record {
@@ -21,5 +21,6 @@ impl Sharing for Brand {
         history = [];
       };
       log = record { number = 0; log_name = 0; cells_name = 0 };
+      stored = false;
     } };
 }

@@ -4,13 +4,13 @@ use Rattle.dia_base.specs.declared.number.Moment.{Moment}
 use Rattle.cc_book.specs.declared.book.BookRefusal.{BookRefusal}
 use Rattle.cc_shared.specs.declared.looks.Swept.{Swept}
 use Rattle.cc_shared.specs.History.{SharedLedger}
-use Rattle.cc_shared.specs.Sharing.{IsSweep}
+use Rattle.cc_shared.specs.Sharing.{IsNoSweep, IsSweep}
 use Rattle.cc_sweeper.specs.declared.errand.SweepDone.{SweepDone}
 
--- The book was swept at this moment, and has ended so many sessions, or has refused.
+-- The book was swept at this moment, and has ended so many sessions, or has refused, and why.
 abbrev pub IsSweptTo : SharedLedger → Moment → Result ℕ BookRefusal → Type 0
 IsSweptTo shared moment (Ok ended) = (swept : Swept) × IsSweep shared moment swept × (ended ≡ swept.ended)
-IsSweptTo shared moment (Err refusal) = Unit {0}
+IsSweptTo shared moment (Err refusal) = IsNoSweep shared moment refusal
 
 -- what the sweep that was asked for has come to
 pub record IsDoneFor (shared : SharedLedger) (asked : Option Moment) (done : SweepDone) : Type 0 where

@@ -13,7 +13,7 @@ use book_place::FileKeyFault;
 use book_store::{AppendError, CheckError, RowError};
 use farm_command::Status;
 use farm_site::SiteFault;
-use farm_terms::{AccountsFault, SiteTermsFault};
+use farm_terms::{AccountsFault, SiteChangeFault, SiteTermsFault};
 use sqlite_trees::error::StoreError;
 use std::alloc::AllocError;
 use thiserror::Error;
@@ -185,6 +185,15 @@ fn journal_status(error: JournalError) -> Status
 impl From<SiteTermsFault> for TaskFault {
     fn from(fault: SiteTermsFault) -> TaskFault {
         TaskFault::Terms(fault)
+    }
+}
+
+impl From<SiteChangeFault> for TaskFault {
+    fn from(fault: SiteChangeFault) -> TaskFault {
+        match fault {
+            SiteChangeFault::Terms(fault) => TaskFault::Terms(fault),
+            SiteChangeFault::Stays(key) => TaskFault::NotRead(BookFault::OtherTerms(key)),
+        }
     }
 }
 

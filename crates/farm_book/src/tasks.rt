@@ -13,18 +13,16 @@ ghost use Rattle.farm_book.specs.Told.{IsCopyOf, IsStoredFor, IsTold, summary_te
 use crate::fault::TaskFault;
 use book_copy::{Copied, copy_file};
 use book_lines::{entry_lines, made_line, push_difference_line, summary};
-use book_opening::{
-    BookFault, StoredBook, change_book, change_for, create_book, empty_under, read_book,
-};
+use book_opening::{StoredBook, change_book, change_for, create_book, empty_under, read_book};
 use book_place::accounts_path;
 use book_store::FIRST_SUM;
-use cc_book::{Book, Terms, TermsChange};
+use cc_book::{Terms, TermsChange};
 use dia_base::HISTORY_LIMIT;
 use farm_base::Site;
 use farm_command::{BookCommand, BookTask};
 use farm_report::report;
 use farm_site::{SiteDocument, site_document_of_octets};
-use farm_terms::{SiteChangeFault, site_change, site_terms};
+use farm_terms::{site_change, site_terms};
 use farm_text::{ReadFault, file_at, write_text};
 use std::alloc::Global;
 use std::io;
@@ -82,26 +80,9 @@ fn read_for(rt: &HostRuntime, path: &str, site: &Site) -> Result<StoredBook, Tas
     }
 }
 
-/// The change that leads from the terms that hold in a book to those that a site wants, with the accounts of the file at a path, if it
-/// names one.
-fn change_to(
-    rt: &HostRuntime,
-    site: &Site,
-    accounts: Option<&str>,
-    book: &Book,
-) -> Result<TermsChange, TaskFault>
-    requires { IsChecked site.now }
-    ensures { IfOk result (LeadsToSite site.now (is_some accounts.entry) (now_in book.now)) }
-{
-    match site_change(rt, site, accounts, book.terms_now()) {
-        Ok(change) => Ok(change),
-        Err(SiteChangeFault::Terms(fault)) => Err(TaskFault::Terms(fault)),
-        Err(SiteChangeFault::Stays(key)) => Err(TaskFault::NotRead(BookFault::OtherTerms(key))),
-    }
-}
-
-/// Reads a book, and gives it with that change. The accounts of the file are read behind it, and no list of them is made: so they do not
-/// stand in memory beside those of the book.
+/// Reads a book, and gives it with the change that leads from the terms that hold in it to those that a site wants, with the accounts of
+/// the file at a path, if it names one. That file is read behind the book, and no list of its accounts is made: so they do not stand in
+/// memory beside those of the book.
 fn read_under(
     rt: &HostRuntime,
     path: &str,
@@ -113,7 +94,7 @@ fn read_under(
     ensures leads { IfOk result (λ told. LeadsToSite site.now (is_some accounts.entry) (now_in told.0.book) told.1) }
 {
     let stored = read_for(rt, path, site)?;
-    let change = change_to(rt, site, accounts, &stored.book)?;
+    let change = site_change(rt, site, accounts, stored.book.terms_now())?;
     Ok((stored, change))
 }
 

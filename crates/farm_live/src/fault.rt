@@ -10,7 +10,7 @@ use farm_command::{CliFault, Status};
 use farm_loop::LoopFault;
 use farm_place::PlaceFault;
 use farm_site::SiteFault;
-use farm_terms::{AccountsFault, SiteTermsFault};
+use farm_terms::{AccountsFault, SiteChangeFault, SiteTermsFault};
 use pool_node::StartFault;
 use std::alloc::{AllocError, AllocFailed};
 use std::io;
@@ -97,6 +97,15 @@ impl From<io::Error> for Fault {
 impl From<SiteTermsFault> for Fault {
     fn from(fault: SiteTermsFault) -> Fault {
         Fault::Terms(fault)
+    }
+}
+
+impl From<SiteChangeFault> for Fault {
+    fn from(fault: SiteChangeFault) -> Fault {
+        match fault {
+            SiteChangeFault::Terms(fault) => Fault::Terms(fault),
+            SiteChangeFault::Stays(key) => Fault::Book(BookFault::OtherTerms(key)),
+        }
     }
 }
 

@@ -19,9 +19,7 @@ use crate::waker::LoopWaker;
 use book_clock::check_clock;
 use book_file::FileBook;
 use book_journal::Journal;
-use book_opening::{
-    BookFault, change_for, identity_at, open_book, renewed_by, serving_book, state_id_of,
-};
+use book_opening::{change_for, identity_at, open_book, renewed_by, serving_book, state_id_of};
 use book_store::RowStore;
 use cc_book::{Book, Terms, TermsChange};
 use cc_shared::{BlankHistory, SharedBook};
@@ -32,7 +30,7 @@ use farm_clock::Timer;
 use farm_command::Process;
 use farm_loop::Sockets;
 use farm_place::{Place, fronts_of, place_of};
-use farm_terms::{SiteChangeFault, site_change, site_terms};
+use farm_terms::{site_change, site_terms};
 use front_pool::Pooling;
 use pool_node::{PoolFronts, Timing, seats_for, start_fronts};
 use std::alloc::Global;
@@ -118,25 +116,8 @@ fn stored_book<O>(
 {
     let (rt, site) = (setting.rt, setting.site);
     let (journal, book) = open_book(rt, path, site.limit)?;
-    let change = change_to(rt, site, setting.accounts, &book)?;
+    let change = site_change(rt, site, setting.accounts, book.terms_now())?;
     Ok(((journal, book), change))
-}
-
-/// The change that leads from the terms that hold in a book to those of a site, with the accounts of the file at a path, if it names one.
-fn change_to(
-    rt: &HostRuntime,
-    site: &Site,
-    accounts: Option<&str>,
-    book: &Book,
-) -> Result<TermsChange, Fault>
-    requires { IsChecked site.now }
-    ensures { IfOk result (LeadsToSite site.now (is_some accounts.entry) (now_in book.now)) }
-{
-    match site_change(rt, site, accounts, book.terms_now()) {
-        Ok(change) => Ok(change),
-        Err(SiteChangeFault::Terms(fault)) => Err(Fault::Terms(fault)),
-        Err(SiteChangeFault::Stays(key)) => Err(Fault::Book(BookFault::OtherTerms(key))),
-    }
 }
 
 /// The same of an empty book in memory, which is under the terms of the site.
@@ -274,6 +255,7 @@ where
     requires parts { (blank.parts ≡ L.parts) × (blank.parts ≡ workers) }
     requires book { book ≡ L.shared.opened }
     requires history { history ≡ L.shared.log }
+    requires disk { is_some journal.store ≡ L.shared.stored }
     requires kept { IsKeptBy S.is_clean S.is_ready S.rows journal book }
     requires settled { IsSettled journal }
     requires some { 0 < workers }
@@ -324,6 +306,7 @@ where
     requires parts { (blank.parts ≡ L.parts) × (blank.parts ≡ workers) }
     requires book { book ≡ L.shared.opened }
     requires history { history ≡ L.shared.log }
+    requires disk { is_some journal.store ≡ L.shared.stored }
     requires kept { IsKeptBy S.is_clean S.is_ready S.rows journal book }
     requires settled { IsSettled journal }
     requires some { 0 < workers }

@@ -1,5 +1,5 @@
 -- The accounts of a site, and of a text beside it.
-use Rattle.std.specs.Prelude.{◌≡◌, ◌==◌, ℕ, ◌-◌, ◌<◌, ◌≤◌, List, [], ◌∷◌, ◌++◌, length, take, Bool, true, false, not, ◌&&◌, ◌||◌, get_or, IfSome, Some, slice_get, Ok, Err}
+use Rattle.std.specs.Prelude.{◌≡◌, ◌⊎◌, ℕ, ◌-◌, ◌<◌, ◌≤◌, List, [], ◌∷◌, ◌++◌, length, take, Bool, true, false, not, ◌&&◌, IfSome, IsSomeAnd, IsTrue, Some, slice_get, Ok, Err}
 use Rattle.std.specs.List.{list_any}
 use Rattle.cc_book.specs.declared.account.Account.{Account}
 use Rattle.cc_book.specs.declared.terms.Terms.{Terms}
@@ -9,7 +9,10 @@ use Rattle.farm_script.specs.AccountLines.{accounts_of, line_of_account}
 use Rattle.farm_script.specs.declared.fault.ScriptFault.TheVariants.{Line as on_line}
 use Rattle.farm_terms.specs.declared.fault.AccountsFault.{AccountsFault}
 use Rattle.farm_terms.specs.declared.fault.AccountsFault.TheVariants.{Line, Twice, CutOff, TooMany, OutOfMemory}
+use Rattle.farm_terms.specs.Lines.{ends}
 use Rattle.farm_terms.specs.declared.opening.AccountsText.{AccountsText}
+use Rattle.farm_terms.specs.declared.opening.SiteTermsFault.{SiteTermsFault}
+use Rattle.farm_terms.specs.declared.opening.SiteTermsFault.TheVariants as terms
 
 -- the account at this place has the Subscription-Id of one before it
 pub record StandsTwiceAt (accounts : List Account) (place : ℕ) : Type 0 where
@@ -38,10 +41,6 @@ abbrev pub AreSound : Site → List ℕ → Type 0
 AreSound site text = (accounts : List Account) × AreAccountsOf site text accounts
 
 -- ---- why a text spells none
-
--- whether the last line ends
-abbrev pub ends : List ℕ → Bool
-ends text = (length text == 0) || (get_or text (length text - 1) 0 == 10)
 
 abbrev pub IsReadFault : List ℕ → AccountsFault → Type 0
 IsReadFault text (Line number fault) = accounts_of text ≡ Err (on_line number fault)
@@ -81,3 +80,24 @@ IsSoundFor site read = IfSome read.text (λ text. AreSound site text.items)
 abbrev pub AreTermsOf : Site → Bool → Terms → Type 0
 AreTermsOf site false terms = terms ≡ terms_with site site.accounts
 AreTermsOf site true terms = (text : List ℕ) × (accounts : List Account) × AreAccountsOf site text accounts × (terms ≡ terms_with site accounts)
+
+-- ---- why there are none
+
+-- there is a text, and it spells no accounts beside those of the site
+abbrev pub AreNoTerms : Site → AccountsText → SiteTermsFault → Type 0
+AreNoTerms site read terms.NotRead = ⊥
+AreNoTerms site read (terms.Accounts fault) = IsSomeAnd read.text (λ text. AreNoAccountsOf site text.items fault)
+AreNoTerms site read terms.OutOfMemory = Unit {0}
+
+-- a file cannot be read, or is longer than may be, or memory ran out
+abbrev pub IsNotRead : SiteTermsFault → Type 0
+IsNotRead terms.NotRead = Unit {0}
+IsNotRead (terms.Accounts fault) = fault ≡ TooMany
+IsNotRead terms.OutOfMemory = Unit {0}
+
+-- memory ran out, or a file of accounts is named: it is not read, it is longer than may be, or a text was read that spells no accounts
+-- beside those of the site
+abbrev pub AreNoTermsAt : Site → Bool → SiteTermsFault → Type 0
+AreNoTermsAt site with_file terms.NotRead = IsTrue with_file
+AreNoTermsAt site with_file (terms.Accounts fault) = IsTrue with_file × ((fault ≡ TooMany) ⊎ ((text : List ℕ) × AreNoAccountsOf site text fault))
+AreNoTermsAt site with_file terms.OutOfMemory = Unit {0}

@@ -4,7 +4,8 @@ ghost use Rattle.std.specs.Prelude.{◌≡◌, ◌≤◌, IfErr, IfNone, IfOk, I
 ghost use Rattle.cc_book.specs.declared.account.Account.{Account};
 ghost use Rattle.farm_base.specs.CheckedSite.{IsChecked};
 ghost use Rattle.farm_script.specs.AccountLines.{accounts_of};
-ghost use Rattle.farm_terms.specs.SiteAccounts.{AreAccountsOf, AreNoAccountsOf, AreSound, IsReadFault, StandsTwiceAt, StandOnce, ends, terms_with};
+ghost use Rattle.farm_terms.specs.Lines.{ends};
+ghost use Rattle.farm_terms.specs.SiteAccounts.{AreAccountsOf, AreNoAccountsOf, AreSound, IsReadFault, StandsTwiceAt, StandOnce, terms_with};
 
 use crate::fault::AccountsFault;
 use cc_book::{Account, Accounts, Money, Subscriptions, Terms};
@@ -37,7 +38,8 @@ pub fn accounts_with(alloc: Global, site: &Site, text: &[u8]) -> Result<Accounts
 /// looked for again, so that no memory is wanted for that.
 pub fn sound_accounts(alloc: Global, site: &Site, text: &[u8]) -> Result<Accounts, AccountsFault>
     requires { AreSound site.now text.now }
-    ensures { IfOk result (AreAccountsOf site.now text.now) }
+    ensures accounts { IfOk result (AreAccountsOf site.now text.now) }
+    ensures fault { IfErr result (AreNoAccountsOf site.now text.now) }
 {
     let read = accounts_in(alloc, text)?;
     Ok(Accounts::list(joined(alloc, site, read)?))

@@ -2,8 +2,8 @@
 
 ghost use Rattle.std.specs.Prelude.{◌≡◌, IfErr, IfOk, IfSome, is_some, true};
 ghost use Rattle.farm_base.specs.CheckedSite.{IsChecked};
-ghost use Rattle.farm_terms.specs.SiteAccounts.{AreTermsOf, terms_with};
-ghost use Rattle.farm_terms.specs.SiteChange.{AreNoTerms, IsNoChange, LeadsToSite};
+ghost use Rattle.farm_terms.specs.SiteAccounts.{AreNoTerms, AreTermsOf, terms_with};
+ghost use Rattle.farm_terms.specs.SiteChange.{IsNoChange, IsNoChangeAt, LeadsToSite};
 ghost use Rattle.farm_terms.specs.declared.change.SiteChangeFault.TheVariants as change;
 ghost use Rattle.farm_terms.specs.declared.opening.SiteTermsFault.TheVariants as terms;
 
@@ -144,7 +144,8 @@ pub fn site_change(
     now: &Terms,
 ) -> Result<TermsChange, SiteChangeFault>
     requires { IsChecked site.now }
-    ensures { IfOk result (LeadsToSite site.now (is_some path.entry) now.now) }
+    ensures leads { IfOk result (LeadsToSite site.now (is_some path.entry) now.now) }
+    ensures refused { IfErr result (IsNoChangeAt site.now (is_some path.entry) now.now) }
 {
     let read = read_accounts(rt, path)?;
     change_of_text(rt.alloc(), site, &read, now)

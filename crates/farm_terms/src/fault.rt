@@ -15,6 +15,9 @@ pub enum TextFault {
     Line { line: u64, fault: LineFault },
     #[error("it has more than 4,096 lines, or 16 MiB")]
     TooLong,
+    /// No line feed stands behind the last line.
+    #[error("the last line does not end: the text is cut off")]
+    CutOff,
     #[error("it is no change of the terms")]
     NoChange,
     #[error("out of memory")]

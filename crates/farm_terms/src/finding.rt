@@ -23,12 +23,20 @@ fn is_sound(alloc: Global, site: &Site, line: &[u8], in_tariffs: bool) -> Result
     Ok(steps_of(alloc, &step, site).is_ok())
 }
 
+/// A text without the line feed at its end.
+fn without_end(text: &[u8]) -> &[u8] {
+    match text.split_last() {
+        Some((b'\n', lines)) => lines,
+        _ => text,
+    }
+}
+
 /// The first line of a text that spells no part of a change of the terms, counted from 1. Where each line does, the last one: what is wrong
 /// is wrong with several together.
 pub fn line_with_fault(alloc: Global, site: &Site, text: &[u8]) -> Result<u64, AllocError> {
     let mut in_tariffs = false;
     let mut number: u64 = 0;
-    for line in text.split(|octet| *octet == b'\n') {
+    for line in without_end(text).split(|octet| *octet == b'\n') {
         number = number.saturating_add(1);
         let begins = begins_tariffs(line);
         if begins && in_tariffs {

@@ -28,6 +28,7 @@ mod finding;
 mod joining;
 mod opening;
 
+use accounts::is_cut_off;
 pub use accounts::{ACCOUNT_LIMIT, accounts_with, tariffs_of};
 use cc_book::TermsChange;
 pub use change::{SiteChangeFault, site_change};
@@ -78,13 +79,17 @@ fn change_of(steps: Vec<Step>) -> Result<TermsChange, TextFault>
     }
 }
 
-/// The change of the terms that the lines of a text spell, or the first fault with its line. A text has 4,096 lines at most. The site is
+/// The change of the terms that the lines of a text spell, or the first fault with its line. A text has 4,096 lines at most, and each of
+/// them ends with a line feed. The site is
 /// that of the schedules in whose words it is spelled; no word of it names a node.
 pub fn change_in(alloc: Global, site: &Site, text: &[u8]) -> Result<TermsChange, TextFault>
     ensures { IfOk result (IsSpelled site.now text.now) }
 {
     if lines_in(text) > LINE_LIMIT {
         return Err(TextFault::TooLong);
+    }
+    if is_cut_off(text) {
+        return Err(TextFault::CutOff);
     }
     let line = step_line(alloc, text)?;
     match steps_of(alloc, &line, site) {

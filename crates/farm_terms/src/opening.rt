@@ -1,8 +1,8 @@
 //! The terms that the book of a site begins with, and the file that its accounts may stand in.
 
-ghost use Rattle.std.specs.Prelude.{◌≡◌, IfOk, is_some};
+ghost use Rattle.std.specs.Prelude.{◌≡◌, IfErr, IfOk, IsTrue, is_some};
 ghost use Rattle.farm_base.specs.CheckedSite.{IsChecked};
-ghost use Rattle.farm_terms.specs.SiteAccounts.{AreTermsOf, IsSoundFor};
+ghost use Rattle.farm_terms.specs.SiteAccounts.{AreNoTerms, AreNoTermsAt, AreTermsOf, IsNotRead, IsSoundFor};
 ghost use Rattle.farm_terms.specs.declared.opening.SiteTermsFault.TheVariants as terms;
 
 use crate::accounts::{accounts_with, sound_accounts, terms_with};
@@ -46,7 +46,9 @@ impl From<AccountsFault> for SiteTermsFault {
 }
 
 /// The octets of a file of accounts.
-pub fn accounts_file(rt: &HostRuntime, path: &str) -> Result<Vec<u8>, SiteTermsFault> {
+pub fn accounts_file(rt: &HostRuntime, path: &str) -> Result<Vec<u8>, SiteTermsFault>
+    ensures { IfErr result IsNotRead }
+{
     match file_up_to(rt, path, FILE_LIMIT) {
         Ok(text) if text.len() > FILE_LIMIT => Err(AccountsFault::TooMany.into()),
         Ok(text) => Ok(text),
@@ -66,7 +68,8 @@ pub(crate) fn read_accounts(
     rt: &HostRuntime,
     path: Option<&str>,
 ) -> Result<AccountsText, SiteTermsFault>
-    ensures { IfOk result (λ read. is_some read.text ≡ is_some path.entry) }
+    ensures named { IfOk result (λ read. is_some read.text ≡ is_some path.entry) }
+    ensures not_read { IfErr result (λ fault. IsTrue (is_some path.entry) × IsNotRead fault) }
 {
     match path {
         Some(path) => Ok(AccountsText {
@@ -84,6 +87,7 @@ pub(crate) fn accounts_text(
 ) -> Result<AccountsText, SiteTermsFault>
     ensures named { IfOk result (λ read. is_some read.text ≡ is_some path.entry) }
     ensures sound { IfOk result (IsSoundFor site.now) }
+    ensures none { IfErr result (AreNoTermsAt site.now (is_some path.entry)) }
 {
     let Some(path) = path else {
         return Ok(AccountsText { text: None });
@@ -101,7 +105,8 @@ pub(crate) fn terms_of_text(
 ) -> Result<Terms, SiteTermsFault>
     requires checked { IsChecked site.now }
     requires sound { IsSoundFor site.now read.now }
-    ensures { IfOk result (AreTermsOf site.now (is_some read.now.text)) }
+    ensures terms { IfOk result (AreTermsOf site.now (is_some read.now.text)) }
+    ensures none { IfErr result (AreNoTerms site.now read.now) }
 {
     let accounts = match &read.text {
         Some(text) => sound_accounts(alloc, site, text)?,
@@ -118,7 +123,8 @@ pub fn site_terms(
     path: Option<&str>,
 ) -> Result<Terms, SiteTermsFault>
     requires { IsChecked site.now }
-    ensures { IfOk result (AreTermsOf site.now (is_some path.entry)) }
+    ensures terms { IfOk result (AreTermsOf site.now (is_some path.entry)) }
+    ensures none { IfErr result (AreNoTermsAt site.now (is_some path.entry)) }
 {
     let read = accounts_text(rt, site, path)?;
     terms_of_text(rt.alloc(), site, &read)

@@ -59,7 +59,7 @@ never_without book request is = go (kept_reply book.terms book.history request) 
 module _ (site : FrontSite) (book : Ledger) (moment : Moment) (message : Message) (legal : IsLegal book.terms book.history) where
   -- the book, shared under some name
   abbrev shared : SharedLedger
-  shared = record { opened = book; log = record { number = 0; log_name = 0; cells_name = 0 } }
+  shared = record { opened = book; log = record { number = 0; log_name = 0; cells_name = 0 }; stored = false }
 
   pub record Had : Type 0 where
     pub answer : Message

@@ -48,7 +48,7 @@ impl Timing {
     pub fn on(timer: Timer, book: &Book) -> Timing
         ensures behind { All (λ entry. moment_of entry ≤ result.timer.first) book.now.history }
         ensures figures { result.figures ≡ figures_of book.now }
-        ensures later { min (deadline_at book.now.terms.validity result.timer.first) 18446744073709551615 ≤ result.first_sweep.0 }
+        ensures sweeps { result.first_sweep.0 ≡ min (deadline_at book.now.terms.validity result.timer.first) 18446744073709551615 }
     {
         let timer = timer.not_before(Moment(latest(book.history())));
         let lasting = 2_000 * u64::from(book.validity());

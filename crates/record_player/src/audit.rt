@@ -156,15 +156,13 @@ impl<'s, R: Read + Drop> Audit<'s, R> {
 
     /// Changes the terms, if the next entry of the book on disk does, and others than changes stand behind it. Whether it did.
     fn change_between(&mut self) -> Result<bool, PlayFault> {
-        let has_other_ahead = match &mut self.book {
-            Some(book) => book.has_other_ahead()?,
-            None => false,
+        let Some(book) = &mut self.book else {
+            return Ok(false);
         };
-        if has_other_ahead {
-            self.change_terms()
-        } else {
-            Ok(false)
+        if self.player.next_change().is_none() || !book.has_other_ahead()? {
+            return Ok(false);
         }
+        self.change_terms()
     }
 
     /// Changes the terms as the last entries of the book on disk do: they stand there since the fronts have ended.

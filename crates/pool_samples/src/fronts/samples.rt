@@ -1,6 +1,6 @@
 //! Answers of two fronts, many at a time, a session that is due, a full book, and a record.
 
-ghost use Rattle.std.specs.Prelude.{◌≡◌, ◌≤◌, ◌<◌, ◌^◌};
+ghost use Rattle.std.specs.Prelude.{◌≡◌, ◌≤◌, ◌<◌, ◌^◌, false};
 ghost use Rattle.dia_base.specs.declared.number.NodeNo.{NodeNo};
 ghost use Rattle.pool_node.specs.Fronts.{site_of};
 
@@ -163,6 +163,7 @@ where
     requires parts { (blank.parts ≡ L.parts) × (blank.parts ≡ 2) }
     requires book { book ≡ L.shared.opened }
     requires history { history ≡ L.shared.log }
+    requires memory { L.shared.stored ≡ false }
     requires site { (front : NodeNo) → L.site front ≡ site_of site.now front }
 {
     let timing = Timing::on(Timer::start(rt)?, &book);
@@ -235,6 +236,7 @@ where
     requires parts { (blank.parts ≡ L.parts) × (blank.parts ≡ 2) }
     requires book { book ≡ L.shared.opened }
     requires history { history ≡ L.shared.log }
+    requires memory { L.shared.stored ≡ false }
     requires site { (front : NodeNo) → L.site front ≡ site_of site.now front }
 {
     let waker = Rings(Arc::try_clone(rings)?);

@@ -1,6 +1,6 @@
 //! Two threads that serve the same requests, and others.
 
-ghost use Rattle.std.specs.Prelude.{◌≡◌};
+ghost use Rattle.std.specs.Prelude.{◌≡◌, false};
 
 use crate::messages::debit_request;
 use crate::shared::table::{Table, share};
@@ -85,6 +85,7 @@ fn crowd<L: Sharing + Send + Sync, R: Threads + Wait + Print + Sync>(
     requires parts { (blank.parts ≡ L.parts) × (blank.parts ≡ 2) }
     requires book { book ≡ L.shared.opened }
     requires history { history ≡ L.shared.log }
+    requires memory { L.shared.stored ≡ false }
 {
     let mut one = share::<L>(alloc, blank, history, book, 2)?;
     let two = one.split(alloc)?;

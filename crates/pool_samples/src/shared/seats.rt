@@ -1,6 +1,6 @@
 //! What comes of seats and receipts that are handed in, or kept back, and of a sweep through the lock.
 
-ghost use Rattle.std.specs.Prelude.{◌≡◌, ◌≤◌, ◌<◌, ◌^◌};
+ghost use Rattle.std.specs.Prelude.{◌≡◌, ◌≤◌, ◌<◌, ◌^◌, false};
 
 use crate::messages::{DEBIT_WITH_TIME, INITIAL, LARGER_DEBIT, debit_request, request};
 use crate::shared::lines::print_answers;
@@ -63,6 +63,7 @@ fn sixth<L: Sharing, R: Wait + Print>(
     requires parts { (blank.parts ≡ L.parts) × (blank.parts ≡ 1) }
     requires book { book ≡ L.shared.opened }
     requires history { history ≡ L.shared.log }
+    requires memory { L.shared.stored ≡ false }
 {
     let mut table = share::<L>(alloc, blank, history, book, 1)?;
     for number in 0..6 {
@@ -198,6 +199,7 @@ fn run<L: Sharing, R: Wait + Print>(
     requires some { 0 < seats }
     requires book { book ≡ L.shared.opened }
     requires history { history ≡ L.shared.log }
+    requires memory { L.shared.stored ≡ false }
 {
     let table = share::<L>(alloc, blank, history, book, seats)?;
     match sample {

@@ -1,6 +1,6 @@
 //! A shared book as one thread uses it, with what it prints of each call.
 
-ghost use Rattle.std.specs.Prelude.{◌≡◌, ◌<◌};
+ghost use Rattle.std.specs.Prelude.{◌≡◌, ◌<◌, false};
 
 use crate::messages::debit_request;
 use crate::nowhere::Nowhere;
@@ -35,6 +35,7 @@ pub fn share<L: Sharing>(
     requires some { 0 < seats }
     requires book { book ≡ L.shared.opened }
     requires history { history ≡ L.shared.log }
+    requires memory { L.shared.stored ≡ false }
 {
     match SharedBook::<L, Nowhere>::share(alloc, blank, history, book, seats) {
         Ok((shared, seats)) => Ok(Table {

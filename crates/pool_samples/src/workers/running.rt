@@ -1,6 +1,6 @@
 //! A pool from its start to its end, with what is printed of it.
 
-ghost use Rattle.std.specs.Prelude.{◌≡◌, ◌<◌, IfOk};
+ghost use Rattle.std.specs.Prelude.{◌≡◌, ◌<◌, IfOk, false};
 
 use crate::nowhere::Nowhere;
 use anyhow::{Context, bail};
@@ -87,6 +87,7 @@ where
     requires parts { (blank.parts ≡ L.parts) × (blank.parts ≡ workers) }
     requires book { book ≡ L.shared.opened }
     requires history { history ≡ L.shared.log }
+    requires memory { L.shared.stored ≡ false }
     requires jobs { 0 < queue.jobs }
     requires site { L.site queue.front ≡ record { name = queue.name; realm = queue.realm; profile = queue.profile } }
     requires some { 0 < workers }

@@ -1,6 +1,6 @@
 //! Workers at work, and what comes of full queues and of a stop.
 
-ghost use Rattle.std.specs.Prelude.{◌≡◌, ◌<◌};
+ghost use Rattle.std.specs.Prelude.{◌≡◌, ◌<◌, false};
 
 use crate::messages::{DEBIT_WITHOUT_NUMBER, INITIAL, TERMINATION};
 use crate::told::print_book;
@@ -248,6 +248,7 @@ where
     requires parts { (blank.parts ≡ L.parts) × (blank.parts ≡ workers) }
     requires book { book ≡ L.shared.opened }
     requires history { history ≡ L.shared.log }
+    requires memory { L.shared.stored ≡ false }
     requires jobs { 0 < queue.jobs }
     requires site { L.site queue.front ≡ record { name = queue.name; realm = queue.realm; profile = queue.profile } }
     requires some { 0 < workers }

@@ -18,4 +18,5 @@ invariant_of-result g c =
       c.requires.rest.1,
       c.requires.kept,
       c.requires.settled,
+      c.requires.stored,
     )

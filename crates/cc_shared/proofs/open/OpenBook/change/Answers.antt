@@ -1,4 +1,4 @@
-use Rattle.std.proofs.Common.{◌≡◌, ◌++◌, ◌∷◌, [], List, false, ap, sym, ◌∙◌}
+use Rattle.std.proofs.Common.{is_some, ◌≡◌, ◌++◌, ◌∷◌, [], List, false, ap, sym, ◌∙◌}
 use Rattle.cc_book.specs.declared.entry.Entry.TheVariants.{ChangeTerms}
 use Rattle.cc_book.specs.declared.terms_change.TermsChange.{TermsChange}
 use Rattle.cc_book.specs.Changing.{with_change}
@@ -34,4 +34,5 @@ invariant_of-open g c =
       c.open.invariant.4,
       c.open.invariant.5,
       c.change_kept.ensures.kept,
+      ap is_some c.change_kept.ensures.store ∙ c.open.invariant.7,
     )

@@ -1,4 +1,4 @@
-use Rattle.std.proofs.Common.{◌≡◌, ◌++◌, ◌∷◌, [], List, Bool, length, ap, sym, subst, cond, ◌∙◌, arith, length-append}
+use Rattle.std.proofs.Common.{is_some, ◌≡◌, ◌++◌, ◌∷◌, [], List, Bool, length, ap, sym, subst, cond, ◌∙◌, arith, length-append}
 use Rattle.cc_book.specs.declared.entry.Entry.TheVariants.{Take}
 use Rattle.cc_book.specs.Planning.{after_plan, answer_planned}
 use Rattle.cc_book.specs.Taking.{Ledger, with_take}
@@ -46,4 +46,5 @@ invariant_of-self-2 g c =
       c.self.invariant.4,
       c.self.invariant.5,
       subst (λ (l : Ledger). IsKeptBy g.S.RowStore.is_clean g.S.RowStore.is_ready g.S.RowStore.rows c.add.new.self l) end longer,
+      ap is_some (c.add.ensures.store ∙ c.row_of_take.ensures.store) ∙ c.self.invariant.7,
     )

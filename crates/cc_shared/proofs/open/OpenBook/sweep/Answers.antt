@@ -1,4 +1,4 @@
-use Rattle.std.proofs.Common.{◌≡◌, ◌++◌, ◌∷◌, [], List, length, ap, sym, subst, ◌∙◌}
+use Rattle.std.proofs.Common.{is_some, ◌≡◌, ◌++◌, ◌∷◌, [], List, length, ap, sym, subst, ◌∙◌}
 use Rattle.cc_book.specs.declared.entry.Entry.TheVariants.{Sweep}
 use Rattle.cc_book.specs.Taking.{Ledger, with_sweep}
 use Rattle.cc_book.specs.declared.entry.Entry.{Entry}
@@ -35,6 +35,7 @@ invariant_of-self-2 g c =
       c.self.invariant.4,
       c.self.invariant.5,
       subst (λ (l : Ledger). IsKeptBy g.S.RowStore.is_clean g.S.RowStore.is_ready g.S.RowStore.rows c.add.new.self l) end longer,
+      ap is_some (c.add.ensures.store ∙ c.row_of_sweep.ensures.store) ∙ c.self.invariant.7,
     )
 
 pub returns-clause-open : goal.returns-clause-open
