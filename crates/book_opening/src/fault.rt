@@ -60,7 +60,7 @@ pub enum BookFault {
     #[error("the book was made under other terms: {0} differs")]
     OtherTerms(TermsKey),
     /// The terms of the site do not hold in the book, and it is not to change its terms.
-    #[error("the site has other terms than the book: {0}; --change-terms changes them")]
+    #[error("the site has other terms than the book: {0}; farm check --book tells which, --change-terms changes them")]
     TermsDiffer(TermsDifference),
     /// The book does not change its terms.
     #[error("its terms are not changed: {0}")]
