@@ -66,6 +66,9 @@ pub enum Fault {
     NoToken,
     #[error("the record cannot be opened: {0}")]
     Record(io::Error),
+    /// What stands there is left as it is.
+    #[error("the record cannot be written: its file does not begin as a record")]
+    NoRecord,
     /// The book in the file is not opened. The file is as it was.
     #[error("the book cannot be opened: {0}")]
     Book(BookFault),
@@ -165,7 +168,8 @@ impl Fault {
                 | BookFault::DamagedTerms
                 | BookFault::Row(_),
             )
-            | Fault::NoToken => Status::Refused,
+            | Fault::NoToken
+            | Fault::NoRecord => Status::Refused,
             Fault::SiteFile
             | Fault::Terms(SiteTermsFault::NotRead)
             | Fault::Read

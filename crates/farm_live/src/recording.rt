@@ -4,24 +4,65 @@ use crate::Logger;
 use crate::fault::Fault;
 use crate::setting::Setting;
 use cc_book::Book;
-use dia_base::NodeNo;
+use dia_base::{Moment, NodeNo};
 use farm_loop::Live;
 use farm_node::Node;
 use farm_record::{Event, Recorder};
 use farm_report::report;
-use log::warn;
+use log::{info, warn};
 use std::alloc::{AllocError, Global};
-use std::fs::{File, OpenOptions};
-use std::io::Write;
+use std::fs::{self, File, OpenOptions};
+use std::io::{self, Read, Write};
 use std::rt::Clock;
 
 /// What is written behind a line that was not finished, where a record can be written no further.
 const LOST: &[u8] = b" ~\nlost\n";
 
+/// What a record begins with, and goes on with behind a line that was not finished.
+const START: &[u8] = b" ~\n";
+
 /// The record of a process, if it has one.
 #[derive(Drop)]
 pub struct Record {
     file: Option<File>,
+    /// The second in which it was last looked whether a file stands at its path.
+    looked: u64,
+}
+
+/// How many octets the file at a path has, 0 where none is there.
+fn length_at(rt: &HostRuntime, path: &str) -> io::Result<u64> {
+    match fs::metadata(rt, path) {
+        Ok(found) => Ok(found.len()),
+        Err(error) if error.kind() == io::ErrorKind::NotFound => Ok(0),
+        Err(error) => Err(error),
+    }
+}
+
+/// Whether no file stands at a path.
+fn is_missing(rt: &HostRuntime, path: &str) -> bool {
+    match fs::metadata(rt, path) {
+        Ok(_) => false,
+        Err(error) => error.kind() == io::ErrorKind::NotFound,
+    }
+}
+
+/// Whether a record may be written behind what the file at a path has: nothing, or a record.
+fn is_free(rt: &HostRuntime, path: &str) -> io::Result<bool> {
+    if length_at(rt, path)? == 0 {
+        return Ok(true);
+    }
+    let mut first = [0; 3];
+    File::open(rt, path)?.read(&mut first)?;
+    Ok(first.as_slice() == START)
+}
+
+/// Refuses a path whose file has something else than a record.
+fn check_free(rt: &HostRuntime, path: &str) -> Result<(), Fault> {
+    match is_free(rt, path) {
+        Ok(true) => Ok(()),
+        Ok(false) => Err(Fault::NoRecord),
+        Err(error) => Err(Fault::Record(error)),
+    }
 }
 
 /// The file at this path, to write behind what it has.
@@ -65,11 +106,18 @@ impl Record {
         live: &mut Live<N>,
     ) -> Result<Record, Fault> {
         let Some(path) = setting.command.record_path else {
-            return Ok(Record { file: None });
+            return Ok(Record {
+                file: None,
+                looked: 0,
+            });
         };
+        check_free(setting.rt, path)?;
         let file = file_at(setting.rt, path)?;
         begin_in(setting, nodes, is_client, live)?;
-        Ok(Record { file: Some(file) })
+        Ok(Record {
+            file: Some(file),
+            looked: 0,
+        })
     }
 
     /// Writes lines; whether they are written. Where that fails it is told once, and nothing is written any more.
@@ -94,6 +142,37 @@ impl Record {
         if has_failed && self.file.is_some() {
             warn!(log; target: "farm", "the record ends: out of memory");
             self.file = None;
+        }
+    }
+
+    /// Goes on in a new file at a path. Where none can be made it stays in the file that was moved away.
+    fn reopen(&mut self, rt: &HostRuntime, log: &Logger, path: &str) {
+        match file_at(rt, path) {
+            Ok(file) => {
+                self.file = Some(file);
+                if self.put(log, START) {
+                    info!(log; target: "farm", "the record goes on in a new file");
+                }
+            }
+            Err(fault) => {
+                warn!(log; target: "farm", "the record stays in the file that was moved away: {fault}");
+                self.looked = u64::MAX;
+            }
+        }
+    }
+
+    /// Goes on in a new file where the one at its path was moved away. It looks once a second.
+    pub fn follow<O>(&mut self, setting: &Setting<'_, O>, moment: Moment) {
+        let Some(path) = setting.command.record_path else {
+            return;
+        };
+        let second = moment.0 / 1_000;
+        if self.file.is_none() || second <= self.looked {
+            return;
+        }
+        self.looked = second;
+        if is_missing(setting.rt, path) {
+            self.reopen(setting.rt, setting.log, path);
         }
     }
 

@@ -23,6 +23,7 @@ pub fn turn<O: Net + Clock, N: Booked>(
 ) -> Result<(), Fault> {
     let moment = live.hear(setting.os, setting.log, setting.site, setting.access)?;
     N::tell(live);
+    recording.follow(setting, moment);
     recording.write(setting.log, live);
     live.answer(
         setting.os,
