@@ -2,7 +2,7 @@
 _farm() {
   local word=${COMP_WORDS[COMP_CWORD]} before=${COMP_WORDS[COMP_CWORD - 1]} site i
   if [ "$COMP_CWORD" -eq 1 ]; then
-    mapfile -t COMPREPLY < <(compgen -W 'relay front send topup account stop check book audit schedule replay report words picture --help --version' -- "$word")
+    mapfile -t COMPREPLY < <(compgen -W 'relay front send request topup account stop check book audit schedule replay report words picture --help --version' -- "$word")
     return
   fi
   case $before in
@@ -12,6 +12,10 @@ _farm() {
       ;;
     --log)
       mapfile -t COMPREPLY < <(compgen -W 'off error warn info debug' -- "$word")
+      return
+      ;;
+    --unit)
+      mapfile -t COMPREPLY < <(compgen -W 'octets time units' -- "$word")
       return
       ;;
     --log-format)
@@ -30,6 +34,13 @@ _farm() {
     relay) mapfile -t COMPREPLY < <(compgen -W '--site --name --answers --status --token --record --log --log-format' -- "$word") ;;
     front) mapfile -t COMPREPLY < <(compgen -W '--site --book --clock-behind --change-terms --answers --status --token --record --log --log-format' -- "$word") ;;
     send) mapfile -t COMPREPLY < <(compgen -W '--site --client --peer --record --log --log-format' -- "$word") ;;
+    request)
+      if [ "$COMP_CWORD" -eq 2 ]; then
+        mapfile -t COMPREPLY < <(compgen -W 'initial update termination debit refund balance price' -- "$word")
+      else
+        mapfile -t COMPREPLY < <(compgen -W '--session --number --ident --group --unit --asked --used --again' -- "$word")
+      fi
+      ;;
     topup) mapfile -t COMPREPLY < <(compgen -W '--site --client --peer --type --id --key --ident --group --unit --count' -- "$word") ;;
     account) mapfile -t COMPREPLY < <(compgen -W '--type --at --token' -- "$word") ;;
     stop) mapfile -t COMPREPLY < <(compgen -W '--at --token' -- "$word") ;;
