@@ -5,3 +5,4 @@ pub mod Ordering
 pub mod Sending
 pub mod Doing
 pub mod Misnaming
+pub mod Calls

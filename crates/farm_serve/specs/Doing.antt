@@ -1,5 +1,5 @@
 -- What a process does with what its node says, and with what the life of a connection says.
-use Rattle.std.specs.Prelude.{◌≡◌, ◌<◌, ◌&&◌, ℕ, Bool, true, false, not, is_none, is_some, List, [], ◌∷◌, ◌++◌, get_or, slice_set, length, Option, Some, None, Result, Ok, Err, IsSome, MatchBool, MatchOption, OnErr, OnOk}
+use Rattle.std.specs.Prelude.{◌≡◌, ◌<◌, ◌&&◌, ℕ, Bool, true, false, is_none, List, [], ◌∷◌, ◌++◌, get_or, slice_set, length, Option, Some, None, Result, Ok, Err, IsSome, MatchBool, MatchOption, OnErr, OnOk}
 use Rattle.dia_base.specs.declared.number.ConnId.{ConnId}
 use Rattle.dia_base.specs.declared.number.Moment.{Moment}
 use Rattle.dia_base.specs.declared.number.NodeNo.{NodeNo}

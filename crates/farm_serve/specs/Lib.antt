@@ -3,3 +3,4 @@ pub mod Desks
 pub mod Sending
 pub mod Doing
 pub mod Naming
+pub mod Calls

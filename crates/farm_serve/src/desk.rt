@@ -5,6 +5,7 @@ ghost use Rattle.farm_node.specs.Events as event;
 ghost use Rattle.farm_watch.specs.Numbering.{numbered, numbered_effect};
 ghost use Rattle.farm_watch.specs.Table.{after_close, after_tick};
 ghost use Rattle.farm_watch.specs.declared.acts.Act.TheVariants as life;
+ghost use Rattle.farm_serve.specs.Calls.{AllClose, AllTick, BringsHere, BringsOn, HearsAll, Reads, Settles};
 ghost use Rattle.farm_serve.specs.Doing.{AtPlace, Becomes, Closes, DoesAct, EndsOne, EndsUnanswered, EndsWhereRefused, FailsWhereRefused, GoesAndEnds, Greets, HasEnded, Heard, Hears, IsStill, Lived, Performs, Reacts, Says, StandsUnlessRefused, Ticks, left_for, unanswered_by};
 ghost use Rattle.farm_serve.specs.Desks.{AreSettled, IsDownAt, IsPlaceOf, MayComeUpAt, NeverAsks, StandsAt, Tells, is_to_be_told, kept_by, mark_of, marks_of, ups};
 ghost use Rattle.farm_serve.specs.Naming.{IsKeptOut};
@@ -598,6 +599,7 @@ impl<N: Node, R: Read + Device, W: Write + Device> Desk<N, R, W> {
         requires { place < length self.old.links.items }
         ensures tells { Tells N.on_event self.old self.new }
         ensures places { length self.new.links.items ≡ length self.old.links.items }
+        ensures hears { HearsAll N.on_event moment place self.old messages.items self.new }
     {
         for message in messages {
             self.hear::<P>(locals, place, message, moment);
@@ -610,6 +612,7 @@ impl<N: Node, R: Read + Device, W: Write + Device> Desk<N, R, W> {
         requires piece { 0 < length piece.old }
         ensures kept { kept_by self.new ≡ kept_by self.old }
         ensures places { length self.new.links.items ≡ length self.old.links.items }
+        ensures reads { AtPlace self.old place (λ link. Becomes (Reads R.remaining result.messages.items result.outcome link) place self.old self.new) }
     {
         receive_at(&mut self.links[place], piece)
     }
@@ -624,6 +627,7 @@ impl<N: Node, R: Read + Device, W: Write + Device> Desk<N, R, W> {
     )
         requires { 0 < length piece.old }
         ensures tells { Tells N.on_event self.old self.new }
+        ensures brings { BringsOn N.on_event R.remaining moment conn self.old self.new }
     {
         if let Some(place) = place_of(&self.links, conn) {
             self.receive::<P>(locals, place, piece, moment);
@@ -658,6 +662,7 @@ impl<N: Node, R: Read + Device, W: Write + Device> Desk<N, R, W> {
         requires piece { 0 < length piece.old }
         ensures tells { Tells N.on_event self.old self.new }
         ensures places { length self.new.links.items ≡ length self.old.links.items }
+        ensures brings { AtPlace self.old place (λ link. BringsHere N.on_event R.remaining moment place link self.old self.new) }
     {
         if self.links[place].end.is_some() {
             return;
@@ -674,6 +679,7 @@ impl<N: Node, R: Read + Device, W: Write + Device> Desk<N, R, W> {
         ensures settled { AreSettled self.new.links.items }
         ensures tells { Tells N.on_event self.old self.new }
         ensures places { length self.new.links.items ≡ length self.old.links.items }
+        ensures settles { Settles N.on_event self.old self.new }
     {
         while let Some(place) = place_of_loss(&self.links) {
             let Some((peer, why)) = loss_of(&self.links[place]) else {
@@ -740,6 +746,7 @@ impl<N: Node, R: Read + Device, W: Write + Device> Desk<N, R, W> {
     pub fn tick_all<P: Wire>(&mut self, locals: &[LocalNode], moment: Moment)
         ensures tells { Tells N.on_event self.old self.new }
         ensures places { length self.new.links.items ≡ length self.old.links.items }
+        ensures each { AllTick N.on_event moment self.old self.new }
     {
         for place in 0..self.links.len() {
             self.tick_one::<P>(locals, place, moment);
@@ -770,6 +777,7 @@ impl<N: Node, R: Read + Device, W: Write + Device> Desk<N, R, W> {
     pub fn close_all<P: Wire>(&mut self, locals: &[LocalNode], moment: Moment)
         ensures tells { Tells N.on_event self.old self.new }
         ensures places { length self.new.links.items ≡ length self.old.links.items }
+        ensures each { AllClose N.on_event moment self.old self.new }
     {
         for place in 0..self.links.len() {
             self.close_one::<P>(locals, place, moment);

@@ -3,6 +3,7 @@
 ghost use Rattle.std.specs.Prelude.{◌≡◌, ◌==◌, ◌<◌, IfNone, IfOk, IfSome, IsSome, OnOk, OnErr, length, false};
 ghost use Rattle.std.specs.List.{list_any};
 ghost use Rattle.farm_serve.specs.Desks.{is_to_be_told, mark_of, peer_of, standing_after};
+ghost use Rattle.farm_serve.specs.Calls.{Reads};
 ghost use Rattle.farm_serve.specs.Doing.{HasEnded, IsToldOnly, awaits, left_for, open_peer};
 ghost use Rattle.farm_serve.specs.Sending.{IsSentOn};
 ghost use Rattle.farm_serve.specs.Turns.{may_come_up, standing_as};
@@ -310,6 +311,7 @@ pub(crate) fn receive_at<R: Read + Device, W: Write + Device>(
 ) -> Received
     requires { 0 < length piece.old }
     ensures mark { mark_of link.new ≡ mark_of link.old }
+    ensures reads { Reads R.remaining result.messages.items result.outcome link.old link.new }
 {
     link.conn.receive(piece)
 }

@@ -1,7 +1,10 @@
 //! A node with its connections, for those who have sockets.
 
 ghost use Rattle.std.specs.Prelude.{◌≡◌, ◌<◌, ◌+◌, [], length, true, IfOk, IfSome, IsNone};
+ghost use Rattle.farm_node.specs.Events as event;
+ghost use Rattle.farm_serve.specs.Calls.{AllClose, BringsOn, ThenSettles, TimePasses};
 ghost use Rattle.farm_serve.specs.Desks.{AreSettled, IsDownAt, IsEndOf, IsMade, IsRecordedOnly, Tells, kept_by};
+ghost use Rattle.farm_serve.specs.Doing.{Reacts};
 ghost use Rattle.farm_serve.specs.Turns.{IsDown, beginning};
 
 use crate::desk::{Desk, flush_all, greet, place_of};
@@ -234,6 +237,7 @@ impl<N: Node, R: Read + Device, W: Write + Device> Serving<N, R, W> {
         requires { 0 < length piece.old }
         ensures settled { AreSettled self.new.desk.links.items }
         ensures tells { Tells N.on_event self.old.desk self.new.desk }
+        ensures brings { ThenSettles N.on_event (BringsOn N.on_event R.remaining moment conn) self.old.desk self.new.desk }
     {
         self.desk.receive_on::<P>(&self.locals, conn, piece, moment);
         self.desk.settle::<P>(moment);
@@ -243,6 +247,7 @@ impl<N: Node, R: Read + Device, W: Write + Device> Serving<N, R, W> {
     pub fn writable<P: Wire>(&mut self, conn: ConnId, moment: Moment)
         ensures settled { AreSettled self.new.desk.links.items }
         ensures tells { Tells N.on_event self.old.desk self.new.desk }
+        ensures writes { ThenSettles N.on_event (λ old mid. kept_by mid ≡ kept_by old) self.old.desk self.new.desk }
     {
         self.desk.flush_on(conn, moment);
         self.desk.settle::<P>(moment);
@@ -252,6 +257,7 @@ impl<N: Node, R: Read + Device, W: Write + Device> Serving<N, R, W> {
     pub fn write_all<P: Wire>(&mut self, moment: Moment)
         ensures settled { AreSettled self.new.desk.links.items }
         ensures tells { Tells N.on_event self.old.desk self.new.desk }
+        ensures writes { ThenSettles N.on_event (λ old mid. kept_by mid ≡ kept_by old) self.old.desk self.new.desk }
     {
         flush_all(&mut self.desk.links, moment);
         self.desk.settle::<P>(moment);
@@ -261,6 +267,7 @@ impl<N: Node, R: Read + Device, W: Write + Device> Serving<N, R, W> {
     pub fn tick<P: Wire>(&mut self, moment: Moment)
         ensures settled { AreSettled self.new.desk.links.items }
         ensures tells { Tells N.on_event self.old.desk self.new.desk }
+        ensures passes { ThenSettles N.on_event (TimePasses N.on_event moment) self.old.desk self.new.desk }
     {
         self.desk.tick_node::<P>(moment);
         self.desk.tick_all::<P>(&self.locals, moment);
@@ -271,6 +278,7 @@ impl<N: Node, R: Read + Device, W: Write + Device> Serving<N, R, W> {
     pub fn wake<P: Wire>(&mut self, moment: Moment)
         ensures settled { AreSettled self.new.desk.links.items }
         ensures tells { Tells N.on_event self.old.desk self.new.desk }
+        ensures woken { ThenSettles N.on_event (Reacts N.on_event event.wake) self.old.desk self.new.desk }
     {
         self.desk.wake_node::<P>(moment);
         self.desk.settle::<P>(moment);
@@ -281,6 +289,7 @@ impl<N: Node, R: Read + Device, W: Write + Device> Serving<N, R, W> {
     pub fn close_all<P: Wire>(&mut self, moment: Moment)
         ensures settled { AreSettled self.new.desk.links.items }
         ensures tells { Tells N.on_event self.old.desk self.new.desk }
+        ensures closes { ThenSettles N.on_event (AllClose N.on_event moment) self.old.desk self.new.desk }
     {
         self.desk.close_all::<P>(&self.locals, moment);
         self.desk.settle::<P>(moment);

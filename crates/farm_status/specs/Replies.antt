@@ -1,5 +1,5 @@
 -- What a request is answered.
-use Rattle.std.specs.Prelude.{◌≡◌, ◌∷◌, [], ℕ, List, Bool, Option, Some, None, true, false, codes, drop, take, ◌||◌, if◌then◌else◌}
+use Rattle.std.specs.Prelude.{◌≡◌, ◌∷◌, [], ℕ, List, Bool, Option, Some, None, true, false, codes, drop, take, ◌||◌, if◌then◌else◌, IfSome}
 use Rattle.std.specs.Cmp.Lexicographic.{pointwise}
 use Rattle.std.specs.Prelude.{nat_eq}
 use Rattle.http.specs.declared.request.Request.{Request}
@@ -172,6 +172,28 @@ HasStatus NotFound status = status ≡ 404
 HasStatus OnlyRead status = status ≡ 405
 HasStatus OnlyPost status = status ≡ 405
 HasStatus ReadOrPost status = status ≡ 405
+
+-- the text of a reply that tells nothing of the node, of its book or of an account
+abbrev pub words_for : Reply → Option (List ℕ)
+words_for Page = None
+words_for Metrics = None
+words_for Json = None
+words_for Health = None
+words_for Terms = None
+words_for Account = None
+words_for Stops = Some (codes "the node ends\n")
+words_for Changes = Some (codes "/terms tells what comes of it\n")
+words_for Looks = Some (codes "/account tells what comes of it\n")
+words_for Busy = Some (codes "another one is under way\n")
+words_for Forbidden = Some (codes "the token of the node is missing\n")
+words_for NotFound = Some (codes "there is /, /metrics, /status.json and /health to read, and /stop to post to\n")
+words_for OnlyRead = Some (codes "this is there to be read\n")
+words_for OnlyPost = Some (codes "this is there to be posted to\n")
+words_for ReadOrPost = Some (codes "this is there to be read and to be posted to\n")
+
+-- Whoever may not ask is told nothing else.
+abbrev pub HasText : Reply → List ℕ → Type 0
+HasText reply text = IfSome (words_for reply) (λ words. text ≡ words)
 
 -- the token that a value of Authorization shows: what stands behind `Bearer `
 abbrev pub token_in : List ℕ → Option (List ℕ)

@@ -1,11 +1,11 @@
 //! What a request over HTTP is answered.
 
-ghost use Rattle.std.specs.Prelude.{◌≡◌, IfOk, option_copied, option_map};
+ghost use Rattle.std.specs.Prelude.{◌≡◌, IfOk, option_copied, option_map, string_bytes};
 ghost use Rattle.std.specs.Option.{option_or};
 ghost use Rattle.http.specs.Request.{body_of};
 ghost use Rattle.http_header.specs.FieldValue.{plain_value};
 ghost use Rattle.http_server.specs.Response.{fields_of};
-ghost use Rattle.farm_status.specs.Replies.{HasStatus, IsAnswered, change_by, is_of, look_by, methods_for, reply_by, token_of, type_for};
+ghost use Rattle.farm_status.specs.Replies.{HasStatus, HasText, IsAnswered, change_by, is_of, look_by, methods_for, reply_by, token_of, type_for};
 
 use crate::health::health_of;
 use crate::json::push_json;
@@ -165,7 +165,9 @@ fn allowed_by(reply: Reply) -> Option<HeaderValue>
 }
 
 /// The text of a reply, where it does not say how the node is.
-fn text_of<S: Source>(alloc: Global, source: &S, reply: Reply) -> Result<String, AllocError> {
+fn text_of<S: Source>(alloc: Global, source: &S, reply: Reply) -> Result<String, AllocError>
+    ensures { IfOk result (λ text. HasText reply (string_bytes text)) }
+{
     let mut text = String::new(alloc);
     match reply {
         Reply::Terms => return source.terms(),
@@ -195,7 +197,8 @@ fn told<S: Source>(
     source: &S,
     reply: Reply,
 ) -> Result<(StatusCode, String), AllocError>
-    ensures { IfOk result (λ told. HasStatus reply told.0) }
+    ensures status { IfOk result (λ told. HasStatus reply told.0) }
+    ensures text { IfOk result (λ told. HasText reply (string_bytes told.1)) }
 {
     if reply == Reply::Health {
         let status = source.status()?;
@@ -207,6 +210,7 @@ fn told<S: Source>(
 
 impl<S: Source> Service for Answering<'_, S> {
     ghost answers = { λ old request response new. IsAnswered (option_copied old.token) old.jobs old.stops request response.status (fields_of response) new.stops
+        × HasText (reply_by (option_copied old.token) old.jobs request) response.body.items
         × (option_map (λ octets. octets.items) new.change ≡ option_or (change_by (reply_by (option_copied old.token) old.jobs request) (body_of request)) (option_map (λ octets. octets.items) old.change))
         × (option_map (λ octets. octets.items) new.look ≡ option_or (look_by (reply_by (option_copied old.token) old.jobs request) (body_of request)) (option_map (λ octets. octets.items) old.look)) };
 

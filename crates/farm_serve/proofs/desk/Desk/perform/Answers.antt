@@ -1,7 +1,7 @@
 use Rattle.std.proofs.Common.{◌≡◌, [], length, refl, rules}
 use Rattle.farm_serve.specs.Doing.{begins}
 use Rattle.farm_serve.proofs.Telling.{no_way, way_then}
-use Rattle.farm_serve.proofs.Doing.{all_done, one_done}
+use Rattle.farm_serve.proofs.Doing.{one_done}
 use Rattle.farm_serve.proofs.desk.Desk.perform.Goals as goal
 
 pub loop-act-init : goal.loop-act-init

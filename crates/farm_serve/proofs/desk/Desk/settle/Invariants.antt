@@ -1,4 +1,5 @@
 use Rattle.std.proofs.Common.{◌≡◌, length}
+use Rattle.farm_serve.specs.Calls.{Settles}
 use Rattle.farm_serve.specs.Desks.{kept_by, marks_of, ups}
 use Rattle.farm_serve.proofs.Telling.{Way}
 use Rattle.farm_serve.proofs.desk.Desk.settle.Given as goal
@@ -7,6 +8,7 @@ abbrev pub invariant-loop-place : goal.invariant-loop-place
 invariant-loop-place g l = record {
   tells : Way g.N.Node.on_event (kept_by l.fn.self) (kept_by l.self);
   places : length l.self.links.items ≡ length l.fn.self.links.items;
+  settles : Settles g.N.Node.on_event l.fn.self l.self;
 }
 
 abbrev pub decreases-loop-place : goal.decreases-loop-place
