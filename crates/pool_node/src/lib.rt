@@ -11,6 +11,7 @@
 //! - [`NextSweep`]: when the book is swept next: once a second at most, and never again once it is full. [`Timing`]: when it is
 //!   swept first, and from when on time goes on. A tick asks a [`cc_sweeper::Sweeper`] for a sweep that is due, and what it has come
 //!   to is collected at a later tick or wake: the node takes the book's lock only as it ends.
+//!   [`sweeps_go_on`], [`sweeps_are_one_at_a_time`]: laws of that.
 //! - [`BookEvents`]: what the fronts have done that nobody else can tell of, for those who record it.
 //!
 //! What the node does at each event stands in `specs/Fronts`, and how many octets go out then in `specs/Measure`.
@@ -22,6 +23,7 @@ mod events;
 mod figures;
 mod front;
 mod fronts;
+mod laws;
 mod start;
 mod sweeping;
 mod timing;
@@ -30,6 +32,7 @@ pub use events::BookEvents;
 pub use figures::BookFigures;
 pub use front::PoolFront;
 pub use fronts::{COLLECT_LIMIT, COLLECT_OCTETS, PoolFronts};
+pub use laws::{sweeps_are_one_at_a_time, sweeps_go_on};
 pub use start::{Bell, StartFault, seats_for, start_fronts};
 pub use sweeping::{NextSweep, SWEEP_INTERVAL};
 pub use timing::Timing;
