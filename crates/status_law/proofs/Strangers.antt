@@ -29,7 +29,7 @@ at_account method job.Never = refl
 at_account method job.Busy = both (is_read method || is_text method (codes "POST")) Forbidden ReadOrPost refl refl
 at_account method job.Free = both (is_read method || is_text method (codes "POST")) Forbidden ReadOrPost refl refl
 
-if_any : Option Reply → Bool
+abbrev if_any : Option Reply → Bool
 if_any None = false
 if_any (Some reply) = needs_token reply
 
