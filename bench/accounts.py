@@ -23,6 +23,7 @@ sys.dont_write_bytecode = True
 from book_kill import BOOK_PROGRAM, CLIENT, COST, Link, OCTETS  # noqa: E402
 from loaded import CREDIT_CONTROL, EVENT, PROGRAM, REALM, REQUEST, SUCCESS, Message, Otherwise, body_of, code_in, end_when_told, free_ports, group, number, split  # noqa: E402
 
+FARM = Path(__file__).resolve().parent.parent / "farm"
 FEW, STARTS, FIRST = 1_000, 3, 491_700_000_000
 
 
@@ -62,7 +63,8 @@ class Fronts:
 
     def __init__(self, program, folder, ports):
         self.port, self.status = ports
-        words = [program, "front", "--site", folder / "site.toml", "--book", folder / "book", "--status", str(self.status), "--token", folder / "token"]
+        self.token = folder / "token"
+        words = [program, "front", "--site", folder / "site.toml", "--book", folder / "book", "--status", str(self.status), "--token", self.token]
         begun = time.monotonic()
         self.process = subprocess.Popen(words, stdout=subprocess.PIPE, stderr=subprocess.STDOUT, text=True)
         line = self.process.stdout.readline()
@@ -74,7 +76,7 @@ class Fronts:
         self.now, self.highest = memory(self.process)
 
     def end(self):
-        self.process.terminate()
+        subprocess.run([FARM, "stop", "--at", str(self.status), "--token", self.token], check=True)
         self.process.stdout.read()
         self.process.stdout.close()
         if self.process.wait():
@@ -88,7 +90,7 @@ def openings(program, folder, ports, words):
         starts.append((fronts.seconds, fronts.now, fronts.highest))
         fronts.end()
     seconds, now, highest = (min(column) for column in zip(*starts))
-    print(f"  {words}: listens after {seconds:.2f} s, with {now:.0f} MB; at most {highest:.0f} MB", flush=True)
+    print(f"  {words}: listens after {seconds:.2f} s, with {now:.1f} MB; at most {highest:.1f} MB", flush=True)
 
 
 def changed(program, book_program, folder, ports, accounts):
@@ -96,8 +98,7 @@ def changed(program, book_program, folder, ports, accounts):
     fronts = Fronts(program, folder, ports)
     (folder / "joining").write_text("account 1 1 1000\n")
     words = [folder / "joining", "--at", str(ports[1]), "--token", folder / "token"]
-    farm = Path(__file__).resolve().parent.parent / "farm"
-    done = subprocess.run([farm, "book", "add-accounts", *words], capture_output=True, text=True, check=False)
+    done = subprocess.run([FARM, "book", "add-accounts", *words], capture_output=True, text=True, check=False)
     if done.returncode:
         raise Otherwise(f"the account has not joined: {done.stderr}")
     debited(ports[0], fronts.process, str(FIRST + accounts - 1), 1)
