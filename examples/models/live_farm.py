@@ -58,11 +58,11 @@ class Job:
 
 
 class Pool:
-    """A front: its queue and its workers."""
+    """A front: its queue and what its workers hold, so many requests each."""
 
-    def __init__(self, name, site):
+    def __init__(self, name, site, held):
         self.name, self.site = name, site
-        self.queue, self.workers, self.finished, self.count = deque(), [None] * site.workers, deque(), 0
+        self.queue, self.workers, self.finished, self.count = deque(), [None] * (site.workers * held), deque(), 0
 
 
 class Process:
@@ -81,7 +81,7 @@ class Process:
             self.relay = RisingRelay(self.names[0], self.farm.site)
             self.relay.number_from(crc32(f"{self.names[0]} {self.starts}".encode()))
         if self.kind == FRONT:
-            self.pools, self.swept = {name: Pool(name, self.farm.site) for name in self.names}, None
+            self.pools, self.swept = {name: Pool(name, self.farm.site, self.farm.held) for name in self.names}, None
 
     def tell(self, *words):
         self.lines.append(spelled(*words))
@@ -166,6 +166,8 @@ class LiveFarm:
     process = Process
     # Whether the fronts are killed too: their book is on disk then, and outlives their process.
     is_stored = False
+    # How many requests a worker of a front holds, as a thread does.
+    held = 1
     # How many ports the system has for the connections of one node with another; None where it gives out none again.
     ports = None
 

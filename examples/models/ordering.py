@@ -3,7 +3,8 @@
 Nodes touch each other through messages, connections and the book alone. So an event of a record is played as soon as the
 farm allows it: a connection is opened once it was accepted, a message arrives once it was sent, a request is charged once
 all that stands before it in the book is. What is allowed stays allowed whatever else is played first; so no choice is
-ever taken back, and where nothing is allowed any more while events are left, the records contradict one another.
+ever taken back, and where nothing is allowed any more while events are left, the records contradict one another. A request
+that a front hands back alone needs a queue that is full: so what the book does comes last, and only as the events wait for it.
 """
 from collections import deque
 from dataclasses import dataclass, field
@@ -39,24 +40,38 @@ class Conn:
 
 @dataclass
 class Job:
-    """A request that a front has taken. `order` counts those of all fronts in the order in which they are told."""
+    """A request that a front has taken. `order` counts those of all fronts in the order in which they are told. `charge` is what a
+    line tells that became of it."""
 
     front: str
     conn: Conn
     message: object
     order: int
     has_arrived: bool = False
+    charge: object = None
+
+    def was_told_above(self, conn):
+        """Whether a line above the one by which this connection begins, at a front, tells what became of it."""
+        return self.charge is not None and self.charge.conns < conn.order
+
+    def place(self):
+        """Where it stands in the book, of those of which a line tells: a repeat behind the first, and before all one that was answered
+        without the book."""
+        place = self.charge.place
+        return -1 if place is None else place, not self.charge.is_new, self.order
 
 
 @dataclass
 class Charge:
-    """What a line tells of a finished job. `seen` is how many jobs were told before it; `posted`, whether its answer was sent."""
+    """What a line tells of a finished job. `seen` is how many jobs were told before it, `conns` how many ends of connections; `posted`,
+    whether its answer was sent."""
 
     event: object
     job: Job
     answer: object
     posted: bool
     seen: int
+    conns: int
     place: int | None = None
     is_new: bool = False
     moment: int = 0
@@ -131,8 +146,8 @@ class Reader:
             case "entries" | "account":
                 self.reports.append(event)
                 return
-        name = self.names[0] if event.word == "begin" else event.conn.node
-        self.ahead[name].append(event)
+        for name in self.names if event.word == "begin" else [event.conn.node]:
+            self.ahead[name].append(event)
 
     def keep_of_conn(self, event):
         conn = event.conn
@@ -160,7 +175,7 @@ class Reader:
         if job is None:
             raise event.fault("no such request is with a worker")
         self.audit.open.pop(job.order)
-        charge = Charge(event, job, rest[-1], job.conn.is_up, self.audit.jobs_told)
+        job.charge = charge = Charge(event, job, rest[-1], job.conn.is_up, self.audit.jobs_told, self.audit.conns_told)
         if job.conn.is_up and charge.answer:
             job.conn.answers.append(charge.answer)
         if event.word == "charge":
@@ -183,8 +198,8 @@ class Audit:
         self.links, self.dials, self.charges, self.kept, self.sweeps, self.open = {}, {}, {}, [], deque(), {}
         self.jobs_told, self.conns_told, self.place, self.short, self.events, self.taken = 0, 0, 0, set(), 0, {}
         self.fronts = {name: FrontState(site.workers) for name, kind in site.nodes.items() if kind == FRONT}
-        self.readers, self.numbered = [], set()
-        self.owners = {}
+        self.readers, self.numbered, self.awaits_lines = [], set(), False
+        self.owners, self.are_fronts_read = {}, False
         for file, octets in files:
             self.readers.append(Reader(self, file, octets))
 
@@ -228,13 +243,13 @@ class Audit:
 
     def run(self):
         """What the book does comes last: so a front never has more room than it had."""
-        while self.go_on() or self.charge_next() or self.charge_kept() or self.read_ahead() or self.settle():
+        while self.go_on() or self.read_awaited() or self.charge_next() or self.charge_kept() or self.read_ahead() or self.settle():
             pass
         self.look_at_the_rest()
         return self
 
     def go_on(self):
-        self.short = set()
+        self.short, self.awaits_lines, self.are_fronts_read = set(), False, self.unread_fronts() is None
         return any([self.advance(reader, name) for reader in self.readers for name in reader.names])
 
     def advance(self, reader, name):
@@ -286,12 +301,12 @@ class Audit:
         _, b, a, label = event.words
         dials = self.open_dials(a, b, label)
         if not dials and self.is_silent(event, a):
-            if not self.is_free(event, a, b):
+            if not self.is_free(event, event.conn):
                 return False
             self.take(event, None)
             self.play(event, "opened", a, b)
             return True
-        if not dials or not self.is_free(event, a, b) or all(it.is_gone for it in dials):
+        if not dials or not self.is_free(event, dials[0], event.conn) or all(it.is_gone for it in dials):
             return False
         self.take(event, dials[0])
         return True
@@ -342,26 +357,55 @@ class Audit:
         if dial.is_gone and all(it.is_gone for it in self.open_dials(a, b, label)):
             self.play(event, "drop", a, b)
 
-    def is_free(self, event, a, b):
-        """Whether these nodes have no connection any more."""
-        for front, peer in ((a, b), (b, a)):
-            if self.site.nodes[front] == FRONT and (not self.stands(front, peer) or self.is_silent(event, peer)):
-                self.close(event, front, peer)
-        return self.world.connection(a, b) is None
+    def is_free(self, event, *ends):
+        """Whether the nodes of a connection have no other one any more: these are its ends, without that of a client that has no
+        record."""
+        for end in ends:
+            if self.site.nodes[end.node] == FRONT and (not self.stands(end.node, end.peer) or self.is_silent(event, end.peer)):
+                self.close(event, end)
+        return self.world.connection(ends[0].node, ends[0].peer) is None
 
-    def close(self, event, front, peer):
-        """A front that has lost its connection, and whose peer has too, drops it, though requests wait that came on it, if there
-        is room for them."""
-        conn = self.links.get(frozenset((front, peer)), {}).get(front)
-        if not conn or not conn.is_closing:
+    def close(self, event, end):
+        """A front that has lost its connection, and whose peer has too, drops it, since they connect again, with this end. Requests
+        that came on it are charged before, if lines above tell so; the others come into the queue, if there is room for them."""
+        front = end.node
+        conn = self.links.get(frozenset((front, end.peer)), {}).get(front)
+        if not conn or not conn.is_closing or self.waits_for_told(conn, end):
             return
         jobs, state = self.arrived_before(front, conn), self.fronts[front]
+        if self.lacks_lines(jobs):
+            return
         if len(state.queue) + len(jobs) > self.site.queue + state.workers.count(None):
             self.short.add(front)
             return
-        for job in jobs:
-            self.hand_over(event, job)
+        self.hand_over_some(event, jobs, len(jobs))
         self.drop_here(event, conn)
+
+    def waits_for_told(self, conn, end):
+        """Whether requests wait that came on a lost connection, and of which lines tell above that of the next one. Those are charged now
+        that the book has already, or that are answered without it."""
+        while self.charge_kept(lambda charge: charge.job.conn is conn and charge.job.was_told_above(end)):
+            pass
+        return not conn.is_closing or any(job.conn is conn and job.was_told_above(end) for job in self.jobs_at(conn.node))
+
+    def lacks_lines(self, jobs):
+        """Whether a line that was not read may tell of one of these requests. More of the fronts is read then."""
+        lacks = not self.are_fronts_read and any(not job.charge for job in jobs)
+        self.awaits_lines = self.awaits_lines or lacks
+        return lacks
+
+    def hand_over_some(self, event, jobs, count):
+        """So many of these requests come into the queue, by their places in the book."""
+        for _ in range(count):
+            self.hand_over(event, jobs.pop(jobs.index(self.first_by_place(jobs))))
+
+    @staticmethod
+    def first_by_place(jobs):
+        """The request that goes first where these come into the queue together: that with the first place in the book, but before it one
+        that arrived earlier and of which no line tells."""
+        told = min((job for job in jobs if job.charge), key=Job.place, default=None)
+        untold = next((job for job in jobs if not job.charge), None)
+        return untold if told is None or (untold and untold.order < told.order) else told
 
     def arrived_before(self, front, conn):
         """The requests that arrived at a front and are not handed over, up to the last on a connection, in their order."""
@@ -374,7 +418,7 @@ class Audit:
         """A node learns that its connection is made once the other one has accepted it."""
         a, b = event.conn.node, event.conn.peer
         if self.is_silent(event, b):
-            if not self.is_free(event, a, b):
+            if not self.is_free(event, event.conn):
                 return False
             self.play(event, "accept", b, a)
             self.links[frozenset((a, b))] = {b: event.conn}
@@ -482,15 +526,17 @@ class Audit:
         return True
 
     def hand_back(self, event, conn, place):
-        """A request for which a front had no room: its queue is full then, or a worker refuses it."""
+        """A request for which a front had no room: its queue is full then, or a worker refuses it. It is filled by requests that wait."""
         front, state = conn.node, self.fronts[conn.node]
         waiting = [job for job in self.owners[front].waiting if job.front == front]
         is_full = len(state.queue) + len(waiting) >= self.site.queue
         if not is_full and len(state.queue) + 1 > state.workers.count(None):
             self.short.add(front)
             return False
-        while is_full and len(state.queue) < self.site.queue:
-            self.hand_over(event, waiting.pop(0))
+        lacking = self.site.queue - len(state.queue) if is_full else 0
+        if lacking and self.lacks_lines(waiting):
+            return False
+        self.hand_over_some(event, waiting, lacking)
         place, since = len(conn.arrived), len(self.flight(front, conn.peer))
         self.play(event, "deliver", conn.peer, front, place)
         if not is_full:
@@ -585,9 +631,10 @@ class Audit:
         self.short.add(job.front)
         return False
 
-    def charge_kept(self):
+    def charge_kept(self, is_wanted=lambda charge: True):
         for charge in self.kept:
-            if charge.job.has_arrived and self.has_worker(charge.job) and (charge.place is None or charge.place < self.place):
+            is_due = charge.place is None or charge.place < self.place
+            if is_due and is_wanted(charge) and charge.job.has_arrived and self.has_worker(charge.job):
                 self.kept.remove(charge)
                 self.charge(charge)
                 return True
@@ -678,12 +725,24 @@ class Audit:
         state = self.fronts[front]
         return [job for job in [*state.queue, *state.workers] if job] + [it for it in self.owners[front].waiting if it.front == front]
 
+    def unread_fronts(self):
+        """The reader of fronts whose record is not read to its end."""
+        return next((it for it in self.readers if it.names and self.site.nodes[it.names[0]] == FRONT and not it.is_at_end), None)
+
     def read_ahead(self):
         """One more event of the fronts, where one that is not read yet may stand before one that is read."""
-        reader = next((it for it in self.readers if it.names and self.site.nodes[it.names[0]] == FRONT), None)
-        if reader is None or reader.is_at_end or not self.may_be_told():
+        reader = self.unread_fronts()
+        if reader is None or not self.may_be_told():
             return False
         reader.read()
+        return True
+
+    def read_awaited(self):
+        """One more event of the fronts, where requests are to come into a queue, and no line tells yet of one of them."""
+        if not self.awaits_lines:
+            return False
+        if reader := self.unread_fronts():
+            reader.read()
         return True
 
     def look_at_the_rest(self):

@@ -1,17 +1,19 @@
 #!/usr/bin/env python3
 """Records of live farms chosen at random, put in order and played.
 
-    records_at_random.py [--runs N] [--seed S] [--ports P | --wrong]
+    records_at_random.py [--runs N] [--seed S] [--ports P | --held H | --wrong]
     records_at_random.py killed PROGRAM [--runs N] [--seed S] [--keep FOLDER]
-    records_at_random.py write FOLDER SEED [--steps N]
+    records_at_random.py write FOLDER SEED [--steps N] [--held H | --away]
 
 runs N live farms (200) from the seed S (1) over all kinds of sites, and puts what their processes wrote down into a schedule,
 clients without a record among them. The farm that plays it has to give each client what it received, octet for octet, and the
 book what it came to. With --wrong the same runs are those of farms in which something goes wrong between the nodes (WRONG),
 and each such farm has to be found out. With --ports each two nodes have so many ports, which are given out again one after
-the other; with fewer than about ten a connection is here and there taken for another of the same port. `killed` runs farms over the ring whose fronts are killed
+the other; with fewer than about ten a connection is here and there taken for another of the same port. With --held each worker
+of a front holds so many requests, as a thread does; with more than one, no order is found here and there. `killed` runs farms over the ring whose fronts are killed
 too, on a book that outlives them, and has PROGRAM, farm_runs, audit records and book: it has to find no difference, and the same book.
-`write` puts the records of one run over the ring of relays into a folder, with their schedule. Exit status: 0, or 1 where something was found that must not be, or was not that must be.
+`write` puts the records of one run over the ring of relays into a folder, with their schedule; with --away a relay is away while
+workers charge what it has sent. Exit status: 0, or 1 where something was found that must not be, or was not that must be.
 """
 import argparse
 import subprocess
@@ -108,9 +110,9 @@ class FailsOverToNobody(LiveFarm):
     process = ForgetsAtALoss
 
 
-def with_ports(ports):
-    """Live farms where the nodes of each pair have so many ports."""
-    return type("FewPorts", (LiveFarm,), {"ports": ports})
+def made_with(ports, held):
+    """Live farms where the nodes of each pair have so many ports, and a worker holds so many requests."""
+    return type("OtherFarm", (LiveFarm,), {"ports": ports, "held": held})
 
 
 WRONG = [SendsTwice, SendsElsewhere, LosesOne, Overtakes, CollectsTwice, ChargesAgain, FailsOverToNobody]
@@ -165,6 +167,38 @@ def found_out(runs, seed):
         yield made.__name__, next(((place, told[0]) for place in range(runs) for told in [found(seed, place, made)[0]] if told), None)
 
 
+class Away(LiveFarm):
+    """A relay is killed while its requests are with workers, each of which holds eight. It comes back once they are charged, in another
+    order than they came, with some that came later."""
+
+    held = 8
+
+    def run(self, steps):
+        self.connect(("c1.example", "r1.example"), ("c1.example", "f1.example"), ("r1.example", "f1.example"))
+        self.debit("r1.example")
+        self.kill(self.process_of("r1.example"))
+        self.settle("notice")
+        self.debit("f1.example")
+        self.settle("pick", "charge", "finish", "collect")
+        self.connect(("r1.example", "f1.example"), ("c1.example", "r1.example"))
+        super().run(0)
+
+    def settle(self, *words):
+        while self.step(("read", "flush", *words)):
+            pass
+
+    def connect(self, *pairs):
+        for pair in pairs:
+            self.dial(pair)
+            self.settle()
+
+    def debit(self, peer):
+        """The client sends eight requests, and a worker picks each that comes to a front."""
+        for _ in range(8):
+            self.send(next(it for it in self.ends() if (it.node, it.peer) == ("c1.example", peer)))
+            self.settle("pick")
+
+
 class Killed(LiveFarm):
     """The fronts are killed too, and their book is on disk."""
 
@@ -208,9 +242,9 @@ def killed(program, runs, seed, keep):
     return 1 if faults else 0
 
 
-def write(folder, seed, steps):
+def write(folder, seed, steps, made):
     dice = Dice(seed)
-    farm = LiveFarm(dice, RING.site)
+    farm = made(dice, RING.site)
     farm.requests = Requests(dice, RING)
     farm.run(steps)
     files = [(f"{it.names[0]}.record", bytes(it.file)) for it in farm.processes]
@@ -222,24 +256,28 @@ def write(folder, seed, steps):
 
 
 def main(words):
-    if words[:1] == ["write"] and len(words) in (3, 5):
-        return write(Path(words[1]), int(words[2]), int(words[4]) if len(words) == 5 else 150)
     parser = argparse.ArgumentParser(usage=__doc__)
     parser.add_argument("--runs", type=int, default=RUNS)
     parser.add_argument("--seed", type=int, default=1)
     parser.add_argument("--ports", type=int)
+    parser.add_argument("--held", type=int, default=1)
+    parser.add_argument("--steps", type=int, default=150)
+    parser.add_argument("--away", action="store_true")
     parser.add_argument("--wrong", action="store_true")
     parser.add_argument("--keep", type=Path)
     if words[:1] == ["killed"] and len(words) > 1:
         chosen = parser.parse_args(words[2:])
         return killed(Path(words[1]).resolve(), chosen.runs, chosen.seed, chosen.keep)
+    if words[:1] == ["write"] and len(words) > 2:
+        chosen = parser.parse_args(words[3:])
+        return write(Path(words[1]), int(words[2]), chosen.steps, Away if chosen.away else made_with(None, chosen.held))
     chosen = parser.parse_args(words)
     if chosen.wrong:
         told = dict(found_out(chosen.runs, chosen.seed))
         for name, it in told.items():
             print(f"{name}: {f'run {it[0]}: {it[1]}' if it else 'not found out'}")
         return 0 if all(told.values()) else 1
-    faults, figures = found_in(chosen.runs, chosen.seed, with_ports(chosen.ports))
+    faults, figures = found_in(chosen.runs, chosen.seed, made_with(chosen.ports, chosen.held))
     for fault in faults:
         print(fault)
     received = figures.pop("received")

@@ -142,9 +142,14 @@ impl<'s, R: Read + Drop> Audit<'s, R> {
     /// Plays what may happen next. Whether there was something.
     fn go_on(&mut self) -> Result<bool, PlayFault> {
         self.look_up_next()?;
-        self.player.feed_all();
+        let are_fronts_read = self
+            .records
+            .unread_fronts(self.player.farm().site())
+            .is_none();
+        self.player.feed_all(are_fronts_read);
         Ok(
             self.advance_all()?
+                || self.read_awaited()?
                 || self.player.charge_next(self.records.are_at_end())?
                 || self.player.charge_repeat()?
                 || self.change_between()?
@@ -286,6 +291,17 @@ impl<'s, R: Read + Drop> Audit<'s, R> {
             Some(record) if self.player.may_be_told() => self.read(record),
             _ => Ok(false),
         }
+    }
+
+    /// Reads one more entry of the fronts, where requests are to be handed over, and no line tells yet of one of them. Whether that is so.
+    fn read_awaited(&mut self) -> Result<bool, PlayFault> {
+        if !self.player.awaits_lines() {
+            return Ok(false);
+        }
+        if let Some(record) = self.records.unread_fronts(self.player.farm().site()) {
+            let _was_read = self.read(record)?;
+        }
+        Ok(true)
     }
 
     // ---- what is played

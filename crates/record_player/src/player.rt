@@ -17,7 +17,7 @@ use dia_base::{NodeKind, NodeNo};
 use farm_player::PlayedFarm;
 use farm_world::{Site, Step};
 use record_reader::{Action, End, Finished, NodeEvent, Position, RequestKey, Sweep};
-use record_state::{BookOrder, Connections, Fronts};
+use record_state::{BookOrder, Connections, Fronts, Outcome};
 use std::alloc::{AllocError, Global};
 use untold::StoredBook;
 
@@ -34,6 +34,10 @@ pub struct Player<'s> {
     numbered: Vec<NodeNo>,
     /// The book on disk, if one is given.
     stored: Option<StoredBook>,
+    /// Whether the records of fronts were read to their ends.
+    are_fronts_read: bool,
+    /// Whether requests are to be handed over, and a line of fronts that was not read may tell of one of them.
+    awaits_lines: bool,
 }
 
 // By hand, so that each exit of an owner is proved with one call.
@@ -48,6 +52,8 @@ impl<'s> Drop for Player<'s> {
             recorded: _,
             numbered: _,
             stored: _,
+            are_fronts_read: _,
+            awaits_lines: _,
         } = self;
     }
 }
@@ -74,6 +80,8 @@ impl<'s> Player<'s> {
             recorded: Vec::new(alloc),
             numbered: Vec::new(alloc),
             stored: None,
+            are_fronts_read: false,
+            awaits_lines: false,
         })
     }
 
@@ -129,7 +137,12 @@ impl<'s> Player<'s> {
 
     /// A line tells what became of a request.
     pub fn add_finished(&mut self, finished: Finished) -> Result<(), PlayFault> {
-        self.fronts.finish(finished.request);
+        let outcome = Outcome {
+            place: finished.place,
+            is_new: finished.is_new,
+            ends_above: self.connections.ends(),
+        };
+        self.fronts.finish(finished.request, outcome);
         if let Some(answer) = &finished.answer {
             if finished.was_posted {
                 self.connections
@@ -166,9 +179,16 @@ impl<'s> Player<'s> {
         }
     }
 
-    /// Nobody has wanted a worker yet.
-    pub fn feed_all(&mut self) {
+    /// Nobody has wanted a worker or a line yet. `are_fronts_read`: whether the records of fronts were read to their ends.
+    pub fn feed_all(&mut self, are_fronts_read: bool) {
         self.fronts.feed_all();
+        self.awaits_lines = false;
+        self.are_fronts_read = are_fronts_read;
+    }
+
+    /// Whether requests are to be handed over, and a line of fronts that was not read may tell of one of them.
+    pub fn awaits_lines(&self) -> bool {
+        self.awaits_lines
     }
 
     /// What was told of the book was played. Otherwise where the first line stands for which a place is missing.

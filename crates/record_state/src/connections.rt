@@ -116,6 +116,11 @@ impl Connections {
         Ok(())
     }
 
+    /// How many ends were told.
+    pub fn ends(&self) -> usize {
+        self.told.len()
+    }
+
     pub fn label(&self, conn: usize) -> u64 {
         self.told.get(conn).map_or(0, |told| told.label)
     }

@@ -17,6 +17,23 @@ pub enum RequestState {
     HandedOver,
 }
 
+/// What a line tells of a request that a worker has finished.
+#[derive(Clone, Copy)]
+pub struct Outcome {
+    /// Its place in the book, that of the first for a repeat; none if the book was not asked.
+    pub place: Option<u64>,
+    pub is_new: bool,
+    /// How many ends of connections were told above the line.
+    pub ends_above: usize,
+}
+
+impl Outcome {
+    /// Whether its request comes before another one in the order of the book, in which a repeat stands behind the first.
+    fn is_before(&self, other: &Outcome) -> bool {
+        self.place < other.place || self.place == other.place && self.is_new && !other.is_new
+    }
+}
+
 /// A request that a front hands to its workers.
 #[derive(Clone, Copy)]
 pub struct Request {
@@ -25,9 +42,29 @@ pub struct Request {
     pub end: End,
     /// By which it is found in a book on disk, if one is given.
     pub key: Option<RequestKey>,
-    /// Whether a line was read that tells what became of it.
-    pub is_finished: bool,
+    /// What a line tells that became of it; none if no such line was read.
+    pub outcome: Option<Outcome>,
     pub state: RequestState,
+}
+
+impl Request {
+    /// Whether a line was read that tells what became of it.
+    fn is_finished(&self) -> bool {
+        self.outcome.is_some()
+    }
+
+    /// Whether such a line stands above the one that tells of this end of a connection.
+    fn was_told_above(&self, end: usize) -> bool {
+        match &self.outcome {
+            Some(outcome) => outcome.ends_above <= end,
+            None => false,
+        }
+    }
+
+    /// Whether it has arrived at a front and is in flight yet, and is this one or was told before.
+    fn is_in_flight_to(&self, front: NodeNo, last: u64) -> bool {
+        self.end.node == front && self.state == RequestState::Arrived && self.number <= last
+    }
 }
 
 /// A request that a front has in its queue, or that a worker has.
@@ -167,7 +204,7 @@ impl Fronts {
             number,
             end,
             key,
-            is_finished: false,
+            outcome: None,
             state: RequestState::NotSent,
         })?;
         Ok(())
@@ -186,7 +223,7 @@ impl Fronts {
             .iter()
             .find(|request| {
                 request.key == Some(key)
-                    && !request.is_finished
+                    && !request.is_finished()
                     && request.state != RequestState::NotSent
             })
             .copied()
@@ -231,12 +268,12 @@ impl Fronts {
             Some(key) => needed.contains(&key),
             None => false,
         };
-        !request.is_finished && number < before && !is_needed
+        !request.is_finished() && number < before && !is_needed
     }
 
     /// Whether a line tells what became of a request of a front, told before this one, that is not answered.
     pub fn has_finished_before(&self, front: NodeNo, number: u64) -> bool {
-        self.requests.iter().any(|request| request.is_finished
+        self.requests.iter().any(|request| request.is_finished()
             && request.end.node == front
             && request.number < number)
     }
@@ -256,9 +293,9 @@ impl Fronts {
     }
 
     /// A line was read that tells what became of a request.
-    pub fn finish(&mut self, number: u64) {
+    pub fn finish(&mut self, number: u64, outcome: Outcome) {
         if let Some(request) = self.request_mut(number) {
-            request.is_finished = true;
+            request.outcome = Some(outcome);
         }
     }
 
@@ -278,11 +315,22 @@ impl Fronts {
         self.requests.iter().any(|request| request.end.conn == conn)
     }
 
+    /// Whether one of those was told to be finished above the line of this end of a connection.
+    pub fn has_told_above(&self, conn: usize, end: usize) -> bool {
+        self.requests.iter().any(|request| request.end.conn == conn && request.was_told_above(end))
+    }
+
+    /// Whether this request, which is not answered, came on a connection and was told to be finished above the line of this end of one.
+    pub fn is_told_above(&self, number: u64, conn: usize, end: usize) -> bool {
+        match self.request(number) {
+            Some(request) => request.end.conn == conn && request.was_told_above(end),
+            None => false,
+        }
+    }
+
     /// Whether a request of which no line tells yet what became of it was told before this one.
     pub fn has_unfinished_before(&self, number: u64) -> bool {
-        self.requests
-            .iter()
-            .any(|request| !request.is_finished && request.number < number)
+        self.requests.iter().any(|request| !request.is_finished() && request.number < number)
     }
 
     /// How many requests have arrived on a connection and are in flight yet.
@@ -311,24 +359,50 @@ impl Fronts {
             .max()
     }
 
-    /// The first request, in the order in which they were told, that has arrived at a front and is in flight yet.
-    pub fn first_arrived(&self, front: NodeNo) -> Option<u64> {
-        let first = self.requests.iter().find(|request| {
-            request.end.node == front && request.state == RequestState::Arrived
-        })?;
-        Some(first.number)
-    }
-
     /// How many requests have arrived at a front and are in flight yet, up to this one.
     pub fn arrived_up_to(&self, front: NodeNo, last: u64) -> usize {
         self.requests
             .iter()
-            .filter(|request| {
-                request.end.node == front
-                    && request.state == RequestState::Arrived
-                    && request.number <= last
-            })
+            .filter(|request| request.is_in_flight_to(front, last))
             .count()
+    }
+
+    /// Whether one of those was told after so many requests, and no line tells yet what became of it.
+    pub fn has_unfinished_from(&self, number: u64, front: NodeNo, last: u64) -> bool {
+        self.requests.iter().any(|request| request.is_in_flight_to(front, last)
+            && !request.is_finished()
+            && request.number >= number)
+    }
+
+    /// Of the requests that have arrived at a front and are in flight yet, up to this one, the one that goes first if they are handed
+    /// over together: that with the first place in the book, or one that arrived before it and of which no line tells.
+    pub fn first_by_place(&self, front: NodeNo, last: u64) -> Option<u64> {
+        let unfinished = self.requests.iter().find(|request| request.is_in_flight_to(front, last)
+            && !request.is_finished());
+        match (self.first_finished(front, last), unfinished) {
+            (Some(number), Some(request)) => Some(number.min(request.number)),
+            (Some(number), None) => Some(number),
+            (None, Some(request)) => Some(request.number),
+            (None, None) => None,
+        }
+    }
+
+    /// Of those, the one with the first place in the book.
+    fn first_finished(&self, front: NodeNo, last: u64) -> Option<u64> {
+        let mut first: Option<(u64, Outcome)> = None;
+        for request in &self.requests {
+            let Some(outcome) = request.outcome else {
+                continue;
+            };
+            let is_first = match &first {
+                Some((_, least)) => outcome.is_before(least),
+                None => true,
+            };
+            if is_first && request.is_in_flight_to(front, last) {
+                first = Some((request.number, outcome));
+            }
+        }
+        Some(first?.0)
     }
 
     // ---- queues and workers
@@ -398,7 +472,7 @@ impl Fronts {
     /// Whether a request of which no line tells yet what became of it keeps a worker busy that is wanted.
     pub fn is_held_up(&self) -> bool {
         self.requests.iter().any(|request| {
-            !request.is_finished
+            !request.is_finished()
                 && request.state != RequestState::NotSent
                 && self.starved.contains(&request.end.node)
         })

@@ -17,6 +17,6 @@ mod reports;
 pub use book_order::BookOrder;
 pub use comparing::is_as_told;
 pub use connections::{Connections, Established, OpenDials};
-pub use fronts::{Fronts, InHand, Request, RequestState};
+pub use fronts::{Fronts, InHand, Outcome, Request, RequestState};
 pub use queues::{NodeEntry, Queues};
 pub use reports::Reports;

@@ -106,18 +106,40 @@ impl<'s> Player<'s> {
     /// A request is charged that the book has already, or is answered without it. Whether there was one.
     pub fn charge_repeat(&mut self) -> Result<bool, PlayFault> {
         for at in 0..self.book.repeats() {
-            let Some(repeat) = self.book.due_repeat(at) else {
-                continue;
-            };
-            let number = repeat.request;
-            if self.may_be_charged(number)? {
-                return self.charge_repeat_at(at);
+            if self.charge_repeat_at(at)? {
+                return Ok(true);
             }
         }
         Ok(false)
     }
 
+    /// The same of those that came on a connection, of which lines tell above that of this end of one.
+    pub(super) fn charge_repeat_above(
+        &mut self,
+        conn: usize,
+        end: usize,
+    ) -> Result<bool, PlayFault> {
+        for at in 0..self.book.repeats() {
+            let is_told = match self.book.due_repeat(at) {
+                Some(repeat) => self.fronts.is_told_above(repeat.request, conn, end),
+                None => false,
+            };
+            if is_told && self.charge_repeat_at(at)? {
+                return Ok(true);
+            }
+        }
+        Ok(false)
+    }
+
+    /// The repeat at this place of them is charged, if it may be. Whether it was.
     fn charge_repeat_at(&mut self, at: usize) -> Result<bool, PlayFault> {
+        let Some(repeat) = self.book.due_repeat(at) else {
+            return Ok(false);
+        };
+        let number = repeat.request;
+        if !self.may_be_charged(number)? {
+            return Ok(false);
+        }
         match self.book.take_repeat(at) {
             Some(repeat) => {
                 self.charge(&repeat)?;

@@ -28,7 +28,11 @@ impl<'s> Player<'s> {
         if dials.is_none() && !self.is_silent(position, end.peer)? {
             return Ok(false);
         }
-        if !self.make_free(position, end.peer, end.node)? {
+        let opener = match &dials {
+            Some(dials) => dials.first,
+            None => end.conn,
+        };
+        if !self.make_free(position, end, opener)? {
             return Ok(false);
         }
         match dials {
@@ -81,7 +85,7 @@ impl<'s> Player<'s> {
     /// then.
     pub(super) fn opened(&mut self, position: Position, end: End) -> Result<bool, PlayFault> {
         if self.is_silent(position, end.peer)? {
-            if !self.make_free(position, end.node, end.peer)? {
+            if !self.make_free(position, end, end.conn)? {
                 return Ok(false);
             }
             self.establish_with_silent(position, end)?;

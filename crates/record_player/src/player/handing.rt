@@ -1,4 +1,4 @@
-//! Requests at fronts: they stay in flight until they are charged, unless their connection is to go before.
+//! Requests at fronts: they stay in flight until they are charged, unless their connection is to go before, or the queue has to be full.
 
 use crate::fault::{Difference, PlayFault, found};
 use crate::player::Player;
@@ -26,7 +26,7 @@ impl<'s> Player<'s> {
         Ok(true)
     }
 
-    /// A request for which a front had no room: its queue is full then, or a worker refuses it.
+    /// A request for which a front had no room: its queue is full then, or a worker refuses it. Requests that wait fill the queue.
     fn hand_back(&mut self, event: &NodeEvent) -> Result<bool, PlayFault> {
         let (position, node, peer) = (event.position, event.end.node, event.end.peer);
         let queued = self.fronts.queued(node);
@@ -37,8 +37,11 @@ impl<'s> Player<'s> {
             self.fronts.starve(node)?;
             return Ok(false);
         }
-        if is_full {
-            self.hand_over_some(position, node, limit.saturating_sub(queued))?;
+        if is_full && queued < limit {
+            if self.lacks_lines(node, u64::MAX) {
+                return Ok(false);
+            }
+            self.hand_over_some(position, node, u64::MAX, limit.saturating_sub(queued))?;
         }
         let since = self.farm.flight(node, peer).len();
         let place = self.fronts.arrived_on(event.end.conn);
@@ -49,22 +52,6 @@ impl<'s> Player<'s> {
         self.compare(event, peer, since)?;
         self.hand_to_silent(position, node, peer, since)?;
         Ok(true)
-    }
-
-    /// So many of the requests that have arrived are handed over, in their order.
-    fn hand_over_some(
-        &mut self,
-        position: Position,
-        front: NodeNo,
-        count: usize,
-    ) -> Result<(), PlayFault> {
-        for _ in 0..count {
-            let Some(number) = self.fronts.first_arrived(front) else {
-                return Ok(());
-            };
-            self.hand_over(position, number)?;
-        }
-        Ok(())
     }
 
     /// A worker refuses the request that was handed over last.
@@ -184,6 +171,37 @@ impl<'s> Player<'s> {
         Ok(())
     }
 
+    // ---- requests are handed over together
+
+    /// Whether a line that was not read may tell of a request that has arrived at a front, up to this one. More is read then.
+    fn lacks_lines(&mut self, front: NodeNo, last: u64) -> bool {
+        let lacks = !self.are_fronts_read
+            && self
+                .fronts
+                .has_unfinished_from(self.told_from(), front, last);
+        if lacks {
+            self.awaits_lines = true;
+        }
+        lacks
+    }
+
+    /// So many of the requests that have arrived at a front, up to this one, are handed over, by their places in the book.
+    fn hand_over_some(
+        &mut self,
+        position: Position,
+        front: NodeNo,
+        last: u64,
+        count: usize,
+    ) -> Result<(), PlayFault> {
+        for _ in 0..count {
+            let Some(number) = self.fronts.first_by_place(front, last) else {
+                return Ok(());
+            };
+            self.hand_over(position, number)?;
+        }
+        Ok(())
+    }
+
     // ---- a front drops a connection
 
     /// A front drops a connection that it has lost once all requests are charged that came on it.
@@ -205,43 +223,67 @@ impl<'s> Player<'s> {
         self.drop_silent(position, end.node, end.peer)
     }
 
-    /// Whether these nodes have no connection any more. A front that has lost one drops it then.
+    /// Whether the nodes of a connection, which is to stand with this end and that of the other node, have no other one any more. A front
+    /// that has lost one drops it then.
     pub(super) fn make_free(
         &mut self,
         position: Position,
-        a: NodeNo,
-        b: NodeNo,
+        end: End,
+        other: usize,
     ) -> Result<bool, PlayFault> {
-        self.close(position, a, b)?;
-        self.close(position, b, a)?;
-        Ok(self.farm.is_free(a, b))
+        let other = End {
+            conn: other,
+            node: end.peer,
+            peer: end.node,
+        };
+        self.close(position, other)?;
+        self.close(position, end)?;
+        Ok(self.farm.is_free(end.peer, end.node))
     }
 
-    /// A front that has lost its connection, as the node at the other end has too, drops it, though requests wait that came on
-    /// it, if there is room for them.
-    fn close(&mut self, position: Position, node: NodeNo, peer: NodeNo) -> Result<(), PlayFault> {
+    /// A front that has lost its connection, as the node at the other end has too, drops it, since they connect again, with this end.
+    /// Requests that came on it are charged before, if lines above tell so; the others are handed over, if there is room for them.
+    fn close(&mut self, position: Position, next: End) -> Result<(), PlayFault> {
+        let (node, peer) = (next.node, next.peer);
         let Some(conn) = self.connections.end_between(node, peer) else {
             return Ok(());
         };
         if !self.connections.is_closing(conn)
             || (self.farm.has_end(peer, node) && !self.is_silent(position, peer)?)
+            || self.waits_for_told(conn, next.conn)?
         {
             return Ok(());
         }
         if let Some(last) = self.fronts.last_arrived_on(conn) {
-            let count = self.fronts.arrived_up_to(node, last);
-            if !self.has_room(node, count) {
-                self.fronts.starve(node)?;
+            if self.lacks_lines(node, last) || !self.has_room(node, last)? {
                 return Ok(());
             }
-            self.hand_over_some(position, node, count)?;
+            let count = self.fronts.arrived_up_to(node, last);
+            self.hand_over_some(position, node, last, count)?;
         }
         self.drop_here(position, End { conn, node, peer })
     }
 
-    /// Whether so many requests more may wait at a front or be with its workers.
-    fn has_room(&self, front: NodeNo, count: usize) -> bool {
+    /// Whether requests wait that came on a lost connection, and of which lines tell above that of the next one, with this end; or the
+    /// last is charged, and the connection dropped. Those are charged now that the book has already, or that are answered without it.
+    fn waits_for_told(&mut self, conn: usize, next: usize) -> Result<bool, PlayFault> {
+        for _ in 0..self.book.repeats() {
+            if !self.charge_repeat_above(conn, next)? {
+                break;
+            }
+        }
+        Ok(!self.connections.is_closing(conn) || self.fronts.has_told_above(conn, next))
+    }
+
+    /// Whether the requests that have arrived at a front, up to this one, may wait there or be with its workers.
+    fn has_room(&mut self, front: NodeNo, last: u64) -> Result<bool, PlayFault> {
+        let count = self.fronts.arrived_up_to(front, last);
         let taken = self.fronts.queued(front).saturating_add(count);
-        taken <= (self.site().queue as usize).saturating_add(self.fronts.idle(front))
+        let has_room = taken
+            <= (self.site().queue as usize).saturating_add(self.fronts.idle(front));
+        if !has_room {
+            self.fronts.starve(front)?;
+        }
+        Ok(has_room)
     }
 }

@@ -139,6 +139,11 @@ impl<'s> Player<'s> {
         Some(entry.position)
     }
 
+    /// Of requests with lower numbers no line that was not read tells: fronts have begun again since.
+    pub(super) fn told_from(&self) -> u64 {
+        self.stored.as_ref().map_or(0, |stored| stored.begun_at)
+    }
+
     /// The next entry of the book on disk.
     fn next_entry(&self) -> Option<BookEntry> {
         self.stored.as_ref()?.next
