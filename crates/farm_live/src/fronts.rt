@@ -32,6 +32,7 @@ use farm_loop::Sockets;
 use farm_place::{Place, fronts_of, place_of};
 use farm_terms::{site_change, site_terms};
 use front_pool::Pooling;
+use log::LevelFilter;
 use pool_node::{PoolFronts, Timing, seats_for, start_fronts};
 use std::alloc::Global;
 use std::marker::Brand;
@@ -267,9 +268,12 @@ where
         sockets,
         waker,
     } = listening;
-    let (fronts, jobs) = start_on::<L, S, O>(
+    let (mut fronts, jobs) = start_on::<L, S, O>(
         setting, &nodes, waker, blank, history, book, journal, timing, workers,
     )?;
+    if has_details(setting.command.level) {
+        fronts.log_credit();
+    }
     serve_over(
         setting,
         &nodes,
@@ -280,6 +284,14 @@ where
         timing.timer,
         answers,
     )
+}
+
+/// Whether a log up to this level has refusals for credit, which are its details.
+fn has_details(level: LevelFilter) -> bool {
+    match level {
+        LevelFilter::Debug | LevelFilter::Trace => true,
+        LevelFilter::Off | LevelFilter::Error | LevelFilter::Warn | LevelFilter::Info => false,
+    }
 }
 
 /// Starts these fronts on this book, and who does jobs on it. Their workers wake the loop of the process.

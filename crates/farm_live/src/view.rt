@@ -36,7 +36,7 @@ pub trait Booked: Node + Drop {
     /// How many answers were dropped since their request has another End-to-End Identifier.
     fn mismatched(&self) -> u64;
 
-    /// What only the node can tell of is recorded.
+    /// What only the node can tell of is recorded and noted.
     fn tell(live: &mut Live<Self>);
 
     /// The node ends in good order. What its book has come to, if it has one; none where memory was missing.
@@ -137,6 +137,7 @@ impl<L: Pooling, S: RowStore + Drop, R: Wait + Drop> Booked for PoolFronts<L, S,
 
     fn tell(live: &mut Live<PoolFronts<L, S, R>>) {
         live.serving.record_node();
+        live.serving.note_refused();
     }
 
     fn end<O: Threads + Wait + Clock>(

@@ -31,10 +31,12 @@ pub enum Kind {
     GivenUp,
     /// A request is refused.
     Refusal,
+    /// Credit control itself refuses one.
+    Credit,
 }
 
 /// All kinds, in their order.
-pub const KINDS: [Kind; 13] = [
+pub const KINDS: [Kind; 14] = [
     Kind::Taken,
     Kind::NotAdmitted,
     Kind::NotTaken,
@@ -48,6 +50,7 @@ pub const KINDS: [Kind; 13] = [
     Kind::FailedOver,
     Kind::GivenUp,
     Kind::Refusal,
+    Kind::Credit,
 ];
 
 impl Kind {
@@ -71,14 +74,14 @@ impl Kind {
             Kind::Lost => "lost",
             Kind::FailedOver => "failover",
             Kind::GivenUp => "given_up",
-            Kind::Refusal => "refusal",
+            Kind::Refusal | Kind::Credit => "refusal",
         }
     }
 
     /// The level of its lines; of those that have two, the one for faults.
     pub fn level(self) -> Level {
         match self {
-            Kind::Taken => Level::Debug,
+            Kind::Taken | Kind::Credit => Level::Debug,
             Kind::Refused
             | Kind::Up
             | Kind::Leaves

@@ -3,9 +3,10 @@
 use crate::kind::Kind;
 use crate::rejected::Rejected;
 use crate::why::{Fault, Why};
+use dia_avp::Octets;
 use dia_base::{ConnId, Identity, NodeNo};
 use farm_base::Site;
-use farm_node::NodeError;
+use farm_node::{NodeError, Refused};
 use farm_serve::Refusal;
 use farm_watch::DisconnectCause;
 use log::{Level, Log, debug, info, warn};
@@ -107,6 +108,37 @@ struct Called<'a>(&'a Identity);
 impl fmt::Display for Called<'_> {
     fn fmt<W: fmt::Write>(&self, f: &mut fmt::Formatter<W>) -> fmt::Result {
         write_name(f, self.0)
+    }
+}
+
+/// The most octets of a value that are shown.
+const VALUE_LIMIT: usize = 128;
+
+/// The value of an AVP as a line shows it: at most [`VALUE_LIMIT`] octets, each that is not visible ASCII as `?`, and `-` where there is
+/// none.
+#[derive(Clone, Copy)]
+struct Value<'a>(&'a Option<Octets>);
+
+impl fmt::Display for Value<'_> {
+    fn fmt<W: fmt::Write>(&self, f: &mut fmt::Formatter<W>) -> fmt::Result {
+        let Some(octets) = self.0 else {
+            return f.write_char('-');
+        };
+        let octets = octets.as_slice();
+        let shown = octets.len().min(VALUE_LIMIT);
+        for octet in &octets[..shown] {
+            f.write_char(visible(*octet))?;
+        }
+        Ok(())
+    }
+}
+
+/// An octet as a line shows it.
+fn visible(octet: u8) -> char {
+    if 32 < octet && octet < 127 {
+        char::from(octet)
+    } else {
+        '?'
     }
 }
 
@@ -237,9 +269,12 @@ pub fn given_up<L: Log>(log: &L, at: At<'_>, to: ConnId, code: u32) {
     info!(log; target: "farm", node:% = at.local, event = "given_up", connection = at.conn.0, to = to, code = code; "{at}: a request cannot be sent again: {code} to connection {to}");
 }
 
-/// A request was refused with this Result-Code.
-pub fn refusal<L: Log>(log: &L, at: At<'_>, code: u32) {
-    info!(log; target: "farm", node:% = at.local, event = "refusal", connection = at.conn.0, code = code; "{at}: a request is refused: {code}");
+/// A request was refused.
+pub fn refusal<L: Log>(log: &L, at: At<'_>, level: Level, refused: &Refused) {
+    let code = refused.code;
+    let (session, origin) = (Value(&refused.session), Value(&refused.origin));
+    let realm = Value(&refused.realm);
+    log::log!(log; target: "farm", level, node:% = at.local, event = "refusal", connection = at.conn.0, code = code, session:% = session, origin:% = origin, realm:% = realm; "{at}: a request is refused: {code}, Session-Id {session}, Origin-Host {origin}, Destination-Realm {realm}");
 }
 
 /// A node did not do what it was told, which was of no connection.

@@ -11,7 +11,7 @@ use crate::{Served, tell};
 use dia_base::{ConnId, Moment, NodeNo};
 use farm_base::Site;
 use farm_net::Counted;
-use farm_node::Node;
+use farm_node::{Node, Refused, is_of_credit};
 use farm_serve::{Ended, Link, Note};
 use log::Log;
 
@@ -46,10 +46,19 @@ fn conn_of(note: &Note) -> Option<ConnId> {
         | Note::Leaves { conn, .. }
         | Note::Lost { conn, .. }
         | Note::Misnamed { conn, .. }
-        | Note::Refused { conn, .. }
-        | Note::Refusal { conn, .. } => Some(*conn),
+        | Note::Refused { conn, .. } => Some(*conn),
+        Note::Refusal { refused } => Some(refused.conn),
         Note::FailedOver { lost, .. } | Note::GivenUp { lost, .. } => Some(*lost),
         Note::Failed { .. } => None,
+    }
+}
+
+/// The kind of the line of a request that was refused.
+fn kind_of_refusal(refused: &Refused) -> Kind {
+    if is_of_credit(refused.code) {
+        Kind::Credit
+    } else {
+        Kind::Refusal
     }
 }
 
@@ -63,7 +72,7 @@ fn kind_of(note: &Note) -> Option<Kind> {
         Note::Refused { .. } => None,
         Note::FailedOver { .. } => Some(Kind::FailedOver),
         Note::GivenUp { .. } => Some(Kind::GivenUp),
-        Note::Refusal { .. } => Some(Kind::Refusal),
+        Note::Refusal { refused } => Some(kind_of_refusal(refused)),
         Note::Failed { .. } => Some(Kind::Failed),
     }
 }
@@ -101,7 +110,9 @@ fn write_note<L: Log>(log: &L, site: &Site, link: &Socketed, note: &Note) {
         }
         Note::FailedOver { to, .. } => tell::failed_over(log, at, *to),
         Note::GivenUp { to, code, .. } => tell::given_up(log, at, *to, *code),
-        Note::Refusal { code, .. } => tell::refusal(log, at, *code),
+        Note::Refusal { refused } => {
+            tell::refusal(log, at, kind_of_refusal(refused).level(), refused);
+        }
         Note::Refused { .. } | Note::Failed { .. } => {}
     }
 }

@@ -4,6 +4,8 @@
 //! - [`Node`]: a node by its events. Those who have connections tell it what happens on them, and send what it says.
 //! - [`Reaction`]: what a node sends at an event, and whether it did what it was told.
 //! - [`NodeError`]: why not. It is small and takes no memory, so that it can be counted and logged.
+//! - [`Refused`]: what a log says of a request that was refused; [`Refuses`]: a node that refuses requests at another time than it
+//!   is told of them.
 //!
 //! A relay ([`relay_core::Relay`], [`relay_core::MatchingRelay`] around one and [`relay_core::PartingRelay`] around that) and a front ([`front_core::Front`]) are
 //! nodes. `specs/Events` says what may happen to
@@ -25,7 +27,9 @@
 mod error;
 mod front;
 mod node;
+mod refused;
 mod relay;
 
 pub use error::NodeError;
 pub use node::{Node, Reaction};
+pub use refused::{Refused, Refuses, is_of_credit, result_code};

@@ -20,7 +20,7 @@ use crate::link::{
 };
 use crate::local::{LocalNode, site_of};
 use crate::naming::misnamed;
-use crate::note::Notes;
+use crate::note::{Notes, kept_body};
 use crate::recording::{record_lost, record_message, record_refusal, record_sent, record_up};
 use dia_avp::Wire;
 use dia_base::{ConnId, Moment, NodeNo};
@@ -402,11 +402,13 @@ impl<N: Node, R: Read + Device, W: Write + Device> Desk<N, R, W> {
     {
         let conn = self.links[place].id;
         let asks = message.header.request;
+        let body = kept_body(&message);
         count_passed(&mut self.tally, conn, &message, moment);
         record_message(self.alloc, &mut self.recorder, conn, &message);
         let reaction = self.node.on_message::<P>(self.alloc, conn, message);
         end_unless_told(&mut self.links[place], asks, reaction.outcome, moment);
-        self.notes.answers::<P>(self.alloc, conn, &reaction.out);
+        self.notes
+            .answers::<P>(self.alloc, conn, body.as_ref(), &reaction.out);
         record_refusal(&mut self.recorder, reaction.outcome);
         record_sent(self.alloc, &mut self.recorder, &reaction.out);
         self.send_all(&reaction.out, moment);

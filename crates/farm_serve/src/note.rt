@@ -2,11 +2,10 @@
 
 use crate::end::End;
 use crate::link::Standing;
-use dia_avp::Wire;
-use dia_base::codes::RESULT_CODE;
+use dia_avp::{Octets, Wire};
 use dia_base::{ConnId, Identity, NodeNo};
 use dia_message::{Message, Out};
-use farm_node::NodeError;
+use farm_node::{NodeError, Refused, result_code};
 use farm_watch::{DisconnectCause, name_in};
 use std::alloc::Global;
 use std::collections::VecDeque;
@@ -59,10 +58,9 @@ pub enum Note {
         to: ConnId,
         code: u32,
     },
-    /// The node has refused a request with this Result-Code, 0 where it cannot be read.
+    /// The node has refused a request.
     Refusal {
-        conn: ConnId,
-        code: u32,
+        refused: Refused,
     },
     /// The node did not do what it was told, which was of no connection.
     Failed {
@@ -147,14 +145,42 @@ impl Notes {
         self.add(Note::Failed { error });
     }
 
-    /// The refusals among what a node sends where a message came on this connection: an error that goes back there.
-    pub(crate) fn answers<P: Wire>(&mut self, alloc: Global, conn: ConnId, out: &Out) {
+    /// The refusals among what a node sends where a message with this body came on this connection: an error that goes back there.
+    pub(crate) fn answers<P: Wire>(
+        &mut self,
+        alloc: Global,
+        conn: ConnId,
+        body: Option<&Octets>,
+        out: &Out,
+    ) {
         for (to, message) in out.items.as_slice() {
             if to.0 == conn.0 && message.header.error && !message.header.request {
-                let code = result_code::<P>(alloc, message);
-                self.add(Note::Refusal { conn, code });
+                self.refusal::<P>(alloc, conn, body, message);
             }
         }
+    }
+
+    /// A request with this body was refused with an answer. Without memory it is one of the notes that have no place.
+    fn refusal<P: Wire>(
+        &mut self,
+        alloc: Global,
+        conn: ConnId,
+        body: Option<&Octets>,
+        answer: &Message,
+    ) {
+        let code = result_code::<P>(alloc, answer);
+        if let Some(body) = body
+            && let Ok(refused) = Refused::of::<P>(alloc, conn, body, code)
+        {
+            self.refused(refused);
+        } else {
+            self.dropped = self.dropped.saturating_add(1);
+        }
+    }
+
+    /// The node has refused a request.
+    pub(crate) fn refused(&mut self, refused: Refused) {
+        self.add(Note::Refusal { refused });
     }
 
     /// What a node sends where a connection is lost: requests again, and answers to those that it gives up.
@@ -171,15 +197,11 @@ impl Notes {
     }
 }
 
-/// The first Result-Code of an answer, 0 where it cannot be read.
-fn result_code<P: Wire>(alloc: Global, answer: &Message) -> u32 {
-    let Ok(avps) = P::split(alloc, &answer.body) else {
-        return 0;
-    };
-    for avp in &avps {
-        if avp.code == RESULT_CODE && avp.vendor == 0 {
-            return dia_avp::u32_of(avp).unwrap_or(0);
-        }
+/// What is kept of a message while the node is told of it: the body of a request, by which it is named if it is refused.
+pub(crate) fn kept_body(message: &Message) -> Option<Octets> {
+    if message.header.request {
+        message.body.clone().ok()
+    } else {
+        None
     }
-    0
 }

@@ -12,11 +12,11 @@ use crate::end::{End, Ended, NotTaken, Refusal};
 use crate::link::{Link, Standing, is_overdue};
 use crate::local::{LocalNode, site_of};
 use crate::naming::NameRule;
-use crate::note::{Note, Notes};
+use crate::note::{NOTE_LIMIT, Note, Notes};
 use dia_avp::Wire;
 use dia_base::{ConnId, Moment, NodeNo};
 use farm_net::{Conn, Device};
-use farm_node::Node;
+use farm_node::{Node, Refuses};
 use farm_record::{Event, Recorded, Recorder};
 use farm_tally::Tally;
 use farm_watch::{Acts, Numbering, Side, Watch};
@@ -464,5 +464,31 @@ impl<N: Node + Recorded, R: Read + Device, W: Write + Device> Serving<N, R, W> {
         self.desk
             .node
             .tell_events(self.desk.alloc, &mut self.desk.recorder);
+    }
+}
+
+impl<N: Node + Refuses, R: Read + Device, W: Write + Device> Serving<N, R, W> {
+    /// Notes the requests that the node has refused since this was called last, as far as there is room for notes.
+    pub fn note_refused(&mut self)
+        ensures kept { kept_by self.new.desk ≡ kept_by self.old.desk }
+        ensures links { self.new.desk.links ≡ self.old.desk.links }
+    {
+        for _ in 0..NOTE_LIMIT {
+            if !self.note_one() {
+                return;
+            }
+        }
+    }
+
+    /// Notes the oldest request that the node has refused, if there is one.
+    fn note_one(&mut self) -> bool
+        ensures kept { kept_by self.new.desk ≡ kept_by self.old.desk }
+        ensures links { self.new.desk.links ≡ self.old.desk.links }
+    {
+        let Some(refused) = self.desk.node.take_refused() else {
+            return false;
+        };
+        self.desk.notes.refused(refused);
+        true
     }
 }

@@ -7,22 +7,26 @@ ghost use Rattle.pool_node.specs.Sweeping.{is_due};
 
 use crate::events::BookEvents;
 use crate::figures::BookFigures;
+use crate::refusing::Refusals;
 use crate::sweeping::NextSweep;
 use crate::timing::Timing;
 use cc_sweeper::SweepDone;
 use dia_base::Moment;
+use farm_node::Refused;
 use farm_record::Recorder;
 use front_pool::Finished;
 use std::alloc::Global;
 use std::marker::Model;
 
-/// When a book is swept next, what it has come to as far as answers were collected, and what is to be recorded of it. Whatever is
-/// collected is taken in here, so that no figure and no event is left out.
+/// When a book is swept next, what it has come to as far as answers were collected, and what is to be recorded and logged of it. Whatever
+/// is collected is taken in here, so that no figure and no event is left out.
 #[derive(Drop)]
 pub struct Booked {
     next_sweep: NextSweep,
     figures: BookFigures,
     events: BookEvents,
+    /// What a log says of requests that were refused. Contracts do not see it.
+    refusals: Refusals,
 }
 
 impl Model for Booked {
@@ -44,6 +48,7 @@ impl Booked {
             },
             figures: timing.figures,
             events: BookEvents::off(alloc),
+            refusals: Refusals::new(alloc),
         }
     }
 
@@ -74,6 +79,21 @@ impl Booked {
     {
         self.figures.collected(finished);
         self.events.collected(finished);
+        self.refusals.collected(finished);
+    }
+
+    /// From now on requests that credit control itself refused are to be logged too.
+    pub fn log_credit(&mut self)
+        ensures { self.new ≡ self.old }
+    {
+        self.refusals.keep_credit();
+    }
+
+    /// Takes what is to be logged of the oldest request that was refused.
+    pub fn take_refused(&mut self) -> Option<Refused>
+        ensures { self.new ≡ self.old }
+    {
+        self.refusals.take_first()
     }
 
     /// A sweep was collected.

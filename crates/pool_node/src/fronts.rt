@@ -18,7 +18,7 @@ use cc_sweeper::{SweepDone, Sweeper};
 use dia_avp::Wire;
 use dia_base::{ConnId, Listing, Moment, NodeNo};
 use dia_message::{Message, Out};
-use farm_node::{Node, NodeError, Reaction};
+use farm_node::{Node, NodeError, Reaction, Refused, Refuses};
 use farm_record::{Recorded, Recorder};
 use front_pool::Pooling;
 use std::alloc::Global;
@@ -162,6 +162,13 @@ impl<L: Pooling, S: RowStore + Drop, R: Wait> PoolFronts<L, S, R> {
         ensures { self.new ≡ self.old }
     {
         self.book.begin_record();
+    }
+
+    /// From now on it keeps also what credit control itself refuses until it is taken ([`Refuses`]).
+    pub fn log_credit(&mut self)
+        ensures { self.new ≡ self.old }
+    {
+        self.book.log_credit();
     }
 
     /// Whether something that the book has done was not stored. The process is to end then: whether it stands is not known.
@@ -339,5 +346,12 @@ impl<L: Pooling, S: RowStore + Drop, R: Wait> Node for PoolFronts<L, S, R> {
 impl<L: Pooling, S: RowStore + Drop, R> Recorded for PoolFronts<L, S, R> {
     fn tell_events(&mut self, alloc: Global, recorder: &mut Recorder) {
         self.book.tell(alloc, recorder);
+    }
+}
+
+/// What their workers have refused.
+impl<L: Pooling, S: RowStore + Drop, R> Refuses for PoolFronts<L, S, R> {
+    fn take_refused(&mut self) -> Option<Refused> {
+        self.book.take_refused()
     }
 }

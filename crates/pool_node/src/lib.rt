@@ -12,7 +12,8 @@
 //!   swept first, and from when on time goes on. A tick asks a [`cc_sweeper::Sweeper`] for a sweep that is due, and what it has come
 //!   to is collected at a later tick or wake: the node takes the book's lock only as it ends.
 //!   [`sweeps_go_on`], [`sweeps_are_one_at_a_time`]: laws of that.
-//! - [`BookEvents`]: what the fronts have done that nobody else can tell of, for those who record it.
+//! - [`BookEvents`]: what the fronts have done that nobody else can tell of, for those who record it. Requests that workers have refused
+//!   wait for those who log them ([`farm_node::Refuses`]), at most [`REFUSED_LIMIT`].
 //!
 //! What the node does at each event stands in `specs/Fronts`, and how many octets go out then in `specs/Measure`.
 #![tactic(auto)]
@@ -24,6 +25,7 @@ mod figures;
 mod front;
 mod fronts;
 mod laws;
+mod refusing;
 mod start;
 mod sweeping;
 mod timing;
@@ -33,6 +35,7 @@ pub use figures::BookFigures;
 pub use front::PoolFront;
 pub use fronts::{COLLECT_LIMIT, COLLECT_OCTETS, PoolFronts};
 pub use laws::{sweeps_are_one_at_a_time, sweeps_go_on};
+pub use refusing::REFUSED_LIMIT;
 pub use start::{Bell, StartFault, seats_for, start_fronts};
 pub use sweeping::{NextSweep, SWEEP_INTERVAL};
 pub use timing::Timing;

@@ -1,0 +1,93 @@
+//! Requests that workers have refused, for a log.
+
+use cc_shared::Receipt;
+use cc_view::{CcReply, ResultCode};
+use dia_avp::ViewWire;
+use farm_node::{Refused, is_of_credit, result_code};
+use front_pool::Finished;
+use std::alloc::{AllocError, Global};
+use std::collections::VecDeque;
+
+/// The most refused requests that wait to be logged. Further ones are not kept.
+pub const REFUSED_LIMIT: usize = 1_024;
+
+/// Requests that were refused and are not logged yet, the oldest first. Those that credit control itself refused are kept only where
+/// that is asked for: where credit runs out they are many.
+#[derive(Drop)]
+pub struct Refusals {
+    alloc: Global,
+    waiting: VecDeque<Refused>,
+    keeps_credit: bool,
+}
+
+/// The first Result-Code of a reply that is not DIAMETER_SUCCESS: its own, or that of a service. DIAMETER_SUCCESS where there is none.
+fn code_in(reply: &CcReply) -> ResultCode {
+    if reply.code != ResultCode::Success {
+        return reply.code;
+    }
+    for service in reply.services.as_slice() {
+        if service.code != ResultCode::Success {
+            return service.code;
+        }
+    }
+    ResultCode::Success
+}
+
+/// The Result-Code of a finished job, none where it was served or has no answer.
+fn code_of(alloc: Global, finished: &Finished) -> Option<u32> {
+    match (&finished.receipt, &finished.answer) {
+        (Some(receipt), _) => code_of_receipt(receipt),
+        (None, Some(answer)) => Some(result_code::<ViewWire>(alloc, answer)),
+        (None, None) => None,
+    }
+}
+
+/// The same of a job for which the book was asked.
+fn code_of_receipt(receipt: &Receipt) -> Option<u32> {
+    let code = code_in(&receipt.reply);
+    if code == ResultCode::Success {
+        None
+    } else {
+        Some(code.number())
+    }
+}
+
+impl Refusals {
+    /// None yet.
+    pub fn new(alloc: Global) -> Self {
+        Refusals {
+            alloc,
+            waiting: VecDeque::new(alloc),
+            keeps_credit: false,
+        }
+    }
+
+    /// From now on those that credit control itself refused are kept too.
+    pub fn keep_credit(&mut self) {
+        self.keeps_credit = true;
+    }
+
+    /// A job was collected. Nothing is kept of it where memory is missing.
+    pub fn collected(&mut self, finished: &Finished) {
+        let Some(code) = code_of(self.alloc, finished) else {
+            return;
+        };
+        let is_wanted = self.keeps_credit || !is_of_credit(code);
+        if is_wanted && self.waiting.len() < REFUSED_LIMIT {
+            let _kept = self.keep(finished, code);
+        }
+    }
+
+    /// Keeps what a log says of a job that was refused with this Result-Code.
+    fn keep(&mut self, finished: &Finished, code: u32) -> Result<(), AllocError> {
+        let (conn, body) = (finished.conn, &finished.request.body);
+        let refused = Refused::of::<ViewWire>(self.alloc, conn, body, code)?;
+        self.waiting.push_back(refused)?;
+        Ok(())
+    }
+
+    /// Takes the oldest one.
+    pub fn take_first(&mut self) -> Option<Refused> {
+        self.waiting.pop_front()
+    }
+}
