@@ -17,7 +17,7 @@ use Rattle.cc_book.specs.declared.entry.Entry.TheVariants.{Take, Sweep, ChangeTe
 use Rattle.cc_book.specs.declared.session.Hold.{Hold}
 use Rattle.cc_book.specs.declared.session.OpenSession.{OpenSession}
 use Rattle.cc_book.specs.declared.terms.Terms.{Terms}
-use Rattle.cc_book.specs.AccountMachine.{account_of, charged_account, debit_after, grants_after, opening_at, posting_of, reply_after}
+use Rattle.cc_book.specs.AccountMachine.{account_of, charged_account, debit_after, grants_after, opening_at, posting_of, postings_of, reply_after}
 use Rattle.cc_book.specs.Duplicate.{same_session}
 use Rattle.cc_book.specs.declared.price.Price.{Price}
 use Rattle.cc_rating.specs.declared.tariff.Tariff.{Tariff}
@@ -147,6 +147,10 @@ next_sessions validity sessions posting = sessions_with validity sessions postin
 -- the sessions that postings have left open: their order says nothing
 unfoldable pub sessions_after : ℕ → List Posting → List OpenSession
 sessions_after validity postings = fold (next_sessions validity) [] postings
+
+-- the sessions that a history has left open
+abbrev pub sessions_in : Terms → List Entry → List OpenSession
+sessions_in terms history = sessions_after terms.validity (postings_of terms history)
 
 -- the place of a change is that of one of so many sessions
 abbrev pub IsPlacedIn : Change → ℕ → Type 0

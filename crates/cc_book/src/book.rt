@@ -1,6 +1,6 @@
 //! The account book: a history of requests, sweeps and changes of terms, from which every balance and reply is made.
 
-ghost use Rattle.std.specs.Prelude.{◌≡◌, ◌≢◌, ◌≤◌, ◌<◌, ◌^◌, [], length, nat_abs, Err, IfNone, IfOk, IfSome, if◌then◌else◌, nat_lt, Some, None, pos};
+ghost use Rattle.std.specs.Prelude.{◌≡◌, ◌≢◌, ◌≤◌, ◌<◌, ◌^◌, [], length, nat_abs, Err, IfNone, IfOk, IfSome, MatchOption, if◌then◌else◌, nat_lt, slice_get, Some, None, pos};
 ghost use Rattle.cc_book.specs.declared.book.BookRefusal.TheVariants.{OutOfMemory};
 ghost use Rattle.cc_book.specs.declared.terms_change.ChangeRefusal.TheVariants as refused;
 ghost use Rattle.cc_book.specs.Taking.{AnswersWith, answer_of, answer_within};
@@ -10,6 +10,7 @@ use crate::accounts::Accounts;
 use crate::entry::Entry;
 use crate::memory::boxed;
 use crate::plan::Plan;
+use crate::session::OpenSession;
 use crate::state::BookState;
 use crate::subscriptions::Subscriptions;
 use crate::terms::Terms;
@@ -79,6 +80,7 @@ impl Book {
     ghost use Rattle.cc_book.specs.Changing.{ChangesWith, after_change_with, change_answer};
     ghost use Rattle.cc_book.specs.History.{IsLegal};
     ghost use Rattle.cc_book.specs.Planning.{IsGoodFor, PlansWith, after_plan, answer_planned};
+    ghost use Rattle.cc_book.specs.Standing.{sessions_in};
     ghost use Rattle.cc_book.specs.Taking.{SweepsWith, is_fresh, sweep_answer, after_sweep_with, with_take};
 
     /// A book with no entry, and no account that is closed. It takes up to `limit` entries, of which the caller makes no more than
@@ -268,6 +270,20 @@ impl Book {
         ensures { result ≡ open_sessions_of self.now.terms self.now.history }
     {
         self.state.open_sessions()
+    }
+
+    /// How many sessions are open: the length of their list, in which the last takes the place of one that ends.
+    pub fn session_count(&self) -> usize
+        ensures { result ≡ length (sessions_in self.now.terms self.now.history) }
+    {
+        self.state.session_count()
+    }
+
+    /// The open session at a place of their list. None beyond the last one.
+    pub fn session_at(&self, place: usize) -> Option<&OpenSession>
+        ensures { MatchOption result (length (sessions_in self.now.terms self.now.history) ≤ place) (λ session. slice_get (sessions_in self.now.terms self.now.history) place ≡ Some session.now) }
+    {
+        self.state.session_at(place)
     }
 
     /// The entries, the oldest first.

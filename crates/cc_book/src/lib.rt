@@ -19,7 +19,7 @@
 //! `specs/History`, which requests are one in `specs/Duplicate` and `specs/Content`, how a request is found in it in
 //! `specs/Places`, how an account in `specs/Owners`, what it has left in `specs/Standing`, a call in `specs/Taking`, and its two halves in `specs/Planning`.
 //! `specs/Bounds` says which amounts an account bears. `specs/RowExample`, `specs/SessionExample` and
-//! `specs/BoundExample` are worked examples. The functions of `laws` and `bound_laws` have no body: their contracts are
+//! `specs/BoundExample` are worked examples. The functions of `laws`, `bound_laws` and `standing_laws` have no body: their contracts are
 //! laws of these definitions.
 //!
 //! ```text
@@ -60,6 +60,7 @@ mod price;
 mod session;
 mod settling;
 mod standing;
+mod standing_laws;
 mod state;
 mod subscriptions;
 mod terms;
@@ -103,6 +104,7 @@ pub use outcome::{Change, Outcome};
 pub use plan::{Plan, Taken};
 pub use price::{Price, Prices};
 pub use session::{Hold, OpenSession, held_in};
+pub use standing_laws::entries_change_sessions;
 pub use state::kept_answer;
 pub use subscriptions::Subscriptions;
 pub use terms::Terms;

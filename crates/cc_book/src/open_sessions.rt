@@ -75,6 +75,14 @@ impl OpenSessions {
         Some((place, session))
     }
 
+    /// The open session at a place.
+    pub fn at(&self, place: usize) -> Option<&OpenSession>
+        ensures { MatchOption result (length self.now.items ≤ place) (λ session. slice_get self.now.items place ≡ Some session.now) }
+    {
+        let (_id, session) = self.sessions.get_index(place)?;
+        Some(session)
+    }
+
     /// What they hold of an account.
     pub fn total(&self, account: usize) -> u128
         ensures { result ≡ reserved_in account self.now.items }

@@ -57,6 +57,13 @@ impl Prices {
         }
     }
 
+    /// The price of each service.
+    pub fn as_slice(&self) -> &[Price]
+        ensures { result.now ≡ self.now }
+    {
+        &self.prices
+    }
+
     /// The tariff at which a service was last granted.
     pub fn find(&self, name: ServiceName) -> Option<Tariff>
         ensures value { result ≡ price_in self.now name }

@@ -1,6 +1,6 @@
 //! What a book keeps: its history, and beside it what the entries replied and what they have left.
 
-ghost use Rattle.std.specs.Prelude.{◌≡◌, ◌≢◌, ◌≤◌, ◌<◌, ◌^◌, [], length, nat_abs, Err, IfOk, IfSome, if◌then◌else◌, nat_lt, Some, None, pos};
+ghost use Rattle.std.specs.Prelude.{◌≡◌, ◌≢◌, ◌≤◌, ◌<◌, ◌^◌, [], length, nat_abs, Err, IfOk, IfSome, MatchOption, if◌then◌else◌, nat_lt, slice_get, Some, None, pos};
 ghost use Rattle.cc_book.specs.declared.book.BookRefusal.TheVariants.{OutOfMemory};
 
 mod changing;
@@ -11,6 +11,7 @@ use crate::book::{BookRefusal, free_place};
 use crate::entry::Entry;
 use crate::kept_terms::KeptTerms;
 use crate::places::Places;
+use crate::session::OpenSession;
 use crate::standing::Standing;
 use crate::terms::Terms;
 use cc_view::CcReply;
@@ -59,6 +60,7 @@ impl BookState {
     ghost use Rattle.cc_book.specs.AccountMachine.{terms_of};
     ghost use Rattle.cc_book.specs.Balance.{balance_of, reserved_of, open_sessions_of};
     ghost use Rattle.cc_book.specs.History.{IsLegal};
+    ghost use Rattle.cc_book.specs.Standing.{sessions_in};
     ghost use Rattle.cc_book.specs.Taking.{Ledger, SweepsWith, is_fresh, sweep_answer, after_sweep_with, with_take};
 
     /// A book under these terms, with no entry, and with room for so many.
@@ -154,6 +156,20 @@ impl BookState {
         } else {
             None
         }
+    }
+
+    /// How many sessions are open: the length of their list.
+    pub fn session_count(&self) -> usize
+        ensures { result ≡ length (sessions_in self.now.terms self.now.history) }
+    {
+        self.standing.sessions.len()
+    }
+
+    /// The open session at a place of their list. None beyond the last one.
+    pub fn session_at(&self, place: usize) -> Option<&OpenSession>
+        ensures { MatchOption result (length (sessions_in self.now.terms self.now.history) ≤ place) (λ session. slice_get (sessions_in self.now.terms self.now.history) place ≡ Some session.now) }
+    {
+        self.standing.sessions.at(place)
     }
 
     /// How many sessions are open.
