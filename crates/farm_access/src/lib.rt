@@ -1,7 +1,7 @@
 //! Who may come up: the keys `from` of the nodes of a site file, and `strict` of the file.
 //!
 //! ```text
-//! strict = ["names", "end-to-end", "goodbyes", "origin-state"] # absent: []
+//! strict = ["names", "end-to-end", "goodbyes", "origin-state", "fairness"] # absent: []
 //!
 //! [[node]]
 //! name = "c1.example"

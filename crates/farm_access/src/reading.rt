@@ -101,6 +101,7 @@ fn word_of(value: &Value) -> Result<Strict, AccessFault>
         Some("end-to-end") => Ok(Strict::EndToEnd),
         Some("goodbyes") => Ok(Strict::Goodbyes),
         Some("origin-state") => Ok(Strict::OriginState),
+        Some("fairness") => Ok(Strict::Fairness),
         Some(_) => Err(AccessFault::UnknownWord),
         None => Err(AccessFault::NoWords),
     }

@@ -15,6 +15,8 @@ pub enum Strict {
     /// `origin-state`: fronts tell their peers an Origin-State-Id, which another one follows where sessions were lost (RFC 6733, section
     /// 8.16).
     OriginState,
+    /// `fairness`: of a connection that brings requests no more are read than its share of the room, while they wait for answers.
+    Fairness,
 }
 
 /// Which of these rules a site asks for.
@@ -24,6 +26,7 @@ pub struct Strictness {
     pub end_to_end: bool,
     pub goodbyes: bool,
     pub origin_state: bool,
+    pub fairness: bool,
 }
 
 impl Strictness {
@@ -36,6 +39,7 @@ impl Strictness {
             end_to_end: false,
             goodbyes: false,
             origin_state: false,
+            fairness: false,
         }
     }
 
@@ -48,6 +52,7 @@ impl Strictness {
             Strict::EndToEnd => self.end_to_end,
             Strict::Goodbyes => self.goodbyes,
             Strict::OriginState => self.origin_state,
+            Strict::Fairness => self.fairness,
         }
     }
 
@@ -66,6 +71,7 @@ impl Strictness {
             Strict::EndToEnd => more.end_to_end = true,
             Strict::Goodbyes => more.goodbyes = true,
             Strict::OriginState => more.origin_state = true,
+            Strict::Fairness => more.fairness = true,
         }
         Some(more)
     }

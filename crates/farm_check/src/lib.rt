@@ -37,8 +37,8 @@ use files::{AccountsRefusal, Files, accounts_at, check_path};
 use keys::push_unknown_keys;
 use lines::Lines;
 use origins::{
-    check_origins, push_ends_off, push_goodbyes_off, push_names_off, push_open_nodes,
-    push_state_off,
+    check_origins, push_ends_off, push_fairness_off, push_goodbyes_off, push_names_off,
+    push_open_nodes, push_state_off,
 };
 use std::alloc::{AllocError, Global};
 use std::io;
@@ -121,6 +121,7 @@ fn told_of(alloc: Global, accepted: &Accepted, accounts: &[Account]) -> Result<L
     push_ends_off(&mut lines, access.strictness())?;
     push_goodbyes_off(&mut lines, access.strictness())?;
     push_state_off(&mut lines, access.strictness())?;
+    push_fairness_off(&mut lines, access.strictness())?;
     push_unknown_keys(alloc, &mut lines, &read.document)?;
     lines.end()?;
     Ok(lines)

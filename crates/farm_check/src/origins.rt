@@ -110,7 +110,7 @@ fn expected_at(fault: AccessFault) -> &'static str {
         AccessFault::TooManyPrefixes => "at most 64 addresses and prefixes",
         AccessFault::TooManyNodes => "at most 64 nodes",
         AccessFault::NoWords | AccessFault::UnknownWord =>
-            "a list of texts, each names, end-to-end, goodbyes or origin-state",
+            "a list of texts, each names, end-to-end, goodbyes, origin-state or fairness",
         AccessFault::WordTwice => "each word once",
         AccessFault::NoTables => "a list of tables, with a header in two brackets for each entry",
         AccessFault::NotToml => "TOML in UTF-8",
@@ -163,6 +163,18 @@ pub fn push_state_off(lines: &mut Lines, strictness: Strictness) -> Result<(), A
     }
     lines.push(
         "look: strict: origin-state is off, so that a peer does not learn that a front has lost its sessions",
+    )
+}
+
+/// A line where a client may have the whole room of a front or a relay.
+pub fn push_fairness_off(lines: &mut Lines, strictness: Strictness) -> Result<(), AllocError>
+    ensures { OnOk result (IsToldIf (is_off strictness Strict.Fairness) lines.old lines.new) }
+{
+    if strictness.is_on(Strict::Fairness) {
+        return Ok(());
+    }
+    lines.push(
+        "look: strict: fairness is off, so that while a client floods others are answered that the farm is too busy",
     )
 }
 

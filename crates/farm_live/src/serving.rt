@@ -132,6 +132,7 @@ where
     let places = parting_places(setting, places)?;
     let mut live = Live::over(setting.os, alloc, site, sockets, node, places, timer)?;
     live.serving.number(numbering_of(setting));
+    live.share_room(site, setting.access.strictness())?;
     serve_recorded(setting, numbers, live, jobs, answers)
 }
 

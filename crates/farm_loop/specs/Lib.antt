@@ -2,4 +2,5 @@ pub mod Callers
 pub mod Dialing
 pub mod Ending
 pub mod Pausing
+pub mod Sharing
 pub mod Tokens

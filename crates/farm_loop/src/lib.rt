@@ -5,14 +5,15 @@
 //!   ends with one tick; [`Live::answer`] writes. Between the two, what happened may be recorded. [`Live::turn`] is both. Who
 //!   calls them says when to end, by [`Live::close`].
 //! - [`Sockets`]: its sockets. [`Sockets::waker`] ends a wait from another thread, and the node is woken then.
-//! - [`Outgoing`]: which connections are read while others are behind with what is to be written, by [`Pause`].
+//! - [`Outgoing`]: which connections are read while others are behind with what is to be written, by [`Pause`], and how much of
+//!   them where they share the room of their node, by [`share_of`] and [`room_left`].
 //! - [`Dial`]: a connection that it makes itself, again and again; [`wait_after`]: how long it waits before that.
 //! - [`StatusPort`]: where it says what it does, over HTTP. Who shows its token may ask for its end there.
 //! - [`LoopFault`]: why it cannot go on.
 //!
 //! What a socket gives or takes, and what the system reports, no contract can say: all of this is proved safe, `Dial` is
 //! proved to be made when it is due and to be tried by its definition ([`are_tried`]), `Pause` to let each connection be read
-//! by its rule, and the rest is tested.
+//! by its rule, and `room_left` to leave no connection more than its share. The rest is tested.
 #![tactic(auto)]
 
 mod coming;
@@ -26,6 +27,7 @@ mod outgoing;
 mod pause;
 mod port;
 mod rejected;
+mod share;
 mod sockets;
 mod tell;
 mod telling;
@@ -40,6 +42,7 @@ pub use live::Live;
 pub use outgoing::Outgoing;
 pub use pause::{BEHIND, PATIENCE, PIECE, Pause, Traffic, is_behind, traffic_on};
 pub use port::{StatusPort, Wanted};
+pub use share::{room_left, share_of};
 pub use sockets::Sockets;
 
 /// A node with its connections over sockets.

@@ -12,6 +12,7 @@ use crate::kind::Kind;
 use crate::limits::Limits;
 use crate::outgoing::Outgoing;
 use crate::rejected::rejected_on;
+use crate::share::Shares;
 use crate::sockets::{Callers, Ready, Sockets, Source, token_of};
 use crate::tell::{At, Named};
 use crate::telling::{explain, pair_of, tell_note, tell_refused};
@@ -19,7 +20,7 @@ use crate::why::Why;
 use crate::{Served, tell};
 use dia_avp::ViewWire;
 use dia_base::{ConnId, Identity, Moment, NodeNo};
-use farm_access::{Access, canonical};
+use farm_access::{Access, Strictness, canonical};
 use farm_base::Site;
 use farm_clock::Timer;
 use farm_net::Counted;
@@ -55,8 +56,10 @@ struct Unread {
     conn: ConnId,
     /// Whether nothing comes behind what is there: it is read until it ends.
     closes: bool,
-    /// Whether it was not read at all, since others are behind.
+    /// Whether it was not read at all, since others are behind, or since it has its share open.
     waits: bool,
+    /// Since when it was not read.
+    since: Moment,
 }
 
 /// A process that is nodes of a site: its sockets, and the node with its connections.
@@ -202,6 +205,17 @@ impl<N: Node + Drop> Live<N> {
         self.addresses.clear();
     }
 
+    /// Where the site asks for fairness, a connection that brings requests alone has from now on no more of them open than its
+    /// share of the room of its node ([`share_of`](crate::share_of)). More is not read for a second at most, or for half an interval of the
+    /// watchdog, whichever is shorter.
+    pub fn share_room(&mut self, site: &Site, strictness: Strictness) -> Result<(), LoopFault> {
+        if strictness.fairness {
+            let shares = Shares::of(self.alloc, site)?;
+            self.outgoing.share(shares);
+        }
+        Ok(())
+    }
+
     /// From now on it is recorded what happens, beginning with that a process begins, which is these nodes: one client, or
     /// others.
     pub fn begin_record<O: Clock>(
@@ -331,10 +345,7 @@ impl<N: Node + Drop> Live<N> {
     /// listener like that.
     fn may_not_wait(&self, site: &Site, moment: Moment) -> bool {
         for unread in &self.later {
-            if self
-                .outgoing
-                .may_read(site, &self.serving, unread.conn, moment)
-            {
+            if self.most_of(site, *unread, moment) > 0 {
                 return true;
             }
         }
@@ -349,15 +360,22 @@ impl<N: Node + Drop> Live<N> {
             .any(|listening| listening.callers.may_wait(moment))
     }
 
-    /// Reads on a connection for one turn, unless it has to wait for others. Where more may be there, it is read again at the
-    /// next one.
+    /// How many messages are read at most of a connection at this moment.
+    fn most_of(&self, site: &Site, unread: Unread, moment: Moment) -> usize {
+        self.outgoing
+            .most_on(site, &self.serving, unread.conn, unread.since, moment)
+    }
+
+    /// Reads on a connection for one turn, unless it has to wait for others, or for its own answers. Where more may be there, it is
+    /// read again at the next one.
     fn read_one(&mut self, site: &Site, unread: Unread, moment: Moment) -> Result<(), LoopFault> {
         self.outgoing.look(&self.serving, moment);
-        if !self
-            .outgoing
-            .may_read(site, &self.serving, unread.conn, moment)
-        {
-            self.put_off(unread, true)?;
+        let most = self.most_of(site, unread, moment);
+        if most == 0 {
+            self.later.push(Unread {
+                waits: true,
+                ..unread
+            })?;
             return Ok(());
         }
         let piece = self.sockets.piece.as_mut_slice();
@@ -365,23 +383,17 @@ impl<N: Node + Drop> Live<N> {
             return Ok(());
         }
         self.serving
-            .readable::<ViewWire>(unread.conn, piece, moment);
+            .readable::<ViewWire>(unread.conn, piece, most, moment);
         if let Some(link) = self.serving.link(unread.conn) {
             let half = link.conn.reader().device();
             if link.end.is_none() && half.may_have_more(unread.closes) {
-                self.put_off(unread, false)?;
+                self.later.push(Unread {
+                    waits: false,
+                    since: moment,
+                    ..unread
+                })?;
             }
         }
-        Ok(())
-    }
-
-    /// A connection is read again at the next turn: one that waits for others, or one that was read.
-    fn put_off(&mut self, unread: Unread, waits: bool) -> Result<(), LoopFault> {
-        self.later.push(Unread {
-            conn: unread.conn,
-            closes: unread.closes,
-            waits,
-        })?;
         Ok(())
     }
 
@@ -452,6 +464,7 @@ impl<N: Node + Drop> Live<N> {
             conn,
             closes,
             waits: false,
+            since: moment,
         };
         self.read_one(site, unread, moment)
     }

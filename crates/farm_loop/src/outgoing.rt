@@ -1,6 +1,7 @@
 //! The connections of a process on which requests go out, and which others are read meanwhile.
 
 use crate::pause::{Pause, Traffic, is_behind, traffic_on};
+use crate::share::{Shares, room_left};
 use dia_base::{ConnId, Moment, NodeKind, NodeNo};
 use farm_base::Site;
 use farm_net::Device;
@@ -14,6 +15,8 @@ use std::io::{Read, Write};
 pub struct Outgoing {
     conns: Vec<ConnId>,
     pause: Pause,
+    /// How many requests each connection may have open.
+    shares: Shares,
 }
 
 /// What a node of the site is.
@@ -59,7 +62,13 @@ impl Outgoing {
         Outgoing {
             conns: Vec::new(alloc),
             pause: Pause::new(interval, moment),
+            shares: Shares::none(alloc),
         }
+    }
+
+    /// From now on connections have these shares.
+    pub fn share(&mut self, shares: Shares) {
+        self.shares = shares;
     }
 
     /// Finds them: to be called at the beginning of a turn.
@@ -92,20 +101,24 @@ impl Outgoing {
         self.pause.look(behind, moment);
     }
 
-    /// Whether a connection is read at this moment ([`Pause::may_read`]). One that is gone is, which changes nothing.
-    pub fn may_read<N: Node, R: Read + Device, W: Write + Device>(
+    /// How many messages are read at most of a connection at this moment, which was not read since another: none where it has to
+    /// wait ([`Pause::may_read`], [`room_left`]). One that is gone brings nothing.
+    pub fn most_on<N: Node, R: Read + Device, W: Write + Device>(
         &self,
         site: &Site,
         serving: &Serving<N, R, W>,
         conn: ConnId,
+        since: Moment,
         moment: Moment,
-    ) -> bool {
-        match serving.link(conn) {
-            Some(link) => {
-                let traffic = traffic_of(site, link);
-                self.pause.may_read(traffic, link.conn.unsent(), moment)
-            }
-            None => true,
+    ) -> usize {
+        let Some(link) = serving.link(conn) else {
+            return usize::MAX;
+        };
+        let traffic = traffic_of(site, link);
+        if !self.pause.may_read(traffic, link.conn.unsent(), moment) {
+            return 0;
         }
+        let share = self.shares.share(link.local);
+        room_left(traffic, share, link.open, self.pause.is_over(since, moment))
     }
 }

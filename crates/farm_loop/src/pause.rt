@@ -1,7 +1,7 @@
 //! Which connections are read, by what waits to be written on all of them: what one client sends at once is not to end a
 //! connection between two nodes of the farm, on which no more than so many octets may be unsent.
 
-ghost use Rattle.std.specs.Prelude.{◌≡◌, ◌<◌, ◌/◌, ◌⊎◌, ◌↔◌, IsTrue, min};
+ghost use Rattle.std.specs.Prelude.{◌≡◌, ◌<◌, ◌-◌, ◌/◌, ◌⊎◌, ◌↔◌, IsTrue, min, nat_le};
 ghost use Rattle.farm_loop.specs.Pausing.{IsOver, MayRead, is_behind, others_behind, traffic_on};
 
 use dia_base::{MESSAGE_LIMIT, Moment, NodeKind};
@@ -103,6 +103,13 @@ impl Pause {
         ensures { IsTrue result ↔ ((behind ≡ 0) ⊎ IsOver self.now moment) }
     {
         behind == 0 || moment.0.saturating_sub(self.since.0) >= self.patience
+    }
+
+    /// Whether a connection that was not read since a moment has waited for too long.
+    pub fn is_over(&self, since: Moment, moment: Moment) -> bool
+        ensures { result ≡ nat_le self.now.patience (moment.0 - since.0) }
+    {
+        moment.0.saturating_sub(since.0) >= self.patience
     }
 
     /// Whether a connection is read at this moment that brings this, and on which so many octets are unsent. Requests wait

@@ -1,6 +1,6 @@
 //! A connection over a reader and a writer.
 
-ghost use Rattle.std.specs.Prelude.{◌≡◌, ◌≢◌, ◌<◌, ◌+◌, ◌++◌, ◌↔◌, [], Some, Err, length, IfErr, IsErr, IsTrue, OnOk, OnErr, ◌⊎◌};
+ghost use Rattle.std.specs.Prelude.{◌≡◌, ◌≢◌, ◌<◌, ◌≤◌, ◌+◌, ◌++◌, ◌↔◌, [], Some, Err, length, IfErr, IsErr, IsTrue, OnOk, OnErr, ◌⊎◌};
 ghost use Rattle.std.specs.Io.KnownBytes.{IsAtEnd};
 ghost use Rattle.dia_message.specs.Spelling.{octets_of};
 ghost use Rattle.dia_message.specs.Stream.{stream_of};
@@ -95,9 +95,11 @@ impl<R: Read + Device, W: Write + Device> Conn<R, W> {
         }
     }
 
-    /// Reads for one turn, at most 64 times, `piece` at a time. What `piece` holds is of no account.
-    pub fn receive(&mut self, piece: &mut [u8]) -> Received
+    /// Reads for one turn, at most 64 times, `piece` at a time, and no more than so many messages: what is behind them stays unread.
+    /// What `piece` holds is of no account.
+    pub fn receive(&mut self, piece: &mut [u8], most: usize) -> Received
         requires { 0 < length piece.old }
+        ensures few { length result.messages.items ≤ most }
 
         // The messages of what was unread and of the octets that were read now, and the rest of them.
         ensures receives { self.old.stage ≡ Stage.Open → Receives (R.remaining self.old.reader) (R.remaining self.new.reader) self.old.rest result.messages.items self.new.rest result.outcome }
@@ -124,6 +126,7 @@ impl<R: Read + Device, W: Write + Device> Conn<R, W> {
             &mut self.reader,
             &mut self.frames,
             piece,
+            most,
             &mut messages,
         );
         if outcome.is_err() {

@@ -1,7 +1,7 @@
 //! Connections over readers and writers.
 //!
-//! - [`Conn`]: a connection over any reader and writer. [`Conn::receive`] reads for a turn and gives the
-//!   messages that are whole then, [`Conn::send`] puts a message behind what waits to be written, and
+//! - [`Conn`]: a connection over any reader and writer. [`Conn::receive`] reads for a turn, no more than so many
+//!   messages, and gives those that are whole then, [`Conn::send`] puts a message behind what waits to be written, and
 //!   [`Conn::flush`] writes for a turn. What is not ready ends a turn and is no loss.
 //! - [`Loss`]: why a connection is lost. A call tells it once, of an open connection, which has ended then.
 //! - [`Device`]: what counts how often it has failed; [`Counted`] counts for any reader or writer. A failed
@@ -18,7 +18,7 @@
 //! /// Sends back what was received.
 //! fn echo<R: Read + Device, W: Write + Device>(conn: &mut Conn<R, W>) -> Result<(), Loss> {
 //!     let mut piece = [0u8; 4096];
-//!     let received = conn.receive(&mut piece);
+//!     let received = conn.receive(&mut piece, usize::MAX);
 //!     for message in &received.messages {
 //!         conn.send(message)?;
 //!     }

@@ -1,6 +1,6 @@
 //! One turn of a connection: what is read of its reader, and what is written to its writer.
 
-ghost use Rattle.std.specs.Prelude.{◌≡◌, ◌≢◌, ◌<◌, ◌≤◌, ◌++◌, ◌↔◌, [], None, Some, Ok, Err, length, take, IsTrue, IfOk, IfErr, IfSome, OnOk, OnErr, ℕ};
+ghost use Rattle.std.specs.Prelude.{◌≡◌, ◌≢◌, ◌<◌, ◌≤◌, ◌*◌, ◌++◌, ◌↔◌, [], None, Some, Ok, Err, length, take, IsTrue, IfOk, IfErr, IfSome, OnOk, OnErr, ℕ};
 ghost use Rattle.std.specs.Io.KnownBytes.{Appends, Consumes, IsAtEnd, Keeps};
 ghost use Rattle.dia_message.specs.declared.frames.FrameFault.{FrameFault as Fault};
 ghost use Rattle.dia_message.specs.Stream.{stream_of};
@@ -10,7 +10,7 @@ ghost use Rattle.farm_net.specs.Turn.{HasWritten, IsOfPiece, IsOfReader, IsOfStr
 use crate::device::Device;
 use crate::loss::Loss;
 use bytes::BytesMut;
-use dia_message::{FrameFault, Frames, Message};
+use dia_message::{FrameFault, Frames, HEADER_LEN, Message};
 use std::alloc::Global;
 use std::io::{Read, Write};
 
@@ -81,16 +81,26 @@ fn take_piece(
     }
 }
 
-/// Reads until the reader has nothing now, or often enough for a turn.
+/// How many octets are read at most, of a piece of so many, where so many messages more may come: no message is shorter than its header.
+fn octets_for(more: usize, piece: usize) -> usize
+    ensures piece { result ≤ piece }
+    ensures most { result ≤ 20 * more }
+{
+    piece.min(more.saturating_mul(HEADER_LEN))
+}
+
+/// Reads until the reader has nothing now, so many messages have come, or often enough for a turn.
 pub(crate) fn read_turn<R: Read + Device>(
     alloc: Global,
     reader: &mut R,
     frames: &mut Frames,
     piece: &mut [u8],
+    most: usize,
     messages: &mut Vec<Message>,
 ) -> Result<(), Loss>
     requires room { 0 < length piece.old }
     requires none { messages.old.items ≡ [] }
+    ensures few { length messages.new.items ≤ most }
     ensures receives { Receives (R.remaining reader.old) (R.remaining reader.new) frames.old messages.new.items frames.new result }
     ensures end { result ≡ Err Loss.End → IsAtEnd (R.remaining reader.new) }
     ensures fault { result ≡ Err Loss.Read → HasFailed (R.faults reader.old) (R.faults reader.new) }
@@ -105,9 +115,14 @@ pub(crate) fn read_turn<R: Read + Device>(
     }
     let before = reader.faults();
     for _ in 0..TURN_LIMIT {
-        match read_once(reader, before, piece)? {
+        let here = octets_for(most.saturating_sub(messages.len()), piece.len());
+        if here == 0 {
+            break;
+        }
+        let (room, _) = piece.split_at_mut(here);
+        match read_once(reader, before, room)? {
             Some(count) => {
-                let (octets, _) = piece.split_at(count);
+                let (octets, _) = room.split_at(count);
                 take_piece(alloc, frames, octets, messages)?;
             }
             None => return Ok(()),

@@ -1,6 +1,6 @@
 -- What one call tells the node of a process: what a connection brings, or that time has passed, that something waits for the node,
 -- or that its connections are to end; then each end that the node was not told of yet; and nothing else.
-use Rattle.std.specs.Prelude.{◌≡◌, ◌≢◌, ◌<◌, ◌+◌, ℕ, List, [], ◌∷◌, ◌++◌, length, Option, Result, Ok, Err, MatchOption}
+use Rattle.std.specs.Prelude.{◌≡◌, ◌≢◌, ◌<◌, ◌≤◌, ◌+◌, ℕ, List, [], ◌∷◌, ◌++◌, length, Option, Result, Ok, Err, MatchOption}
 use Rattle.dia_base.specs.declared.number.ConnId.{ConnId}
 use Rattle.dia_base.specs.declared.number.Moment.{Moment}
 use Rattle.dia_message.specs.declared.message.Message.{Message}
@@ -52,10 +52,11 @@ abbrev pub EndsIfLost : {N R W : Type 0} → Result (Unit {0}) Loss → ℕ → 
 EndsIfLost (Ok done) place old new = new ≡ old
 EndsIfLost (Err loss) place old new = AtPlace old place (λ link. Becomes (HasEnded link) place old new)
 
--- The connection at this place reads, and what it brings is heard.
-pub record Brings {N R W : Type 0} (On : N → NodeEvent → Traffic → Result (Unit {0}) NodeError → N → Type 0) (remaining : R → Option (List ℕ)) (moment : Moment)
+-- The connection at this place reads so many messages at most, and what it brings is heard.
+pub record Brings {N R W : Type 0} (On : N → NodeEvent → Traffic → Result (Unit {0}) NodeError → N → Type 0) (remaining : R → Option (List ℕ)) (most : ℕ) (moment : Moment)
     (place : ℕ) (link : Link R W) (old new : Desk N R W) : Type 0 where
   pub messages : List Message
+  pub few : length messages ≤ most
   pub outcome : Result (Unit {0}) Loss
   pub mid : Desk N R W
   pub heard : Desk N R W
@@ -64,16 +65,16 @@ pub record Brings {N R W : Type 0} (On : N → NodeEvent → Traffic → Result 
   pub ends : EndsIfLost outcome place heard new
 
 -- one that has ended is not read
-abbrev pub BringsHere : {N R W : Type 0} → (N → NodeEvent → Traffic → Result (Unit {0}) NodeError → N → Type 0) → (R → Option (List ℕ)) → Moment
+abbrev pub BringsHere : {N R W : Type 0} → (N → NodeEvent → Traffic → Result (Unit {0}) NodeError → N → Type 0) → (R → Option (List ℕ)) → ℕ → Moment
     → ℕ → Link R W → Desk N R W → Desk N R W → Type 0
-BringsHere On remaining moment place link old new = MatchOption link.end (Brings On remaining moment place link old new) (λ why. IsStill old new)
+BringsHere On remaining most moment place link old new = MatchOption link.end (Brings On remaining most moment place link old new) (λ why. IsStill old new)
 
 -- The connection of this number reads, and what it brings is heard. Where none has the number, nothing is.
-pub data BringsOn {N R W : Type 0} (On : N → NodeEvent → Traffic → Result (Unit {0}) NodeError → N → Type 0) (remaining : R → Option (List ℕ)) (moment : Moment)
+pub data BringsOn {N R W : Type 0} (On : N → NodeEvent → Traffic → Result (Unit {0}) NodeError → N → Type 0) (remaining : R → Option (List ℕ)) (most : ℕ) (moment : Moment)
     (conn : ConnId) (old new : Desk N R W) : Type 0 where
   brings_on : (place : ℕ) → place < length old.links.items
-      → AtPlace old place (λ link. (link.id ≡ conn) × BringsHere On remaining moment place link old new) → BringsOn On remaining moment conn old new
-  brings_none : (AreInOrder old.links.items → HasNone old.links.items conn) → new ≡ old → BringsOn On remaining moment conn old new
+      → AtPlace old place (λ link. (link.id ≡ conn) × BringsHere On remaining most moment place link old new) → BringsOn On remaining most moment conn old new
+  brings_none : (AreInOrder old.links.items → HasNone old.links.items conn) → new ≡ old → BringsOn On remaining most moment conn old new
 
 -- ---- what is of all connections
 

@@ -1,12 +1,10 @@
 //! A node with its connections: what it is told, and in which order, and what is sent.
 
-ghost use Rattle.std.specs.Prelude.{◌≡◌, ◌<◌, ◌+◌, ◌∷◌, ◌++◌, [], length, slice_index_or, vec_capacity, IfNone, IfOk, IfSome, MatchResult, OnErr, Err, Ok, true, false};
+ghost use Rattle.std.specs.Prelude.{◌≡◌, ◌<◌, ◌≤◌, ◌+◌, ◌∷◌, ◌++◌, [], length, slice_index_or, vec_capacity, IfNone, IfOk, IfSome, OnErr, Err, Ok, true, false};
 ghost use Rattle.farm_node.specs.Events as event;
-ghost use Rattle.farm_watch.specs.Numbering.{numbered, numbered_effect};
-ghost use Rattle.farm_watch.specs.Table.{after_close, after_tick};
 ghost use Rattle.farm_watch.specs.declared.acts.Act.TheVariants as life;
-ghost use Rattle.farm_serve.specs.Calls.{AllClose, AllTick, BringsHere, BringsOn, HearsAll, Reads, Settles};
-ghost use Rattle.farm_serve.specs.Doing.{AtPlace, Becomes, Closes, DoesAct, EndsOne, EndsUnanswered, EndsWhereRefused, FailsWhereRefused, GoesAndEnds, Greets, HasEnded, Heard, Hears, IsStill, Lived, Performs, Reacts, Says, StandsUnlessRefused, Ticks, left_for, unanswered_by};
+ghost use Rattle.farm_serve.specs.Calls.{BringsHere, BringsOn, HearsAll, Reads, Settles};
+ghost use Rattle.farm_serve.specs.Doing.{AtPlace, Becomes, DoesAct, EndsWhereRefused, FailsWhereRefused, Greets, HasEnded, Heard, Hears, Performs, Says, StandsUnlessRefused, left_for};
 ghost use Rattle.farm_serve.specs.Desks.{AreSettled, IsDownAt, IsPlaceOf, MayComeUpAt, NeverAsks, StandsAt, Tells, is_to_be_told, kept_by, mark_of, marks_of, ups};
 ghost use Rattle.farm_serve.specs.Naming.{IsKeptOut};
 ghost use Rattle.farm_serve.specs.Sending.{AllGoOut, AreInOrder, GoesOut, HasNone, IsNumberedAt, IsSentOn};
@@ -14,9 +12,8 @@ ghost use Rattle.farm_serve.specs.Sending.{AllGoOut, AreInOrder, GoesOut, HasNon
 use crate::counting::{count_failovers, count_passed, count_sent};
 use crate::end::End;
 use crate::link::{
-    Link, Standing, be_over, close_at, come_up, end_at, end_unless_told, flush_at, greet_at,
-    hear_at, is_waiting, loss_of, may_come_up, open_peer, part_at, post_at, receive_at, send_at,
-    tick_at,
+    Link, Standing, be_over, come_up, end_at, end_unless_told, flush_at, greet_at, hear_at,
+    is_waiting, loss_of, may_come_up, open_peer, part_at, post_at, receive_at, send_at,
 };
 use crate::local::{LocalNode, site_of};
 use crate::naming::misnamed;
@@ -26,10 +23,10 @@ use dia_avp::Wire;
 use dia_base::{ConnId, Moment, NodeNo};
 use dia_message::{Message, Out};
 use farm_net::{Device, Received};
-use farm_node::{Node, NodeError, Reaction};
+use farm_node::{Node, NodeError};
 use farm_record::Recorder;
 use farm_tally::Tally;
-use farm_watch::{Act, Acts, DisconnectCause, Numbering, Waits, WatchSite};
+use farm_watch::{Act, Acts, DisconnectCause, Numbering, Waits};
 use std::alloc::{AllocError, Global};
 use std::io::{Read, Write};
 
@@ -174,18 +171,6 @@ fn why_at_message(waits: Waits) -> End {
     }
 }
 
-/// Why a connection ends whose life drops it at a tick, by what it waited for.
-fn why_at_tick(waits: Waits) -> End {
-    match waits {
-        Waits::ForDpa { .. } | Waits::ForNothing => End::Closed,
-        Waits::ForClose { .. } => End::Disconnected,
-        Waits::ForCer { .. }
-        | Waits::ForCea { .. }
-        | Waits::ForMessage { .. }
-        | Waits::ForDwa { .. } => End::Silent,
-    }
-}
-
 /// How many answers the node has sent, with this message.
 fn count_after(answers: u64, message: &Message) -> u64 {
     if message.header.request {
@@ -222,52 +207,6 @@ fn send_one<R: Read + Device, W: Write + Device>(
     }
 }
 
-/// The connection of a request that has no answer.
-fn unanswered_by(error: NodeError) -> Option<ConnId>
-    ensures { result ≡ unanswered_by error }
-{
-    match error {
-        NodeError::Unanswered { conn } => Some(conn),
-        NodeError::OutOfMemory
-        | NodeError::UnknownConn { .. }
-        | NodeError::PeerUp { .. }
-        | NodeError::UnknownPeer { .. }
-        | NodeError::UnknownNode { .. }
-        | NodeError::BookFull { .. } => None,
-    }
-}
-
-/// The connection of this number ends.
-fn end_one<R: Read + Device, W: Write + Device>(
-    links: &mut Vec<Link<R, W>>,
-    conn: ConnId,
-    error: NodeError,
-    moment: Moment,
-)
-    ensures ends { EndsOne conn links.old.items links.new.items }
-    ensures marks { marks_of links.new.items ≡ marks_of links.old.items }
-    ensures places { length links.new.items ≡ length links.old.items }
-{
-    if let Some(place) = place_of(links, conn) {
-        end_at(&mut links[place], End::Refused(error), moment);
-    }
-}
-
-/// Where a request that came on a connection has no answer, that connection ends.
-fn end_unanswered<R: Read + Device, W: Write + Device>(
-    links: &mut Vec<Link<R, W>>,
-    error: NodeError,
-    moment: Moment,
-)
-    ensures ends { EndsUnanswered (Err error) links.old.items links.new.items }
-    ensures marks { marks_of links.new.items ≡ marks_of links.old.items }
-    ensures places { length links.new.items ≡ length links.old.items }
-{
-    if let Some(conn) = unanswered_by(error) {
-        end_one(links, conn, error, moment);
-    }
-}
-
 /// Each connection writes for one turn.
 pub fn flush_all<R: Read + Device, W: Write + Device>(links: &mut Vec<Link<R, W>>, moment: Moment)
     ensures marks { marks_of links.new.items ≡ marks_of links.old.items }
@@ -275,20 +214,6 @@ pub fn flush_all<R: Read + Device, W: Write + Device>(links: &mut Vec<Link<R, W>
 {
     for place in 0..links.len() {
         flush_at(&mut links[place], moment);
-    }
-}
-
-/// What the life of a connection says, as it is done at this moment: its requests have their End-to-End Identifiers.
-fn numbered_said(
-    numbering: &mut Numbering,
-    said: Result<Acts, AllocError>,
-    moment: Moment,
-) -> Result<Acts, AllocError>
-    ensures acts { MatchResult said (λ acts. result ≡ Ok (numbered numbering.old moment acts)) (λ error. result ≡ Err error) }
-{
-    match said {
-        Ok(acts) => Ok(numbering.number(acts, moment)),
-        Err(error) => Err(error),
     }
 }
 
@@ -352,7 +277,7 @@ impl<N: Node, R: Read + Device, W: Write + Device> Desk<N, R, W> {
     }
 
     /// A connection ends.
-    fn end_here(&mut self, place: usize, why: End, moment: Moment)
+    pub(crate) fn end_here(&mut self, place: usize, why: End, moment: Moment)
         requires { place < length self.old.links.items }
         ensures ended { AtPlace self.old place (λ link. Becomes (HasEnded link) place self.old self.new) }
         ensures kept { kept_by self.new ≡ kept_by self.old }
@@ -608,31 +533,33 @@ impl<N: Node, R: Read + Device, W: Write + Device> Desk<N, R, W> {
         }
     }
 
-    /// What a connection brings in one turn.
-    fn received_here(&mut self, place: usize, piece: &mut [u8]) -> Received
+    /// What a connection brings in one turn, so many messages at most.
+    fn received_here(&mut self, place: usize, piece: &mut [u8], most: usize) -> Received
         requires within { place < length self.old.links.items }
         requires piece { 0 < length piece.old }
+        ensures few { length result.messages.items ≤ most }
         ensures kept { kept_by self.new ≡ kept_by self.old }
         ensures places { length self.new.links.items ≡ length self.old.links.items }
         ensures reads { AtPlace self.old place (λ link. Becomes (Reads R.remaining result.messages.items result.outcome link) place self.old self.new) }
     {
-        receive_at(&mut self.links[place], piece)
+        receive_at(&mut self.links[place], piece, most)
     }
 
-    /// A connection reads for one turn. A number that none has changes nothing.
+    /// A connection reads for one turn, so many messages at most. A number that none has changes nothing.
     pub fn receive_on<P: Wire>(
         &mut self,
         locals: &[LocalNode],
         conn: ConnId,
         piece: &mut [u8],
+        most: usize,
         moment: Moment,
     )
         requires { 0 < length piece.old }
         ensures tells { Tells N.on_event self.old self.new }
-        ensures brings { BringsOn N.on_event R.remaining moment conn self.old self.new }
+        ensures brings { BringsOn N.on_event R.remaining most moment conn self.old self.new }
     {
         if let Some(place) = place_of(&self.links, conn) {
-            self.receive::<P>(locals, place, piece, moment);
+            self.receive::<P>(locals, place, piece, most, moment);
         }
     }
 
@@ -652,24 +579,25 @@ impl<N: Node, R: Read + Device, W: Write + Device> Desk<N, R, W> {
         flush_at(&mut self.links[place], moment);
     }
 
-    /// A connection reads for one turn.
+    /// A connection reads for one turn, so many messages at most.
     fn receive<P: Wire>(
         &mut self,
         locals: &[LocalNode],
         place: usize,
         piece: &mut [u8],
+        most: usize,
         moment: Moment,
     )
         requires within { place < length self.old.links.items }
         requires piece { 0 < length piece.old }
         ensures tells { Tells N.on_event self.old self.new }
         ensures places { length self.new.links.items ≡ length self.old.links.items }
-        ensures brings { AtPlace self.old place (λ link. BringsHere N.on_event R.remaining moment place link self.old self.new) }
+        ensures brings { AtPlace self.old place (λ link. BringsHere N.on_event R.remaining most moment place link self.old self.new) }
     {
         if self.links[place].end.is_some() {
             return;
         }
-        let received = self.received_here(place, piece);
+        let received = self.received_here(place, piece, most);
         self.hear_all::<P>(locals, place, received.messages, moment);
         if let Err(loss) = received.outcome {
             self.end_here(place, End::Loss(loss), moment);
@@ -689,133 +617,5 @@ impl<N: Node, R: Read + Device, W: Write + Device> Desk<N, R, W> {
             };
             self.tell_lost::<P>(place, peer, why, moment);
         }
-    }
-
-    /// What the life of a connection says where time has passed.
-    fn acts_at_tick(
-        &mut self,
-        site: &WatchSite,
-        place: usize,
-        moment: Moment,
-    ) -> Result<Acts, AllocError>
-        requires { place < length self.old.links.items }
-        ensures kept { kept_by self.new ≡ kept_by self.old }
-        ensures places { length self.new.links.items ≡ length self.old.links.items }
-        ensures lived { AtPlace self.old place (λ link. MatchResult result (λ acts. Lived (numbered_effect self.old.numbering moment (after_tick site.now moment link.watch)) acts place link self.old self.new) (λ _. IsStill self.old self.new)) }
-    {
-        let said = tick_at(self.alloc, &mut self.links[place], site, moment);
-        numbered_said(&mut self.numbering, said, moment)
-    }
-
-    /// What the life of a connection says where it is to end.
-    fn acts_at_close(
-        &mut self,
-        site: &WatchSite,
-        place: usize,
-        moment: Moment,
-    ) -> Result<Acts, AllocError>
-        requires { place < length self.old.links.items }
-        ensures kept { kept_by self.new ≡ kept_by self.old }
-        ensures places { length self.new.links.items ≡ length self.old.links.items }
-        ensures lived { AtPlace self.old place (λ link. MatchResult result (λ acts. Lived (numbered_effect self.old.numbering moment (after_close site.now moment link.watch)) acts place link self.old self.new) (λ _. IsStill self.old self.new)) }
-    {
-        let said = close_at(self.alloc, &mut self.links[place], site, moment);
-        numbered_said(&mut self.numbering, said, moment)
-    }
-
-    /// Time has passed for a connection.
-    fn tick_one<P: Wire>(&mut self, locals: &[LocalNode], place: usize, moment: Moment)
-        requires { place < length self.old.links.items }
-        ensures tells { Tells N.on_event self.old self.new }
-        ensures places { length self.new.links.items ≡ length self.old.links.items }
-        ensures ticks { AtPlace self.old place (λ link. Ticks N.on_event moment place link self.old self.new) }
-    {
-        let link = &self.links[place];
-        if link.end.is_some() {
-            return;
-        }
-        let why = why_at_tick(link.watch.waits());
-        let Some(site) = site_of(locals, link.local) else {
-            return;
-        };
-        match self.acts_at_tick(site, place, moment) {
-            Ok(acts) => self.perform::<P>(place, acts, why, moment),
-            Err(AllocError) => {}
-        }
-    }
-
-    /// Time has passed for each connection.
-    pub fn tick_all<P: Wire>(&mut self, locals: &[LocalNode], moment: Moment)
-        ensures tells { Tells N.on_event self.old self.new }
-        ensures places { length self.new.links.items ≡ length self.old.links.items }
-        ensures each { AllTick N.on_event moment self.old self.new }
-    {
-        for place in 0..self.links.len() {
-            self.tick_one::<P>(locals, place, moment);
-        }
-    }
-
-    /// A connection is to end.
-    fn close_one<P: Wire>(&mut self, locals: &[LocalNode], place: usize, moment: Moment)
-        requires { place < length self.old.links.items }
-        ensures tells { Tells N.on_event self.old self.new }
-        ensures places { length self.new.links.items ≡ length self.old.links.items }
-        ensures closes { AtPlace self.old place (λ link. Closes N.on_event moment place link self.old self.new) }
-    {
-        let link = &self.links[place];
-        if link.end.is_some() {
-            return;
-        }
-        let Some(site) = site_of(locals, link.local) else {
-            return;
-        };
-        match self.acts_at_close(site, place, moment) {
-            Ok(acts) => self.perform::<P>(place, acts, End::Closed, moment),
-            Err(AllocError) => self.end_here(place, End::Closed, moment),
-        }
-    }
-
-    /// Each connection is to end.
-    pub fn close_all<P: Wire>(&mut self, locals: &[LocalNode], moment: Moment)
-        ensures tells { Tells N.on_event self.old self.new }
-        ensures places { length self.new.links.items ≡ length self.old.links.items }
-        ensures each { AllClose N.on_event moment self.old self.new }
-    {
-        for place in 0..self.links.len() {
-            self.close_one::<P>(locals, place, moment);
-        }
-    }
-
-    /// What the node does at an event that is of no connection.
-    fn react(&mut self, reaction: Reaction, moment: Moment)
-        ensures goes { GoesAndEnds reaction.out.items reaction.outcome self.old.links.items self.new.links.items }
-        ensures places { length self.new.links.items ≡ length self.old.links.items }
-        ensures kept { kept_by self.new ≡ kept_by self.old }
-    {
-        self.send_all(&reaction.out, moment);
-        if let Err(error) = reaction.outcome {
-            self.notes.failed(error);
-            end_unanswered(&mut self.links, error, moment);
-        }
-    }
-
-    /// Time has passed for the node.
-    pub fn tick_node<P: Wire>(&mut self, moment: Moment)
-        ensures tells { Tells N.on_event self.old self.new }
-        ensures places { length self.new.links.items ≡ length self.old.links.items }
-        ensures reacts { Reacts N.on_event (event.tick moment) self.old self.new }
-    {
-        let reaction = self.node.on_tick::<P>(self.alloc, moment);
-        self.react(reaction, moment);
-    }
-
-    /// The node is woken.
-    pub fn wake_node<P: Wire>(&mut self, moment: Moment)
-        ensures tells { Tells N.on_event self.old self.new }
-        ensures places { length self.new.links.items ≡ length self.old.links.items }
-        ensures reacts { Reacts N.on_event event.wake self.old self.new }
-    {
-        let reaction = self.node.on_wake::<P>(self.alloc);
-        self.react(reaction, moment);
     }
 }

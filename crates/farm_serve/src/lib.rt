@@ -19,6 +19,7 @@ mod naming;
 mod note;
 mod recording;
 mod serving;
+mod ticking;
 
 pub use desk::Desk;
 pub use end::{End, Ended, NotTaken, Refusal};

@@ -1,6 +1,6 @@
 //! One connection of a process.
 
-ghost use Rattle.std.specs.Prelude.{◌≡◌, ◌==◌, ◌<◌, IfNone, IfOk, IfSome, IsSome, OnOk, OnErr, length, false};
+ghost use Rattle.std.specs.Prelude.{◌≡◌, ◌==◌, ◌<◌, ◌≤◌, ◌+◌, ◌-◌, ◌^◌, if◌then◌else◌, min, IfNone, IfOk, IfSome, IsSome, OnOk, OnErr, length, false};
 ghost use Rattle.std.specs.List.{list_any};
 ghost use Rattle.farm_serve.specs.Desks.{is_to_be_told, mark_of, peer_of, standing_after};
 ghost use Rattle.farm_serve.specs.Calls.{Reads};
@@ -77,6 +77,7 @@ pub(crate) fn end_at<R: Read + Device, W: Write + Device>(
 )
     ensures mark { mark_of link.new ≡ mark_of link.old }
     ensures ended { HasEnded link.old link.new }
+    ensures unanswered { link.new.«open» ≡ link.old.«open» }
 {
     if link.end.is_none() {
         link.end = Some((why, moment));
@@ -92,6 +93,7 @@ pub(crate) fn post_at<R: Read + Device, W: Write + Device>(
 )
     ensures mark { mark_of link.new ≡ mark_of link.old }
     ensures sent { IsSentOn message.now link.old link.new }
+    ensures unanswered { link.new.«open» ≡ (if message.now.header.request then link.old.«open» else link.old.«open» - 1) }
 {
     if !message.header.request {
         link.open = link.open.saturating_sub(1);
@@ -107,6 +109,7 @@ pub(crate) fn send_at<R: Read + Device, W: Write + Device>(
 )
     ensures mark { mark_of link.new ≡ mark_of link.old }
     ensures sent { IsSentOn message.now link.old link.new }
+    ensures unanswered { link.new.«open» ≡ link.old.«open» }
 {
     if link.end.is_some() {
         return;
@@ -157,6 +160,7 @@ pub(crate) fn end_unless_told<R: Read + Device, W: Write + Device>(
     ensures mark { mark_of link.new ≡ mark_of link.old }
     ensures only { IsToldOnly link.old link.new }
     ensures refused { OnErr outcome (IsSome link.new.end) }
+    ensures unanswered { link.new.«open» ≡ (if asks then min (link.old.«open» + 1) (2 ^ 64 - 1) else link.old.«open») }
 {
     if asks {
         link.open = link.open.saturating_add(1);
@@ -304,16 +308,18 @@ pub(crate) fn close_at<R, W>(
     link.watch.close(alloc, site, moment)
 }
 
-/// The connection reads for one turn.
+/// The connection reads for one turn, so many messages at most.
 pub(crate) fn receive_at<R: Read + Device, W: Write + Device>(
     link: &mut Link<R, W>,
     piece: &mut [u8],
+    most: usize,
 ) -> Received
     requires { 0 < length piece.old }
+    ensures few { length result.messages.items ≤ most }
     ensures mark { mark_of link.new ≡ mark_of link.old }
     ensures reads { Reads R.remaining result.messages.items result.outcome link.old link.new }
 {
-    link.conn.receive(piece)
+    link.conn.receive(piece, most)
 }
 
 /// Whether octets of an ended connection have waited too long.

@@ -230,16 +230,17 @@ impl<N: Node, R: Read + Device, W: Write + Device> Serving<N, R, W> {
         }
     }
 
-    /// A connection may have octets. They are read for one turn, at most 64 times, `piece` at a time, and the node is
-    /// told of what came. What is sent for it waits to be written ([`Serving::write_all`]). `piece` is not empty, and
-    /// what it holds is of no account. A number that no connection has changes nothing.
-    pub fn readable<P: Wire>(&mut self, conn: ConnId, piece: &mut [u8], moment: Moment)
+    /// A connection may have octets. They are read for one turn, at most 64 times, `piece` at a time, and so many messages at
+    /// most. The node is told of what came. What is sent for it waits to be written ([`Serving::write_all`]). `piece` is not
+    /// empty, and what it holds is of no account. A number that no connection has changes nothing.
+    pub fn readable<P: Wire>(&mut self, conn: ConnId, piece: &mut [u8], most: usize, moment: Moment)
         requires { 0 < length piece.old }
         ensures settled { AreSettled self.new.desk.links.items }
         ensures tells { Tells N.on_event self.old.desk self.new.desk }
-        ensures brings { ThenSettles N.on_event (BringsOn N.on_event R.remaining moment conn) self.old.desk self.new.desk }
+        ensures brings { ThenSettles N.on_event (BringsOn N.on_event R.remaining most moment conn) self.old.desk self.new.desk }
     {
-        self.desk.receive_on::<P>(&self.locals, conn, piece, moment);
+        self.desk
+            .receive_on::<P>(&self.locals, conn, piece, most, moment);
         self.desk.settle::<P>(moment);
     }
 

@@ -71,11 +71,11 @@ fn turn(
 ) -> anyhow::Result<bool> {
     let mut piece = [0u8; PIECE];
     outgoing.find(site, serving)?;
-    serving.readable::<ViewWire>(front, &mut piece, MOMENT);
+    serving.readable::<ViewWire>(front, &mut piece, usize::MAX, MOMENT);
     outgoing.look(serving, MOMENT);
     let reads = outgoing.may_read(site, serving, client, MOMENT);
     if reads {
-        serving.readable::<ViewWire>(client, &mut piece, MOMENT);
+        serving.readable::<ViewWire>(client, &mut piece, usize::MAX, MOMENT);
     }
     serving.write_all::<ViewWire>(MOMENT);
     Ok(reads)

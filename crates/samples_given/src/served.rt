@@ -43,7 +43,7 @@ pub fn accept<'a, N: Node>(
 /// A connection is read for one turn.
 pub fn read<N: Node>(serving: &mut Served<'_, N>, conn: ConnId) {
     let mut piece = [0u8; PIECE];
-    serving.readable::<ViewWire>(conn, &mut piece, MOMENT);
+    serving.readable::<ViewWire>(conn, &mut piece, usize::MAX, MOMENT);
 }
 
 /// What was written on a connection.

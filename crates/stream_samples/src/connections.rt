@@ -78,7 +78,7 @@ pub fn serve_on<'a>(
         return ConnId(0);
     };
     for _ in 0..exchange.turns {
-        serving.readable::<ViewWire>(conn, piece, MOMENT);
+        serving.readable::<ViewWire>(conn, piece, usize::MAX, MOMENT);
         serving.write_all::<ViewWire>(MOMENT);
     }
     conn

@@ -17,7 +17,7 @@ const LATER: Moment = Moment(61_000);
 fn serve(serving: &mut Served<'_, Farm>, conn: ConnId, octets: usize, piece: &mut [u8]) {
     for _ in 0..octets.saturating_add(2) {
         if !piece.is_empty() {
-            serving.readable::<ViewWire>(conn, piece, MOMENT);
+            serving.readable::<ViewWire>(conn, piece, usize::MAX, MOMENT);
         }
         serving.write_all::<ViewWire>(MOMENT);
         if serving.link(conn).is_none_or(|link| link.end.is_some()) {

@@ -27,6 +27,7 @@ returns-in-Err-clause-brings g c = λ link read.
     where_open _ _ link.end (subst (λ (l : Link _ _). is_some l.end ≡ false) same (sym c.is_some.ensures ∙ c.if-is_some.false))
     (record {
       messages = c.received_here-received.result.messages.items;
+      few = c.received_here-received.ensures.few;
       outcome = c.received_here-received.result.outcome;
       mid = c.received_here-received.new.self;
       heard = c.hear_all.new.self;
@@ -41,6 +42,7 @@ returns-in_default-clause-brings g c = λ link read.
     where_open _ _ link.end (subst (λ (l : Link _ _). is_some l.end ≡ false) same (sym c.is_some.ensures ∙ c.if-is_some.false))
     (record {
       messages = c.received_here-received.result.messages.items;
+      few = c.received_here-received.ensures.few;
       outcome = c.received_here-received.result.outcome;
       mid = c.received_here-received.new.self;
       heard = c.hear_all.new.self;

@@ -1,7 +1,7 @@
 use Rattle.std.proofs.Common.{◌≡◌, Option, MatchOption, subst, sym, ◌∙◌}
 use Rattle.dia_base.specs.declared.number.ConnId.{ConnId}
 use Rattle.farm_serve.specs.Doing.{EndsOne}
-use Rattle.farm_serve.proofs.desk.end_unanswered.Goals as goal
+use Rattle.farm_serve.proofs.ticking.end_unanswered.Goals as goal
 
 pub returns-in-Some-clause-ends : goal.returns-in-Some-clause-ends
 returns-in-Some-clause-ends g c =

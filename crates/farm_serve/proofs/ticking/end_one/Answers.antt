@@ -1,7 +1,7 @@
 use Rattle.std.proofs.Common.{◌≡◌, ◌<◌, get_or, length, refl, rules, subst, sym}
 use Rattle.farm_serve.specs.Doing.{ends_one}
 use Rattle.farm_serve.proofs.Placing.{same_marks}
-use Rattle.farm_serve.proofs.desk.end_one.Goals as goal
+use Rattle.farm_serve.proofs.ticking.end_one.Goals as goal
 
 pub returns-in-Some-clause-marks : goal.returns-in-Some-clause-marks
 returns-in-Some-clause-marks g c =

@@ -1,0 +1,20 @@
+-- How many requests a connection may have open of the room of its node, where the site asks for fairness.
+use Rattle.std.specs.Prelude.{ℕ, ◌-◌, ◌/◌, ◌^◌, Bool, max, nat_lt, Option, Some, None, if◌then◌else◌}
+use Rattle.farm_loop.specs.declared.pause.Traffic.{Traffic}
+use Rattle.farm_loop.specs.declared.pause.Traffic.TheVariants.{Requests, Answers, Both}
+
+-- The room of a node by its links, and one request at least: the queue of a front, or the pending table of a relay.
+abbrev pub share_of : ℕ → ℕ → ℕ
+share_of room links = max (room / max links 1) 1
+
+-- as many as come
+abbrev pub no_limit : ℕ
+no_limit = 2 ^ 64 - 1
+
+-- How many messages are read at most of a connection on which so many requests wait for answers. One that brings requests alone and has its
+-- share waiting is not read, until it has waited for too long.
+abbrev pub room_left : Traffic → Option ℕ → ℕ → Bool → ℕ
+room_left Requests (Some share) unanswered is_over = if nat_lt unanswered share then share - unanswered else if is_over then no_limit else 0
+room_left Requests None unanswered is_over = no_limit
+room_left Answers share unanswered is_over = no_limit
+room_left Both share unanswered is_over = no_limit
