@@ -1,8 +1,9 @@
 -- Which connections of a process are read, by what waits to be written on all of them.
-use Rattle.std.specs.Prelude.{◌≡◌, ◌≤◌, ◌-◌, ◌⊎◌, ℕ, ⊤, Bool, false, nat_lt, Option, Some, None, if◌then◌else◌}
+use Rattle.std.specs.Prelude.{◌≡◌, ◌≤◌, ◌-◌, ◌⊎◌, ℕ, ⊤, Bool, true, false, is_none, ◌&&◌, length, nat_lt, Option, Some, None, if◌then◌else◌}
 use Rattle.dia_base.specs.declared.node.NodeKind.{NodeKind}
 use Rattle.dia_base.specs.declared.node.NodeKind.TheVariants.{Relay, Front, Client}
 use Rattle.dia_base.specs.declared.number.Moment.{Moment}
+use Rattle.farm_serve.specs.declared.link.Link.{Link}
 use Rattle.farm_loop.specs.declared.pause.Pause.{Pause}
 use Rattle.farm_loop.specs.declared.pause.Traffic.{Traffic}
 use Rattle.farm_loop.specs.declared.pause.Traffic.TheVariants.{Requests, Answers, Both}
@@ -16,9 +17,19 @@ traffic_on Relay (Some Client) = Requests
 traffic_on Relay (Some Front) = Answers
 traffic_on Relay (Some Relay) = Both
 
+-- clients and relays send requests on it
+abbrev pub sends_requests : Traffic → Bool
+sends_requests Requests = false
+sends_requests Answers = true
+sends_requests Both = true
+
 -- more octets are unsent than a quarter of what may be
 abbrev pub is_behind : ℕ → Bool
 is_behind unsent = nat_lt 262144 unsent
+
+-- a connection that has ended makes nobody wait
+abbrev pub makes_wait : {R W : Type 0} → Link R W → Bool
+makes_wait link = is_none link.end && is_behind (length link.conn.unsent)
 
 -- of so many that are behind, those that are not this one
 abbrev pub others_behind : ℕ → ℕ → ℕ

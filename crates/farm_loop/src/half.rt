@@ -1,5 +1,8 @@
 //! A connected socket as a reader and a writer.
 
+ghost use Rattle.std.specs.Prelude.{◌≡◌};
+ghost use Rattle.farm_loop.specs.Reading.{drain_after, may_have_more};
+
 use mio::net::TcpStream;
 use mio::unix::SourceFd;
 use mio::{Interest, Registry, Token};
@@ -28,7 +31,7 @@ pub enum Drain {
 #[derive(Drop)]
 pub struct Half {
     stream: Arc<TcpStream, Global>,
-    drain: Drain,
+    pub drain: Drain,
     /// From where its other end has connected, if that has.
     origin: Option<IpAddr>,
     /// What the first read gave, if its other end has connected.
@@ -92,7 +95,9 @@ impl Half {
 
     /// Whether there may be more to read, where it is reported that nothing comes behind that, or not: the end of a stream is
     /// reported once, and read behind all else.
-    pub fn may_have_more(&self, closes: bool) -> bool {
+    pub fn may_have_more(&self, closes: bool) -> bool
+        ensures { result ≡ may_have_more self.now.drain closes }
+    {
         match self.drain {
             Drain::More | Drain::Short => true,
             Drain::Guessed => closes,
@@ -123,12 +128,16 @@ fn fault_of(outcome: &io::Result<usize>) -> Option<ErrorKind> {
 }
 
 /// What is still there after a call that gave or took so much, of so much that it was to.
-fn drain_after(outcome: &io::Result<usize>, most: usize) -> Drain {
+fn drain_after(outcome: &io::Result<usize>, most: usize) -> Drain
+    ensures { result ≡ drain_after outcome.now most }
+{
     match outcome {
         Ok(count) if 0 < *count && *count < most => Drain::Short,
         Ok(_) => Drain::More,
-        Err(error) if error.kind() == ErrorKind::WouldBlock => Drain::Empty,
-        Err(_) => Drain::More,
+        Err(error) => match error.kind() {
+            ErrorKind::WouldBlock => Drain::Empty,
+            _ => Drain::More,
+        },
     }
 }
 

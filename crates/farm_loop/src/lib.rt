@@ -13,7 +13,8 @@
 //!
 //! What a socket gives or takes, and what the system reports, no contract can say: all of this is proved safe, `Dial` is
 //! proved to be made when it is due and to be tried by its definition ([`are_tried`]), `Pause` to let each connection be read
-//! by its rule, and `room_left` to leave no connection more than its share. The rest is tested.
+//! by its rule, `room_left` to leave no connection more than its share, and a half to tell whether more may be there. The rest
+//! is tested.
 #![tactic(auto)]
 
 mod coming;

@@ -1,5 +1,8 @@
 //! The connections of a process on which requests go out, and which others are read meanwhile.
 
+ghost use Rattle.std.specs.Prelude.{◌≡◌};
+ghost use Rattle.farm_loop.specs.Pausing.{makes_wait, sends_requests};
+
 use crate::pause::{Pause, Traffic, is_behind, traffic_on};
 use crate::share::{Shares, room_left};
 use dia_base::{ConnId, Moment, NodeKind, NodeNo};
@@ -38,22 +41,28 @@ fn traffic_of<R, W>(site: &Site, link: &Link<R, W>) -> Traffic {
 }
 
 /// Whether requests go out on a connection that brings this.
-fn sends_requests(traffic: Traffic) -> bool {
+fn sends_requests(traffic: Traffic) -> bool
+    ensures { result ≡ sends_requests traffic }
+{
     match traffic {
         Traffic::Answers | Traffic::Both => true,
         Traffic::Requests => false,
     }
 }
 
-/// Whether a connection is behind. One that has ended makes nobody wait.
+/// Whether others wait while this connection is behind. One that has ended makes nobody wait.
+fn makes_wait<R: Read + Device, W: Write + Device>(link: &Link<R, W>) -> bool
+    ensures { result ≡ makes_wait link.now }
+{
+    link.end.is_none() && is_behind(link.conn.unsent())
+}
+
+/// Whether a connection is behind, if it is still there.
 fn is_behind_on<N: Node, R: Read + Device, W: Write + Device>(
     serving: &Serving<N, R, W>,
     conn: ConnId,
 ) -> bool {
-    match serving.link(conn) {
-        Some(link) => link.end.is_none() && is_behind(link.conn.unsent()),
-        None => false,
-    }
+    serving.link(conn).is_some_and(|link| makes_wait(link))
 }
 
 impl Outgoing {

@@ -1,6 +1,9 @@
 //! The status port of a process: who connects there reads what the node says of itself, asks it to end, to change the terms of its book,
 //! or to look at an account.
 
+ghost use Rattle.std.specs.Prelude.{◌≡◌};
+ghost use Rattle.farm_loop.specs.Port.{is_due, is_overdue};
+
 use dia_base::Moment;
 use farm_clock::Timer;
 use farm_status::{Answering, Job, Jobs, Source, Token};
@@ -116,6 +119,13 @@ fn has_failed(outcome: &io::Result<usize>) -> bool {
     }
 }
 
+/// Whether a port that was looked at is to be looked at again.
+fn is_due(looked: Moment, moment: Moment) -> bool
+    ensures { result ≡ is_due looked moment }
+{
+    moment.0 >= looked.0.saturating_add(PAUSE)
+}
+
 impl Caller {
     /// Reads or writes once; whether the next call may do something.
     fn step(&mut self) -> bool {
@@ -158,7 +168,9 @@ impl Caller {
     }
 
     /// Whether it has taken longer than it may.
-    fn is_overdue(&self, moment: Moment) -> bool {
+    fn is_overdue(&self, moment: Moment) -> bool
+        ensures { result ≡ is_overdue self.now.waits self.now.since moment }
+    {
         !self.waits && moment.0 > self.since.0.saturating_add(PATIENCE)
     }
 }
@@ -249,7 +261,7 @@ impl StatusPort {
     /// The milliseconds since it was opened, where it is to be looked at now.
     pub fn due<O: Clock>(&mut self, os: &O) -> io::Result<Option<u64>> {
         let moment = self.timer.now(os)?;
-        if moment.0 < self.looked.0.saturating_add(PAUSE) {
+        if !is_due(self.looked, moment) {
             return Ok(None);
         }
         self.looked = moment;

@@ -2,7 +2,7 @@
 //! be charged to the others.
 
 ghost use Rattle.std.specs.Prelude.{◌≡◌, ◌≤◌, ◌*◌};
-ghost use Rattle.farm_loop.specs.Sharing.{room_left, share_of};
+ghost use Rattle.farm_loop.specs.Sharing.{links_of, room_left, room_of, share_at, share_of};
 
 use crate::pause::Traffic;
 use dia_base::{NodeKind, NodeNo, PENDING_LIMIT};
@@ -38,7 +38,9 @@ pub struct Shares {
 }
 
 /// How many requests a node has room for: a front in its queue, a relay in its pending table.
-fn room_of(site: &Site, node: &Node) -> u32 {
+fn room_of(site: &Site, node: &Node) -> u32
+    ensures { result ≡ room_of site.now node.now.kind }
+{
     match node.kind {
         NodeKind::Front => site.queue,
         NodeKind::Relay => PENDING_LIMIT,
@@ -47,12 +49,21 @@ fn room_of(site: &Site, node: &Node) -> u32 {
 }
 
 /// How many links of a site a node has.
-fn links_of(site: &Site, node: NodeNo) -> usize {
+fn links_of(site: &Site, node: NodeNo) -> usize
+    ensures { result ≡ links_of site.now node }
+{
     site.links
         .as_slice()
         .iter()
         .filter(|link| link.from.0 == node.0 || link.to.0 == node.0)
         .count()
+}
+
+/// The share of each connection of a node of the site.
+fn share_at(site: &Site, number: NodeNo, node: &Node) -> u64
+    ensures { result ≡ share_at site.now number node.now.kind }
+{
+    share_of(room_of(site, node), links_of(site, number))
 }
 
 impl Shares {
@@ -67,8 +78,7 @@ impl Shares {
     pub fn of(alloc: Global, site: &Site) -> Result<Shares, AllocError> {
         let mut by_node = Vec::new(alloc);
         for (number, node) in site.nodes.as_slice().iter().enumerate() {
-            let links = links_of(site, NodeNo(number as u32));
-            by_node.push(share_of(room_of(site, node), links))?;
+            by_node.push(share_at(site, NodeNo(number as u32), node))?;
         }
         Ok(Shares { by_node })
     }
