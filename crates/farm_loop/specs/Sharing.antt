@@ -35,9 +35,9 @@ abbrev pub no_limit : ℕ
 no_limit = 2 ^ 64 - 1
 
 -- How many messages are read at most of a connection on which so many requests wait for answers. One that brings requests alone and has its
--- share waiting is not read, until it has waited for too long.
+-- share waiting is not read; if it has waited for too long, one message is, so that its neighbour is heard.
 abbrev pub room_left : Traffic → Option ℕ → ℕ → Bool → ℕ
-room_left Requests (Some share) unanswered is_over = if nat_lt unanswered share then share - unanswered else if is_over then no_limit else 0
+room_left Requests (Some share) unanswered is_over = if nat_lt unanswered share then share - unanswered else if is_over then 1 else 0
 room_left Requests None unanswered is_over = no_limit
 room_left Answers share unanswered is_over = no_limit
 room_left Both share unanswered is_over = no_limit

@@ -206,8 +206,8 @@ impl<N: Node + Drop> Live<N> {
     }
 
     /// Where the site asks for fairness, a connection that brings requests alone has from now on no more of them open than its
-    /// share of the room of its node ([`share_of`](crate::share_of)). More is not read for a second at most, or for half an interval of the
-    /// watchdog, whichever is shorter.
+    /// share of the room of its node ([`share_of`](crate::share_of)). While it has, one message of it is read in a second, or in half an
+    /// interval of the watchdog, whichever is shorter.
     pub fn share_room(&mut self, site: &Site, strictness: Strictness) -> Result<(), LoopFault> {
         if strictness.fairness {
             let shares = Shares::of(self.alloc, site)?;

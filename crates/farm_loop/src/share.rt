@@ -20,13 +20,15 @@ pub fn share_of(room: u32, links: usize) -> u64
 }
 
 /// How many messages are read at most of a connection that brings this, and on which so many requests wait for answers: what its share
-/// leaves. Where it has its share, none, unless it has waited for too long. Who brings answers does not wait.
+/// leaves. Where it has its share, none, and one if it has waited for too long, so that its neighbour is heard. Who brings answers
+/// does not wait.
 pub fn room_left(traffic: Traffic, share: Option<u64>, unanswered: u64, is_over: bool) -> usize
     ensures { result ≡ room_left traffic share unanswered is_over }
 {
     match (traffic, share) {
         (Traffic::Requests, Some(share)) if unanswered < share => (share - unanswered) as usize,
-        (Traffic::Requests, Some(_)) if !is_over => 0,
+        (Traffic::Requests, Some(_)) if is_over => 1,
+        (Traffic::Requests, Some(_)) => 0,
         (Traffic::Requests | Traffic::Answers | Traffic::Both, _) => usize::MAX,
     }
 }
