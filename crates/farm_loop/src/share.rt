@@ -79,8 +79,10 @@ impl Shares {
     /// Those of the nodes of a site.
     pub fn of(alloc: Global, site: &Site) -> Result<Shares, AllocError> {
         let mut by_node = Vec::new(alloc);
-        for (number, node) in site.nodes.as_slice().iter().enumerate() {
-            by_node.push(share_at(site, NodeNo(number as u32), node))?;
+        let mut number: u32 = 0;
+        for node in site.nodes.as_slice() {
+            by_node.push(share_at(site, NodeNo(number), node))?;
+            number = number.saturating_add(1);
         }
         Ok(Shares { by_node })
     }
