@@ -73,12 +73,12 @@ fn turn(
     outgoing.find(site, serving)?;
     serving.readable::<ViewWire>(front, &mut piece, usize::MAX, MOMENT);
     outgoing.look(serving, MOMENT);
-    let reads = outgoing.may_read(site, serving, client, MOMENT);
-    if reads {
-        serving.readable::<ViewWire>(client, &mut piece, usize::MAX, MOMENT);
+    let most = outgoing.most_on(site, serving, client, MOMENT, MOMENT);
+    if most > 0 {
+        serving.readable::<ViewWire>(client, &mut piece, most, MOMENT);
     }
     serving.write_all::<ViewWire>(MOMENT);
-    Ok(reads)
+    Ok(most > 0)
 }
 
 /// All turns. In how many of them the client was read.
