@@ -6,7 +6,8 @@ process is killed (SIGKILL) at a moment by chance; then they are started again, 
 and some of what was. So it goes on for as many rounds as asked. In the end everything that was sent has been answered, and:
 - each answer that was ever had to one request says the same;
 - what a client works out by its answers is what `farm book report` says: each debit was made once, and none that was not sent;
-- `farm book check` is content, and `farm book export` has each request once.
+- `farm book check` is content, and `farm book export` has each request once;
+- stock SQLite reads the same balances from the file (the table `account`), after the last kill.
 With --changes the terms change meanwhile, by the status port: accounts join, close and open again, and tariffs change that charge
 nobody otherwise. Each change that was told as made stands at the place that was told, and no account joins twice.
 
@@ -17,13 +18,16 @@ import argparse
 import random
 import signal
 import re
+import shutil
 import socket
+import sqlite3
 import subprocess
 import sys
 import tempfile
 import threading
 import time
 from collections import Counter
+from contextlib import closing
 from http.client import HTTPConnection, HTTPException
 from pathlib import Path
 
@@ -272,8 +276,16 @@ class Run:
             if changing.ident:
                 changing.join()
 
+    def balances(self):
+        """What the file says of the accounts, in their order, by stock SQLite: of a copy, since to read it may write its log back."""
+        for end in ("", "-wal"):
+            shutil.copyfile(f"{self.book}{end}", f"{self.book}.read{end}")
+        with closing(sqlite3.connect(f"{self.book}.read")) as file:
+            return [bytes(balance).decode() for balance, in file.execute("SELECT balance FROM account ORDER BY rowid")]
+
     def check(self):
         client = self.client
+        balances = self.balances()
         if client.open or client.serial != len(client.answered):
             raise Otherwise(f"{len(client.open)} requests are not answered")
         report, checked, entries = self.ask("report"), self.ask("check"), self.ask("export").splitlines()
@@ -282,6 +294,9 @@ class Run:
             line = f"{account} balance {DEBITS[account] * COST - paid} reserved 0"
             if line not in report:
                 raise Otherwise(f"the report has not what is left: {line}")
+        reported = re.findall(r"^account .* balance (-?[0-9]+) reserved", report, re.M)
+        if balances != reported:
+            raise Otherwise(f"the file has other balances than the report: {balances} and {reported}")
         self.changer.check(entries)
         charges = sum(" change " not in entry for entry in entries)
         if charges != client.serial:

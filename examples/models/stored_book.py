@@ -222,6 +222,9 @@ def fill(path, more=0, later=0):
     with opened(path) as file:
         file.executemany("INSERT INTO entry (rowid, octets) VALUES (?, ?)", enumerate(made))
         file.execute("UPDATE book SET octets = ? WHERE rowid = 1", (standing,))
+        # the next opening writes what stands beside the entries
+        file.execute("DELETE FROM account")
+        file.execute("DELETE FROM session")
     file.close()
 
 
@@ -229,6 +232,18 @@ def harm(path, place):
     with opened(path) as file:
         octets, = file.execute("SELECT octets FROM entry WHERE rowid = ?", (place,)).fetchone()
         file.execute("UPDATE entry SET octets = ? WHERE rowid = ?", (octets[:15] + bytes([octets[15] ^ 1]) + octets[16:], place))
+    file.close()
+
+
+def owe(path, place):
+    with opened(path) as file:
+        file.execute("UPDATE account SET balance = CAST('-1' AS BLOB) WHERE rowid = ?", (place,))
+    file.close()
+
+
+def forget(path):
+    with opened(path) as file:
+        file.execute("DELETE FROM session WHERE rowid = (SELECT max(rowid) FROM session)")
     file.close()
 
 
@@ -251,6 +266,19 @@ def rows_in(path):
             for place, octets in file.execute(f"SELECT rowid, octets FROM {table} ORDER BY rowid"):
                 yield f"{table} {place} {octets.hex()}"
     file.close()
+
+
+def balances_in(path):
+    with sqlite3.connect(f"file:{path}?mode=ro", uri=True) as file:
+        for place, balance in file.execute("SELECT rowid, CAST(balance AS TEXT) FROM account ORDER BY rowid"):
+            yield f"{place} balance {balance}"
+    file.close()
+
+
+def balances(_, more=0):
+    """The balances of a report, by the places of their accounts."""
+    lines = [line.split() for line in report(_, more) if line.startswith("account ")]
+    return [f"{place} balance {words[words.index('balance') + 1]}" for place, words in enumerate(lines)]
 
 
 def identity(path):
@@ -302,10 +330,11 @@ def main():
     if task == "fill-twice":
         CHANGES.append((1_218_000, CHANGES[1][1]))
         task = "fill"
-    if task in ("fill", "harm", "cut"):
-        {"fill": fill, "harm": harm, "cut": cut}[task](path, *map(int, more))
+    if task in ("fill", "harm", "cut", "owe", "forget"):
+        {"fill": fill, "harm": harm, "cut": cut, "owe": owe, "forget": forget}[task](path, *map(int, more))
     else:
-        tasks = {"identity": identity, "check": check, "summary": summary, "near": near, "report": report, "export": export, "rows": rows_in}
+        tasks = {"identity": identity, "check": check, "summary": summary, "near": near, "report": report, "export": export, "rows": rows_in, "balances": balances}
+        tasks["balances-in"] = balances_in
         print(*tasks[task](path, *map(int, more)), sep="\n")
 
 

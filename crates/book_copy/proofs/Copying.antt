@@ -2,6 +2,7 @@
 use Rattle.std.proofs.Common.{◌≡◌, ℕ, ◌+◌, ◌<◌, ◌≤◌, List, [], ◌∷◌, ◌++◌, length, take, get_or, refl, sym, ap, ◌∙◌, append_assoc, arith, ◌⊎◌, inl, inr}
 use Rattle.std.specs.Global.{Vec}
 use Rattle.std.proofs.lemmas.List.{append-nil, take_all, take_more}
+use Rattle.book_beside.specs.Beside.{Beside}
 use Rattle.book_store.specs.Table.{Stored, octets_in, stored_with}
 use Rattle.book_copy.specs.Copied.{IsBeginning}
 
@@ -32,28 +33,30 @@ all_copied rows copied place le e = e ∙ take_all place rows le
 
 -- ---- what a crash leaves
 
-pub begins : (about : List ℕ) (rows copied : List (List ℕ)) (n : ℕ) (left : Stored) → n ≤ length rows → copied ≡ take n rows → left ≡ stored_with about copied → IsBeginning about rows left
-begins about rows copied n left le e is = (n, le, is ∙ ap (stored_with about) e)
+module _ (about : List ℕ) (rows : List (List ℕ)) (beside : Beside) (left : Stored) where
+  pub begins : (copied : List (List ℕ)) (n : ℕ) → n ≤ length rows → copied ≡ take n rows → left ≡ stored_with about copied beside → IsBeginning about rows beside left
+  begins copied n le e is = (n, le, is ∙ ap (λ (r : List (List ℕ)). stored_with about r beside) e)
 
-pub begins_with_none : (about : List ℕ) (rows copied : List (List ℕ)) (left : Stored) → copied ≡ [] → left ≡ stored_with about copied → IsBeginning about rows left
-begins_with_none about rows copied left none is = begins about rows copied 0 left (omega arith) none is
+  pub begins_with_none : (copied : List (List ℕ)) → copied ≡ [] → left ≡ stored_with about copied beside → IsBeginning about rows beside left
+  begins_with_none copied none is = begins copied 0 (omega arith) none is
 
--- what was stored before is left, or that with one row more
-pub begins_with_more : (about now : List ℕ) (rows seen copied : List (List ℕ)) (place : ℕ) (left : Stored) (Stands : Type 0) → place < length rows → now ≡ about → seen ≡ rows → copied ≡ take place rows
-    → (Stands → IsBeginning about rows left) → Stands ⊎ (left ≡ stored_with now (copied ++ get_or seen place [] ∷ [])) → IsBeginning about rows left
-begins_with_more about now rows seen copied place left Stands within is same e before (inl stands) = before stands
-begins_with_more about now rows seen copied place left Stands within is same e before (inr more) =
-    begins about rows (copied ++ get_or seen place [] ∷ []) (place + 1) left (omega arith)
-    (one_more_copied rows seen copied (copied ++ get_or seen place [] ∷ []) place within same refl e)
-    (more ∙ ap (λ (a : List ℕ). stored_with a (copied ++ get_or seen place [] ∷ [])) is)
+  -- what was stored before is left, or that with one row more
+  pub begins_with_more : (now : List ℕ) (seen copied : List (List ℕ)) (there : Beside) (place : ℕ) (Stands : Type 0) → place < length rows → now ≡ about → seen ≡ rows → there ≡ beside → copied ≡ take place rows
+      → (Stands → IsBeginning about rows beside left) → Stands ⊎ (left ≡ stored_with now (copied ++ get_or seen place [] ∷ []) there) → IsBeginning about rows beside left
+  begins_with_more now seen copied there place Stands within is same stays e before (inl stands) = before stands
+  begins_with_more now seen copied there place Stands within is same stays e before (inr more) =
+      begins (copied ++ get_or seen place [] ∷ []) (place + 1) (omega arith)
+      (one_more_copied rows seen copied (copied ++ get_or seen place [] ∷ []) place within same refl e)
+      (more ∙ ap (λ (a : List ℕ). stored_with a (copied ++ get_or seen place [] ∷ []) there) is ∙ ap (stored_with about (copied ++ get_or seen place [] ∷ [])) stays)
 
--- the last of them is left out, or none
-pub begins_with_all : (about now : List ℕ) (rows all : List (List ℕ)) (left : Stored) (Stands : Type 0) → now ≡ about → all ≡ rows → (Stands → IsBeginning about rows left) → Stands ⊎ (left ≡ stored_with now all) → IsBeginning about rows left
-begins_with_all about now rows all left Stands is e before (inl stands) = before stands
-begins_with_all about now rows all left Stands is e before (inr whole) =
-    begins about rows all (length rows) left (omega arith) (e ∙ sym (take_all (length rows) rows (omega arith))) (whole ∙ ap (λ (a : List ℕ). stored_with a all) is)
+  -- the last of them is left out, or none
+  pub begins_with_all : (now : List ℕ) (all : List (List ℕ)) (there : Beside) (Stands : Type 0) → now ≡ about → all ≡ rows → there ≡ beside → (Stands → IsBeginning about rows beside left)
+      → Stands ⊎ (left ≡ stored_with now all there) → IsBeginning about rows beside left
+  begins_with_all now all there Stands is e stays before (inl stands) = before stands
+  begins_with_all now all there Stands is e stays before (inr whole) =
+      begins all (length rows) (omega arith) (e ∙ sym (take_all (length rows) rows (omega arith))) (whole ∙ ap (λ (a : List ℕ). stored_with a all there) is ∙ ap (stored_with about all) stays)
 
 -- what was stored before is left, or that with all that waited
-pub leaves_all : (about : List ℕ) (more all : List (List ℕ)) (left : Stored) (Stands : Type 0) → more ≡ all → Stands ⊎ (left ≡ stored_with about more) → Stands ⊎ (left ≡ stored_with about all)
-leaves_all about more all left Stands e (inl stands) = inl stands
-leaves_all about more all left Stands e (inr is) = inr (is ∙ ap (stored_with about) e)
+pub leaves_all : (about : List ℕ) (more all : List (List ℕ)) (beside : Beside) (left : Stored) (Stands : Type 0) → more ≡ all → Stands ⊎ (left ≡ stored_with about more beside) → Stands ⊎ (left ≡ stored_with about all beside)
+leaves_all about more all beside left Stands e (inl stands) = inl stands
+leaves_all about more all beside left Stands e (inr is) = inr (is ∙ ap (λ (r : List (List ℕ)). stored_with about r beside) e)

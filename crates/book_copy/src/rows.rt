@@ -20,11 +20,12 @@ fn append_all<B: RowStore>(alloc: Global, copy: &mut B, rows: &[Vec<u8>]) -> Res
     ensures ready { OnOk result (B.is_clean copy.new → B.is_ready copy.new) }
     ensures appended { OnOk result (B.is_clean copy.new → B.rows copy.new ≡ B.rows copy.old ++ octets_in rows.now) }
     ensures same_book { OnOk result (B.is_clean copy.new → B.about copy.new ≡ B.about copy.old) }
-    ensures crash { B.is_clean copy.new → (left : Stored) → B.may_leave copy.new left → B.may_leave copy.old left ⊎ (left ≡ stored_with (B.about copy.old) (B.rows copy.old ++ octets_in rows.now)) }
+    ensures same_beside { OnOk result (B.is_clean copy.new → B.beside copy.new ≡ B.beside copy.old) }
+    ensures crash { B.is_clean copy.new → (left : Stored) → B.may_leave copy.new left → B.may_leave copy.old left ⊎ (left ≡ stored_with (B.about copy.old) (B.rows copy.old ++ octets_in rows.now) (B.beside copy.old)) }
     ensures reopens { B.may_reopen copy.old → B.may_reopen copy.new }
 {
     let place = copy.standing().count;
-    match copy.append(alloc, place, rows) {
+    match copy.append(alloc, place, rows, &[]) {
         Ok(()) => Ok(()),
         Err(error) => Err(CopyError::Append(error)),
     }
@@ -45,6 +46,7 @@ fn copy_row<A: RowStore, B: RowStore>(
     ensures ready { OnOk result (A.is_clean book.new → A.is_ready book.new) }
     ensures same { OnOk result (A.is_clean book.new → A.rows book.new ≡ A.rows book.old) }
     ensures same_book { OnOk result (A.is_clean book.new → A.about book.new ≡ A.about book.old) }
+    ensures same_beside { OnOk result (A.is_clean book.new → A.beside book.new ≡ A.beside book.old) }
     ensures unharmed { (left : Stored) → A.may_leave book.new left → A.may_leave book.old left }
     ensures reopens { A.may_reopen book.old → A.may_reopen book.new }
     ensures copy_clean { B.is_clean copy.new → B.is_clean copy.old }
@@ -52,8 +54,9 @@ fn copy_row<A: RowStore, B: RowStore>(
     ensures copied { IfOk result (λ now. A.is_clean book.new → B.is_clean copy.new
         → B.rows copy.new ++ octets_in now.items ≡ (B.rows copy.old ++ octets_in waiting.items) ++ slice_index_or (A.rows book.old) place [] ∷ []) }
     ensures copy_of { OnOk result (B.is_clean copy.new → B.about copy.new ≡ B.about copy.old) }
+    ensures copy_beside { OnOk result (B.is_clean copy.new → B.beside copy.new ≡ B.beside copy.old) }
     ensures crash { A.is_clean book.new → B.is_clean copy.new → (left : Stored) → B.may_leave copy.new left
-        → B.may_leave copy.old left ⊎ (left ≡ stored_with (B.about copy.old) ((B.rows copy.old ++ octets_in waiting.items) ++ slice_index_or (A.rows book.old) place [] ∷ [])) }
+        → B.may_leave copy.old left ⊎ (left ≡ stored_with (B.about copy.old) ((B.rows copy.old ++ octets_in waiting.items) ++ slice_index_or (A.rows book.old) place [] ∷ []) (B.beside copy.old)) }
     ensures copy_reopens { B.may_reopen copy.old → B.may_reopen copy.new }
 {
     let octets = book.row(alloc, place)?;
@@ -79,13 +82,15 @@ fn copy_batches<A: RowStore, B: RowStore>(
     ensures ready { OnOk result (A.is_clean book.new → A.is_ready book.new) }
     ensures same { OnOk result (A.is_clean book.new → A.rows book.new ≡ A.rows book.old) }
     ensures same_book { OnOk result (A.is_clean book.new → A.about book.new ≡ A.about book.old) }
+    ensures same_beside { OnOk result (A.is_clean book.new → A.beside book.new ≡ A.beside book.old) }
     ensures unharmed { (left : Stored) → A.may_leave book.new left → A.may_leave book.old left }
     ensures reopens { A.may_reopen book.old → A.may_reopen book.new }
     ensures copy_clean { B.is_clean copy.new → B.is_clean copy.old }
     ensures copy_ready { OnOk result (B.is_clean copy.new → B.is_ready copy.new) }
     ensures copied { IfOk result (λ now. A.is_clean book.new → B.is_clean copy.new → B.rows copy.new ++ octets_in now.items ≡ A.rows book.old) }
     ensures copy_of { OnOk result (B.is_clean copy.new → B.about copy.new ≡ B.about copy.old) }
-    ensures crash { A.is_clean book.new → B.is_clean copy.new → (left : Stored) → B.may_leave copy.new left → IsBeginning (B.about copy.old) (A.rows book.old) left }
+    ensures copy_beside { OnOk result (B.is_clean copy.new → B.beside copy.new ≡ B.beside copy.old) }
+    ensures crash { A.is_clean book.new → B.is_clean copy.new → (left : Stored) → B.may_leave copy.new left → IsBeginning (B.about copy.old) (A.rows book.old) (B.beside copy.old) left }
     ensures copy_reopens { B.may_reopen copy.old → B.may_reopen copy.new }
 {
     let mut waiting = Vec::new(alloc);
@@ -111,13 +116,15 @@ pub fn copy_rows<A: RowStore, B: RowStore>(
     ensures ready { OnOk result (A.is_clean book.new → A.is_ready book.new) }
     ensures same { OnOk result (A.is_clean book.new → A.rows book.new ≡ A.rows book.old) }
     ensures same_book { OnOk result (A.is_clean book.new → A.about book.new ≡ A.about book.old) }
+    ensures same_beside { OnOk result (A.is_clean book.new → A.beside book.new ≡ A.beside book.old) }
     ensures unharmed { (left : Stored) → A.may_leave book.new left → A.may_leave book.old left }
     ensures reopens { A.may_reopen book.old → A.may_reopen book.new }
     ensures copy_clean { B.is_clean copy.new → B.is_clean copy.old }
     ensures copy_ready { OnOk result (B.is_clean copy.new → B.is_ready copy.new) }
     ensures copied { OnOk result (A.is_clean book.new → B.is_clean copy.new → B.rows copy.new ≡ A.rows book.old) }
     ensures copy_of { OnOk result (B.is_clean copy.new → B.about copy.new ≡ B.about copy.old) }
-    ensures crash { A.is_clean book.new → B.is_clean copy.new → (left : Stored) → B.may_leave copy.new left → IsBeginning (B.about copy.old) (A.rows book.old) left }
+    ensures copy_beside { OnOk result (B.is_clean copy.new → B.beside copy.new ≡ B.beside copy.old) }
+    ensures crash { A.is_clean book.new → B.is_clean copy.new → (left : Stored) → B.may_leave copy.new left → IsBeginning (B.about copy.old) (A.rows book.old) (B.beside copy.old) left }
     ensures copy_reopens { B.may_reopen copy.old → B.may_reopen copy.new }
 {
     let last = copy_batches(alloc, book, copy)?;
@@ -138,9 +145,10 @@ pub fn copy_book<A: RowStore, B: RowStore>(
     ensures copy_clean { B.is_clean copy.new → B.is_clean copy.old }
     ensures copied { OnOk result (A.is_clean book.new → B.is_clean copy.new → B.rows copy.new ≡ A.rows book.old) }
     ensures copy_of { OnOk result (B.is_clean copy.new → B.about copy.new ≡ B.about copy.old) }
+    ensures copy_beside { OnOk result (B.is_clean copy.new → B.beside copy.new ≡ B.beside copy.old) }
     ensures sum { IfOk result (λ sum. A.is_clean book.new → sum_of 0 0 (A.rows book.old) ≡ Some sum.0) }
     ensures unharmed { (left : Stored) → A.may_leave book.new left → A.may_leave book.old left }
-    ensures crash { A.is_clean book.new → B.is_clean copy.new → (left : Stored) → B.may_leave copy.new left → IsBeginning (B.about copy.old) (A.rows book.old) left }
+    ensures crash { A.is_clean book.new → B.is_clean copy.new → (left : Stored) → B.may_leave copy.new left → IsBeginning (B.about copy.old) (A.rows book.old) (B.beside copy.old) left }
 {
     let sum = check_rows(alloc, book)?;
     copy_rows(alloc, book, copy)?;

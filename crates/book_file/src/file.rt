@@ -10,14 +10,15 @@ ghost use Rattle.book_rows.specs.About.{about as about_form, whole};
 ghost use Rattle.book_store.specs.Table.{HasTables, IsReady, Stored, about_in, rows_in};
 
 use crate::error::FileError;
+use crate::trees::{all_trees, first_trees, has_tables, with_beside};
 use book_rows::{About, ReadError, read_about, spell_about};
-use book_store::{BOOK, RowStore, TABLE, TreeStore, create_tree, open_tree};
+use book_store::{RowStore, TreeStore, create_tree, open_tree};
 use sqlite_disk::{Disk, Files, Unknown};
 use sqlite_pager::{Options, Pager};
 use sqlite_std_file::{File, FileFrom, Start, open};
 use sqlite_store::{FileStore, Unopened};
 use sqlite_trees::schema::Object;
-use sqlite_trees::store::{Shape, Store};
+use sqlite_trees::store::Store;
 use sqlite_wal::PageSize;
 use std::alloc::Global;
 use std::hash::{BuildHasher, RandomState};
@@ -29,29 +30,15 @@ const PAGE: usize = 4096;
 /// How many pages that were read are kept in memory. A book is read once from its beginning, and then grows at its end.
 const CACHED: usize = 128;
 
-const ENTRIES: &str = "CREATE TABLE entry (octets BLOB NOT NULL)";
-
-const BOOKS: &str = "CREATE TABLE book (octets BLOB NOT NULL)";
-
 /// A book in a file.
 pub type FileBook = TreeStore<FileStore<File>>;
 
-fn table(name: &'static str, sql: &'static str) -> Object<'static> {
-    Object {
-        shape: Shape::Table,
-        kind: "table",
-        name,
-        table: name,
-        reals: 0,
-        sql: Some(sql),
-    }
-}
-
-/// The files of a database, of which nothing is known yet. The seed is for the salts of its log.
+/// The files of a database that is to have these trees, of which nothing is known yet. The seed is for the salts of its log.
 fn unopened<D: Disk + Drop>(
     alloc: Global,
     files: Files<D>,
     seed: u64,
+    trees: &[Object<'_>],
 ) -> Result<Unopened<D>, FileError>
     requires log { IsTrue (D.Disk.is_usable files.log) }
     requires db { IsTrue (D.Disk.is_usable files.db) }
@@ -66,18 +53,10 @@ fn unopened<D: Disk + Drop>(
         Ok(pager) => pager,
         Err(_) => return Err(FileError::OutOfMemory),
     };
-    let schema = [table("entry", ENTRIES), table("book", BOOKS)];
-    match Unopened::new(alloc, pager, &schema) {
+    match Unopened::new(alloc, pager, trees) {
         Ok(files) => Ok(files),
         Err(_) => Err(FileError::OutOfMemory),
     }
-}
-
-/// Whether the database has the tables of a book.
-fn has_tables<S: Store>(store: &S) -> bool
-    ensures { IsTrue result → HasTables (S.Store.view store.now) }
-{
-    store.shape(TABLE) == Shape::Table && store.shape(BOOK) == Shape::Table
 }
 
 /// The files of a database, and a random number.
@@ -146,7 +125,7 @@ fn database_at(rt: &HostRuntime, path: &str) -> Result<FileStore<File>, FileErro
 {
     let length = length_of(rt, path)?;
     let (files, seed) = files_at(rt, path, Unknown)?;
-    let files = unopened(rt.alloc(), files, seed)?;
+    let files = unopened(rt.alloc(), files, seed, &all_trees())?;
     match length {
         None | Some(0) => made(files),
         Some(_) => opened(files),
@@ -161,6 +140,7 @@ pub fn about_of<L: RowStore>(alloc: Global, store: &mut L) -> Result<About, File
     ensures about { IfOk result (λ about. L.is_clean store.new → whole about_form (L.about store.old) ≡ Ok about) }
     ensures same { OnOk result (L.is_clean store.new → L.rows store.new ≡ L.rows store.old) }
     ensures same_book { OnOk result (L.is_clean store.new → L.about store.new ≡ L.about store.old) }
+    ensures same_beside { OnOk result (L.is_clean store.new → L.beside store.new ≡ L.beside store.old) }
     ensures crash { (left : Stored) → L.may_leave store.new left → L.may_leave store.old left }
     ensures reopens { L.may_reopen store.old → L.may_reopen store.new }
 {
@@ -187,18 +167,61 @@ fn book_in<D: Disk + Drop>(
     }
 }
 
-/// Opens the book in a file. Each way in which this can fail has a name, and none begins anything anew. What the book is, and
-/// whether it is of this format, [`about_of`] says.
+/// The database in the files at a path, whose trees are there.
+fn found_at(rt: &HostRuntime, path: &str) -> Result<FileStore<File>, FileError>
+    ensures tables { IfOk result (λ store. HasTables (kit.view store)) }
+    ensures fresh { IfOk result (λ store. IsClean (kit.view store) → IsFresh (kit.view store)) }
+{
+    let (files, seed) = files_at(rt, path, Unknown)?;
+    opened(unopened(rt.alloc(), files, seed, &all_trees())?)
+}
+
+/// Adds the trees beside the rows to the database in the files, which is to have those of the first format and no others.
+fn renewed<D: Disk + Drop>(alloc: Global, files: Unopened<D>) -> Result<FileStore<D>, FileError>
+    requires { AreUsable files }
+{
+    match files.open_numbered() {
+        Ok(store) => with_beside(alloc, store),
+        Err((error, _files)) => Err(error.into()),
+    }
+}
+
+/// Brings the book in the files at a path from the first format to this one, in one commit. A file that has no book of the first
+/// format is left as it is.
+fn renew_at(rt: &HostRuntime, path: &str) -> Result<(), FileError> {
+    let (files, seed) = files_at(rt, path, Unknown)?;
+    let store = renewed(
+        rt.alloc(),
+        unopened(rt.alloc(), files, seed, &first_trees())?,
+    )?;
+    drop(store.close());
+    Ok(())
+}
+
+/// The database in the files at a path, whose trees are there. One of the first format is brought to this one before.
+fn renewed_at(rt: &HostRuntime, path: &str) -> Result<FileStore<File>, FileError>
+    ensures tables { IfOk result (λ store. HasTables (kit.view store)) }
+    ensures fresh { IfOk result (λ store. IsClean (kit.view store) → IsFresh (kit.view store)) }
+{
+    match found_at(rt, path) {
+        Err(FileError::NoBooksFile) => {
+            renew_at(rt, path)?;
+            found_at(rt, path)
+        }
+        found => found,
+    }
+}
+
+/// Opens the book in a file. Each way in which this can fail has a name, and none begins anything anew. A book of the first format
+/// is brought to this one first: its rows stay. What the book is, and whether it is of this format, [`about_of`] says.
 pub fn open_file(rt: &HostRuntime, path: &str) -> Result<FileBook, FileError>
     ensures { IfOk result (λ opened. IsClean (kit.view opened.store) → IsReady (kit.view opened.store) opened.standing) }
 {
-    let alloc = rt.alloc();
     if length_of(rt, path)?.is_none() {
         return Err(FileError::Missing);
     }
-    let (files, seed) = files_at(rt, path, Unknown)?;
-    let store = opened(unopened(alloc, files, seed)?)?;
-    book_in(alloc, store)
+    let store = renewed_at(rt, path)?;
+    book_in(rt.alloc(), store)
 }
 
 /// Makes a book with no row in a file, which is made too if it is missing. A file that has a book, and one of another

@@ -4,9 +4,12 @@ ghost use Rattle.std.specs.Prelude.{◌≡◌, ◌<◌, [], ℕ, List, IfOk, IfS
 ghost use Rattle.book_entries.specs.Replayed.{HasTaken, stored_in, sum_in};
 ghost use Rattle.book_store.specs.Table.{Stored};
 ghost use Rattle.book_journal.specs.Kept.{IsKeptBy, IsSettled, IsStored, IsUnder};
+ghost use Rattle.book_journal.specs.Tables.{IsBeside};
 
 use crate::error::JournalError;
+use crate::filling::stand_beside;
 use crate::journal::Journal;
+use crate::touched::Touched;
 use book_entries::take_octets;
 use book_rows::Sum;
 use book_store::{FIRST_SUM, RowStore};
@@ -28,6 +31,7 @@ fn take_row<S: RowStore>(
     ensures ready { OnOk result (S.is_clean store.new → S.is_ready store.new) }
     ensures same { OnOk result (S.is_clean store.new → S.rows store.new ≡ S.rows store.old) }
     ensures same_book { OnOk result (S.is_clean store.new → S.about store.new ≡ S.about store.old) }
+    ensures same_beside { OnOk result (S.is_clean store.new → S.beside store.new ≡ S.beside store.old) }
     ensures taken { IfOk result (λ sum. (octets : List ℕ) × HasTaken book.old book.new octets sum.0 × (S.is_clean store.new → octets ≡ slice_index_or (S.rows store.old) place [])) }
     ensures crash { (left : Stored) → S.may_leave store.new left → S.may_leave store.old left }
     ensures reopens { S.may_reopen store.old → S.may_reopen store.new }
@@ -54,6 +58,7 @@ fn take_rows<S: RowStore>(
     ensures ready { OnOk result (S.is_clean store.new → S.is_ready store.new) }
     ensures same { OnOk result (S.is_clean store.new → S.rows store.new ≡ S.rows store.old) }
     ensures same_book { OnOk result (S.is_clean store.new → S.about store.new ≡ S.about store.old) }
+    ensures same_beside { OnOk result (S.is_clean store.new → S.beside store.new ≡ S.beside store.old) }
     ensures under { OnOk result (IsUnder book.old book.new) }
     ensures stored { OnOk result (S.is_clean store.new → S.rows store.old ≡ stored_in book.new) }
     ensures sum { IfOk result (λ sum. sum.0 ≡ sum_in book.new) }
@@ -69,8 +74,9 @@ fn take_rows<S: RowStore>(
 }
 
 /// Takes what is stored of a book into an empty book under its terms: the journal keeps that book from then on. Each row is read,
-/// and each one that the book does not give to its entry there is refused with its place. What is stored stays as it is, also
-/// where a crash comes meanwhile.
+/// and each one that the book does not give to its entry there is refused with its place. What stands beside the rows is compared with
+/// the book, and refused with its place where it differs; where nothing stands there, it is stored, in one commit. The rows stay as
+/// they are, also where a crash comes meanwhile.
 pub fn open_journal<S: RowStore + Drop>(
     alloc: Global,
     store: S,
@@ -78,7 +84,7 @@ pub fn open_journal<S: RowStore + Drop>(
 ) -> Result<(Journal<S>, Book), JournalError>
     requires ready { S.is_clean store → S.is_ready store }
     requires none { book.history ≡ [] }
-    ensures kept { IfOk result (λ opened. IsKeptBy S.is_clean S.is_ready S.rows opened.0 opened.1) }
+    ensures kept { IfOk result (λ opened. IsKeptBy S.is_clean S.is_ready S.rows S.beside opened.0 opened.1) }
     ensures settled { IfOk result (λ opened. IsSettled opened.0) }
     ensures stored { IfOk result (λ opened. IsStored opened.0) }
     ensures under { IfOk result (λ opened. IsUnder book opened.1) }
@@ -89,11 +95,13 @@ pub fn open_journal<S: RowStore + Drop>(
     let mut store = store;
     let mut book = book;
     let sum = take_rows(alloc, &mut store, &mut book)?;
+    stand_beside(alloc, &mut store, &book)?;
     let journal = Journal {
         alloc,
         store: Some(store),
         sum,
         waiting: Vec::new(alloc),
+        touched: Touched::nothing(alloc),
     };
     Ok((journal, book))
 }

@@ -5,6 +5,7 @@
 //!   begins with `look:` where it is nearly full ([`is_nearly_full`]).
 //! - [`entry_lines`]: a line for each entry: what was asked, what it was answered, and what it debited; of a change of the
 //!   terms the accounts that join and the tariffs from then on.
+//! - [`kind_word`], [`push_quoted`]: how a kind of request and octets stand in such a line.
 //! - [`push_difference_line`]: what a change would bring so that the terms of a site hold.
 //!
 //! The exact texts are `made_line` and `summary_of` in `specs/Summary`, and `lines_of` in `specs/Lines`, over the words of `specs/Words`.
@@ -22,3 +23,4 @@ pub use change::push_difference_line;
 pub use counts::{is_nearly_full, made_line, summary};
 pub use entries::entry_lines;
 pub use fault::LinesFault;
+pub use words::{kind_word, push_quoted};

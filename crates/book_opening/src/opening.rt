@@ -91,7 +91,7 @@ fn open_in<S: RowStore + Drop>(
 ) -> Result<(Journal<S>, Book), BookFault>
     requires ready { S.is_clean store → S.is_ready store }
     requires limit { limit ≤ HISTORY_LIMIT }
-    ensures kept { IfOk result (λ opened. IsKeptBy S.is_clean S.is_ready S.rows opened.0 opened.1) }
+    ensures kept { IfOk result (λ opened. IsKeptBy S.is_clean S.is_ready S.rows S.beside opened.0 opened.1) }
     ensures settled { IfOk result (λ opened. IsSettled opened.0) }
     ensures stored { IfOk result (λ opened. is_some opened.0.store ≡ true) }
     ensures limit { IfOk result (λ opened. opened.1.limit ≡ limit) }
@@ -116,7 +116,7 @@ pub fn open_book(
     limit: u64,
 ) -> Result<(Journal<FileBook>, Book), BookFault>
     requires { limit ≤ HISTORY_LIMIT }
-    ensures kept { IfOk result (λ opened. IsKeptBy ⟦<FileBook as RowStore>⟧.is_clean ⟦<FileBook as RowStore>⟧.is_ready ⟦<FileBook as RowStore>⟧.rows opened.0 opened.1) }
+    ensures kept { IfOk result (λ opened. IsKeptBy ⟦<FileBook as RowStore>⟧.is_clean ⟦<FileBook as RowStore>⟧.is_ready ⟦<FileBook as RowStore>⟧.rows ⟦<FileBook as RowStore>⟧.beside opened.0 opened.1) }
     ensures settled { IfOk result (λ opened. IsSettled opened.0) }
     ensures stored { IfOk result (λ opened. is_some opened.0.store ≡ true) }
     ensures limit { IfOk result (λ opened. opened.1.limit ≡ limit) }
@@ -128,7 +128,7 @@ pub fn open_book(
 
 /// A book that is kept in memory alone.
 fn in_memory<S: RowStore>(alloc: Global, empty: Book) -> (Journal<S>, Book)
-    ensures kept { IsKeptBy S.is_clean S.is_ready S.rows result.0 result.1 }
+    ensures kept { IsKeptBy S.is_clean S.is_ready S.rows S.beside result.0 result.1 }
     ensures settled { IsSettled result.0 }
     ensures memory { result.0.store ≡ None }
     ensures book { result.1 ≡ empty }
@@ -145,7 +145,7 @@ pub fn serving_book(
     wanted: &Terms,
 ) -> Result<(Journal<FileBook>, Book), BookFault>
     requires most { limit ≤ HISTORY_LIMIT }
-    ensures kept { IfOk result (λ opened. IsKeptBy ⟦<FileBook as RowStore>⟧.is_clean ⟦<FileBook as RowStore>⟧.is_ready ⟦<FileBook as RowStore>⟧.rows opened.0 opened.1) }
+    ensures kept { IfOk result (λ opened. IsKeptBy ⟦<FileBook as RowStore>⟧.is_clean ⟦<FileBook as RowStore>⟧.is_ready ⟦<FileBook as RowStore>⟧.rows ⟦<FileBook as RowStore>⟧.beside opened.0 opened.1) }
     ensures settled { IfOk result (λ opened. IsSettled opened.0) }
     ensures limit { IfOk result (λ opened. opened.1.limit ≡ limit) }
     ensures stored { IfOk result (λ opened. is_some opened.0.store ≡ is_some path.entry) }
@@ -206,7 +206,7 @@ fn stored_of<S: RowStore + Drop>(
     identity: Identity,
     opened: (Journal<S>, Book),
 ) -> (Option<S>, StoredBook)
-    requires kept { IsKeptBy S.is_clean S.is_ready S.rows opened.0 opened.1 }
+    requires kept { IsKeptBy S.is_clean S.is_ready S.rows S.beside opened.0 opened.1 }
     requires settled { IsSettled opened.0 }
     ensures identity { result.1.identity ≡ identity }
     ensures book { result.1.book ≡ opened.1 }

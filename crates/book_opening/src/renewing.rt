@@ -50,19 +50,19 @@ fn change_stored<S: RowStore>(
     moment: Moment,
     change: TermsChange,
 ) -> Result<(), BookFault>
-    requires kept { IsKeptBy S.is_clean S.is_ready S.rows journal.old book.old }
+    requires kept { IsKeptBy S.is_clean S.is_ready S.rows S.beside journal.old book.old }
     requires settled { IsSettled journal.old }
     ensures changed { OnOk result (book.new ≡ with_change book.old moment change) }
     ensures refused { IfErr result (λ fault. (fault ≡ OutOfMemory) ⊎ ((error : AppendError) × (fault ≡ NotStored error)) ⊎ ((refusal : Refusal) × (fault ≡ NotChanged refusal) × (change_answer book.old change ≡ Err refusal))) }
-    ensures kept { OnOk result (IsKeptBy S.is_clean S.is_ready S.rows journal.new book.new) }
+    ensures kept { OnOk result (IsKeptBy S.is_clean S.is_ready S.rows S.beside journal.new book.new) }
     ensures settled { OnOk result (IsSettled journal.new) }
     ensures store { OnOk result (is_some journal.new.store ≡ is_some journal.old.store) }
 {
     let place = book.quote_change(&change)?;
-    let row = journal.row_of_change(place, moment, &change)?;
+    let row = journal.row_of_change(book, moment, &change)?;
     book.change_terms(alloc, moment, change)?;
     journal.add(row);
-    journal.store(place)?;
+    journal.store(place, book)?;
     Ok(())
 }
 
@@ -77,13 +77,13 @@ pub fn renew<S: RowStore>(
     moment: Moment,
     is_allowed: bool,
 ) -> Result<(), BookFault>
-    requires kept { IsKeptBy S.is_clean S.is_ready S.rows journal.old book.old }
+    requires kept { IsKeptBy S.is_clean S.is_ready S.rows S.beside journal.old book.old }
     requires settled { IsSettled journal.old }
     ensures renewed { OnOk result (IsRenewed wanted.now moment is_allowed book.old book.new) }
     ensures refused { IfErr result (IsWhyNot wanted.now is_allowed book.old) }
     ensures hold { OnOk result (Hold (now_in book.new) wanted.now) }
     ensures limit { OnOk result (book.new.limit ≡ book.old.limit) }
-    ensures kept { OnOk result (IsKeptBy S.is_clean S.is_ready S.rows journal.new book.new) }
+    ensures kept { OnOk result (IsKeptBy S.is_clean S.is_ready S.rows S.beside journal.new book.new) }
     ensures settled { OnOk result (IsSettled journal.new) }
     ensures store { OnOk result (is_some journal.new.store ≡ is_some journal.old.store) }
 {
@@ -100,13 +100,13 @@ pub fn renew_by<S: RowStore>(
     moment: Moment,
     is_allowed: bool,
 ) -> Result<(), BookFault>
-    requires kept { IsKeptBy S.is_clean S.is_ready S.rows journal.old book.old }
+    requires kept { IsKeptBy S.is_clean S.is_ready S.rows S.beside journal.old book.old }
     requires settled { IsSettled journal.old }
     ensures renewed { OnOk result (IsRenewedBy change moment is_allowed book.old book.new) }
     ensures refused { IfErr result (IsWhyNotBy change is_allowed book.old) }
     ensures hold { OnOk result (HoldsWhereLed change book.old book.new) }
     ensures limit { OnOk result (book.new.limit ≡ book.old.limit) }
-    ensures kept { OnOk result (IsKeptBy S.is_clean S.is_ready S.rows journal.new book.new) }
+    ensures kept { OnOk result (IsKeptBy S.is_clean S.is_ready S.rows S.beside journal.new book.new) }
     ensures settled { OnOk result (IsSettled journal.new) }
     ensures store { OnOk result (is_some journal.new.store ≡ is_some journal.old.store) }
 {
@@ -127,13 +127,13 @@ pub fn renewed<S: RowStore + Drop>(
     moment: Moment,
     is_allowed: bool,
 ) -> Result<(Journal<S>, Book), BookFault>
-    requires kept { IsKeptBy S.is_clean S.is_ready S.rows opened.0 opened.1 }
+    requires kept { IsKeptBy S.is_clean S.is_ready S.rows S.beside opened.0 opened.1 }
     requires settled { IsSettled opened.0 }
     ensures renewed { IfOk result (λ served. IsRenewed wanted.now moment is_allowed opened.1 served.1) }
     ensures refused { IfErr result (IsWhyNot wanted.now is_allowed opened.1) }
     ensures hold { IfOk result (λ served. Hold (now_in served.1) wanted.now) }
     ensures limit { IfOk result (λ served. served.1.limit ≡ opened.1.limit) }
-    ensures kept { IfOk result (λ served. IsKeptBy S.is_clean S.is_ready S.rows served.0 served.1) }
+    ensures kept { IfOk result (λ served. IsKeptBy S.is_clean S.is_ready S.rows S.beside served.0 served.1) }
     ensures settled { IfOk result (λ served. IsSettled served.0) }
     ensures store { IfOk result (λ served. is_some served.0.store ≡ is_some opened.0.store) }
 {
@@ -152,13 +152,13 @@ pub fn renewed_by<S: RowStore + Drop>(
     moment: Moment,
     is_allowed: bool,
 ) -> Result<(Journal<S>, Book), BookFault>
-    requires kept { IsKeptBy S.is_clean S.is_ready S.rows opened.0 opened.1 }
+    requires kept { IsKeptBy S.is_clean S.is_ready S.rows S.beside opened.0 opened.1 }
     requires settled { IsSettled opened.0 }
     ensures renewed { IfOk result (λ served. IsRenewedBy change moment is_allowed opened.1 served.1) }
     ensures refused { IfErr result (IsWhyNotBy change is_allowed opened.1) }
     ensures hold { IfOk result (λ served. HoldsWhereLed change opened.1 served.1) }
     ensures limit { IfOk result (λ served. served.1.limit ≡ opened.1.limit) }
-    ensures kept { IfOk result (λ served. IsKeptBy S.is_clean S.is_ready S.rows served.0 served.1) }
+    ensures kept { IfOk result (λ served. IsKeptBy S.is_clean S.is_ready S.rows S.beside served.0 served.1) }
     ensures settled { IfOk result (λ served. IsSettled served.0) }
     ensures store { IfOk result (λ served. is_some served.0.store ≡ is_some opened.0.store) }
 {

@@ -9,6 +9,7 @@ pub mod Repeated
 pub mod RequestWritten
 pub mod ReplyWritten
 pub mod TermsPartsWritten
+pub mod SessionWritten
 pub mod RowWritten
 pub mod AboutExact
 pub mod Endings

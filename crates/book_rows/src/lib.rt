@@ -37,6 +37,7 @@ mod numbers;
 mod reply;
 mod request;
 mod row;
+mod sessions;
 mod small;
 mod tariffs;
 
@@ -56,5 +57,6 @@ pub use numbers::{
     push_u64, signed_at, u8_at, u32_at, u64_at,
 };
 pub use row::{Row, Step, Sum, Taken};
+pub use sessions::push_session;
 pub use small::{i32_at, push_i32};
 pub use tariffs::{push_tariffs, tariffs_at};

@@ -67,7 +67,8 @@ fn tariff_at(octets: &[u8]) -> Result<(Tariff, &[u8]), ReadError>
     ))
 }
 
-fn push_tariff(out: &mut Vec<u8>, value: &Tariff) -> Result<(), AllocError>
+/// Adds a tariff.
+pub(crate) fn push_tariff(out: &mut Vec<u8>, value: &Tariff) -> Result<(), AllocError>
     ensures { OnOk result (Adds tariff value.now out.old.items out.new.items) }
 {
     push_optional_u32(out, value.group)?;

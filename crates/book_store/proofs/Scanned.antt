@@ -1,15 +1,19 @@
 -- Rows that are read one after the other.
-use Rattle.std.proofs.Common.{◌≡◌, ℕ, zero, suc, ◌+◌, List, [], ◌∷◌, ◌++◌, length, take, get_or, Option, Some, refl, sym, ap, subst, ◌∙◌, append_assoc, arith}
+use Rattle.std.proofs.Common.{◌≡◌, ℕ, zero, suc, ◌+◌, ◌<◌, List, [], ◌∷◌, ◌++◌, length, take, get_or, Option, Some, refl, sym, ap, subst, ◌∙◌, append_assoc, arith}
 use Rattle.std.specs.Prelude.{true, false}
 use Rattle.std.proofs.lemmas.List.{append-nil, length-append, take_at}
 use Rattle.sqlite_value.specs.declared.keys.Order.{Order}
 use Rattle.sqlite_value.specs.Order.{Row, column}
-use Rattle.sqlite_trees.specs.Tree.{from_key}
+use Rattle.sqlite_trees.specs.Tree.{Trees, from_key}
+use Rattle.sqlite_trees.specs.declared.store.Shape.TheVariants.{Table}
+use Rattle.book_beside.specs.Beside.{HasBeside, beside_in, table_of, tree_of}
+use Rattle.book_beside.specs.declared.write.Side.{Side}
+use Rattle.book_beside.specs.declared.write.Side.TheVariants.{Accounts, Sessions}
 use Rattle.sqlite_trees.specs.View.{Advances, View, with_cursor}
 use Rattle.book_rows.specs.declared.about.Standing.{Standing}
 use Rattle.book_rows.specs.About.{standing, standing_with}
 use Rattle.book_store.specs.Damage.{HasRead, HasReadAll, IsAlike, IsDamagedAt, IsFound, IsFresh, StandsElsewhere}
-use Rattle.book_store.specs.Table.{HasTables, IsInOrder, IsReady, about_in, book_table, octets_of, rows_in, standing_in, stored, table_from}
+use Rattle.book_store.specs.Table.{HasTables, IsCounted, IsInOrder, IsReady, about_in, book_table, octets_of, rows_in, standing_in, stored, table_from}
 use Rattle.book_store.proofs.Tables.{rows_in-table_from}
 
 pub from_no_key : (o : Order) (rows : List Row) → from_key o [] rows ≡ rows
@@ -122,7 +126,16 @@ opened_ready first new here found fresh tables =
     let book : first.committed 1 ≡ book_table (about_in (first.committed 1)) (rows_in (first.committed 0)) =
     sym fresh.settled_book ∙ found.book ∙ ap (λ (t : List Row). book_table (about_in t) (rows_in (first.trees 0))) fresh.settled_book ∙ ap (λ (t : List Row). book_table (about_in (first.committed 1)) (rows_in t)) fresh.settled in
     let same : IsReady (record first { cursors = new.cursors }) here = record {
-      rest = record { is_open = fresh.is_open; sound = fresh.sound; tables = record { rows = tables.rows; book = tables.book }; settled = fresh.settled; settled_book = fresh.settled_book; order = order; book = book };
+      rest = record {
+        is_open = fresh.is_open;
+        sound = fresh.sound;
+        tables = record { rows = tables.rows; book = tables.book; beside = record { accounts = tables.beside.accounts; sessions = tables.beside.sessions } };
+        settled = fresh.settled;
+        settled_book = fresh.settled_book;
+        settled_beside = fresh.settled_beside;
+        order = order;
+        book = book;
+      };
       stands = found.stands ∙ ap (λ (t : List Row). standing_with (rows_in t)) fresh.settled;
     } in
     let Q : View → Type 0 = λ v. IsReady v here in
@@ -139,3 +152,52 @@ elsewhere_when_fresh first fresh elsewhere =
     let P : List Row → Type 0 = λ t. StandsElsewhere t (first.trees 1) in
     let Q : List Row → Type 0 = λ t. StandsElsewhere (first.committed 0) t in
     subst Q fresh.settled_book (subst P fresh.settled elsewhere)
+
+-- only cursors were moved in a store whose book is ready
+pub still_ready : (old new : View) (here : Standing) → IsReady old here → IsAlike old new → IsReady new here
+still_ready old new here ready alike =
+    let same : IsReady (record old { cursors = new.cursors }) here = record {
+      rest = record {
+        is_open = ready.rest.is_open;
+        sound = ready.rest.sound;
+        tables = record { rows = ready.rest.tables.rows; book = ready.rest.tables.book; beside = record { accounts = ready.rest.tables.beside.accounts; sessions = ready.rest.tables.beside.sessions } };
+        settled = ready.rest.settled;
+        settled_book = ready.rest.settled_book;
+        settled_beside = ready.rest.settled_beside;
+        order = ready.rest.order;
+        book = ready.rest.book;
+      };
+      stands = ready.stands;
+    } in
+    let Q : View → Type 0 = λ v. IsReady v here in
+    subst Q (sym alike) same
+
+-- a table beside the rows, of which all rows have been read
+pub counted_beside : (side : Side) (first now : View) (count : ℕ) → HasReadAll (tree_of side) first now count → IsCounted (table_of side (beside_in first.trees)) count
+counted_beside Accounts first now count read = record { order = read.order; count = read.count }
+counted_beside Sessions first now count read = record { order = read.order; count = read.count }
+
+pub tree_is : (side : Side) (trees : Trees) → table_of side (beside_in trees) ≡ trees (tree_of side)
+tree_is Accounts trees = refl
+tree_is Sessions trees = refl
+
+pub shape_is : (side : Side) (view : View) → HasBeside view → view.shape (tree_of side) ≡ Table
+shape_is Accounts view has = has.accounts
+shape_is Sessions view has = has.sessions
+
+-- what stands beside the rows of a book that is ready is committed
+pub beside_is : (side : Side) (view : View) (here : Standing) → IsReady view here → table_of side (beside_in view.trees) ≡ table_of side (beside_in view.committed)
+beside_is side view here ready = ap (table_of side) ready.rest.settled_beside
+
+pub counted_committed : (side : Side) (view : View) (here : Standing) (count : ℕ) → IsReady view here → IsCounted (table_of side (beside_in view.trees)) count → IsCounted (table_of side (beside_in view.committed)) count
+counted_committed side view here count ready counted = subst (λ (t : List Row). IsCounted t count) (beside_is side view here ready) counted
+
+pub order_now : (side : Side) (view : View) (here : Standing) → IsReady view here → IsInOrder (table_of side (beside_in view.committed)) → IsInOrder (table_of side (beside_in view.trees))
+order_now side view here ready order = let P : List Row → Type 0 = λ t. IsInOrder t in subst P (sym (beside_is side view here ready)) order
+
+pub within_now : (side : Side) (view : View) (here : Standing) (place : ℕ) → IsReady view here → place < length (rows_in (table_of side (beside_in view.committed))) → place < length (rows_in (table_of side (beside_in view.trees)))
+within_now side view here place ready within = subst (λ (t : List Row). place < length (rows_in t)) (sym (beside_is side view here ready)) within
+
+pub octets_committed : (side : Side) (view : View) (here : Standing) (place : ℕ) (octets : List ℕ) → IsReady view here → octets ≡ get_or (rows_in (table_of side (beside_in view.trees))) place []
+    → octets ≡ get_or (rows_in (table_of side (beside_in view.committed))) place []
+octets_committed side view here place octets ready is = is ∙ ap (λ (t : List Row). get_or (rows_in t) place []) (beside_is side view here ready)

@@ -1,6 +1,6 @@
 -- Tables of rows in order.
 use Rattle.std.proofs.Common.{◌≡◌, ℕ, zero, suc, ◌+◌, ◌-◌, ◌<◌, List, [], ◌∷◌, ◌++◌, length, get_or, refl, sym, ap, subst, ◌∙◌, append_assoc, Result, Ok, Err, arith, inl, inr}
-use Rattle.std.specs.Prelude.{pos, ◌<ℤ◌, filter, Bool, false, IsTrue, ◌⊎◌, ℤ, IfOk}
+use Rattle.std.specs.Prelude.{pos, ◌<ℤ◌, filter, false, IsTrue, ◌⊎◌, ℤ, IfOk}
 use Rattle.std.specs.Global.{Vec}
 use Rattle.std.specs.Cmp.{int_cmp_is}
 use Rattle.std.proofs.lemmas.Int.{ints}
@@ -11,6 +11,8 @@ use Rattle.sqlite_value.specs.Order.{Row, column, value_cmp}
 use Rattle.sqlite_value.proofs.OrderLemmas.{value_cmp-Int}
 use Rattle.sqlite_trees.specs.Tree.{Trees, has_rowid, put_row, with_tree}
 use Rattle.sqlite_trees.specs.View.{View}
+use Rattle.book_beside.specs.Beside.{Beside, AreWritten, beside_in, written_all}
+use Rattle.book_beside.specs.declared.write.Write.{Write}
 use Rattle.book_rows.specs.declared.about.Standing.{Standing}
 use Rattle.book_rows.specs.About.{last_of, moment_in, standing, standing_with, sum_in}
 use Rattle.book_store.specs.Table.{HasTables, IsInOrder, IsMade, IsPut, IsReady, Leaves, Stored, about_in, book_table, octets_in, octets_of, put_from, rows_in, standing_in, stored, stored_in, stored_with, table_from}
@@ -122,28 +124,33 @@ book_put about rows here = rw (less 0 1 (omega arith), equal 1 1 refl) refl
 pub book_made : (about : List ℕ) (here : Standing) → put_row (stored 1 (standing.spell here)) (put_row (stored 0 about) []) ≡ table_from 0 (about ∷ standing.spell here ∷ [])
 book_made about here = rw (less 0 1 (omega arith)) refl
 
-pub put_both : (old mid new : Trees) (place : ℕ) (batch : List (List ℕ)) (here : Standing) → mid 0 ≡ put_from place batch (old 0) → mid 1 ≡ old 1 → new ≡ with_tree mid 1 (put_row (stored 1 (standing.spell here)) (mid 1)) → IsPut place batch here old new
-put_both old mid new place batch here rows beside put = record {
-  rows = ap (λ (t : Trees). t 0) put ∙ rows;
-  book = ap (λ (t : Trees). t 1) put ∙ ap (put_row (stored 1 (standing.spell here))) beside;
+pub put_all_three : (old mid later new : Trees) (place : ℕ) (batch : List (List ℕ)) (here : Standing) (writes : List Write) → mid 0 ≡ put_from place batch (old 0) → mid 1 ≡ old 1 → beside_in mid ≡ beside_in old
+    → later ≡ with_tree mid 1 (put_row (stored 1 (standing.spell here)) (mid 1)) → AreWritten later writes new → IsPut place batch here writes old new
+put_all_three old mid later new place batch here writes rows book beside put is = record {
+  rows = is.rows ∙ ap (λ (t : Trees). t 0) put ∙ rows;
+  book = is.book ∙ ap (λ (t : Trees). t 1) put ∙ ap (put_row (stored 1 (standing.spell here))) book;
+  beside = is.beside ∙ ap (λ (b : Beside). written_all b writes) (ap beside_in put ∙ beside);
 }
 
 pub made_both : (old mid new : Trees) (about : List ℕ) (here : Standing) → mid ≡ with_tree old 1 (put_row (stored 0 about) (old 1)) → new ≡ with_tree mid 1 (put_row (stored 1 (standing.spell here)) (mid 1)) → IsMade about here old new
 made_both old mid new about here first put = record {
   rows = ap (λ (t : Trees). t 0) put ∙ ap (λ (t : Trees). t 0) first;
   book = ap (λ (t : Trees). t 1) put ∙ ap (λ (t : Trees). put_row (stored 1 (standing.spell here)) (t 1)) first;
+  beside = ap beside_in put ∙ ap beside_in first;
 }
 
 -- what is put into the tables of a book at rest
-pub record IsWith (about : List ℕ) (rows : List (List ℕ)) (trees : Trees) : Type 0 where
+pub record IsWith (about : List ℕ) (rows : List (List ℕ)) (beside : Beside) (trees : Trees) : Type 0 where
+  pub beside_is : beside_in trees ≡ beside
   pub about_is : about_in (trees 1) ≡ about
   pub rows_are : rows_in (trees 0) ≡ rows
   pub order : IsInOrder (trees 0)
   pub book : trees 1 ≡ book_table about rows
 
-pub with_batch : (old : View) (here now : Standing) (place : ℕ) (batch : List (List ℕ)) (new : Trees) → IsReady old here → place ≡ here.count → now ≡ standing_with (rows_in (old.committed 0) ++ batch) → IsPut place batch now old.trees new
-    → IsWith (about_in (old.committed 1)) (rows_in (old.committed 0) ++ batch) new
-with_batch old here now place batch new ready at stands put =
+pub with_batch : (old : View) (here now : Standing) (place : ℕ) (batch : List (List ℕ)) (writes : List Write) (new : Trees) → IsReady old here → place ≡ here.count → now ≡ standing_with (rows_in (old.committed 0) ++ batch)
+    → IsPut place batch now writes old.trees new
+    → IsWith (about_in (old.committed 1)) (rows_in (old.committed 0) ++ batch) (written_all (beside_in old.committed) writes) new
+with_batch old here now place batch writes new ready at stands put =
     let behind : place ≡ length (rows_in (old.committed 0)) = at ∙ ap (λ (s : Standing). s.count) ready.stands in
     let rows : new 0 ≡ put_from place batch (old.committed 0) = put.rows ∙ ap (put_from place batch) ready.rest.settled in
     let about = about_in (old.committed 1) in
@@ -152,55 +159,59 @@ with_batch old here now place batch new ready at stands put =
     ∙ book_put about (rows_in (old.committed 0)) now
     ∙ ap (λ (s : Standing). table_from 0 (about ∷ standing.spell s ∷ [])) stands in
     record {
+      beside_is = put.beside ∙ ap (λ (b : Beside). written_all b writes) ready.rest.settled_beside;
       about_is = ap about_in book;
       rows_are = rows_after_put (old.committed 0) (new 0) place batch ready.rest.order behind rows;
       order = order_after_put (old.committed 0) (new 0) place batch ready.rest.order behind rows;
       book = book;
     }
 
-pub stored_of_with : (about : List ℕ) (rows : List (List ℕ)) (trees : Trees) → IsWith about rows trees → stored_in trees ≡ stored_with about rows
-stored_of_with about rows trees is =
-    ap (λ (a : List ℕ). record { about = a; rows = rows_in (trees 0); standing = standing_in (trees 1) }) is.about_is
-    ∙ ap (λ (r : List (List ℕ)). record { about = about; rows = r; standing = standing_in (trees 1) }) is.rows_are
-    ∙ ap (λ (t : List Row). record { about = about; rows = rows; standing = standing_in t }) is.book
+pub stored_of_with : (about : List ℕ) (rows : List (List ℕ)) (beside : Beside) (trees : Trees) → IsWith about rows beside trees → stored_in trees ≡ stored_with about rows beside
+stored_of_with about rows beside trees is =
+    ap (λ (a : List ℕ). record { about = a; rows = rows_in (trees 0); standing = standing_in (trees 1); beside = beside_in trees }) is.about_is
+    ∙ ap (λ (r : List (List ℕ)). record { about = about; rows = r; standing = standing_in (trees 1); beside = beside_in trees }) is.rows_are
+    ∙ ap (λ (t : List Row). record { about = about; rows = rows; standing = standing_in t; beside = beside_in trees }) is.book
+    ∙ ap (λ (b : Beside). record { about = about; rows = rows; standing = standing.spell (standing_with rows); beside = b }) is.beside_is
 
 -- a store that has committed such tables
-pub ready_with : (new : View) (here : Standing) (about : List ℕ) (rows : List (List ℕ)) → IsWith about rows new.committed → new.trees ≡ new.committed → IsTrue new.is_open → new.is_broken ≡ false → HasTables new
+pub ready_with : (new : View) (here : Standing) (about : List ℕ) (rows : List (List ℕ)) (beside : Beside) → IsWith about rows beside new.committed → new.trees ≡ new.committed → IsTrue new.is_open → new.is_broken ≡ false → HasTables new
     → here ≡ standing_with rows → IsReady new here
-ready_with new here about rows is settled is_open sound tables stands =
+ready_with new here about rows beside is settled is_open sound tables stands =
     let book : new.committed 1 ≡ book_table (about_in (new.committed 1)) (rows_in (new.committed 0)) =
     is.book ∙ ap (λ (a : List ℕ). book_table a rows) (sym is.about_is) ∙ ap (book_table (about_in (new.committed 1))) (sym is.rows_are) in
     record {
-      rest = record { is_open = is_open; sound = sound; tables = tables; settled = ap (λ (t : Trees). t 0) settled; settled_book = ap (λ (t : Trees). t 1) settled; order = is.order; book = book };
+      rest = record { is_open = is_open; sound = sound; tables = tables; settled = ap (λ (t : Trees). t 0) settled; settled_book = ap (λ (t : Trees). t 1) settled; settled_beside = ap beside_in settled; order = is.order; book = book };
       stands = stands ∙ ap standing_with (sym is.rows_are);
     }
 
-pub crash_with : (about : List ℕ) (rows : List (List ℕ)) (left : Stored) (before after Put : Trees → Type 0) → ((db : Trees) → Put db → IsWith about rows db)
-    → ((db : Trees) → after db → before db ⊎ Put db) → Leaves after left → Leaves before left ⊎ (left ≡ stored_with about rows)
-crash_with about rows left before after Put is crash leaves =
+pub crash_with : (about : List ℕ) (rows : List (List ℕ)) (beside : Beside) (left : Stored) (before after Put : Trees → Type 0) → ((db : Trees) → Put db → IsWith about rows beside db)
+    → ((db : Trees) → after db → before db ⊎ Put db) → Leaves after left → Leaves before left ⊎ (left ≡ stored_with about rows beside)
+crash_with about rows beside left before after Put is crash leaves =
     elim (crash leaves.database leaves.found) [
       | inl stands ↦ inl (record { database = leaves.database; found = stands; is = leaves.is })
-      | inr put ↦ inr (leaves.is ∙ stored_of_with about rows leaves.database (is leaves.database put))
+      | inr put ↦ inr (leaves.is ∙ stored_of_with about rows beside leaves.database (is leaves.database put))
     ]
 
 -- ---- a book that was made
 
-pub with_made : (old : Trees) (about : List ℕ) (here : Standing) (new : Trees) → old 0 ≡ [] → old 1 ≡ [] → here ≡ standing_with [] → IsMade about here old new → IsWith about [] new
+pub with_made : (old : Trees) (about : List ℕ) (here : Standing) (new : Trees) → old 0 ≡ [] → old 1 ≡ [] → here ≡ standing_with [] → IsMade about here old new → IsWith about [] (beside_in old) new
 with_made old about here new no_rows no_book stands made =
     let rows : new 0 ≡ [] = made.rows ∙ no_rows in
     let book : new 1 ≡ book_table about [] =
     made.book ∙ ap (λ (t : List Row). put_row (stored 1 (standing.spell here)) (put_row (stored 0 about) t)) no_book ∙ book_made about here ∙ ap (λ (s : Standing). table_from 0 (about ∷ standing.spell s ∷ [])) stands in
     record {
+      beside_is = made.beside;
       about_is = ap about_in book;
       rows_are = ap rows_in rows;
       order = let P : List Row → Type 0 = λ t. IsInOrder t in subst P (sym rows) refl;
       book = book;
     }
 
-pub made_crash : (old : Trees) (about : List ℕ) (here : Standing) (Before Mid : Trees → Type 0) → old 0 ≡ [] → old 1 ≡ [] → here ≡ standing_with [] → ((db : Trees) → Mid db → Before db)
-    → (db : Trees) → Mid db ⊎ IsMade about here old db → Before db ⊎ (stored_in db ≡ stored_with about [])
-made_crash old about here Before Mid no_rows no_book stands stay db (inl mid) = inl (stay db mid)
-made_crash old about here Before Mid no_rows no_book stands stay db (inr made) = inr (stored_of_with about [] db (with_made old about here db no_rows no_book stands made))
+pub made_crash : (old : Trees) (about : List ℕ) (here : Standing) (beside : Beside) (Before Mid : Trees → Type 0) → old 0 ≡ [] → old 1 ≡ [] → here ≡ standing_with [] → beside_in old ≡ beside → ((db : Trees) → Mid db → Before db)
+    → (db : Trees) → Mid db ⊎ IsMade about here old db → Before db ⊎ (stored_in db ≡ stored_with about [] beside)
+made_crash old about here beside Before Mid no_rows no_book stands same stay db (inl mid) = inl (stay db mid)
+made_crash old about here beside Before Mid no_rows no_book stands same stay db (inr made) =
+    inr (stored_of_with about [] (beside_in old) db (with_made old about here db no_rows no_book stands made) ∙ ap (stored_with about []) same)
 
 -- ---- what a read gives
 

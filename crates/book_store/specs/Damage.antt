@@ -3,6 +3,7 @@ use Rattle.std.specs.Prelude.{◌≡◌, ℕ, ◌<◌, List, [], ◌++◌, lengt
 use Rattle.sqlite_value.specs.Order.{Row}
 use Rattle.sqlite_trees.specs.View.{IsClean, View}
 use Rattle.book_rows.specs.declared.about.Standing.{Standing}
+use Rattle.book_beside.specs.Beside.{beside_in}
 use Rattle.book_rows.specs.About.{standing, standing_with}
 use Rattle.book_store.specs.Table.{HasTables, IsInOrder, about_in, book_table, rows_in, stored, standing_in, table_from}
 
@@ -37,6 +38,7 @@ pub record IsFresh (view : View) : Type 0 where
   pub sound : view.is_broken ≡ false
   pub settled : view.trees 0 ≡ view.committed 0
   pub settled_book : view.trees 1 ≡ view.committed 1
+  pub settled_beside : beside_in view.trees ≡ beside_in view.committed
 
 -- the tables are there, and no tree was made or dropped since the last commit
 pub record IsUnaltered (view : View) : Type 0 where
@@ -64,7 +66,7 @@ pub record IsFound (first now : View) (here : Standing) : Type 0 where
   pub book : first.trees 1 ≡ book_table (about_in (first.trees 1)) (rows_in (first.trees 0))
   pub stands : here ≡ standing_with (rows_in (first.trees 0))
 
--- both tables are empty, and only cursors were moved
+-- the tables of rows and of the book are empty, and only cursors were moved
 pub record IsEmpty (first now : View) : Type 0 where
   pub alike : IsAlike first now
   pub rows : first.trees 0 ≡ []

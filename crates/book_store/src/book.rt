@@ -54,6 +54,7 @@ fn sum_at<L: RowStore>(
     ensures ready { OnOk result (L.is_clean store.new → L.is_ready store.new) }
     ensures same { OnOk result (L.is_clean store.new → L.rows store.new ≡ L.rows store.old) }
     ensures same_book { OnOk result (L.is_clean store.new → L.about store.new ≡ L.about store.old) }
+    ensures same_beside { OnOk result (L.is_clean store.new → L.beside store.new ≡ L.beside store.old) }
     ensures next { IfOk result (λ sum. L.is_clean store.new → next_sum place before.0 (slice_index_or (L.rows store.old) place []) ≡ Some sum.0) }
     ensures wrong { (p : ℕ) → result ≡ Err (CheckError.Wrong p) → L.is_clean store.new → (p ≡ place) × (next_sum place before.0 (slice_index_or (L.rows store.old) place []) ≡ None) }
     ensures crash { (left : Stored) → L.may_leave store.new left → L.may_leave store.old left }
@@ -78,6 +79,7 @@ pub fn check_rows<L: RowStore>(alloc: Global, store: &mut L) -> Result<Sum, Chec
     ensures ready { OnOk result (L.is_clean store.new → L.is_ready store.new) }
     ensures same { OnOk result (L.is_clean store.new → L.rows store.new ≡ L.rows store.old) }
     ensures same_book { OnOk result (L.is_clean store.new → L.about store.new ≡ L.about store.old) }
+    ensures same_beside { OnOk result (L.is_clean store.new → L.beside store.new ≡ L.beside store.old) }
     ensures sum { IfOk result (λ sum. L.is_clean store.new → sum_of 0 0 (L.rows store.old) ≡ Some sum.0) }
     ensures wrong { (place : ℕ) → result ≡ Err (CheckError.Wrong place) → L.is_clean store.new → IsWrongAt (L.rows store.old) place }
     ensures crash { (left : Stored) → L.may_leave store.new left → L.may_leave store.old left }

@@ -2,8 +2,9 @@
 //!
 //! - [`RowStore`] is what the book rests on: rows are appended behind the last one, all of a batch in one commit, and
 //!   read by their places. The same commit says where the book stands: how many rows it has, and the moment and the sum of
-//!   the last. What the book is stays. A row is its octets.
-//! - [`TreeStore`] is one over any `Store` of the kit: tables 0 and 1 of a database, in memory or in a file.
+//!   the last, and makes the writes beside the rows (`book_beside`). What the book is stays. A row is its octets.
+//! - [`TreeStore`] is one over any `Store` of the kit: tables 0 and 1 of a database, in memory or in a file, and beside them the
+//!   tables of accounts and of open sessions, 2 and 3.
 //!   [`create_tree`] makes a book in them, once. [`open_tree`] opens it, and refuses a table whose rows are not those of
 //!   places 0, 1, 2 and so on, or do not end where the book stands; [`reopen_tree`] does so after a crash, and finds what
 //!   `may_leave` says.

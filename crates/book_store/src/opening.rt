@@ -1,16 +1,18 @@
 //! Opening the tables of a book.
 
-ghost use Rattle.std.specs.Prelude.{◌≡◌, ◌≢◌, ◌↔◌, ◌<◌, ◌^◌, [], ℕ, List, Err, IsSome, IsTrue, IfOk, OnOk, false, length};
+ghost use Rattle.std.specs.Prelude.{◌≡◌, ◌≢◌, ◌↔◌, ◌<◌, ◌^◌, [], ℕ, List, Err, IsSome, IsTrue, IfOk, OnOk, false, length, slice_index_or};
 ghost use Rattle.sqlite_value.specs.Order.{column};
 ghost use Rattle.sqlite_trees.specs.Tree.{Trees};
 ghost use Rattle.sqlite_trees.specs.View.{IsClean};
 ghost use Rattle.sqlite_trees.specs.declared.store.Shape.TheVariants.{Table};
 ghost use Rattle.book_rows.specs.About.{last_of, standing, standing_with};
 ghost use Rattle.book_store.specs.Damage.{HasRead, HasReadAll, IsAlike, IsDamagedAt, IsEmpty, IsFound, KeepsShapes, StandsElsewhere};
-ghost use Rattle.book_store.specs.Table.{octets_of, rows_in, standing_in, stored, HasTables, IsInOrder};
+ghost use Rattle.book_beside.specs.Beside.{HasBeside, beside_in, table_of};
+ghost use Rattle.book_store.specs.Table.{octets_of, rows_in, standing_in, stored, HasTables, IsCounted, IsInOrder};
 
 use crate::error::{OpenError, RowError};
 use crate::tree::{BOOK, PLACES, TABLE, octets_at};
+use book_beside::{ACCOUNTS, SESSIONS, Side};
 use book_rows::{Standing, spell_standing, standing_behind};
 use sqlite_trees::error::StoreError;
 use sqlite_trees::store::{Direction, Store};
@@ -186,5 +188,45 @@ pub fn find_nothing<S: Store>(store: &mut S, alloc: Global) -> Result<bool, Stor
         (Ok(0), Ok(0)) => Ok(true),
         (Err(OpenError::Store(error)), _) | (_, Err(OpenError::Store(error))) => Err(error),
         _ => Ok(false),
+    }
+}
+
+/// How many rows a table beside the rows has, each of which is that of its place. `Damaged` is told where one is not.
+#[tactic(auto, using(crate::proofs::Scanned::counted_beside, crate::proofs::Scanned::shape_is))]
+pub fn count_beside<S: Store>(store: &mut S, alloc: Global, side: Side) -> Result<u64, RowError>
+    requires { IsClean (S.Store.view store.old) → HasBeside (S.Store.view store.old) }
+    ensures clean { IsClean (S.Store.view store.new) → IsClean (S.Store.view store.old) }
+    ensures counted { IfOk result (λ count. IsClean (S.Store.view store.new) → IsCounted (table_of side (beside_in (S.Store.view store.old).trees)) count) }
+    ensures alike { OnOk result (IsClean (S.Store.view store.new) → IsAlike (S.Store.view store.old) (S.Store.view store.new)) }
+    ensures quiet { (db : Trees) → S.Store.recovers store.new db → S.Store.recovers store.old db }
+    ensures reopens { KeepsShapes (S.Store.view store.old) (S.Store.view store.new) }
+{
+    match count_rows(store, alloc, side.tree()) {
+        Ok(count) => Ok(count),
+        Err(OpenError::Store(error)) => Err(RowError::Store(error)),
+        Err(_) => Err(RowError::Damaged),
+    }
+}
+
+/// The octets at a place of a table beside the rows, each of whose rows is that of its place.
+#[tactic(auto, using(crate::proofs::Scanned::tree_is, crate::proofs::Scanned::shape_is))]
+pub fn octets_beside<S: Store>(
+    store: &mut S,
+    alloc: Global,
+    side: Side,
+    place: u64,
+) -> Result<Vec<u8>, RowError>
+    requires table { IsClean (S.Store.view store.old) → HasBeside (S.Store.view store.old) }
+    requires order { IsClean (S.Store.view store.old) → IsInOrder (table_of side (beside_in (S.Store.view store.old).trees)) }
+    requires within { IsClean (S.Store.view store.old) → place < length (rows_in (table_of side (beside_in (S.Store.view store.old).trees))) }
+    ensures clean { IsClean (S.Store.view store.new) → IsClean (S.Store.view store.old) }
+    ensures octets { IfOk result (λ octets. IsClean (S.Store.view store.new) → octets.items ≡ slice_index_or (rows_in (table_of side (beside_in (S.Store.view store.old).trees))) place []) }
+    ensures same { OnOk result (IsClean (S.Store.view store.new) → S.Store.view store.new ≡ S.Store.view store.old) }
+    ensures quiet { (db : Trees) → S.Store.recovers store.new db → S.Store.recovers store.old db }
+    ensures reopens { KeepsShapes (S.Store.view store.old) (S.Store.view store.new) }
+{
+    match side {
+        Side::Accounts => octets_at(store, alloc, ACCOUNTS, place),
+        Side::Sessions => octets_at(store, alloc, SESSIONS, place),
     }
 }

@@ -8,11 +8,13 @@ ghost use Rattle.sqlite_trees.specs.View.{IsClean};
 ghost use Rattle.sqlite_trees.specs.declared.store.Shape.TheVariants.{Table};
 ghost use Rattle.book_rows.specs.About.{standing, standing_with};
 ghost use Rattle.book_store.specs.Damage.{IsDamagedAt, IsFresh, KeepsShapes, MayReopen, StandsElsewhere};
+ghost use Rattle.book_beside.specs.Beside.{beside_in};
 ghost use Rattle.book_store.specs.Table.{about_in, octets_in, put_from, rows_in, stored, stored_in, stored_with, HasTables, IsInOrder, IsMade, IsPut, IsReady, Leaves};
 
 use crate::error::{AppendError, CreateError, OpenError, RowError};
-use crate::opening::{find_book, find_nothing};
+use crate::opening::{count_beside, find_book, find_nothing, octets_beside};
 use crate::store::RowStore;
+use book_beside::{Side, Write, put_writes};
 use book_rows::{Standing, spell_standing, standing_behind};
 use sqlite_trees::error::StoreError;
 use sqlite_trees::store::{Reopen, Store};
@@ -97,10 +99,10 @@ pub fn create_tree<S: Store>(
     ensures ready { IfOk result (λ made. IsClean (S.Store.view made.store) → IsReady (S.Store.view made.store) made.standing) }
     ensures about { IfOk result (λ made. IsClean (S.Store.view made.store) → about_in ((S.Store.view made.store).committed 1) ≡ about.now) }
     ensures empty { IfOk result (λ made. IsClean (S.Store.view made.store) → rows_in ((S.Store.view made.store).committed 0) ≡ []) }
-    ensures crash { IfOk result (λ made. IsClean (S.Store.view made.store) → (db : Trees) → S.Store.recovers made.store db → S.Store.recovers store db ⊎ (stored_in db ≡ stored_with about.now [])) }
+    ensures crash { IfOk result (λ made. IsClean (S.Store.view made.store) → (db : Trees) → S.Store.recovers made.store db → S.Store.recovers store db ⊎ (stored_in db ≡ stored_with about.now [] (beside_in (S.Store.view store).committed))) }
     ensures reopens { IfOk result (λ made. MayReopen (S.Store.view store) → MayReopen (S.Store.view made.store)) }
 
-    ensures unharmed { IfErr result (λ refused. IsClean (S.Store.view refused.1) → (db : Trees) → S.Store.recovers refused.1 db → S.Store.recovers store db ⊎ (stored_in db ≡ stored_with about.now [])) }
+    ensures unharmed { IfErr result (λ refused. IsClean (S.Store.view refused.1) → (db : Trees) → S.Store.recovers refused.1 db → S.Store.recovers store db ⊎ (stored_in db ≡ stored_with about.now [] (beside_in (S.Store.view store).committed))) }
     ensures kept { IfErr result (λ refused. refused.0 ≡ CreateError.NotEmpty → (db : Trees) → S.Store.recovers refused.1 db → S.Store.recovers store db) }
 {
     let mut store = store;
@@ -177,7 +179,8 @@ fn put_all<S: Store>(
     requires place { place + length batch.now ≤ 2 ^ 63 }
     ensures clean { IsClean (S.Store.view store.new) → IsClean (S.Store.view store.old) }
     ensures put { OnOk result (IsClean (S.Store.view store.new) → (S.Store.view store.new).trees 0 ≡ put_from place (octets_in batch.now) ((S.Store.view store.old).trees 0)) }
-    ensures beside { OnOk result (IsClean (S.Store.view store.new) → (S.Store.view store.new).trees 1 ≡ (S.Store.view store.old).trees 1) }
+    ensures book { OnOk result (IsClean (S.Store.view store.new) → (S.Store.view store.new).trees 1 ≡ (S.Store.view store.old).trees 1) }
+    ensures beside { OnOk result (IsClean (S.Store.view store.new) → beside_in (S.Store.view store.new).trees ≡ beside_in (S.Store.view store.old).trees) }
     ensures stays_open { OnOk result (IsClean (S.Store.view store.new) → (S.Store.view store.new).is_open ≡ (S.Store.view store.old).is_open) }
     ensures quiet { (db : Trees) → S.Store.recovers store.new db → S.Store.recovers store.old db }
     ensures reopens { KeepsShapes (S.Store.view store.old) (S.Store.view store.new) }
@@ -203,48 +206,51 @@ fn put_standing<S: Store>(store: &mut S, alloc: Global, here: Standing) -> Resul
     put_one(store, alloc, BOOK, 1, &octets)
 }
 
-/// Puts the rows, and says where the book stands then, in this transaction.
-#[tactic(auto, using(crate::proofs::Tables::put_both))]
+/// Puts the rows, says where the book stands then, and makes the writes beside them, in this transaction.
+#[tactic(auto, using(crate::proofs::Tables::put_all_three))]
 fn put_batch<S: Store>(
     store: &mut S,
     alloc: Global,
     place: u64,
     batch: &[Vec<u8>],
     here: Standing,
+    writes: &[Write],
 ) -> Result<(), StoreError>
     requires tables { IsClean (S.Store.view store.old) → HasTables (S.Store.view store.old) }
     requires place { place + length batch.now ≤ 2 ^ 63 }
     ensures clean { IsClean (S.Store.view store.new) → IsClean (S.Store.view store.old) }
-    ensures put { OnOk result (IsClean (S.Store.view store.new) → IsPut place (octets_in batch.now) here (S.Store.view store.old).trees (S.Store.view store.new).trees) }
+    ensures put { OnOk result (IsClean (S.Store.view store.new) → IsPut place (octets_in batch.now) here writes.now (S.Store.view store.old).trees (S.Store.view store.new).trees) }
     ensures stays_open { OnOk result (IsClean (S.Store.view store.new) → (S.Store.view store.new).is_open ≡ (S.Store.view store.old).is_open) }
     ensures quiet { (db : Trees) → S.Store.recovers store.new db → S.Store.recovers store.old db }
     ensures reopens { KeepsShapes (S.Store.view store.old) (S.Store.view store.new) }
 {
     put_all(store, alloc, place, batch)?;
-    put_standing(store, alloc, here)
+    put_standing(store, alloc, here)?;
+    put_writes(store, alloc, writes)
 }
 
-/// Puts the rows, says where the book stands then, and commits both.
+/// Puts the rows, says where the book stands then, makes the writes beside them, and commits all.
 fn commit_batch<S: Store>(
     store: &mut S,
     alloc: Global,
     place: u64,
     batch: &[Vec<u8>],
     here: Standing,
+    writes: &[Write],
 ) -> Result<(), StoreError>
     requires tables { IsClean (S.Store.view store.old) → HasTables (S.Store.view store.old) }
     requires place { place + length batch.now ≤ 2 ^ 63 }
     ensures clean { IsClean (S.Store.view store.new) → IsClean (S.Store.view store.old) }
-    ensures committed { OnOk result (IsClean (S.Store.view store.new) → IsPut place (octets_in batch.now) here (S.Store.view store.old).trees (S.Store.view store.new).committed) }
+    ensures committed { OnOk result (IsClean (S.Store.view store.new) → IsPut place (octets_in batch.now) here writes.now (S.Store.view store.old).trees (S.Store.view store.new).committed) }
     ensures settled { OnOk result (IsClean (S.Store.view store.new) → (S.Store.view store.new).trees ≡ (S.Store.view store.new).committed) }
     ensures sound { OnOk result (IsClean (S.Store.view store.new) → (S.Store.view store.new).is_broken ≡ false) }
     ensures tables { OnOk result (IsClean (S.Store.view store.new) → HasTables (S.Store.view store.new)) }
     ensures stays_open { OnOk result (IsClean (S.Store.view store.new) → (S.Store.view store.new).is_open ≡ (S.Store.view store.old).is_open) }
     ensures crash { IsClean (S.Store.view store.new) → (db : Trees) → S.Store.recovers store.new db
-        → S.Store.recovers store.old db ⊎ IsPut place (octets_in batch.now) here (S.Store.view store.old).trees db }
+        → S.Store.recovers store.old db ⊎ IsPut place (octets_in batch.now) here writes.now (S.Store.view store.old).trees db }
     ensures reopens { MayReopen (S.Store.view store.old) → MayReopen (S.Store.view store.new) }
 {
-    put_batch(store, alloc, place, batch, here)?;
+    put_batch(store, alloc, place, batch, here, writes)?;
     store.commit()
 }
 
@@ -331,6 +337,8 @@ impl<S: Store> RowStore for TreeStore<S> {
 
     ghost rows = { λ t. rows_in ((S.Store.view t.store).committed 0) };
 
+    ghost beside = { λ t. beside_in (S.Store.view t.store).committed };
+
     ghost may_leave = { λ t. Leaves (S.Store.recovers t.store) };
 
     ghost may_reopen = { λ t. MayReopen (S.Store.view t.store) };
@@ -347,7 +355,13 @@ impl<S: Store> RowStore for TreeStore<S> {
         octets_at(&mut self.store, alloc, BOOK, 0)
     }
 
-    fn append(&mut self, alloc: Global, place: u64, batch: &[Vec<u8>]) -> Result<(), AppendError> {
+    fn append(
+        &mut self,
+        alloc: Global,
+        place: u64,
+        batch: &[Vec<u8>],
+        writes: &[Write],
+    ) -> Result<(), AppendError> {
         if place != self.standing.count {
             return Err(AppendError::NotBehind);
         }
@@ -356,7 +370,7 @@ impl<S: Store> RowStore for TreeStore<S> {
             return Err(AppendError::NoPlace);
         }
         let here = standing_after(self.standing, batch);
-        match commit_batch(&mut self.store, alloc, place, batch, here) {
+        match commit_batch(&mut self.store, alloc, place, batch, here, writes) {
             Ok(()) => {
                 self.standing = here;
                 Ok(())
@@ -367,5 +381,15 @@ impl<S: Store> RowStore for TreeStore<S> {
 
     fn row(&mut self, alloc: Global, place: u64) -> Result<Vec<u8>, RowError> {
         octets_at(&mut self.store, alloc, TABLE, place)
+    }
+
+    #[tactic(auto, using(crate::proofs::Scanned::still_ready, crate::proofs::Scanned::counted_committed))]
+    fn count_beside(&mut self, alloc: Global, side: Side) -> Result<u64, RowError> {
+        count_beside(&mut self.store, alloc, side)
+    }
+
+    #[tactic(auto, using(crate::proofs::Scanned::order_now, crate::proofs::Scanned::within_now, crate::proofs::Scanned::octets_committed))]
+    fn beside_at(&mut self, alloc: Global, side: Side, place: u64) -> Result<Vec<u8>, RowError> {
+        octets_beside(&mut self.store, alloc, side, place)
     }
 }

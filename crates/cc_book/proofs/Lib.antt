@@ -21,6 +21,7 @@ pub mod Amounts
 pub mod Books
 pub mod Bounds
 pub mod ByKind
+pub mod Charging
 pub mod Changes
 pub mod InOrder
 pub mod KeptSessions

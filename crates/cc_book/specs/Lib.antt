@@ -4,6 +4,7 @@ pub mod BoundExample
 pub mod Bounds
 pub mod ChangeExample
 pub mod Changing
+pub mod Charging
 pub mod Content
 pub mod Duplicate
 pub mod History

@@ -1,12 +1,13 @@
 //! The account book: a history of requests, sweeps and changes of terms, from which every balance and reply is made.
 
-ghost use Rattle.std.specs.Prelude.{◌≡◌, ◌≢◌, ◌≤◌, ◌<◌, ◌^◌, [], length, nat_abs, Err, IfNone, IfOk, IfSome, MatchOption, if◌then◌else◌, nat_lt, slice_get, Some, None, pos};
+ghost use Rattle.std.specs.Prelude.{◌≡◌, ◌≢◌, ◌≤◌, ◌<◌, ◌^◌, [], length, map, nat_abs, Err, IfNone, IfOk, IfSome, MatchOption, if◌then◌else◌, nat_lt, slice_get, Some, None, pos};
 ghost use Rattle.cc_book.specs.declared.book.BookRefusal.TheVariants.{OutOfMemory};
 ghost use Rattle.cc_book.specs.declared.terms_change.ChangeRefusal.TheVariants as refused;
 ghost use Rattle.cc_book.specs.Taking.{AnswersWith, answer_of, answer_within};
 
 use crate::account::{Account, Money};
 use crate::accounts::Accounts;
+use crate::charges::Charge;
 use crate::entry::Entry;
 use crate::memory::boxed;
 use crate::plan::Plan;
@@ -75,7 +76,8 @@ impl Model for Book {
 }
 
 impl Book {
-    ghost use Rattle.cc_book.specs.AccountMachine.{terms_of};
+    ghost use Rattle.cc_book.specs.AccountMachine.{postings_of, terms_of};
+    ghost use Rattle.cc_book.specs.Charging.{charges_of};
     ghost use Rattle.cc_book.specs.Balance.{balance_of, reserved_of, open_sessions_of};
     ghost use Rattle.cc_book.specs.Changing.{ChangesWith, after_change_with, change_answer};
     ghost use Rattle.cc_book.specs.History.{IsLegal};
@@ -293,6 +295,20 @@ impl Book {
         ensures within { length self.now.history ≤ self.now.limit }
     {
         self.state.history()
+    }
+
+    /// The reply of each entry, the oldest first: none of a sweep and of a change of the terms.
+    pub fn replies(&self) -> &[Option<CcReply>]
+        ensures { result.now ≡ map (λ posting. posting.reply) (postings_of self.now.terms self.now.history) }
+    {
+        self.state.replies()
+    }
+
+    /// What each entry charged, the oldest first.
+    pub fn charges(&self) -> &[Charge]
+        ensures { result.now ≡ charges_of self.now.terms self.now.history }
+    {
+        self.state.charges()
     }
 }
 

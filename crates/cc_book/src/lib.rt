@@ -18,7 +18,7 @@
 //! in `specs/ServiceRating`, at which price in `specs/Pricing`, how terms change in `specs/TermsChange`, the history in
 //! `specs/History`, which requests are one in `specs/Duplicate` and `specs/Content`, how a request is found in it in
 //! `specs/Places`, how an account in `specs/Owners`, what it has left in `specs/Standing`, a call in `specs/Taking`, and its two halves in `specs/Planning`.
-//! `specs/Bounds` says which amounts an account bears. `specs/RowExample`, `specs/SessionExample` and
+//! `specs/Bounds` says which amounts an account bears, `specs/Charging` which entries charged it last. `specs/RowExample`, `specs/SessionExample` and
 //! `specs/BoundExample` are worked examples. The functions of `laws`, `bound_laws` and `standing_laws` have no body: their contracts are
 //! laws of these definitions.
 //!
@@ -43,6 +43,7 @@ mod asking;
 mod book;
 mod bound_laws;
 mod change_laws;
+mod charges;
 mod content;
 mod copy;
 mod entry;
@@ -79,6 +80,7 @@ pub use change_laws::{
     closed_accounts_settle_what_was_used, tariffs_hold_from_their_place,
     terms_change_by_their_entries_alone, used_units_are_paid_at_the_price_of_their_grant,
 };
+pub use charges::{Charge, last_charges};
 pub use content::same_request;
 pub use copy::{RequestCopy, copy_of_reply};
 pub use entry::Entry;

@@ -1,6 +1,6 @@
 //! What a book keeps: its history, and beside it what the entries replied and what they have left.
 
-ghost use Rattle.std.specs.Prelude.{◌≡◌, ◌≢◌, ◌≤◌, ◌<◌, ◌^◌, [], length, nat_abs, Err, IfOk, IfSome, MatchOption, if◌then◌else◌, nat_lt, slice_get, Some, None, pos};
+ghost use Rattle.std.specs.Prelude.{◌≡◌, ◌≢◌, ◌≤◌, ◌<◌, ◌^◌, [], length, map, nat_abs, Err, IfOk, IfSome, MatchOption, if◌then◌else◌, nat_lt, slice_get, Some, None, pos};
 ghost use Rattle.cc_book.specs.declared.book.BookRefusal.TheVariants.{OutOfMemory};
 
 mod changing;
@@ -8,6 +8,7 @@ mod planning;
 
 use crate::account::Account;
 use crate::book::{BookRefusal, free_place};
+use crate::charges::{Charge, NO_CHARGE};
 use crate::entry::Entry;
 use crate::kept_terms::KeptTerms;
 use crate::places::Places;
@@ -31,6 +32,8 @@ pub struct BookState {
     history: Vec<Entry>,
     /// The reply of each entry, none of a sweep.
     replies: Vec<Option<CcReply>>,
+    /// What each entry charged.
+    charges: Vec<Charge>,
     /// Where its requests stand in the history.
     places: Places,
     standing: Standing,
@@ -39,6 +42,7 @@ pub struct BookState {
 impl Model for BookState {
     ghost use Rattle.std.specs.Prelude.{◌≡◌, ◌+◌, ◌≤◌, ◌^◌, length, vec_capacity};
     ghost use Rattle.cc_book.specs.AccountMachine.{terms_of};
+    ghost use Rattle.cc_book.specs.Charging.{charges_of};
     ghost use Rattle.cc_book.specs.Places.{HasPlaces, IsIndexed};
     ghost use Rattle.cc_book.specs.Taking.{HasRoom, IsBook, Ledger};
 
@@ -53,11 +57,14 @@ impl Model for BookState {
         × IsIndexed b.history.items b.places
         × HasPlaces b.limit (length b.history.items) b.places
         × (b.limit ≤ 2 ^ 20)
-        × (b.terms.current ≡ terms_of b.terms.begun b.history.items) };
+        × (b.terms.current ≡ terms_of b.terms.begun b.history.items)
+        × (b.charges.items ≡ charges_of b.terms.begun b.history.items)
+        × (b.limit ≤ vec_capacity b.charges) };
 }
 
 impl BookState {
-    ghost use Rattle.cc_book.specs.AccountMachine.{terms_of};
+    ghost use Rattle.cc_book.specs.AccountMachine.{postings_of, terms_of};
+    ghost use Rattle.cc_book.specs.Charging.{charges_of};
     ghost use Rattle.cc_book.specs.Balance.{balance_of, reserved_of, open_sessions_of};
     ghost use Rattle.cc_book.specs.History.{IsLegal};
     ghost use Rattle.cc_book.specs.Standing.{sessions_in};
@@ -75,6 +82,7 @@ impl BookState {
             limit,
             history: Vec::with_capacity(alloc, room)?,
             replies: Vec::with_capacity(alloc, room)?,
+            charges: Vec::with_capacity(alloc, room)?,
             places: Places::new(alloc, room)?,
             standing,
         })
@@ -110,6 +118,7 @@ impl BookState {
         }
         self.history.push_reserved(Entry::Sweep { moment });
         self.replies.push_reserved(None);
+        self.charges.push_reserved(NO_CHARGE);
         self.standing.sweep(self.terms.validity(), moment);
         Ok(ended)
     }
@@ -186,5 +195,19 @@ impl BookState {
         ensures within { length self.now.history ≤ self.now.limit }
     {
         self.history.as_slice()
+    }
+
+    /// The reply of each entry, the oldest first: none of a sweep and of a change of the terms.
+    pub fn replies(&self) -> &[Option<CcReply>]
+        ensures { result.now ≡ map (λ posting. posting.reply) (postings_of self.now.terms self.now.history) }
+    {
+        self.replies.as_slice()
+    }
+
+    /// What each entry charged, the oldest first.
+    pub fn charges(&self) -> &[Charge]
+        ensures { result.now ≡ charges_of self.now.terms self.now.history }
+    {
+        self.charges.as_slice()
     }
 }

@@ -1,17 +1,19 @@
 //! A book that is open, of which everything is stored: what stands behind the lock until it is closed.
 
-ghost use Rattle.std.specs.Prelude.{◌≡◌, ◌+◌, ◌<◌, ◌^◌, [], IfOk, is_some, length, sum, false};
+ghost use Rattle.std.specs.Prelude.{◌≡◌, ◌+◌, ◌<◌, ◌^◌, [], IfOk, count_by, is_some, length, sum, false};
 ghost use Rattle.cc_book.specs.History.{IsLegal};
 ghost use Rattle.cc_shared.specs.Closing.{FinishesWith};
 ghost use Rattle.cc_shared.specs.History.{book_at, is_closed};
-ghost use Rattle.cc_shared.specs.Looking.{found_in};
+ghost use Rattle.cc_book.specs.Standing.{sessions_in};
+ghost use Rattle.cc_shared.specs.Looking.{charges, found_in, last_of};
 ghost use Rattle.cc_shared.specs.Sharing.{standings_of};
 ghost use Rattle.book_journal.specs.Kept.{IsKeptBy, IsSettled};
 
+use crate::charged::last_of;
 use crate::checking::first_stray;
 use crate::error::CloseError;
 use crate::history::Beginning;
-use crate::looks::{Found, Standing};
+use crate::looks::{AccountCharge, Found, Standing};
 use crate::open::OpenBook;
 use crate::receipt::Receipt;
 use crate::seat::Seat;
@@ -63,7 +65,7 @@ impl<L: Sharing, S: RowStore> Model for KeptBook<L, S> {
 
     ghost invariant = { λ b. (b.book ≡ book_at L.shared.opened b.seen) × (is_closed b.seen ≡ false) × (takes_in (entries_in b.seen) ≡ b.takes)
         × (b.counted.total ≡ b.takes) × (b.rest.parts ≡ 0) × (b.rest.amount ≡ 0)
-        × IsKeptBy S.is_clean S.is_ready S.rows b.journal b.book × IsSettled b.journal × (is_some b.journal.store ≡ L.shared.stored) };
+        × IsKeptBy S.is_clean S.is_ready S.rows S.beside b.journal b.book × IsSettled b.journal × (is_some b.journal.store ≡ L.shared.stored) };
 }
 
 impl<L: Sharing, S: RowStore + Drop> KeptBook<L, S> {
@@ -79,7 +81,7 @@ impl<L: Sharing, S: RowStore + Drop> KeptBook<L, S> {
         requires counted { counted.total ≡ 0 }
         requires rest { (rest.parts ≡ 0) × (rest.amount ≡ 0) }
         requires seen { seen ≡ [] }
-        requires kept { IsKeptBy S.is_clean S.is_ready S.rows journal book }
+        requires kept { IsKeptBy S.is_clean S.is_ready S.rows S.beside journal book }
         requires settled { IsSettled journal }
         requires stored { is_some journal.store ≡ L.shared.stored }
         ensures { result ≡ [] }
@@ -140,6 +142,17 @@ impl<L: Sharing, S: RowStore + Drop> KeptBook<L, S> {
         found_in(&self.book, id)
     }
 
+    /// The requests that charged that account last.
+    pub fn last_charges(
+        &self,
+        alloc: Global,
+        id: &Subscription,
+    ) -> Result<Vec<AccountCharge>, AllocError>
+        ensures { IfOk result (λ last. last.items ≡ last_of L.shared.opened.terms (book_at L.shared.opened self.now).history id.now) }
+    {
+        last_of(alloc, &self.book, id)
+    }
+
     /// The book, where these seats have counted its takes and these receipts stand in its history.
     pub fn close(
         self,
@@ -186,8 +199,25 @@ fn found_in(book: &Book, id: &Subscription) -> Found
     Found::Account(Standing {
         balance,
         reserved,
+        sessions: sessions_of(book, account),
         closed,
     })
+}
+
+/// How many sessions are open that charge an account.
+fn sessions_of(book: &Book, account: usize) -> usize
+    ensures { result ≡ count_by (charges account) (sessions_in book.now.terms book.now.history) }
+{
+    let mut count = 0;
+    for place in 0..book.session_count() {
+        let Some(session) = book.session_at(place) else {
+            unreachable!();
+        };
+        if session.account == account {
+            count += 1;
+        }
+    }
+    count
 }
 
 /// Balance and reserved amount of each account.

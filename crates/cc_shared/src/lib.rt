@@ -31,6 +31,7 @@
 
 mod asking;
 mod batching;
+mod charged;
 mod checking;
 mod error;
 mod history;
@@ -47,10 +48,13 @@ mod sharing;
 mod untold;
 
 pub use asking::{Asked, Served};
+pub use charged::SHOWN_CHARGES;
 pub use error::{ChangeError, CloseError, ServeError, ServeRefusal};
 pub use history::{Beginning, BlankHistory, Length, OneHistory, SeenHistory};
 pub use logged::Logged;
-pub use looks::{AccountLook, ClosedBook, Found, Snapshot, Standing, Swept, TermsChanged};
+pub use looks::{
+    AccountCharge, AccountLook, ClosedBook, Found, Snapshot, Standing, Swept, TermsChanged,
+};
 pub use receipt::Receipt;
 pub use seat::Seat;
 pub use shared::SharedBook;

@@ -153,7 +153,7 @@ impl<L: Sharing, S: RowStore + Drop> LockedBook<L, S> {
         requires some { 0 < seats }
         requires book { book ≡ L.shared.opened }
         requires history { history ≡ L.shared.log }
-        requires kept { IsKeptBy S.is_clean S.is_ready S.rows journal book }
+        requires kept { IsKeptBy S.is_clean S.is_ready S.rows S.beside journal book }
         requires settled { IsSettled journal }
         requires stored { is_some journal.store ≡ L.shared.stored }
         ensures seats { IfOk result (λ shared. shared.1.items ≡ replicate seats 0) }
@@ -399,21 +399,29 @@ impl<L: Sharing, S: RowStore + Drop> LockedBook<L, S> {
         }
     }
 
-    /// What stands on the account of a Subscription-Id, at one moment. Once the book is closed it says so.
-    pub fn account<R: Wait>(&self, rt: &R, id: &Subscription) -> Result<AccountLook, AllocError>
+    /// What stands on the account of a Subscription-Id, and the requests that charged it last, at one moment. Once the book is closed
+    /// it says so.
+    pub fn account<R: Wait>(
+        &self,
+        rt: &R,
+        alloc: Global,
+        id: &Subscription,
+    ) -> Result<AccountLook, AllocError>
         ensures { IfOk result (IsAccountLook L.shared id.now) }
     {
         let guard = self.lock.lock(rt);
         match &*guard {
             Behind::Open(open) => {
                 let found = open.account(id);
+                let last = open.last_charges(alloc, id)?;
                 let seen = open.history().seen();
-                Ok(AccountLook { found, seen })
+                Ok(AccountLook { found, last, seen })
             }
             Behind::Closed(closed) | Behind::Failed(closed) => {
                 let found = Found::Closed;
+                let last = Vec::new(alloc);
                 let seen = closed.history().seen();
-                Ok(AccountLook { found, seen })
+                Ok(AccountLook { found, last, seen })
             }
             Behind::Nothing => Err(AllocError),
         }

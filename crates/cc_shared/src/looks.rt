@@ -2,6 +2,9 @@
 
 use crate::history::SeenHistory;
 use cc_book::Book;
+use cc_view::{RequestKind, ResultCode};
+use dia_avp::Octets;
+use dia_base::Moment;
 
 /// A sweep of a shared book.
 #[derive(Drop)]
@@ -30,12 +33,14 @@ pub struct Snapshot {
     pub seen: SeenHistory,
 }
 
-/// What stands on an account, in minor units.
+/// What stands on an account: amounts in minor units.
 #[derive(Clone, Copy, Debug)]
 pub struct Standing {
     pub balance: i128,
     /// What its sessions have reserved.
     pub reserved: i128,
+    /// How many sessions are open that charge it.
+    pub sessions: usize,
     /// Whether the account is closed.
     pub closed: bool,
 }
@@ -50,10 +55,30 @@ pub enum Found {
     Closed,
 }
 
+/// A request that charged an account, as it stands in the history.
+#[derive(Drop)]
+pub struct AccountCharge {
+    /// Its place in the history, from 0.
+    pub place: u64,
+    pub moment: Moment,
+    /// Its Session-Id.
+    pub session: Octets,
+    /// Its CC-Request-Number.
+    pub number: u32,
+    /// Its CC-Request-Type.
+    pub kind: RequestKind,
+    /// What it debited, in minor units: below zero for a refund.
+    pub debit: i128,
+    /// The Result-Code of its answer.
+    pub code: ResultCode,
+}
+
 /// One account of a shared book at one moment of its history.
 #[derive(Drop)]
 pub struct AccountLook {
     pub found: Found,
+    /// The requests that charged it last, the latest first, ten at most ([`SHOWN_CHARGES`](crate::SHOWN_CHARGES)).
+    pub last: Vec<AccountCharge>,
     /// What was seen of the history then.
     pub seen: SeenHistory,
 }

@@ -61,7 +61,7 @@ impl<L: Sharing, S: RowStore> Model for OpenBook<L, S> {
 
     ghost invariant = { λ b. (b.book ≡ book_at L.shared.opened b.seen) × (is_closed b.seen ≡ false) × (takes_in (entries_in b.seen) ≡ b.takes)
         × (b.counted.total ≡ b.takes) × (b.rest.parts ≡ 0) × (b.rest.amount ≡ 0)
-        × IsKeptBy S.is_clean S.is_ready S.rows b.journal b.book × (is_some b.journal.store ≡ L.shared.stored) };
+        × IsKeptBy S.is_clean S.is_ready S.rows S.beside b.journal b.book × (is_some b.journal.store ≡ L.shared.stored) };
 }
 
 impl<L: Sharing, S: RowStore + Drop> OpenBook<L, S> {
@@ -174,7 +174,7 @@ impl<L: Sharing, S: RowStore + Drop> OpenBook<L, S> {
         ensures after { self.new ≡ (if is_fresh result then self.old ++ Entered (Take moment request.now) ∷ [] else self.old) }
         ensures count { seat.new ≡ (if is_fresh result then seat.old + 1 else seat.old) }
     {
-        let Ok(row) = self.journal.row_of_take(moment, request, &plan) else {
+        let Ok(row) = self.journal.row_of_take(&self.book, moment, request, &plan) else {
             return Err(BookRefusal::OutOfMemory);
         };
         let mut seen = self.seen.again();
@@ -196,12 +196,12 @@ impl<L: Sharing, S: RowStore + Drop> OpenBook<L, S> {
         ensures legal { IsLegal L.shared.opened.terms (book_at L.shared.opened self.old).history }
         ensures open { (is_closed self.old ≡ false) × (is_closed self.new ≡ false) }
     {
-        let place = self.book.history().len() as u64;
+        let _entries = self.book.history().len();
         let ended = self.book.quote_sweep(moment)?;
         if ended == 0 {
             return Ok(0);
         }
-        let Ok(row) = self.journal.row_of_sweep(place, moment) else {
+        let Ok(row) = self.journal.row_of_sweep(&self.book, moment) else {
             return Err(BookRefusal::OutOfMemory);
         };
         let mut seen = self.seen.again();
@@ -319,7 +319,7 @@ impl<L: Sharing, S: RowStore + Drop> OpenBook<L, S> {
         } = self;
         let waiting = journal.waiting.len() as u64;
         let place = (book.history().len() as u64).saturating_sub(waiting);
-        match journal.store(place) {
+        match journal.store(place, &book) {
             Ok(()) => Ok(KeptBook {
                 book,
                 takes,
@@ -342,15 +342,15 @@ fn change_kept<S: RowStore>(
     moment: Moment,
     change: TermsChange,
 ) -> Result<(u64, TermsChange), ChangeRefusal>
-    requires kept { IsKeptBy S.is_clean S.is_ready S.rows journal.old book.old }
+    requires kept { IsKeptBy S.is_clean S.is_ready S.rows S.beside journal.old book.old }
     ensures made { IfOk result (λ made. (made.1 ≡ change) × (change_answer book.old change ≡ Ok made.0) × (book.new ≡ with_change book.old moment change)) }
     ensures refused { IfErr result (λ refusal. ChangesWith (change_answer book.old change) (Err refusal) × (book.new ≡ book.old)) }
-    ensures kept { IsKeptBy S.is_clean S.is_ready S.rows journal.new book.new }
+    ensures kept { IsKeptBy S.is_clean S.is_ready S.rows S.beside journal.new book.new }
     ensures store { journal.new.store ≡ journal.old.store }
 {
     let place = book.quote_change(&change)?;
     let again = change.copy(alloc)?;
-    let row = journal.row_of_change(place, moment, &change)?;
+    let row = journal.row_of_change(book, moment, &change)?;
     book.change_terms(alloc, moment, change)?;
     journal.add(row);
     Ok((place, again))

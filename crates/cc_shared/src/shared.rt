@@ -71,7 +71,7 @@ impl<L: Sharing, S: RowStore + Drop> SharedBook<L, S> {
         requires some { 0 < seats }
         requires book { book ≡ L.shared.opened }
         requires history { history ≡ L.shared.log }
-        requires kept { IsKeptBy S.is_clean S.is_ready S.rows journal book }
+        requires kept { IsKeptBy S.is_clean S.is_ready S.rows S.beside journal book }
         requires settled { IsSettled journal }
         requires stored { is_some journal.store ≡ L.shared.stored }
         ensures seats { IfOk result (λ shared. shared.1.items ≡ replicate seats 0) }
@@ -183,12 +183,17 @@ impl<L: Sharing, S: RowStore + Drop> SharedBook<L, S> {
         self.locked.snapshot(rt, alloc)
     }
 
-    /// What stands on the account of a Subscription-Id, all at one moment: balance and reserved amount, and whether it is closed. It says
-    /// so where no account has that Subscription-Id, and once the book is closed. It takes no memory.
-    pub fn account<R: Wait>(&self, rt: &R, id: &Subscription) -> Result<AccountLook, AllocError>
+    /// What stands on the account of a Subscription-Id, all at one moment: balance and reserved amount, whether it is closed, and the ten
+    /// requests that charged it last. It says so where no account has that Subscription-Id, and once the book is closed.
+    pub fn account<R: Wait>(
+        &self,
+        rt: &R,
+        alloc: Global,
+        id: &Subscription,
+    ) -> Result<AccountLook, AllocError>
         ensures { IfOk result (IsAccountLook L.shared id.now) }
     {
-        self.locked.account(rt, id)
+        self.locked.account(rt, alloc, id)
     }
 
     /// Closes the book and gives it back, where each of these receipts stands in its history, and these seats have

@@ -49,13 +49,14 @@ impl<L: Sharing> Model for Looker<L> {
 /// Looks at an account behind the lock of its book, and tells that it is done.
 fn look_now<L: Sharing, S: RowStore + Drop, R: Wait>(
     rt: &R,
+    alloc: Global,
     shared: &SharedBook<L, S>,
     id: Subscription,
     done: &AtomicBool,
 ) -> LookResult
     ensures { IsLookedAt L.shared id result }
 {
-    let result = shared.account(rt, &id);
+    let result = shared.account(rt, alloc, &id);
     done.store(true, Ordering::SeqCst);
     result
 }
@@ -84,7 +85,7 @@ where
     let thread = thread::spawn_with(
         rt,
         promise,
-        move || look_now::<L, S, R>(&runtime, &shared, id, &own),
+        move || look_now::<L, S, R>(&runtime, alloc, &shared, id, &own),
     )?;
     Ok(Looker { done, thread })
 }

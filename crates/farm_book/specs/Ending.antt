@@ -7,7 +7,7 @@ use Rattle.book_entries.specs.declared.refusal.RowRefusal.TheVariants as refusal
 use Rattle.book_file.specs.declared.error.FileError.{FileError}
 use Rattle.book_file.specs.declared.error.FileError.TheVariants as file
 use Rattle.book_journal.specs.declared.error.JournalError.{JournalError}
-use Rattle.book_journal.specs.declared.error.JournalError.TheVariants.{Unread, Refused as RowRefused}
+use Rattle.book_journal.specs.declared.error.JournalError.TheVariants.{OtherAccount, OtherSession, TableUnread, Unread, Unwritten, Refused as RowRefused}
 use Rattle.book_lines.specs.declared.fault.LinesFault.TheVariants as lines
 use Rattle.book_opening.specs.declared.fault.BookFault.{BookFault}
 use Rattle.book_opening.specs.declared.fault.BookFault.TheVariants as book
@@ -42,18 +42,24 @@ status_of_file (file.Store error) = status_of_store error
 status_of_file file.OutOfMemory = status.OutOfMemory
 status_of_file other = status.Refused
 
--- a row that is not read, or is not the one that the book gives to its entry
-abbrev pub status_of_journal : JournalError → Status
-status_of_journal (Unread place (row.Store error)) = status_of_store error
-status_of_journal (Unread place row.Damaged) = status.Refused
-status_of_journal (RowRefused place refusal.OutOfMemory) = status.OutOfMemory
-status_of_journal (RowRefused place other) = status.Refused
-
 -- rows that are not stored: the disk, or want of memory; or rows of other places
 abbrev pub status_of_append : AppendError → Status
 status_of_append (append.Store error) = status_of_store error
 status_of_append append.NotBehind = status.Refused
 status_of_append append.NoPlace = status.Refused
+
+-- A row that is not read, or is not the one that the book gives to its entry; and a table beside the rows that is not read, does not
+-- have what the entries make of it, or is not written.
+abbrev pub status_of_journal : JournalError → Status
+status_of_journal (Unread place (row.Store error)) = status_of_store error
+status_of_journal (Unread place row.Damaged) = status.Refused
+status_of_journal (RowRefused place refusal.OutOfMemory) = status.OutOfMemory
+status_of_journal (RowRefused place other) = status.Refused
+status_of_journal (TableUnread (row.Store error)) = status_of_store error
+status_of_journal (TableUnread row.Damaged) = status.Refused
+status_of_journal (OtherAccount place) = status.Refused
+status_of_journal (OtherSession place) = status.Refused
+status_of_journal (Unwritten error) = status_of_append error
 
 abbrev pub status_of_book : BookFault → Status
 status_of_book (book.File error) = status_of_file error

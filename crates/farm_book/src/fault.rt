@@ -178,7 +178,15 @@ fn journal_status(error: JournalError) -> Status
             why: RowRefusal::OutOfMemory,
             ..
         } => Status::OutOfMemory,
-        JournalError::Unread { .. } | JournalError::Refused { .. } => Status::Refused,
+        JournalError::TableUnread {
+            why: RowError::Store(error),
+        } => store_status(error),
+        JournalError::Unwritten { why } => append_status(why),
+        JournalError::Unread { .. }
+        | JournalError::Refused { .. }
+        | JournalError::TableUnread { .. }
+        | JournalError::OtherAccount { .. }
+        | JournalError::OtherSession { .. } => Status::Refused,
     }
 }
 

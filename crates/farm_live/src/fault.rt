@@ -7,8 +7,8 @@ use book_place::FileKeyFault;
 use farm_access::AccessFault;
 use farm_client::LinesFault;
 use farm_command::{CliFault, Status};
-use farm_loop::LoopFault;
-use farm_place::PlaceFault;
+use farm_endpoints::EndpointFault;
+use farm_event_loop::LoopFault;
 use farm_site::SiteFault;
 use farm_terms::{AccountsFault, SiteChangeFault, SiteTermsFault};
 use pool_node::StartFault;
@@ -38,7 +38,7 @@ pub enum Fault {
     Terms(SiteTermsFault),
     /// The site has no such node, or one without an address.
     #[error("{0}")]
-    Place(PlaceFault),
+    Endpoint(EndpointFault),
     #[error("the messages cannot be read")]
     Read,
     #[error("{0}")]
@@ -148,7 +148,7 @@ impl Fault {
             | Fault::Terms(
                 SiteTermsFault::OutOfMemory | SiteTermsFault::Accounts(AccountsFault::OutOfMemory),
             )
-            | Fault::Place(PlaceFault::OutOfMemory)
+            | Fault::Endpoint(EndpointFault::OutOfMemory)
             | Fault::Lines(LinesFault::OutOfMemory)
             | Fault::Loop(LoopFault::OutOfMemory)
             | Fault::Start(StartFault::OutOfMemory)
@@ -159,7 +159,7 @@ impl Fault {
             | Fault::FileKey(_)
             | Fault::Terms(SiteTermsFault::Accounts(_))
             | Fault::Clock(_)
-            | Fault::Place(PlaceFault::NoAddress | PlaceFault::UnknownName { .. })
+            | Fault::Endpoint(EndpointFault::NoAddress | EndpointFault::UnknownName { .. })
             | Fault::Lines(LinesFault::NoMessage { .. })
             | Fault::Book(
                 BookFault::OtherTerms(_)
@@ -174,7 +174,7 @@ impl Fault {
             | Fault::Terms(SiteTermsFault::NotRead)
             | Fault::Read
             | Fault::Write
-            | Fault::Loop(LoopFault::Sockets(_))
+            | Fault::Loop(LoopFault::Sockets(_) | LoopFault::Listening { .. })
             | Fault::Start(StartFault::NoWorker | StartFault::UnknownNode { .. })
             | Fault::Status(_)
             | Fault::TokenFile

@@ -6,7 +6,7 @@ ghost use Rattle.farm_base.specs.CheckedSite.{IsChecked};
 ghost use Rattle.book_journal.specs.Kept.{IsKeptBy, IsSettled};
 ghost use Rattle.book_opening.specs.Opened.{HoldsWhereLed, now_in};
 ghost use Rattle.farm_live.specs.Serving.{IsServed};
-ghost use Rattle.farm_place.specs.Places.{fronts_from};
+ghost use Rattle.farm_endpoints.specs.Endpoints.{fronts_from};
 ghost use Rattle.farm_terms.specs.SiteAccounts.{AreTermsOf};
 ghost use Rattle.farm_terms.specs.SiteChange.{LeadsToSite};
 ghost use Rattle.pool_node.specs.Fronts.{site_of};
@@ -28,8 +28,8 @@ use dia_base::NodeNo;
 use farm_base::Site;
 use farm_clock::Timer;
 use farm_command::Process;
-use farm_loop::Sockets;
-use farm_place::{Place, fronts_of, place_of};
+use farm_endpoints::{Endpoint, endpoint_of, fronts_of};
+use farm_event_loop::Sockets;
 use farm_terms::{site_change, site_terms};
 use front_pool::Pooling;
 use log::LevelFilter;
@@ -46,7 +46,7 @@ use std::thread::Threads;
 /// Where fronts listen, and the sockets of their process, of which their workers have the waker.
 #[derive(Drop)]
 struct FrontSockets {
-    places: Vec<Place>,
+    endpoints: Vec<Endpoint>,
     sockets: Sockets,
     waker: LoopWaker,
 }
@@ -90,7 +90,7 @@ where
 /// one.
 fn book_of<O>(setting: &Setting<'_, O>) -> Result<((Journal<FileBook>, Book), TermsChange), Fault>
     requires { IsChecked setting.now.site.now }
-    ensures kept { IfOk result (λ opened. IsKeptBy ⟦<FileBook as RowStore>⟧.is_clean ⟦<FileBook as RowStore>⟧.is_ready ⟦<FileBook as RowStore>⟧.rows opened.0.0 opened.0.1) }
+    ensures kept { IfOk result (λ opened. IsKeptBy ⟦<FileBook as RowStore>⟧.is_clean ⟦<FileBook as RowStore>⟧.is_ready ⟦<FileBook as RowStore>⟧.rows ⟦<FileBook as RowStore>⟧.beside opened.0.0 opened.0.1) }
     ensures settled { IfOk result (λ opened. IsSettled opened.0.0) }
     ensures limit { IfOk result (λ opened. opened.0.1.limit ≡ setting.now.site.now.limit) }
     ensures stored { IfOk result (λ opened. is_some opened.0.0.store ≡ is_some setting.now.book) }
@@ -109,7 +109,7 @@ fn stored_book<O>(
     path: &str,
 ) -> Result<((Journal<FileBook>, Book), TermsChange), Fault>
     requires { IsChecked setting.now.site.now }
-    ensures kept { IfOk result (λ opened. IsKeptBy ⟦<FileBook as RowStore>⟧.is_clean ⟦<FileBook as RowStore>⟧.is_ready ⟦<FileBook as RowStore>⟧.rows opened.0.0 opened.0.1) }
+    ensures kept { IfOk result (λ opened. IsKeptBy ⟦<FileBook as RowStore>⟧.is_clean ⟦<FileBook as RowStore>⟧.is_ready ⟦<FileBook as RowStore>⟧.rows ⟦<FileBook as RowStore>⟧.beside opened.0.0 opened.0.1) }
     ensures settled { IfOk result (λ opened. IsSettled opened.0.0) }
     ensures limit { IfOk result (λ opened. opened.0.1.limit ≡ setting.now.site.now.limit) }
     ensures stored { IfOk result (λ opened. is_some opened.0.0.store ≡ true) }
@@ -127,7 +127,7 @@ fn book_in_memory<O>(
     setting: &Setting<'_, O>,
 ) -> Result<((Journal<FileBook>, Book), TermsChange), Fault>
     requires { IsChecked setting.now.site.now }
-    ensures kept { IfOk result (λ opened. IsKeptBy ⟦<FileBook as RowStore>⟧.is_clean ⟦<FileBook as RowStore>⟧.is_ready ⟦<FileBook as RowStore>⟧.rows opened.0.0 opened.0.1) }
+    ensures kept { IfOk result (λ opened. IsKeptBy ⟦<FileBook as RowStore>⟧.is_clean ⟦<FileBook as RowStore>⟧.is_ready ⟦<FileBook as RowStore>⟧.rows ⟦<FileBook as RowStore>⟧.beside opened.0.0 opened.0.1) }
     ensures settled { IfOk result (λ opened. IsSettled opened.0.0) }
     ensures limit { IfOk result (λ opened. opened.0.1.limit ≡ setting.now.site.now.limit) }
     ensures stored { IfOk result (λ opened. is_some opened.0.0.store ≡ false) }
@@ -149,11 +149,11 @@ fn allowed_to_serve<S: RowStore + Drop>(
     timer: Timer,
     command: &Process<'_>,
 ) -> Result<(Journal<S>, Book, Timing), Fault>
-    requires kept { IsKeptBy S.is_clean S.is_ready S.rows opened.0 opened.1 }
+    requires kept { IsKeptBy S.is_clean S.is_ready S.rows S.beside opened.0 opened.1 }
     requires settled { IsSettled opened.0 }
     ensures hold { IfOk result (λ served. HoldsWhereLed change opened.1 served.1) }
     ensures limit { IfOk result (λ served. served.1.limit ≡ opened.1.limit) }
-    ensures kept { IfOk result (λ served. IsKeptBy S.is_clean S.is_ready S.rows served.0 served.1) }
+    ensures kept { IfOk result (λ served. IsKeptBy S.is_clean S.is_ready S.rows S.beside served.0 served.1) }
     ensures settled { IfOk result (λ served. IsSettled served.0) }
     ensures store { IfOk result (λ served. is_some served.0.store ≡ is_some opened.0.store) }
 {
@@ -199,36 +199,36 @@ fn sockets_of<O: Net>(
 ) -> Result<FrontSockets, Fault>
     requires { IsChecked setting.now.site.now }
 {
-    let places = places_of(setting, nodes, state)?;
+    let endpoints = endpoints_of(setting, nodes, state)?;
     let sockets = Sockets::new(setting.os, setting.rt.alloc())?;
     let waker = LoopWaker(sockets.waker()?);
     Ok(FrontSockets {
-        places,
+        endpoints,
         sockets,
         waker,
     })
 }
 
-/// The places of these fronts.
-fn places_of<O>(
+/// The endpoints of these fronts.
+fn endpoints_of<O>(
     setting: &Setting<'_, O>,
     nodes: &[NodeNo],
     state: Option<u32>,
-) -> Result<Vec<Place>, Fault>
+) -> Result<Vec<Endpoint>, Fault>
     requires { IsChecked setting.now.site.now }
 {
-    let mut places = Vec::with_capacity(setting.rt.alloc(), nodes.len())?;
+    let mut endpoints = Vec::with_capacity(setting.rt.alloc(), nodes.len())?;
     for node in nodes {
-        places.push(place_at(setting, *node)?.of_state(state))?;
+        endpoints.push(endpoint_at(setting, *node)?.of_state(state))?;
     }
-    Ok(places)
+    Ok(endpoints)
 }
 
-/// The place of a front.
-fn place_at<O>(setting: &Setting<'_, O>, node: NodeNo) -> Result<Place, Fault>
+/// The endpoint of a front.
+fn endpoint_at<O>(setting: &Setting<'_, O>, node: NodeNo) -> Result<Endpoint, Fault>
     requires { IsChecked setting.now.site.now }
 {
-    place_of(setting.rt.alloc(), setting.site, node).map_err(Fault::Place)
+    endpoint_of(setting.rt.alloc(), setting.site, node).map_err(Fault::Endpoint)
 }
 
 /// Serves as these fronts, on this book, which the journal keeps, with so many workers.
@@ -257,14 +257,14 @@ where
     requires book { book ≡ L.shared.opened }
     requires history { history ≡ L.shared.log }
     requires disk { is_some journal.store ≡ L.shared.stored }
-    requires kept { IsKeptBy S.is_clean S.is_ready S.rows journal book }
+    requires kept { IsKeptBy S.is_clean S.is_ready S.rows S.beside journal book }
     requires settled { IsSettled journal }
     requires some { 0 < workers }
     requires enough { length nodes.items * setting.now.site.now.workers ≤ workers }
     requires site { (front : NodeNo) → L.site front ≡ site_of setting.now.site.now front }
 {
     let FrontSockets {
-        places,
+        endpoints,
         sockets,
         waker,
     } = listening;
@@ -279,7 +279,7 @@ where
         &nodes,
         fronts,
         Some(jobs),
-        places,
+        endpoints,
         sockets,
         timing.timer,
         answers,
@@ -319,7 +319,7 @@ where
     requires book { book ≡ L.shared.opened }
     requires history { history ≡ L.shared.log }
     requires disk { is_some journal.store ≡ L.shared.stored }
-    requires kept { IsKeptBy S.is_clean S.is_ready S.rows journal book }
+    requires kept { IsKeptBy S.is_clean S.is_ready S.rows S.beside journal book }
     requires settled { IsSettled journal }
     requires some { 0 < workers }
     requires enough { length nodes.now * setting.now.site.now.workers ≤ workers }

@@ -7,9 +7,9 @@ use book_store::RowStore;
 use cc_shared::{SharedBook, Sharing};
 use cc_sweeper::{Changes, Looks};
 use farm_clock::Timer;
-use farm_loop::Wanted;
+use farm_event_loop::Wanted;
 use farm_status::{Job, Jobs};
-use std::alloc::AllocError;
+use std::alloc::{AllocError, Global};
 use std::rt::Clock;
 use std::sync::Wait;
 use std::thread::Threads;
@@ -37,8 +37,8 @@ where
     }
 
     /// Takes in what the jobs that are under way have come to; whether a change of the terms is done since the last look.
-    pub fn look<O: Threads>(&mut self, os: &O) -> bool {
-        self.looks.look(os);
+    pub fn look<O: Threads>(&mut self, os: &O, alloc: Global) -> bool {
+        self.looks.look(os, alloc);
         self.terms.look(os)
     }
 

@@ -5,8 +5,8 @@ ghost use Rattle.farm_base.specs.CheckedSite.{IsChecked};
 use dia_base::Identity;
 use farm_base::Site;
 use farm_command::{LogFormat, Process, Task};
+use farm_endpoints::fronts_of;
 use farm_log::{Format, Lines};
-use farm_place::fronts_of;
 use std::alloc::{AllocError, Global};
 
 /// How lines are spelled, by the words of the command.

@@ -1,5 +1,6 @@
 //! Looks at accounts of the book while fronts serve, which are asked for at the status port.
 
+use crate::charged::charge_lines;
 use crate::naming::{name_of, named_in};
 use crate::setting::Setting;
 use book_store::RowStore;
@@ -8,6 +9,7 @@ use cc_sweeper::{LookFault, Looks};
 use cc_view::Subscription;
 use farm_script::LineFault;
 use farm_status::Job;
+use std::alloc::Global;
 use std::fmt;
 use std::mem::replace;
 use std::sync::Wait;
@@ -19,8 +21,15 @@ pub enum LastLook {
     /// None was asked for yet.
     Nothing,
     /// This account is looked at.
-    UnderWay { account: String },
-    Done { account: String, found: Found },
+    UnderWay {
+        account: String,
+    },
+    /// What was found of this account, and the requests that charged it last, each on a line behind a line feed.
+    Done {
+        account: String,
+        found: Found,
+        charges: String,
+    },
     /// The text names no account.
     Unread(LineFault),
     NotBegun(LookFault),
@@ -32,7 +41,14 @@ impl fmt::Display for LastLook {
         match self {
             LastLook::Nothing => f.write_str("no account was asked for"),
             LastLook::UnderWay { account } => write!(f, "account {account} is looked at"),
-            LastLook::Done { account, found } => tell_found(f, account, *found),
+            LastLook::Done {
+                account,
+                found,
+                charges,
+            } => {
+                tell_found(f, account, *found)?;
+                f.write_str(charges)
+            }
             LastLook::Unread(fault) => write!(f, "no account was looked at: {fault}"),
             LastLook::NotBegun(fault) => write!(f, "no account was looked at: {fault}"),
             LastLook::OutOfMemory => f.write_str("no account was looked at: out of memory"),
@@ -50,7 +66,8 @@ fn tell_found<W: fmt::Write>(
         Found::Account(standing) => {
             let (balance, reserved) = (standing.balance, standing.reserved);
             write!(f, "account {account} balance {balance} reserved {reserved}")?;
-            f.write_str(if standing.closed { " closed" } else { "" })
+            f.write_str(if standing.closed { " closed" } else { "" })?;
+            write!(f, "\nsessions {}", standing.sessions)
         }
         Found::NoAccount => write!(f, "no such account: {account}"),
         Found::Closed => f.write_str("no account was looked at: the book is closed"),
@@ -120,14 +137,20 @@ where
     }
 
     /// Takes in what the look that is under way has come to.
-    pub fn look<O: Threads>(&mut self, os: &O) {
+    pub fn look<O: Threads>(&mut self, os: &O, alloc: Global) {
         let Some(result) = self.looks.collect(os) else {
             return;
         };
         let asked = replace(&mut self.last, LastLook::OutOfMemory);
-        if let (LastLook::UnderWay { account }, Ok(look)) = (asked, result) {
-            let found = look.found;
-            self.last = LastLook::Done { account, found };
+        let (LastLook::UnderWay { account }, Ok(look)) = (asked, result) else {
+            return;
+        };
+        if let Ok(charges) = charge_lines(alloc, &look.last) {
+            self.last = LastLook::Done {
+                account,
+                found: look.found,
+                charges,
+            };
         }
     }
 }

@@ -13,6 +13,7 @@
 #![tactic(auto)]
 
 mod changing;
+mod charged;
 mod fault;
 mod fronts;
 mod jobs;

@@ -5,7 +5,7 @@ use crate::fault::Fault;
 use crate::setting::Setting;
 use cc_book::Book;
 use dia_base::{Moment, NodeNo};
-use farm_loop::Live;
+use farm_event_loop::Live;
 use farm_node::Node;
 use farm_record::{Event, Recorder};
 use farm_report::report;

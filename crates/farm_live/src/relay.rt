@@ -3,7 +3,7 @@
 ghost use Rattle.std.specs.Prelude.{◌≡◌, IfOk};
 ghost use Rattle.farm_base.specs.CheckedSite.{IsChecked};
 ghost use Rattle.farm_live.specs.Serving.{IsRelayOf};
-ghost use Rattle.farm_place.specs.Places.{Serves};
+ghost use Rattle.farm_endpoints.specs.Endpoints.{Serves};
 ghost use Rattle.relay_core.specs.AnswerMatching.{compares_end};
 
 use crate::fault::Fault;
@@ -12,7 +12,7 @@ use crate::setting::Setting;
 use dia_base::{NodeKind, NodeNo};
 use farm_access::Strictness;
 use farm_base::Site;
-use farm_place::{Place, PlaceFault, place_of_relay};
+use farm_endpoints::{Endpoint, EndpointFault, endpoint_of_relay};
 use farm_world::relay_starting_at;
 use relay_core::{Matching, MatchingRelay, PartingRelay, Relay};
 use std::net::Net;
@@ -32,7 +32,7 @@ fn relay_at(rt: &HostRuntime, site: &Site, node: NodeNo) -> Result<Relay, Fault>
             let start = start_by_chance(rt);
             Ok(relay_starting_at(rt.alloc(), site, node, &found.name, start)?)
         }
-        Some(_) | None => Err(Fault::Place(PlaceFault::NoAddress)),
+        Some(_) | None => Err(Fault::Endpoint(EndpointFault::NoAddress)),
     }
 }
 
@@ -72,38 +72,38 @@ pub fn serve_relay<O: Threads + Wait + Net + Clock + RandomSource + Copy + Send 
     requires { IsChecked setting.now.site.now }
 {
     let (alloc, site) = (setting.rt.alloc(), setting.site);
-    match place_of_relay(alloc, site, name.as_bytes()) {
-        Ok(place) => serve_at(setting, place, answers),
-        Err(fault) => Err(Fault::Place(fault)),
+    match endpoint_of_relay(alloc, site, name.as_bytes()) {
+        Ok(endpoint) => serve_at(setting, endpoint, answers),
+        Err(fault) => Err(Fault::Endpoint(fault)),
     }
 }
 
-/// Serves as the relay at this place.
+/// Serves as the relay at this endpoint.
 fn serve_at<O: Threads + Wait + Net + Clock + RandomSource + Copy + Send + 'static>(
     setting: &Setting<'_, O>,
-    place: Place,
+    endpoint: Endpoint,
     answers: u64,
 ) -> Result<(), Fault>
     requires checked { IsChecked setting.now.site.now }
-    requires place { Serves setting.now.site.now place }
+    requires endpoint { Serves setting.now.site.now endpoint }
 {
     let strictness = setting.access.strictness();
-    let relay = parting_relay_at(setting.rt, setting.site, strictness, place.node)?;
-    serve_as(setting, relay, place, answers)
+    let relay = parting_relay_at(setting.rt, setting.site, strictness, endpoint.node)?;
+    serve_as(setting, relay, endpoint, answers)
 }
 
-/// Serves as this relay, at its place.
+/// Serves as this relay, at its endpoint.
 fn serve_as<O: Threads + Wait + Net + Clock + RandomSource + Copy + Send + 'static>(
     setting: &Setting<'_, O>,
     relay: PartingRelay,
-    place: Place,
+    endpoint: Endpoint,
     answers: u64,
 ) -> Result<(), Fault>
-    requires place { Serves setting.now.site.now place }
-    requires relay { IsRelayOf setting.now.site.now place.node relay.matched.relay }
+    requires endpoint { Serves setting.now.site.now endpoint }
+    requires relay { IsRelayOf setting.now.site.now endpoint.node relay.matched.relay }
     requires matching { compares_end relay.matched.matching ≡ setting.now.access.now.strict.end_to_end }
 {
-    let node = place.node;
-    let places = alone(setting.rt.alloc(), place)?;
-    serve_alone(setting, node, relay, places, answers)
+    let node = endpoint.node;
+    let endpoints = alone(setting.rt.alloc(), endpoint)?;
+    serve_alone(setting, node, relay, endpoints, answers)
 }

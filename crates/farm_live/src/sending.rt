@@ -4,14 +4,14 @@ ghost use Rattle.farm_base.specs.CheckedSite.{IsChecked};
 
 use crate::fault::Fault;
 use crate::recording::Record;
-use crate::serving::{alone, end, numbering_of, parting_places};
+use crate::serving::{alone, end, numbering_of, parting_endpoints};
 use crate::setting::Setting;
 use crate::turns::{close, turn};
 use dia_base::NodeNo;
 use dia_message::Message;
 use farm_client::{Sender, line_of, messages_of};
-use farm_loop::Live;
-use farm_place::{Place, place_of_client};
+use farm_endpoints::{Endpoint, endpoint_of_client};
+use farm_event_loop::Live;
 use farm_text::{ReadFault, read_text};
 use std::net::Net;
 use std::rt::Clock;
@@ -48,22 +48,22 @@ pub fn send<O: Threads + Wait + Net + Clock>(
     requires { IsChecked setting.now.site.now }
 {
     let (alloc, site) = (setting.rt.alloc(), setting.site);
-    let place = place_of_client(alloc, site, client.as_bytes(), peer.as_bytes()).map_err(
-        Fault::Place,
+    let endpoint = endpoint_of_client(alloc, site, client.as_bytes(), peer.as_bytes()).map_err(
+        Fault::Endpoint,
     )?;
-    send_from(setting, place)
+    send_from(setting, endpoint)
 }
 
-/// Sends as the client at this place.
+/// Sends as the client at this endpoint.
 fn send_from<O: Threads + Wait + Net + Clock>(
     setting: &Setting<'_, O>,
-    place: Place,
+    endpoint: Endpoint,
 ) -> Result<(), Fault> {
-    let (number, alloc) = (place.node, setting.rt.alloc());
+    let (number, alloc) = (endpoint.node, setting.rt.alloc());
     let messages = read_messages(setting.rt)?;
-    let places = parting_places(setting, alone(alloc, place)?)?;
+    let endpoints = parting_endpoints(setting, alone(alloc, endpoint)?)?;
     let sender = Sender::new(alloc, messages);
-    let mut live = Live::new(setting.os, alloc, setting.site, sender, places)?;
+    let mut live = Live::new(setting.os, alloc, setting.site, sender, endpoints)?;
     live.serving.number(numbering_of(setting));
     send_recorded(setting, number, live)
 }

@@ -15,8 +15,8 @@ use cc_shared::Sharing;
 use dia_base::NodeNo;
 use farm_access::Strictness;
 use farm_clock::Timer;
-use farm_loop::{Live, Sockets};
-use farm_place::Place;
+use farm_endpoints::Endpoint;
+use farm_event_loop::{Live, Sockets};
 use farm_watch::{Goodbyes, Numbering};
 use std::alloc::Global;
 use std::marker::Brand;
@@ -72,25 +72,25 @@ fn goodbyes_for(strictness: Strictness) -> Goodbyes
     }
 }
 
-/// The same places, where the nodes do with goodbyes what the site asks for.
-pub fn parting_places<O>(
+/// The same endpoints, where the nodes do with goodbyes what the site asks for.
+pub fn parting_endpoints<O>(
     setting: &Setting<'_, O>,
-    places: Vec<Place>,
-) -> Result<Vec<Place>, Fault> {
+    endpoints: Vec<Endpoint>,
+) -> Result<Vec<Endpoint>, Fault> {
     let goodbyes = goodbyes_for(setting.access.strictness());
-    let mut parting = Vec::with_capacity(setting.rt.alloc(), places.len())?;
-    for place in places {
-        parting.push(place.parting(goodbyes))?;
+    let mut parting = Vec::with_capacity(setting.rt.alloc(), endpoints.len())?;
+    for endpoint in endpoints {
+        parting.push(endpoint.parting(goodbyes))?;
     }
     Ok(parting)
 }
 
-/// Serves as one node, which stands at this place, over sockets of its own.
+/// Serves as one node, which stands at this endpoint, over sockets of its own.
 pub fn serve_alone<N, O>(
     setting: &Setting<'_, O>,
     number: NodeNo,
     node: N,
-    places: Vec<Place>,
+    endpoints: Vec<Endpoint>,
     answers: u64,
 ) -> Result<(), Fault>
 where
@@ -104,20 +104,20 @@ where
         &[number],
         node,
         None,
-        places,
+        endpoints,
         sockets,
         timer,
         answers,
     )
 }
 
-/// Serves as these nodes, which stand at these places, over these sockets and by this timer. `jobs` are done on their book, if they have one.
+/// Serves as these nodes, which stand at these endpoints, over these sockets and by this timer. `jobs` are done on their book, if they have one.
 pub fn serve_over<N, L, S, O>(
     setting: &Setting<'_, O>,
     numbers: &[NodeNo],
     node: N,
     jobs: Option<BookJobs<L, S>>,
-    places: Vec<Place>,
+    endpoints: Vec<Endpoint>,
     sockets: Sockets,
     timer: Timer,
     answers: u64,
@@ -129,8 +129,8 @@ where
     O: Threads + Wait + Net + Clock + RandomSource + Copy + Send + 'static,
 {
     let (alloc, site) = (setting.rt.alloc(), setting.site);
-    let places = parting_places(setting, places)?;
-    let mut live = Live::over(setting.os, alloc, site, sockets, node, places, timer)?;
+    let endpoints = parting_endpoints(setting, endpoints)?;
+    let mut live = Live::over(setting.os, alloc, site, sockets, node, endpoints, timer)?;
     live.serving.number(numbering_of(setting));
     live.share_room(site, setting.access.strictness())?;
     serve_recorded(setting, numbers, live, jobs, answers)

@@ -8,7 +8,7 @@ use crate::view::Booked;
 use crate::watching::Watching;
 use book_store::RowStore;
 use cc_shared::Sharing;
-use farm_loop::Live;
+use farm_event_loop::Live;
 use std::net::Net;
 use std::rt::Clock;
 use std::sync::Wait;

@@ -15,7 +15,7 @@ use dia_base::NodeNo;
 use farm_base::Site;
 use farm_clock::Timer;
 use farm_command::Process;
-use farm_loop::{Live, StatusPort};
+use farm_event_loop::{Live, StatusPort};
 use farm_node::Node;
 use farm_status::Token;
 use log::{error, info, warn};
@@ -145,7 +145,7 @@ impl Watching {
         O: Threads + Wait + Clock + Copy + Send + 'static,
     {
         if let Some(jobs) = jobs
-            && jobs.look(setting.os)
+            && jobs.look(setting.os, setting.rt.alloc())
         {
             tell_change(setting.log, jobs.last_change());
         }

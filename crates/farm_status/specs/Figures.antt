@@ -5,10 +5,10 @@ use Rattle.std.specs.List.{concat, find, flat_map}
 use Rattle.std.specs.Option.{option_map}
 use Rattle.std.specs.Global.{Global}
 use Rattle.std.specs.declared.string.String.{String}
-use Rattle.farm_tally.specs.declared.answers.Answers.{Answers}
-use Rattle.farm_tally.specs.declared.answers.CodeCount.{CodeCount}
-use Rattle.farm_tally.specs.declared.times.TimeRow.{TimeRow}
-use Rattle.farm_tally.specs.declared.times.Times.{Times}
+use Rattle.farm_metrics.specs.declared.answers.Answers.{Answers}
+use Rattle.farm_metrics.specs.declared.answers.CodeCount.{CodeCount}
+use Rattle.farm_metrics.specs.declared.times.TimeRow.{TimeRow}
+use Rattle.farm_metrics.specs.declared.times.Times.{Times}
 use Rattle.farm_status.specs.Escapes.{html_of, label_of}
 use Rattle.farm_status.specs.declared.figures.Refusal.{Refusal}
 use Rattle.farm_status.specs.declared.figures.Refusal.TheVariants.{Credit, Other}

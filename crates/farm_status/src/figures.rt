@@ -4,7 +4,7 @@ ghost use Rattle.std.specs.Prelude.{◌≡◌};
 ghost use Rattle.farm_status.specs.Figures.{has_at_least, is_refusal_of, mean, peers_up, refusals, within};
 
 use crate::status::{Peer, PeerState};
-use farm_tally::{Answers, TimeRow, Times};
+use farm_metrics::{Answers, TimeRow, Times};
 
 /// How many neighbours are up.
 pub(crate) fn peers_up(peers: &[Peer]) -> u64

@@ -8,7 +8,7 @@ use crate::escape::push_label;
 use crate::health::health_of;
 use crate::numbers::Seconds;
 use crate::status::{BookStatus, FrontStatus, Peer, PeerState, Status, Work};
-use farm_tally::{Answers, Tally};
+use farm_metrics::{Answers, Tally};
 use std::alloc::AllocError;
 
 /// A name as a text of JSON: no octet of it ends that text.

@@ -6,7 +6,7 @@ ghost use Rattle.farm_status.specs.Figures.{sample_text};
 use crate::escape::push_label;
 use crate::numbers::{Bound, Seconds};
 use crate::status::{BookStatus, FrontStatus, Peer, PeerState, Status, Work};
-use farm_tally::{Answers, Times};
+use farm_metrics::{Answers, Times};
 use std::alloc::AllocError;
 
 /// What kind of number a metric is.

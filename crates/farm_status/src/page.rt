@@ -11,7 +11,7 @@ use crate::names::code_name;
 use crate::numbers::{Grouped, Seconds, Size, Span, percent};
 use crate::status::{BookStatus, FrontStatus, Peer, PeerState, Status, Work};
 use crate::tiles::push_tiles;
-use farm_tally::{Answers, Times};
+use farm_metrics::{Answers, Times};
 use std::alloc::AllocError;
 
 /// What stands above the names: the page comes anew every five seconds, and loads nothing else.

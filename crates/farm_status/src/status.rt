@@ -1,6 +1,6 @@
 //! What a node says of itself.
 
-use farm_tally::Tally;
+use farm_metrics::Tally;
 
 /// Where the connection with a neighbour stands.
 #[derive(Clone, Copy, PartialEq, Eq)]

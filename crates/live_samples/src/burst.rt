@@ -7,9 +7,9 @@ use crate::site::{FRONT, RELAY, relay, site_here};
 use dia_avp::ViewWire;
 use dia_base::ConnId;
 use farm_base::Site;
-use farm_loop::{Outgoing, PIECE};
-use farm_place::place_of_relay;
-use farm_serve::{LocalNode, NameRule, Refusal, Serving};
+use farm_connections::{LocalNode, NameRule, Refusal, Serving};
+use farm_endpoints::endpoint_of_relay;
+use farm_event_loop::{Outgoing, PIECE};
 use relay_core::Relay;
 use samples_given::{
     CEA, CLIENT_CER, DEBIT, MOMENT, Served, Ways, accept, end_of, octets, stream_of, unsent,
@@ -45,10 +45,10 @@ fn debits(alloc: Global) -> anyhow::Result<Vec<u8>> {
 fn locals(alloc: Global, site: &Site) -> anyhow::Result<Vec<LocalNode>>
     requires { IsChecked site.now }
 {
-    let place = place_of_relay(alloc, site, b"r1.example")?;
+    let endpoint = endpoint_of_relay(alloc, site, b"r1.example")?;
     let local = LocalNode {
-        node: place.node,
-        site: place.watch,
+        node: endpoint.node,
+        site: endpoint.watch,
     };
     Ok(vec![in alloc; local]?)
 }

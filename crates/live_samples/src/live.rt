@@ -8,9 +8,9 @@ use dia_base::NodeNo;
 use farm_access::Access;
 use farm_base::Site;
 use farm_client::{Sender, line_of, messages_of};
-use farm_loop::Live;
+use farm_endpoints::{Endpoint, endpoint_of, endpoint_of_client, endpoint_of_relay};
+use farm_event_loop::Live;
 use farm_node::Node;
-use farm_place::{Place, place_of, place_of_client, place_of_relay};
 use log::sink::Console;
 use log::{LevelFilter, Logged};
 use relay_core::Relay;
@@ -36,10 +36,10 @@ pub fn live<N: Node + Drop>(
     rt: &HostRuntime,
     site: &Site,
     node: N,
-    place: Place,
+    endpoint: Endpoint,
 ) -> anyhow::Result<Live<N>> {
-    let places = vec![in rt.alloc(); place]?;
-    Ok(Live::new(rt, rt.alloc(), site, node, places)?)
+    let endpoints = vec![in rt.alloc(); endpoint]?;
+    Ok(Live::new(rt, rt.alloc(), site, node, endpoints)?)
 }
 
 /// Has a process recorded, which is this node.
@@ -82,17 +82,17 @@ fn print_record(rt: &HostRuntime, name: &str, lines: &[u8]) -> anyhow::Result<()
 fn front_of(rt: &HostRuntime, site: &Site) -> anyhow::Result<Live<Fronts>>
     requires { IsChecked site.now }
 {
-    let place = place_of(rt.alloc(), site, FRONT)?;
+    let endpoint = endpoint_of(rt.alloc(), site, FRONT)?;
     let fronts = fronts_of(rt.alloc(), &[(FRONT, "f1.example")])?;
-    live(rt, site, fronts, place)
+    live(rt, site, fronts, endpoint)
 }
 
 /// The relay r1.example of a site.
 pub fn relay_of(rt: &HostRuntime, site: &Site) -> anyhow::Result<Live<Relay>>
     requires { IsChecked site.now }
 {
-    let place = place_of_relay(rt.alloc(), site, b"r1.example")?;
-    live(rt, site, relay(rt.alloc(), site)?, place)
+    let endpoint = endpoint_of_relay(rt.alloc(), site, b"r1.example")?;
+    live(rt, site, relay(rt.alloc(), site)?, endpoint)
 }
 
 /// The client, which has the debit to send.
@@ -103,8 +103,8 @@ fn sender(alloc: Global) -> anyhow::Result<Sender> {
 fn client_of(rt: &HostRuntime, site: &Site) -> anyhow::Result<Live<Sender>>
     requires { IsChecked site.now }
 {
-    let place = place_of_client(rt.alloc(), site, b"c1.example", b"r1.example")?;
-    live(rt, site, sender(rt.alloc())?, place)
+    let endpoint = endpoint_of_client(rt.alloc(), site, b"c1.example", b"r1.example")?;
+    live(rt, site, sender(rt.alloc())?, endpoint)
 }
 
 impl Farm<'_> {

@@ -10,8 +10,8 @@ use crate::site::{host, site_of};
 use dia_base::NodeNo;
 use farm_access::Access;
 use farm_base::Site;
-use farm_loop::Live;
-use farm_place::place_of;
+use farm_endpoints::endpoint_of;
+use farm_event_loop::Live;
 use log::sink::Writer;
 use log::{LevelFilter, Logged};
 use relay_core::Relay;
@@ -215,9 +215,9 @@ fn front_of(rt: &HostRuntime, site: &Site, case: Case<'_>) -> anyhow::Result<Liv
     requires { IsChecked site.now }
 {
     let (node, name) = case.front();
-    let place = place_of(rt.alloc(), site, node)?;
+    let endpoint = endpoint_of(rt.alloc(), site, node)?;
     let fronts = fronts_of(rt.alloc(), &[(node, name)])?;
-    live(rt, site, fronts, place)
+    live(rt, site, fronts, endpoint)
 }
 
 /// Whether some node is up at the relay.

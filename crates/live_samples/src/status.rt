@@ -8,8 +8,8 @@ mod asking;
 mod fronts;
 mod health;
 
+use farm_metrics::{Tally, code_of_answer};
 use farm_status::{Status, push_json, push_metrics, push_page};
-use farm_tally::{Tally, code_of_answer};
 use fronts::{status_of, tally_of};
 use std::alloc::Global;
 use std::random::RandomSource;

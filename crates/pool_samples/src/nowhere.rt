@@ -1,7 +1,9 @@
 //! What a book in memory alone is stored in: nothing.
 
 ghost use Rattle.std.specs.Prelude.{[]};
+ghost use Rattle.book_beside.specs.Beside.{nothing};
 
+use book_beside::{Side, Write};
 use book_rows::{Standing, Sum};
 use book_store::{AppendError, RowError, RowStore};
 use dia_base::Moment;
@@ -19,6 +21,8 @@ impl RowStore for Nowhere {
     ghost about = { λ store. [] };
 
     ghost rows = { λ store. [] };
+
+    ghost beside = { λ store. nothing };
 
     ghost may_leave = { λ store left. ⊥ };
 
@@ -45,11 +49,20 @@ impl RowStore for Nowhere {
         _alloc: Global,
         _place: u64,
         _batch: &[Vec<u8>],
+        _writes: &[Write],
     ) -> Result<(), AppendError> {
         Err(AppendError::NotBehind)
     }
 
     fn row(&mut self, _alloc: Global, _place: u64) -> Result<Vec<u8>, RowError> {
+        Err(RowError::Damaged)
+    }
+
+    fn count_beside(&mut self, _alloc: Global, _side: Side) -> Result<u64, RowError> {
+        Err(RowError::Damaged)
+    }
+
+    fn beside_at(&mut self, _alloc: Global, _side: Side, _place: u64) -> Result<Vec<u8>, RowError> {
         Err(RowError::Damaged)
     }
 }

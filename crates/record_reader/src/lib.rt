@@ -8,13 +8,15 @@
 //!   has numbers of its own (`process`).
 //! - [`BookEntries`]: the entries of a book on disk, by their places. A request is found there by its [`RequestKey`].
 //!
-//! docs/RECORD.md has the format.
+//! docs/RECORD.md has the format. `specs/Reading` has what a line says, `specs/Telling` what a process can tell, which is read back
+//! ([`what_is_told_is_read`]).
 #![tactic(auto)]
 
 mod book;
 mod entry;
 mod fault;
 mod group;
+mod laws;
 mod lines;
 mod position;
 mod process;
@@ -27,6 +29,7 @@ pub use book::{BookEntries, BookEntry, BookEntryKind, RequestKey};
 pub use entry::{Action, End, Entry, Finished, NodeEvent, Sweep};
 pub use fault::{EntryFault, RecordFault};
 pub use group::{Group, GroupFault, Groups};
+pub use laws::what_is_told_is_read;
 pub use lines::{LINE_LIMIT, LinesFault, RecordLines};
 pub use position::{Position, Source};
 pub use reading::event_of;

@@ -3,9 +3,9 @@
 use crate::streams::{Stream, Ways, stream_of};
 use dia_avp::ViewWire;
 use dia_base::{ConnId, Moment, NodeNo};
+use farm_connections::{End, Refusal, Serving};
 use farm_net::Counted;
 use farm_node::Node;
-use farm_serve::{End, Refusal, Serving};
 use std::alloc::Global;
 
 /// What a connection reads.

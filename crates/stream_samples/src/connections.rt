@@ -7,7 +7,7 @@ use crate::messages::ANSWER;
 use crate::sites::{FRONT, fronts};
 use dia_avp::ViewWire;
 use dia_base::{ConnId, Moment};
-use farm_serve::{End, Serving};
+use farm_connections::{End, Serving};
 use samples_given::{MOMENT, Served, Ways, accept, end_of, message, unsent, written};
 use std::alloc::Global;
 

@@ -3,7 +3,7 @@
 use crate::sites::fronts;
 use dia_avp::ViewWire;
 use dia_base::{ConnId, NodeNo};
-use farm_serve::{Refusal, Serving};
+use farm_connections::{Refusal, Serving};
 use samples_given::{
     CER, DEBIT, Fronts, MOMENT, Served, Ways, accept, fronts_of, octets, read, written,
 };

@@ -5,7 +5,7 @@ use crate::farm::{Farm, locals};
 use crate::sites::RELAY;
 use dia_avp::ViewWire;
 use dia_base::{ConnId, Moment};
-use farm_serve::{Ended, Serving};
+use farm_connections::{Ended, Serving};
 use hex::FromHexError;
 use samples_given::{MOMENT, Reader, Served, Ways, Writer, accept};
 use std::alloc::{AllocError, Global};

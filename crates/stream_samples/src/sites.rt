@@ -1,7 +1,7 @@
 //! What the connections of nodes know of them.
 
 use dia_base::{Identity, Listing, NodeNo};
-use farm_serve::LocalNode;
+use farm_connections::LocalNode;
 use farm_watch::{Application, Goodbyes, HostAddress, Neighbour, WatchSite};
 use std::alloc::Global;
 

@@ -6,7 +6,7 @@ use crate::messages::DPR;
 use crate::sites::FRONT;
 use dia_avp::ViewWire;
 use dia_base::{ConnId, Moment};
-use farm_serve::{Refusal, UNKNOWN_LIMIT};
+use farm_connections::{Refusal, UNKNOWN_LIMIT};
 use samples_given::{CER, MOMENT, Served, Ways, accept, octets, read};
 use std::alloc::Global;
 use std::io::ErrorKind;

@@ -5,6 +5,7 @@ ghost use Rattle.cc_book.specs.declared.terms_change.ChangeRefusal.TheVariants.{
 
 use super::BookState;
 use crate::book::free_place;
+use crate::charges::NO_CHARGE;
 use crate::entry::Entry;
 use crate::terms::Terms;
 use crate::terms_change::{ChangeRefusal, TermsChange};
@@ -57,6 +58,7 @@ impl BookState {
         self.history
             .push_reserved(Entry::ChangeTerms { moment, change });
         self.replies.push_reserved(None);
+        self.charges.push_reserved(NO_CHARGE);
         Ok(place)
     }
 }

@@ -5,6 +5,7 @@ ghost use Rattle.cc_book.specs.Taking.{AnswersRepeat};
 
 use super::BookState;
 use crate::book::{Answered, BookRefusal, free_place};
+use crate::charges::Charge;
 use crate::content::same_request;
 use crate::copy::{RequestCopy, copy_of_reply};
 use crate::entry::Entry;
@@ -94,6 +95,10 @@ impl BookState {
         self.places.add(session, request.number, self.history.len());
         self.history.push_reserved(Entry::Take { moment, request });
         self.replies.push_reserved(Some(outcome.reply));
+        self.charges.push_reserved(Charge {
+            account: outcome.account,
+            debit: outcome.debit,
+        });
         self.standing.debit(outcome.account, outcome.debit);
         self.standing.change(opened, outcome.change);
     }

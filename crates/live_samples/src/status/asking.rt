@@ -1,8 +1,8 @@
 //! A request over HTTP, in memory.
 
 use crate::status::fronts::status_of;
+use farm_metrics::Tally;
 use farm_status::{Answering, Job, Jobs, Source, Status, Token};
-use farm_tally::Tally;
 use http_server::{Config, Connection};
 use std::alloc::{AllocError, Global};
 use std::hash::RandomState;

@@ -1,8 +1,8 @@
 //! Two fronts, one of which has a name that is no word.
 
 use dia_base::{ConnId, Moment};
+use farm_metrics::Tally;
 use farm_status::{BookStatus, Connections, FrontStatus, Peer, PeerState, Status, Work};
-use farm_tally::Tally;
 use std::alloc::{AllocError, Global};
 
 /// Three requests, four answers, a failover and a request that was given up. One answer is to no request.

@@ -29,7 +29,10 @@ pub fn batch(alloc: Global, rows: &[Vec<u8>], first: usize, end: usize) -> anyho
     for row in rows.iter().take(end).skip(first) {
         batch.push(Vec::from_slice(alloc, row.as_slice())?)?;
     }
-    Ok(Batch { rows: batch })
+    Ok(Batch {
+        rows: batch,
+        writes: Vec::new(alloc),
+    })
 }
 
 /// Whether the row of a place is this one.
@@ -81,7 +84,7 @@ fn print_elsewhere<L: RowStore>(
     requires { L.is_clean store.old → L.is_ready store.old }
     ensures { OnOk result (L.is_clean store.new → L.is_ready store.new) }
 {
-    match store.append(alloc, place, &batch.rows) {
+    match store.append(alloc, place, &batch.rows, &batch.writes) {
         Ok(()) => println!(rt; "appended at {place}")?,
         Err(AppendError::NotBehind) => println!(rt;
             "at {place}: the rows do not begin behind the last one"

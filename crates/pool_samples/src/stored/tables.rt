@@ -31,13 +31,19 @@ fn table(name: &'static str) -> Object<'static>
     }
 }
 
-/// A database with two empty tables.
+/// A database with the empty trees of a book.
 pub fn empty(alloc: Global) -> anyhow::Result<MemStore>
     ensures tables { IfOk result (λ store. HasTables (memory_view store)) }
     ensures fresh { IfOk result (λ store. IsFresh (memory_view store)) }
     ensures reopens { IfOk result (λ store. MayReopen (memory_view store)) }
 {
-    let store = MemStore::new(alloc, &[table("entry"), table("book")])?;
+    let trees = [
+        table("entry"),
+        table("book"),
+        table("account"),
+        table("session"),
+    ];
+    let store = MemStore::new(alloc, &trees)?;
     Ok(store)
 }
 

@@ -15,6 +15,7 @@ loop-place-preserved g c =
       ready = λ a. c.in_ok-waiting.ensures.ready a;
       same = λ a. c.in_ok-waiting.ensures.same a ∙ c.loop-place.invariant.same (c.in_ok-waiting.ensures.clean a);
       same_book = λ a. c.in_ok-waiting.ensures.same_book a ∙ c.loop-place.invariant.same_book (c.in_ok-waiting.ensures.clean a);
+      same_beside = λ a. c.in_ok-waiting.ensures.same_beside a ∙ c.loop-place.invariant.same_beside (c.in_ok-waiting.ensures.clean a);
       count = λ a. c.loop-place.invariant.count (c.in_ok-waiting.ensures.clean a);
       unharmed = λ left leaves. c.loop-place.invariant.unharmed left (c.in_ok-waiting.ensures.unharmed left leaves);
       reopens = λ may. c.in_ok-waiting.ensures.reopens (c.loop-place.invariant.reopens may);
@@ -25,10 +26,12 @@ loop-place-preserved g c =
           one_more_copied rows seen before after place (omega (arith, counted, c.loop-place-test.true)) (c.loop-place.invariant.same (c.in_ok-waiting.ensures.clean a)) (c.in_ok-waiting.ensures.copied a b)
           (c.loop-place.invariant.copied (c.in_ok-waiting.ensures.clean a) (c.in_ok-waiting.ensures.copy_clean b));
       copy_of = λ b. c.in_ok-waiting.ensures.copy_of b ∙ c.loop-place.invariant.copy_of (c.in_ok-waiting.ensures.copy_clean b);
+      copy_beside = λ b. c.in_ok-waiting.ensures.copy_beside b ∙ c.loop-place.invariant.copy_beside (c.in_ok-waiting.ensures.copy_clean b);
       crash = λ a b left leaves.
           let counted = c.loop-place.invariant.count (c.in_ok-waiting.ensures.clean a) in
-          begins_with_more (g.B.RowStore.about c.args.copy.now) (g.B.RowStore.about c.loop-place.copy) rows seen before place left (g.B.RowStore.may_leave c.loop-place.copy left)
+          begins_with_more (g.B.RowStore.about c.args.copy.now) rows (g.B.RowStore.beside c.args.copy.now) left (g.B.RowStore.about c.loop-place.copy) seen before (g.B.RowStore.beside c.loop-place.copy) place (g.B.RowStore.may_leave c.loop-place.copy left)
           (omega (arith, counted, c.loop-place-test.true)) (c.loop-place.invariant.copy_of (c.in_ok-waiting.ensures.copy_clean b)) (c.loop-place.invariant.same (c.in_ok-waiting.ensures.clean a))
+          (c.loop-place.invariant.copy_beside (c.in_ok-waiting.ensures.copy_clean b))
           (c.loop-place.invariant.copied (c.in_ok-waiting.ensures.clean a) (c.in_ok-waiting.ensures.copy_clean b))
           (λ stands. c.loop-place.invariant.crash (c.in_ok-waiting.ensures.clean a) (c.in_ok-waiting.ensures.copy_clean b) left stands)
           (c.in_ok-waiting.ensures.crash a b left leaves);

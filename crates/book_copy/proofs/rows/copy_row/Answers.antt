@@ -13,7 +13,7 @@ returns-in_err-append_all-clause-crash g c = λ clean copy_clean left leaves.
     let pushed : c.deref.result.now ≡ waiting ++ octets ∷ [] = c.deref.ensures.value ∙ c.in_ok-push.ensures.items in
     let more : stored ++ octets_in c.deref.result.now ≡ (stored ++ octets_in waiting) ++ row ∷ [] =
     ap (λ (xs : List (Vec ℕ)). stored ++ octets_in xs) pushed ∙ one_more_waits stored waiting octets row (c.in_ok-octets.ensures.octets clean) in
-    leaves_all (g.B.RowStore.about c.args.copy.now) (stored ++ octets_in c.deref.result.now) ((stored ++ octets_in waiting) ++ row ∷ []) left (g.B.RowStore.may_leave c.args.copy.now left) more (c.append_all.ensures.crash copy_clean left leaves)
+    leaves_all (g.B.RowStore.about c.args.copy.now) (stored ++ octets_in c.deref.result.now) ((stored ++ octets_in waiting) ++ row ∷ []) (g.B.RowStore.beside c.args.copy.now) left (g.B.RowStore.may_leave c.args.copy.now left) more (c.append_all.ensures.crash copy_clean left leaves)
 
 pub returns-clause-crash : goal.returns-clause-crash
 returns-clause-crash g c = λ clean copy_clean left leaves.
@@ -24,4 +24,4 @@ returns-clause-crash g c = λ clean copy_clean left leaves.
     let pushed : c.deref.result.now ≡ waiting ++ octets ∷ [] = c.deref.ensures.value ∙ c.in_ok-push.ensures.items in
     let more : stored ++ octets_in c.deref.result.now ≡ (stored ++ octets_in waiting) ++ row ∷ [] =
     ap (λ (xs : List (Vec ℕ)). stored ++ octets_in xs) pushed ∙ one_more_waits stored waiting octets row (c.in_ok-octets.ensures.octets clean) in
-    leaves_all (g.B.RowStore.about c.args.copy.now) (stored ++ octets_in c.deref.result.now) ((stored ++ octets_in waiting) ++ row ∷ []) left (g.B.RowStore.may_leave c.args.copy.now left) more (c.append_all.ensures.crash copy_clean left leaves)
+    leaves_all (g.B.RowStore.about c.args.copy.now) (stored ++ octets_in c.deref.result.now) ((stored ++ octets_in waiting) ++ row ∷ []) (g.B.RowStore.beside c.args.copy.now) left (g.B.RowStore.may_leave c.args.copy.now left) more (c.append_all.ensures.crash copy_clean left leaves)

@@ -21,6 +21,7 @@ loop-place-preserved g c =
       λ clean. c.in_ok-sum.ensures.same_book clean ∙ c.loop-place.invariant.7 (c.in_ok-sum.ensures.clean clean),
       still_under c.args.book.now c.loop-place.book c.take_row.new.book more.0 c.in_ok-sum.sum.0 more.1 c.loop-place.invariant.8,
       more.1.last,
+      λ clean. c.in_ok-sum.ensures.same_beside clean ∙ c.loop-place.invariant.10 (c.in_ok-sum.ensures.clean clean),
     )
 
 pub loop-place-init : goal.loop-place-init
@@ -35,4 +36,5 @@ loop-place-init g c = (
   λ _. refl,
   record { terms = refl; limit = refl },
   sym (no_sum c.args.book.now c.requires.none),
+  λ _. refl,
 )

@@ -16,3 +16,4 @@ invariant-loop-place g l =
     × (g.S.RowStore.is_clean l.store → g.S.RowStore.about l.store ≡ g.S.RowStore.about l.fn.store)
     × IsUnder l.fn.book l.book
     × (l.sum.0 ≡ sum_in l.book)
+    × (g.S.RowStore.is_clean l.store → g.S.RowStore.beside l.store ≡ g.S.RowStore.beside l.fn.store)

@@ -17,4 +17,5 @@ loop-place-preserved g c =
       λ left leaves. c.loop-place.invariant.5 left (c.in_ok-sum.ensures.crash left leaves),
       λ may. c.in_ok-sum.ensures.reopens (c.loop-place.invariant.6 may),
       λ clean. c.in_ok-sum.ensures.same_book clean ∙ c.loop-place.invariant.7 (c.in_ok-sum.ensures.clean clean),
+      λ clean. c.in_ok-sum.ensures.same_beside clean ∙ c.loop-place.invariant.8 (c.in_ok-sum.ensures.clean clean),
     )

@@ -13,3 +13,4 @@ invariant-loop-place g l =
     × ((left : Stored) → g.L.RowStore.may_leave l.store left → g.L.RowStore.may_leave l.fn.store left)
     × (g.L.RowStore.may_reopen l.fn.store → g.L.RowStore.may_reopen l.store)
     × (g.L.RowStore.is_clean l.store → g.L.RowStore.about l.store ≡ g.L.RowStore.about l.fn.store)
+    × (g.L.RowStore.is_clean l.store → g.L.RowStore.beside l.store ≡ g.L.RowStore.beside l.fn.store)

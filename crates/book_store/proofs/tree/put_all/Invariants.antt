@@ -2,6 +2,7 @@ use Rattle.std.proofs.Common.{◌≡◌, ◌+◌, drop}
 use Rattle.sqlite_trees.specs.Tree.{Trees}
 use Rattle.sqlite_trees.specs.View.{IsClean}
 use Rattle.sqlite_trees.specs.declared.store.Shape.TheVariants.{Table}
+use Rattle.book_beside.specs.Beside.{beside_in}
 use Rattle.book_store.specs.Damage.{KeepsShapes}
 use Rattle.book_store.specs.Table.{octets_in, put_from}
 use Rattle.book_store.proofs.tree.put_all.Given as goal
@@ -15,4 +16,5 @@ invariant-loop-octets g l =
     × (IsClean (g.S.Store.view l.store) → IsClean (g.S.Store.view l.fn.store))
     × ((db : Trees) → g.S.Store.recovers l.store db → g.S.Store.recovers l.fn.store db)
     × (IsClean (g.S.Store.view l.store) → (g.S.Store.view l.store).trees 1 ≡ (g.S.Store.view l.fn.store).trees 1)
+    × (IsClean (g.S.Store.view l.store) → beside_in (g.S.Store.view l.store).trees ≡ beside_in (g.S.Store.view l.fn.store).trees)
     × KeepsShapes (g.S.Store.view l.fn.store) (g.S.Store.view l.store)

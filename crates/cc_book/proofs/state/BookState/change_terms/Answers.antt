@@ -1,12 +1,14 @@
 use Rattle.std.proofs.Common.{◌≡◌, ◌^◌, ◌++◌, ◌∷◌, [], All, List, length, length-append, refl, ap, subst, sym, ◌∙◌, arith}
-use Rattle.std.specs.Prelude.{ℤ, negsuc, pos, ◌≤ℤ◌}
+use Rattle.std.specs.Prelude.{ℤ, None, negsuc, pos, ◌≤ℤ◌}
 use Rattle.std.proofs.lemmas.List.{length-map}
 use Rattle.cc_book.specs.declared.account.Account.{Account}
+use Rattle.cc_book.specs.declared.charges.Charge.{Charge}
 use Rattle.cc_book.specs.declared.entry.Entry.{Entry}
 use Rattle.cc_book.specs.declared.entry.Entry.TheVariants.{ChangeTerms}
 use Rattle.cc_book.specs.declared.terms.Terms.{Terms}
 use Rattle.cc_book.specs.declared.terms_change.TermsChange.{TermsChange}
 use Rattle.cc_book.specs.AccountMachine.{terms_of}
+use Rattle.cc_book.specs.Charging.{charges_of}
 use Rattle.cc_book.specs.Changing.{change_answer}
 use Rattle.cc_book.specs.Places.{HasPlaces, IsIndexed}
 use Rattle.cc_book.specs.Standing.{openings_of}
@@ -14,6 +16,7 @@ use Rattle.cc_book.specs.Taking.{IsBook, Ledger}
 use Rattle.cc_book.specs.TermsChange.{changed_terms}
 use Rattle.cc_book.proofs.Books.{replies-long, same-book}
 use Rattle.cc_book.proofs.Changing.{IsBook-change, made-change}
+use Rattle.cc_book.proofs.Charging.{charges-long, charges-push}
 use Rattle.cc_book.proofs.Placing.{IsIndexed-keyless}
 use Rattle.cc_book.proofs.Postings.{terms_of-change}
 use Rattle.cc_book.proofs.state.BookState.change_terms.Goals as goal
@@ -25,6 +28,14 @@ push_reserved-requires-2 c =
     (ap (λ (l : Ledger). change_answer l c.args.change) c.self.view_is ∙ c.in_ok-place.ensures.answer) in
     let long = replies-long c.self.invariant.0 in
     omega (arith, made.1, c.self.invariant.1.for_replies, c.self.inside.replies.ok.0)
+
+pub push_reserved-requires-3 : goal.push_reserved-requires-3
+push_reserved-requires-3 c =
+    let ledger : Ledger = record { terms = c.self.inside.terms.begun; limit = c.self.inside.limit; history = c.self.inside.history.items } in
+    let room = (made-change ledger c.args.change c.in_ok-place.place
+    (ap (λ (l : Ledger). change_answer l c.args.change) c.self.view_is ∙ c.in_ok-place.ensures.answer)).1 in
+    let long = ap length c.self.invariant.7 ∙ charges-long c.self.inside.terms.begun c.self.inside.history.items in
+    omega (arith, room, c.self.invariant.8, c.self.inside.charges.ok.0)
 
 pub invariant_of-self-2 : goal.invariant_of-self-2
 invariant_of-self-2 c =
@@ -72,4 +83,9 @@ invariant_of-self-2 c =
           ∙ sym (ap (λ (es : List Entry). terms_of inside.terms.begun es) pushed
           ∙ terms_of-change inside.terms.begun history c.args.moment c.args.change)
           ∙ ap (λ (t : Terms). terms_of t c.push_reserved.new.self.items) (sym c.in_ok-change.ensures.begun),
+      c.push_reserved-3.ensures.items
+          ∙ ap (λ (cs : List Charge). cs ++ record { account = None; debit = pos 0 } ∷ []) c.self.invariant.7
+          ∙ sym (ap (λ (es : List Entry). charges_of inside.terms.begun es) pushed ∙ charges-push inside.terms.begun history entry)
+          ∙ ap (λ (t : Terms). charges_of t c.push_reserved.new.self.items) (sym c.in_ok-change.ensures.begun),
+      omega (arith, c.self.invariant.8, c.push_reserved-3.ensures.capacity),
     )

@@ -3,9 +3,11 @@ use Rattle.std.specs.Int.{w128}
 use Rattle.std.specs.Prelude.{ℤ}
 use Rattle.std.proofs.lemmas.Int.{to_z-of_z}
 use Rattle.cc_view.specs.declared.request.CcRequest.{CcRequest}
+use Rattle.cc_book.specs.declared.charges.Charge.{Charge}
 use Rattle.cc_book.specs.declared.entry.Entry.{Entry}
 use Rattle.cc_book.specs.declared.entry.Entry.TheVariants.{Take}
 use Rattle.cc_book.specs.declared.session.OpenSession.{OpenSession}
+use Rattle.cc_book.specs.Charging.{charges_of}
 use Rattle.cc_book.specs.Duplicate.{Key, key_of}
 use Rattle.cc_book.specs.History.{IsNew}
 use Rattle.cc_book.specs.Places.{HasPlaces, IsIndexed}
@@ -15,6 +17,7 @@ use Rattle.cc_book.specs.OpenSessions.{FitsIn, Sessions}
 use Rattle.cc_book.specs.Standing.{after_change, after_debit, reserved_in}
 use Rattle.cc_book.specs.Taking.{Ledger}
 use Rattle.cc_book.proofs.Books.{IsBook-push, account-within, replies-long, same-book, small-book, taking-outcome}
+use Rattle.cc_book.proofs.Charging.{charges-long, charges-push}
 use Rattle.cc_book.proofs.Outcomes.{after_debit-length}
 use Rattle.cc_book.proofs.Postings.{terms_of-take}
 use Rattle.cc_book.proofs.Fitting.{Fits, change-fits}
@@ -32,6 +35,12 @@ push_reserved-requires-2 c =
     let taking = subst (λ (l : Ledger). IsTaking l c.args.taken) (sym c.self.view_is) c.requires in
     let long = replies-long c.self.invariant.0 in
     omega (arith, taking.room, c.self.invariant.1.for_replies, c.self.inside.replies.ok.0)
+
+pub push_reserved-requires-3 : goal.push_reserved-requires-3
+push_reserved-requires-3 c =
+    let room = (subst (λ (l : Ledger). IsTaking l c.args.taken) (sym c.self.view_is) c.requires).room in
+    let long = ap length c.self.invariant.7 ∙ charges-long c.self.inside.terms.begun c.self.inside.history.items in
+    omega (arith, room, c.self.invariant.8, c.self.inside.charges.ok.0)
 
 pub change-requires-clause-room : goal.change-requires-clause-room
 change-requires-clause-room c =
@@ -123,4 +132,11 @@ invariant_of-self c =
       c.self.invariant.6
           ∙ sym (ap (λ (es : List Entry). terms_of c.self.inside.terms.begun es) pushed
           ∙ terms_of-take c.self.inside.terms.begun c.self.inside.history.items c.args.taken.moment c.args.taken.request),
+      c.push_reserved-3.ensures.items
+          ∙ ap (λ (debit : ℤ). c.self.inside.charges.items ++ record { account = outcome.account; debit = debit } ∷ []) (to_z-of_z w128 outcome.debit fits)
+          ∙ ap (λ (cs : List Charge). cs ++ record { account = outcome.account; debit = outcome.debit } ∷ []) c.self.invariant.7
+          ∙ (λ i. charges_of c.self.inside.terms.begun c.self.inside.history.items ++ record { account = does.account i; debit = does.debit i } ∷ [])
+          ∙ sym (ap (λ (es : List Entry). charges_of c.self.inside.terms.begun es) pushed
+          ∙ charges-push c.self.inside.terms.begun c.self.inside.history.items (Take c.args.taken.moment c.args.taken.request)),
+      omega (arith, c.self.invariant.8, c.push_reserved-3.ensures.capacity),
     )

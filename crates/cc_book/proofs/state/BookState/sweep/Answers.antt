@@ -1,12 +1,15 @@
-use Rattle.std.proofs.Common.{◌≡◌, ℕ, ◌<◌, List, length, Ok, Vec, Global, ap, refl, subst, sym, ◌∙◌, arith, ◌∷◌, [], length-append}
-use Rattle.std.specs.Prelude.{ℤ, count_by}
+use Rattle.std.proofs.Common.{◌≡◌, ℕ, ◌<◌, List, length, Ok, Vec, Global, ap, refl, subst, sym, ◌∙◌, arith, ◌∷◌, ◌++◌, [], length-append}
+use Rattle.std.specs.Prelude.{ℤ, count_by, None, pos}
+use Rattle.cc_book.specs.declared.charges.Charge.{Charge}
 use Rattle.cc_book.specs.declared.entry.Entry.{Entry}
 use Rattle.cc_book.specs.declared.entry.Entry.TheVariants.{Sweep}
 use Rattle.cc_book.specs.AccountMachine.{terms_of}
+use Rattle.cc_book.specs.Charging.{charges_of}
 use Rattle.cc_book.specs.Places.{HasPlaces, IsIndexed}
 use Rattle.cc_book.specs.Standing.{is_due, without_due}
 use Rattle.cc_book.specs.Taking.{Ledger, sweep_answer}
 use Rattle.cc_book.proofs.Books.{replies-long, same-book, small-book}
+use Rattle.cc_book.proofs.Charging.{charges-long, charges-push}
 use Rattle.cc_book.proofs.Placing.{IsIndexed-keyless}
 use Rattle.cc_book.proofs.Postings.{terms_of-sweep}
 use Rattle.cc_book.proofs.Sweeps.{IsBook-sweep, sweep-has_room, sweep-some}
@@ -18,6 +21,13 @@ push_reserved-requires-2 c =
     let room : length c.self.inside.history.items < c.self.inside.limit = sweep-has_room _ c.args.moment c.in_ok-ended.ended c.if-ended-eq0.false answer in
     let long = replies-long c.self.invariant.0 in
     omega (arith, c.self.invariant.1.for_replies, c.self.inside.replies.ok.0)
+
+pub push_reserved-requires-3 : goal.push_reserved-requires-3
+push_reserved-requires-3 c =
+    let answer = ap (λ (l : Ledger). sweep_answer l c.args.moment) c.self.view_is ∙ c.in_ok-ended.ensures.answer in
+    let room : length c.self.inside.history.items < c.self.inside.limit = sweep-has_room _ c.args.moment c.in_ok-ended.ended c.if-ended-eq0.false answer in
+    let long = ap length c.self.invariant.7 ∙ charges-long c.self.inside.terms.begun c.self.inside.history.items in
+    omega (arith, room, c.self.invariant.8, c.self.inside.charges.ok.0)
 
 pub sweep-requires : goal.sweep-requires
 sweep-requires c = (small-book c.self.invariant.0).held
@@ -53,4 +63,9 @@ invariant_of-self c =
       c.self.invariant.6
           ∙ sym (ap (λ (es : List Entry). terms_of c.self.inside.terms.begun es) c.push_reserved.ensures.items
           ∙ terms_of-sweep c.self.inside.terms.begun c.self.inside.history.items c.args.moment),
+      c.push_reserved-3.ensures.items
+          ∙ ap (λ (cs : List Charge). cs ++ record { account = None; debit = pos 0 } ∷ []) c.self.invariant.7
+          ∙ sym (ap (λ (es : List Entry). charges_of c.self.inside.terms.begun es) c.push_reserved.ensures.items
+          ∙ charges-push c.self.inside.terms.begun c.self.inside.history.items (Sweep c.args.moment)),
+      omega (arith, c.self.invariant.8, c.push_reserved-3.ensures.capacity),
     )

@@ -5,10 +5,12 @@ use Rattle.cc_book.specs.declared.entry.Entry.{Entry}
 use Rattle.cc_book.specs.declared.session.OpenSession.{OpenSession}
 use Rattle.cc_book.specs.declared.terms.Terms.{Terms}
 use Rattle.cc_book.specs.AccountMachine.{terms_of}
+use Rattle.cc_book.specs.Charging.{charges_of}
 use Rattle.cc_book.specs.Places.{HasPlaces, IsIndexed}
 use Rattle.cc_book.specs.Taking.{IsBook}
 use Rattle.cc_book.specs.TermsChange.{TermsOfBook}
 use Rattle.cc_book.proofs.Books.{IsBook-empty}
+use Rattle.cc_book.proofs.Charging.{charges-empty}
 use Rattle.cc_book.proofs.Bounds.{bounded-empty, opens-small}
 use Rattle.cc_book.proofs.Postings.{terms_of-empty}
 use Rattle.cc_book.proofs.Stands.{empty-stands}
@@ -46,4 +48,7 @@ invariant_of-result c =
       omega arith,
       current ∙ sym (ap (λ (es : List Entry). terms_of terms es) c.in_ok-with_capacity.ensures.items ∙ terms_of-empty terms)
           ∙ ap (λ (t : Terms). terms_of t c.in_ok-with_capacity.field-0.items) begun,
+      c.in_ok-with_capacity-3.ensures.items
+          ∙ sym (ap (λ (es : List Entry). charges_of kept.begun es) c.in_ok-with_capacity.ensures.items ∙ charges-empty kept.begun),
+      omega (arith, c.in_ok-with_capacity-3.ensures.exact),
     )

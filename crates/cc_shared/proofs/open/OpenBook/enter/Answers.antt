@@ -1,6 +1,6 @@
 use Rattle.std.proofs.Common.{is_some, ◌≡◌, ◌++◌, ◌∷◌, [], List, Bool, length, ap, sym, subst, cond, ◌∙◌, arith, length-append}
 use Rattle.cc_book.specs.declared.entry.Entry.TheVariants.{Take}
-use Rattle.cc_book.specs.Planning.{after_plan, answer_planned}
+use Rattle.cc_book.specs.Planning.{IsGoodFor, after_plan, answer_planned}
 use Rattle.cc_book.specs.Taking.{Ledger, with_take}
 use Rattle.book_journal.specs.Kept.{IsKeptBy}
 use Rattle.cc_shared.specs.declared.logged.Logged.{Logged}
@@ -33,18 +33,21 @@ invariant_of-self-2 g c =
     ∙ book_at-take opened log c.args.moment c.args.request.now in
     let before : Ledger = book_at opened c.args.self.now in
     let same : c.self.inside.book ≡ before = c.self.invariant.0 ∙ ap (λ (l : List Logged). book_at opened l) c.self.view_is in
-    let kept = subst (λ (l : Ledger). IsKeptBy g.S.RowStore.is_clean g.S.RowStore.is_ready g.S.RowStore.rows c.self.inside.journal l) same c.self.invariant.6 in
     let after : after_plan before c.args.plan ≡ cond (answer_planned c.args.plan).fresh (with_take before c.args.moment c.args.request.now) before =
     c.requires.after ∙ sym (ap (λ (b : Bool). cond b (with_take before c.args.moment c.args.request.now) before) c.requires.fresh) in
-    let next = c.in-Ok.ensures.row before c.requires.good after kept in
-    let longer = c.add.ensures.kept before (after_plan before c.args.plan) (c.row_of_take.ensures.kept before kept) next in
-    let end : after_plan before c.args.plan ≡ c.commit-answered.new.self = sym (c.commit-answered.ensures.after ∙ ap (λ (l : Ledger). after_plan l c.args.plan) same) in (
+    let there = c.self.inside.book in
+    let good = subst (λ (l : Ledger). IsGoodFor l c.args.plan) (sym same) c.requires.good in
+    let fresh = (answer_planned c.args.plan).fresh in
+    let taken = subst (λ (l : Ledger). after_plan l c.args.plan ≡ cond fresh (with_take l c.args.moment c.args.request.now) l) (sym same) after in
+    let next = c.in-Ok.ensures.row good taken c.self.invariant.6 in
+    let longer = c.add.ensures.kept there (after_plan there c.args.plan) (c.row_of_take.ensures.kept there c.self.invariant.6) next in
+    let end : after_plan there c.args.plan ≡ c.commit-answered.new.self = sym c.commit-answered.ensures.after in (
       is ∙ ap (λ (l : List Logged). book_at opened l) (sym added),
       ap is_closed added ∙ open_goes_on log (Take c.args.moment c.args.request.now) c.self.invariant.1,
       (let one = one_take_more log c.args.moment c.args.request.now in let same = ap (λ (l : List Logged). takes_in (entries_in l)) added in omega (arith, one, same, c.self.invariant.2)),
       (let counted = c.add_one.ensures.takes in omega (arith, counted, c.self.invariant.3)),
       c.self.invariant.4,
       c.self.invariant.5,
-      subst (λ (l : Ledger). IsKeptBy g.S.RowStore.is_clean g.S.RowStore.is_ready g.S.RowStore.rows c.add.new.self l) end longer,
+      subst (λ (l : Ledger). IsKeptBy g.S.RowStore.is_clean g.S.RowStore.is_ready g.S.RowStore.rows g.S.RowStore.beside c.add.new.self l) end longer,
       ap is_some (c.add.ensures.store ∙ c.row_of_take.ensures.store) ∙ c.self.invariant.7,
     )

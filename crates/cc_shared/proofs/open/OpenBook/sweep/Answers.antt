@@ -1,7 +1,6 @@
-use Rattle.std.proofs.Common.{is_some, ◌≡◌, ◌++◌, ◌∷◌, [], List, length, ap, sym, subst, ◌∙◌}
+use Rattle.std.proofs.Common.{is_some, ◌≡◌, ◌++◌, ◌∷◌, [], List, ap, sym, subst, ◌∙◌}
 use Rattle.cc_book.specs.declared.entry.Entry.TheVariants.{Sweep}
 use Rattle.cc_book.specs.Taking.{Ledger, with_sweep}
-use Rattle.cc_book.specs.declared.entry.Entry.{Entry}
 use Rattle.book_journal.specs.Kept.{IsKeptBy}
 use Rattle.cc_shared.specs.declared.logged.Logged.{Logged}
 use Rattle.cc_shared.specs.declared.logged.Logged.TheVariants.{Entered}
@@ -25,7 +24,7 @@ invariant_of-self-2 g c =
     ∙ ap (λ (l : Ledger). with_sweep l moment) c.self.invariant.0
     ∙ book_at-sweep opened log moment in
     let before = c.self.inside.book in
-    let next = c.in-Ok.ensures.row before (ap (λ (h : List Entry). length h) c.history.ensures.entries) c.self.invariant.6 in
+    let next = c.in-Ok.ensures.row c.self.invariant.6 in
     let longer = c.add.ensures.kept before (with_sweep before moment) (c.row_of_sweep.ensures.kept before c.self.invariant.6) next in
     let end : with_sweep before moment ≡ c.sweep.new.self = sym (c.in_ok-swept.ensures.after ∙ swept_book before moment c.in_ok-swept.swept some) in (
       is ∙ ap (λ (l : List Logged). book_at opened l) (sym added),
@@ -34,7 +33,7 @@ invariant_of-self-2 g c =
       c.self.invariant.3,
       c.self.invariant.4,
       c.self.invariant.5,
-      subst (λ (l : Ledger). IsKeptBy g.S.RowStore.is_clean g.S.RowStore.is_ready g.S.RowStore.rows c.add.new.self l) end longer,
+      subst (λ (l : Ledger). IsKeptBy g.S.RowStore.is_clean g.S.RowStore.is_ready g.S.RowStore.rows g.S.RowStore.beside c.add.new.self l) end longer,
       ap is_some (c.add.ensures.store ∙ c.row_of_sweep.ensures.store) ∙ c.self.invariant.7,
     )
 

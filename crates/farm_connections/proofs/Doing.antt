@@ -1,0 +1,137 @@
+-- What is said and done at one connection.
+use Rattle.std.proofs.Common.{◌≡◌, ℕ, Bool, true, List, [], ◌∷◌, ◌++◌, Result, Ok, Err, IfOk, OnOk, OnErr, MatchResult, get_or, sym, subst, ap, ◌∙◌}
+use Rattle.std.specs.Prelude.{slice_set}
+use Rattle.std.proofs.lemmas.List.{append-nil, append_assoc, set-get_or}
+use Rattle.dia_base.specs.declared.number.Moment.{Moment}
+use Rattle.dia_base.specs.declared.number.NodeNo.{NodeNo}
+use Rattle.dia_message.specs.declared.message.Message.{Message}
+use Rattle.dia_message.specs.Traffic.{Traffic}
+use Rattle.farm_node.specs.Events.{NodeEvent}
+use Rattle.farm_node.specs.declared.error.NodeError.{NodeError}
+use Rattle.farm_watch.specs.Numbering.{numbered, numbered_effect}
+use Rattle.farm_watch.specs.Table.{Connection, Effect, after_message}
+use Rattle.farm_watch.specs.declared.site.WatchSite.{WatchSite}
+use Rattle.farm_watch.specs.declared.acts.Act.{Act}
+use Rattle.farm_watch.specs.declared.numbering.Numbering.{Numbering}
+use Rattle.farm_connections.specs.declared.desk.Desk.{Desk}
+use Rattle.farm_connections.specs.declared.end.End.{End}
+use Rattle.farm_connections.specs.declared.link.Link.{Link}
+use Rattle.farm_connections.specs.Desks.{kept_by}
+use Rattle.farm_connections.specs.Doing.{AtPlace, Becomes, DoesAct, Heard, IsStill, IsToldOnly, Lived, Lives, Performs, Says, goes_on}
+use Rattle.farm_connections.specs.Naming.{IsKeptOut, misnamed}
+use Rattle.farm_connections.specs.Sending.{AllGoOut}
+use Rattle.farm_connections.specs.Turns.{Kept, Mark}
+use Rattle.farm_connections.proofs.Placing.{keeping}
+
+-- what a node says that is told of the connection at a place
+pub said_at : {N R W : Type 0} {On : N → NodeEvent → Traffic → Result (Unit {0}) NodeError → N → Type 0}
+    {Then : Result (Unit {0}) NodeError → Link R W → Desk N R W → Type 0} (seen here link told : Link R W) (ev : Link R W → NodeEvent) (place : ℕ)
+    (old new : Desk N R W) (next : N) (marks : List Mark) (made : ℕ) (sent : Traffic) (outcome : Result (Unit {0}) NodeError)
+    → seen ≡ link → here ≡ link → On old.node (ev seen) sent outcome next → kept_by new ≡ keeping next marks made → IsToldOnly here told → Then outcome told new
+    → AllGoOut (slice_set old.links.items place told) sent new.links.items → Says On Then (ev link) place link old new
+said_at {N} {R} {W} {On} seen here link told ev place old new next marks made sent outcome same also does kept only follows goes = record {
+  sent = sent;
+  outcome = outcome;
+  does =
+      subst (λ (n : N). On old.node (ev link) sent outcome n) (sym (ap (λ (k : Kept N). k.node) kept))
+      (subst (λ (l : Link R W). On old.node (ev l) sent outcome next) same does);
+  told = told;
+  only = subst (λ (l : Link R W). IsToldOnly l told) also only;
+  follows = follows;
+  goes = goes;
+}
+
+-- what the connection at a place becomes
+pub becomes_at : {N R W : Type 0} (Is : Link R W → Link R W → Type 0) (here link next : Link R W) (place : ℕ) (old new : Desk N R W) → here ≡ link
+    → Is here next → new.node ≡ old.node → new.links.items ≡ slice_set old.links.items place next → Becomes (Is link) place old new
+becomes_at {N} {R} {W} Is here link next place old new same is node links = record {
+  next = next;
+  holds = subst (λ (l : Link R W). Is l next) same is;
+  node_is = node;
+  links_are = links;
+}
+
+-- ---- acts
+
+-- acts that are done, and those that are left
+pub record Done {N R W : Type 0} (On : N → NodeEvent → Traffic → Result (Unit {0}) NodeError → N → Type 0) (place : ℕ) (first : Desk N R W)
+    (all left : List Act) (now : Desk N R W) : Type 0 where
+  pub done : List Act
+  pub all_is : all ≡ done ++ left
+  pub performs : Performs On place first done now
+
+pub one_done : {N R W : Type 0} {On : N → NodeEvent → Traffic → Result (Unit {0}) NodeError → N → Type 0} (place : ℕ) (first mid new : Desk N R W)
+    (all left rest : List Act) (act : Act) → Done On place first all left mid → left ≡ act ∷ rest
+    → AtPlace mid place (λ link. DoesAct On place act link mid new) → Done On place first all rest new
+one_done place first mid new all left rest act before is does = record {
+  done = before.done ++ act ∷ [];
+  all_is = before.all_is ∙ ap (λ (acts : List Act). before.done ++ acts) is ∙ sym (append_assoc before.done (act ∷ []) rest);
+  performs = goes_on before.done mid new act before.performs does;
+}
+
+pub all_done : {N R W : Type 0} {On : N → NodeEvent → Traffic → Result (Unit {0}) NodeError → N → Type 0} (place : ℕ) (first now : Desk N R W)
+    (all left : List Act) → Done On place first all left now → left ≡ [] → Performs On place first all now
+all_done {N} {R} {W} {On} place first now all left before none =
+    subst (λ (acts : List Act). Performs On place first acts now)
+    (sym (before.all_is ∙ ap (λ (acts : List Act). before.done ++ acts) none ∙ append-nil before.done)) before.performs
+
+-- where the one is told of, so is the other
+pub also_failed : {A E : Type 0} (outcome : Result A E) (b c : Bool) → OnErr outcome (b ≡ true) → c ≡ b → OnErr outcome (c ≡ true)
+also_failed (Ok a) b c told same = told
+also_failed (Err e) b c told same = same ∙ told
+
+-- ---- the life of a connection
+
+lived : {N R W E : Type 0} (result : Result (List Act) E) (effect : Effect) (here next : Link R W) (place : ℕ) (old new : Desk N R W)
+    → here ≡ get_or old.links.items place here → IfOk result (λ acts. acts ≡ effect.acts) → OnOk result (next ≡ record here { watch = effect.next })
+    → OnErr result (next ≡ here) → new.node ≡ old.node → new.links.items ≡ slice_set old.links.items place next
+    → MatchResult result (λ acts. Lived effect acts place here old new) (λ e. IsStill old new)
+lived {N} {R} {W} (Ok acts) effect here next place old new read is on still node links = record {
+  acts_are = is;
+  node_is = node;
+  links_are = links ∙ ap (λ (l : Link R W). slice_set old.links.items place l) on;
+}
+lived {N} {R} {W} (Err e) effect here next place old new read is on still node links = record {
+  node_is = node;
+  links_are = links ∙ ap (λ (l : Link R W). slice_set old.links.items place l) (still ∙ read) ∙ set-get_or old.links.items place here;
+}
+
+-- where its requests are numbered
+pub numbered_said : {E : Type 0} (said result : Result (List Act) E) (numbering : Numbering) (moment : Moment) (effect : Effect) (IsNext IsSame : Type 0)
+    → MatchResult said (λ acts. result ≡ Ok (numbered numbering moment acts)) (λ error. result ≡ Err error) → IfOk said (λ acts. acts ≡ effect.acts)
+    → OnOk said IsNext → OnErr said IsSame
+    → IfOk result (λ acts. acts ≡ (numbered_effect numbering moment effect).acts) × (OnOk result IsNext × OnErr result IsSame)
+numbered_said (Ok acts) result numbering moment effect IsNext IsSame gives is next same =
+    rw gives (ap (λ (all : List Act). numbered numbering moment all) is, (next, tt))
+numbered_said (Err error) result numbering moment effect IsNext IsSame gives is next same = rw gives (tt, (tt, same))
+
+-- what the life of the connection at a place says
+pub lived_at : {N R W E : Type 0} (result : Result (List Act) E) (effect_of : Connection → Effect) (here link next : Link R W) (place : ℕ) (old new : Desk N R W)
+    → here ≡ link → here ≡ get_or old.links.items place here → IfOk result (λ acts. acts ≡ (effect_of here.watch).acts)
+    → OnOk result (next ≡ record here { watch = (effect_of here.watch).next }) → OnErr result (next ≡ here) → new.node ≡ old.node
+    → new.links.items ≡ slice_set old.links.items place next
+    → MatchResult result (λ acts. Lived (effect_of link.watch) acts place link old new) (λ e. IsStill old new)
+lived_at {N} {R} {W} result effect_of here link next place old new same read is on still node links =
+    subst (λ (l : Link R W). MatchResult result (λ acts. Lived (effect_of l.watch) acts place l old new) (λ e. IsStill old new)) same
+    (lived result (effect_of here.watch) here next place old new read is on still node links)
+
+-- what it says to a message
+pub heard_at : {N R W : Type 0} (result : Result (List Act) End) (site : WatchSite) (nodes : List NodeNo) (moment : Moment) (m : Message)
+    (here link next : Link R W) (place : ℕ) (old new : Desk N R W) → here ≡ link → here ≡ get_or old.links.items place here
+    → IsKeptOut (misnamed here site m) nodes → IfOk result (λ acts. acts ≡ (after_message site nodes moment m here.watch).acts)
+    → OnOk result (next ≡ record here { watch = (after_message site nodes moment m here.watch).next }) → OnErr result (next ≡ here) → new.node ≡ old.node
+    → new.links.items ≡ slice_set old.links.items place next → Heard moment m place link old new result
+heard_at {N} {R} {W} (Ok acts) site nodes moment m here link next place old new same read out is on still node links =
+    (site, nodes, subst (λ (l : Link R W). IsKeptOut (misnamed l site m) nodes) same out, lived_at {E = End} (Ok acts) (λ (conn : Connection). after_message site nodes moment m conn) here link next place old new same read is on still node links)
+heard_at (Err why) site nodes moment m here link next place old new same read out is on still node links =
+    lived_at {E = End} (Err why) (λ (conn : Connection). after_message site nodes moment m conn) here link next place old new same read is on still node links
+
+-- and that it is done
+pub lives_so : {N R W : Type 0} {On : N → NodeEvent → Traffic → Result (Unit {0}) NodeError → N → Type 0} (effect : Effect) (acts : List Act) (place : ℕ)
+    (link : Link R W) (old mid new : Desk N R W) → Lived effect acts place link old mid → Performs On place mid acts new → Lives On effect place link old new
+lives_so {N} {R} {W} {On} effect acts place link old mid new says does = record {
+  mid = mid;
+  node_is = says.node_is;
+  links_are = says.links_are;
+  performs = subst (λ (all : List Act). Performs On place mid all new) says.acts_are does;
+}

@@ -1,0 +1,29 @@
+use Rattle.std.proofs.Common.{refl}
+use Rattle.farm_connections.proofs.Telling.{no_way, way_then}
+use Rattle.farm_connections.specs.Doing.{lives, rests}
+use Rattle.farm_connections.proofs.Doing.{lives_so}
+use Rattle.farm_connections.proofs.desk.Desk.tick_one.Goals as goal
+
+pub returns-then-is_some-clause-tells : goal.returns-then-is_some-clause-tells
+returns-then-is_some-clause-tells g c = no_way _ _ refl
+
+pub returns-in_default-clause-tells : goal.returns-in_default-clause-tells
+returns-in_default-clause-tells g c = no_way _ _ refl
+
+pub returns-in-Ok-clause-tells : goal.returns-in-Ok-clause-tells
+returns-in-Ok-clause-tells g c = way_then (no_way _ _ c.acts_at_tick.ensures.kept) c.perform.ensures.tells
+
+pub returns-in-Err-clause-tells : goal.returns-in-Err-clause-tells
+returns-in-Err-clause-tells g c = no_way _ _ c.acts_at_tick.ensures.kept
+
+pub returns-then-is_some-clause-ticks : goal.returns-then-is_some-clause-ticks
+returns-then-is_some-clause-ticks g c = λ link read. rests (record { node_is = refl; links_are = refl })
+
+pub returns-in_default-clause-ticks : goal.returns-in_default-clause-ticks
+returns-in_default-clause-ticks g c = λ link read. rests (record { node_is = refl; links_are = refl })
+
+pub returns-in-Ok-clause-ticks : goal.returns-in-Ok-clause-ticks
+returns-in-Ok-clause-ticks g c = λ link read. lives _ (lives_so _ _ _ _ _ _ _ (c.in-Ok.ensures.lived link read) c.perform.ensures.performs)
+
+pub returns-in-Err-clause-ticks : goal.returns-in-Err-clause-ticks
+returns-in-Err-clause-ticks g c = λ link read. rests (c.in-Err.ensures.lived link read)

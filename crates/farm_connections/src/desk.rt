@@ -1,0 +1,621 @@
+//! A node with its connections: what it is told, and in which order, and what is sent.
+
+ghost use Rattle.std.specs.Prelude.{◌≡◌, ◌<◌, ◌≤◌, ◌+◌, ◌∷◌, ◌++◌, [], length, slice_index_or, vec_capacity, IfNone, IfOk, IfSome, OnErr, Err, Ok, true, false};
+ghost use Rattle.farm_node.specs.Events as event;
+ghost use Rattle.farm_watch.specs.declared.acts.Act.TheVariants as life;
+ghost use Rattle.farm_connections.specs.Calls.{BringsHere, BringsOn, HearsAll, Reads, Settles};
+ghost use Rattle.farm_connections.specs.Doing.{AtPlace, Becomes, DoesAct, EndsWhereRefused, FailsWhereRefused, Greets, HasEnded, Heard, Hears, Performs, Says, StandsUnlessRefused, left_for};
+ghost use Rattle.farm_connections.specs.Desks.{AreSettled, IsDownAt, IsPlaceOf, MayComeUpAt, NeverAsks, StandsAt, Tells, is_to_be_told, kept_by, mark_of, marks_of, ups};
+ghost use Rattle.farm_connections.specs.Naming.{IsKeptOut};
+ghost use Rattle.farm_connections.specs.Sending.{AllGoOut, AreInOrder, GoesOut, HasNone, IsNumberedAt, IsSentOn};
+
+use crate::counting::{count_failovers, count_passed, count_sent};
+use crate::end::End;
+use crate::link::{
+    Link, Standing, be_over, come_up, end_at, end_unless_told, flush_at, greet_at, hear_at,
+    is_waiting, loss_of, may_come_up, open_peer, part_at, post_at, receive_at, send_at,
+};
+use crate::local::{LocalNode, site_of};
+use crate::naming::misnamed;
+use crate::note::{Notes, kept_body};
+use crate::recording::{record_lost, record_message, record_refusal, record_sent, record_up};
+use dia_avp::Wire;
+use dia_base::{ConnId, Moment, NodeNo};
+use dia_message::{Message, Out};
+use farm_metrics::Tally;
+use farm_net::{Device, Received};
+use farm_node::{Node, NodeError};
+use farm_record::Recorder;
+use farm_watch::{Act, Acts, DisconnectCause, Numbering, Waits};
+use std::alloc::{AllocError, Global};
+use std::io::{Read, Write};
+
+/// A node with its connections, in the order of their numbers.
+#[derive(Drop)]
+pub struct Desk<N, R, W> {
+    pub alloc: Global,
+    pub node: N,
+    pub links: Vec<Link<R, W>>,
+    pub notes: Notes,
+    pub tally: Tally,
+    /// What is told of all this, where it is recorded.
+    pub recorder: Recorder,
+    /// How the requests of the lives of its connections are numbered from end to end.
+    pub numbering: Numbering,
+    /// How many answers the node has sent.
+    pub answers: u64,
+    /// How many connections were made.
+    pub made: u64,
+    /// The node could not be told of an end, for want of memory.
+    pub failed: bool,
+}
+
+/// The place of a connection: they stand in the order of their numbers.
+pub fn place_of<R, W>(links: &[Link<R, W>], conn: ConnId) -> Option<usize>
+    ensures place { IfSome result (λ place. place < length links.now) }
+    ensures number { IfSome result (λ place. IsNumberedAt links.now place conn) }
+    ensures none { AreInOrder links.now → IfNone result (HasNone links.now conn) }
+{
+    let place = links.partition_point(|link| link.id.0 < conn.0);
+    let link = links.get(place)?;
+    if link.id.0 == conn.0 {
+        Some(place)
+    } else {
+        None
+    }
+}
+
+/// The place of a connection that has ended and of which the node is still to be told so.
+pub fn place_of_loss<R, W>(links: &[Link<R, W>]) -> Option<usize>
+    ensures place { IfSome result (λ place. place < length links.now) }
+    ensures none { IfNone result (AreSettled links.now) }
+    ensures some { IfSome result (λ place. IsPlaceOf is_to_be_told links.now place) }
+{
+    links.iter().position(|link| is_to_be_told(link))
+}
+
+fn is_to_be_told<R, W>(link: &Link<R, W>) -> bool
+    ensures { result ≡ is_to_be_told link.now }
+{
+    match link.standing {
+        Standing::Up { .. } => link.end.is_some(),
+        Standing::Waiting | Standing::Over { .. } => false,
+    }
+}
+
+/// The nodes that are up on connections of this node.
+fn peers_of<R, W>(
+    alloc: Global,
+    links: &[Link<R, W>],
+    local: NodeNo,
+) -> Result<Vec<NodeNo>, AllocError> {
+    let mut peers = Vec::new(alloc);
+    for link in links {
+        if let Some(peer) = peer_here(link, local) {
+            peers.push(peer)?;
+        }
+    }
+    Ok(peers)
+}
+
+/// Whether the life of a connection asks which nodes are up, by what it waits for: only while capabilities are exchanged.
+fn asks_who_is_up(waits: Waits) -> bool
+    ensures { result ≡ false → NeverAsks waits }
+{
+    match waits {
+        Waits::ForCer { .. } | Waits::ForCea { .. } => true,
+        Waits::ForMessage { .. }
+        | Waits::ForDwa { .. }
+        | Waits::ForDpa { .. }
+        | Waits::ForClose { .. }
+        | Waits::ForNothing => false,
+    }
+}
+
+/// The nodes that are not welcome on a connection: those that are up on others of its node, and those that may not come from
+/// where its other end is. None where its life does not ask, which takes no memory.
+fn unwelcome_on<R, W>(
+    alloc: Global,
+    links: &[Link<R, W>],
+    link: &Link<R, W>,
+) -> Result<Vec<NodeNo>, AllocError> {
+    if !asks_who_is_up(link.watch.waits()) {
+        return Ok(Vec::new(alloc));
+    }
+    let mut nodes = peers_of(alloc, links, link.local)?;
+    nodes.extend_from_slice(&link.barred)?;
+    Ok(nodes)
+}
+
+/// The same with the node that was connected to and does not come up, if there is one.
+fn unwelcome_with<R, W>(
+    alloc: Global,
+    links: &[Link<R, W>],
+    link: &Link<R, W>,
+    misnamed: Option<NodeNo>,
+) -> Result<Vec<NodeNo>, AllocError>
+    ensures { IfOk result (λ nodes. IsKeptOut misnamed nodes.items) }
+{
+    let nodes = unwelcome_on(alloc, links, link)?;
+    match misnamed {
+        Some(node) => with_node(nodes, node),
+        None => Ok(nodes),
+    }
+}
+
+/// These nodes and one more.
+fn with_node(nodes: Vec<NodeNo>, node: NodeNo) -> Result<Vec<NodeNo>, AllocError>
+    ensures { IfOk result (λ more. more.items ≡ nodes.items ++ node ∷ []) }
+{
+    let mut nodes = nodes;
+    nodes.push(node)?;
+    Ok(nodes)
+}
+
+/// The node that is up on a connection, if it is one of this node.
+fn peer_here<R, W>(link: &Link<R, W>, local: NodeNo) -> Option<NodeNo> {
+    match link.standing {
+        Standing::Up { peer } if link.local.0 == local.0 => Some(peer),
+        Standing::Up { .. } | Standing::Waiting | Standing::Over { .. } => None,
+    }
+}
+
+/// Why a connection ends whose life drops it at a message, by what it waited for.
+fn why_at_message(waits: Waits) -> End {
+    match waits {
+        Waits::ForCer { .. } | Waits::ForCea { .. } => End::Unwelcome,
+        Waits::ForMessage { .. } | Waits::ForDwa { .. } | Waits::ForClose { .. } => {
+            End::Disconnected
+        }
+        Waits::ForDpa { .. } | Waits::ForNothing => End::Closed,
+    }
+}
+
+/// How many answers the node has sent, with this message.
+fn count_after(answers: u64, message: &Message) -> u64 {
+    if message.header.request {
+        answers
+    } else {
+        answers.saturating_add(1)
+    }
+}
+
+/// Whether the node could once not be told of an end.
+fn has_failed(failed: bool, outcome: &Result<(), NodeError>) -> bool
+    ensures before { failed ≡ true → result ≡ true }
+    ensures now { OnErr outcome.now (result ≡ true) }
+{
+    match outcome {
+        Ok(()) => failed,
+        Err(_) => true,
+    }
+}
+
+/// A message of the node goes out on its connection, or nowhere where there is none.
+fn send_one<R: Read + Device, W: Write + Device>(
+    links: &mut Vec<Link<R, W>>,
+    conn: ConnId,
+    message: &Message,
+    moment: Moment,
+)
+    ensures marks { marks_of links.new.items ≡ marks_of links.old.items }
+    ensures places { length links.new.items ≡ length links.old.items }
+    ensures sent { GoesOut conn message.now links.old.items links.new.items }
+{
+    if let Some(place) = place_of(links, conn) {
+        post_at(&mut links[place], message, moment);
+    }
+}
+
+/// Each connection writes for one turn.
+pub fn flush_all<R: Read + Device, W: Write + Device>(links: &mut Vec<Link<R, W>>, moment: Moment)
+    ensures marks { marks_of links.new.items ≡ marks_of links.old.items }
+    ensures places { length links.new.items ≡ length links.old.items }
+{
+    for place in 0..links.len() {
+        flush_at(&mut links[place], moment);
+    }
+}
+
+/// What a new connection sends first.
+pub fn greet<R: Read + Device, W: Write + Device>(link: &mut Link<R, W>, acts: Acts, moment: Moment)
+    ensures mark { mark_of link.new ≡ mark_of link.old }
+{
+    let mut acts = acts;
+    while let Some(act) = acts.take_first() {
+        greet_at(link, act, moment);
+    }
+}
+
+impl<N: Node, R: Read + Device, W: Write + Device> Desk<N, R, W> {
+    /// A new connection, for which there is room. It has the next number.
+    pub fn put(&mut self, link: Link<R, W>)
+        requires room { length self.old.links.items < vec_capacity self.old.links }
+        requires number { link.id.0 ≡ self.old.made + 1 }
+        requires waits { link.standing ≡ Standing.Waiting }
+        ensures made { marks_of self.new.links.items ≡ marks_of self.old.links.items ++ mark_of link ∷ [] }
+        ensures tells { Tells N.on_event self.old self.new }
+        ensures settled { AreSettled self.old.links.items → AreSettled self.new.links.items }
+    {
+        self.made = link.id.0;
+        self.links.push_reserved(link);
+    }
+
+    /// A connection on which nobody is up is let go.
+    pub fn take_out(&mut self, place: usize) -> Link<R, W>
+        requires within { place < length self.old.links.items }
+        requires down { IsDownAt self.old.links.items place }
+        ensures out { result ≡ slice_index_or self.old.links.items place result }
+        ensures tells { Tells N.on_event self.old self.new }
+        ensures settled { AreSettled self.old.links.items → AreSettled self.new.links.items }
+    {
+        self.links.remove(place)
+    }
+
+    /// What the node sends goes out, each message on its own connection.
+    pub fn send_all(&mut self, out: &Out, moment: Moment)
+        ensures places { length self.new.links.items ≡ length self.old.links.items }
+        ensures kept { kept_by self.new ≡ kept_by self.old }
+        ensures sent { AllGoOut self.old.links.items out.now.items self.new.links.items }
+        ensures failed { self.new.failed ≡ self.old.failed }
+    {
+        for (conn, message) in out.items.as_slice() {
+            self.answers = count_after(self.answers, message);
+            count_sent(&mut self.tally, *conn, message, moment);
+            send_one(&mut self.links, *conn, message, moment);
+        }
+    }
+
+    /// A message goes out on a connection.
+    fn send_here(&mut self, place: usize, message: &Message, moment: Moment)
+        requires { place < length self.old.links.items }
+        ensures sent { AtPlace self.old place (λ link. Becomes (IsSentOn message.now link) place self.old self.new) }
+        ensures kept { kept_by self.new ≡ kept_by self.old }
+        ensures places { length self.new.links.items ≡ length self.old.links.items }
+    {
+        send_at(&mut self.links[place], message, moment);
+    }
+
+    /// A connection ends.
+    pub(crate) fn end_here(&mut self, place: usize, why: End, moment: Moment)
+        requires { place < length self.old.links.items }
+        ensures ended { AtPlace self.old place (λ link. Becomes (HasEnded link) place self.old self.new) }
+        ensures kept { kept_by self.new ≡ kept_by self.old }
+        ensures places { length self.new.links.items ≡ length self.old.links.items }
+    {
+        end_at(&mut self.links[place], why, moment);
+    }
+
+    /// The node is told that its neighbour is up. Where it refuses that, the connection ends.
+    fn tell_up(&mut self, place: usize, peer: NodeNo, moment: Moment)
+        requires within { place < length self.old.links.items }
+        requires waits { StandsAt self.old.links.items place Standing.Waiting }
+        requires may { MayComeUpAt self.old.links.items place peer }
+        ensures tells { Tells N.on_event self.old self.new }
+        ensures says { AtPlace self.old place (λ link. Says N.on_event EndsWhereRefused (event.up link.local peer link.id) place link self.old self.new) }
+        ensures places { length self.new.links.items ≡ length self.old.links.items }
+    {
+        let link = &self.links[place];
+        let (local, conn) = (link.local, link.id);
+        let reaction = self.node.on_up(self.alloc, local, peer, conn);
+        come_up(&mut self.links[place], peer, reaction.outcome, moment);
+        self.notes.up(conn, local, peer, reaction.outcome);
+        record_up(
+            self.alloc,
+            &mut self.recorder,
+            conn,
+            (local, peer),
+            reaction.outcome,
+        );
+        record_sent(self.alloc, &mut self.recorder, &reaction.out);
+        self.send_all(&reaction.out, moment);
+    }
+
+    /// The node is told of a message. Where it refuses that, the connection ends.
+    fn tell_message<P: Wire>(
+        &mut self,
+        place: usize,
+        peer: NodeNo,
+        message: Message,
+        moment: Moment,
+    )
+        requires within { place < length self.old.links.items }
+        requires up { StandsAt self.old.links.items place (Standing.Up peer) }
+        ensures tells { Tells N.on_event self.old self.new }
+        ensures says { AtPlace self.old place (λ link. Says N.on_event EndsWhereRefused (event.message link.id message) place link self.old self.new) }
+        ensures places { length self.new.links.items ≡ length self.old.links.items }
+    {
+        let conn = self.links[place].id;
+        let asks = message.header.request;
+        let body = kept_body(&message);
+        count_passed(&mut self.tally, conn, &message, moment);
+        record_message(self.alloc, &mut self.recorder, conn, &message);
+        let reaction = self.node.on_message::<P>(self.alloc, conn, message);
+        end_unless_told(&mut self.links[place], asks, reaction.outcome, moment);
+        self.notes
+            .answers::<P>(self.alloc, conn, body.as_ref(), &reaction.out);
+        record_refusal(&mut self.recorder, reaction.outcome);
+        record_sent(self.alloc, &mut self.recorder, &reaction.out);
+        self.send_all(&reaction.out, moment);
+    }
+
+    /// The node is told that its neighbour leaves, for this cause. Where it refuses that, the connection ends.
+    fn tell_leaving(&mut self, place: usize, peer: NodeNo, cause: DisconnectCause, moment: Moment)
+        requires within { place < length self.old.links.items }
+        requires up { StandsAt self.old.links.items place (Standing.Up peer) }
+        ensures tells { Tells N.on_event self.old self.new }
+        ensures says { AtPlace self.old place (λ link. Says N.on_event (StandsUnlessRefused link) (event.leaving link.id) place (left_for cause link) self.old self.new) }
+        ensures places { length self.new.links.items ≡ length self.old.links.items }
+    {
+        let conn = self.links[place].id;
+        let reaction = self.node.on_leaving(self.alloc, conn);
+        part_at(&mut self.links[place], cause, reaction.outcome, moment);
+        self.notes.leaves(conn, peer, cause);
+        record_sent(self.alloc, &mut self.recorder, &reaction.out);
+        self.send_all(&reaction.out, moment);
+    }
+
+    /// The node is told of the end of a connection.
+    fn tell_lost<P: Wire>(&mut self, place: usize, peer: NodeNo, why: End, moment: Moment)
+        requires within { place < length self.old.links.items }
+        requires up { StandsAt self.old.links.items place (Standing.Up peer) }
+        ensures tells { Tells N.on_event self.old self.new }
+        ensures says { AtPlace self.old place (λ link. Says N.on_event FailsWhereRefused (event.lost link.id) place link self.old self.new) }
+        ensures places { length self.new.links.items ≡ length self.old.links.items }
+        ensures fewer { ups (marks_of self.new.links.items) < ups (marks_of self.old.links.items) }
+    {
+        let conn = self.links[place].id;
+        let reaction = self.node.on_lost::<P>(self.alloc, conn);
+        be_over(&mut self.links[place], peer);
+        self.failed = has_failed(self.failed, &reaction.outcome);
+        self.notes.lost(conn, peer, why);
+        self.notes.failovers::<P>(self.alloc, conn, &reaction.out);
+        count_failovers(&mut self.tally, &reaction.out);
+        record_lost(self.alloc, &mut self.recorder, conn, &reaction.outcome);
+        record_sent(self.alloc, &mut self.recorder, &reaction.out);
+        self.send_all(&reaction.out, moment);
+    }
+
+    /// The node is told that its neighbour is up, where that may come up on the connection. Where it may not, that ends.
+    fn greet_waiting(&mut self, place: usize, peer: NodeNo, moment: Moment)
+        requires within { place < length self.old.links.items }
+        requires waits { StandsAt self.old.links.items place Standing.Waiting }
+        ensures tells { Tells N.on_event self.old self.new }
+        ensures places { length self.new.links.items ≡ length self.old.links.items }
+        ensures greets { AtPlace self.old place (λ link. Greets N.on_event place peer link self.old self.new) }
+    {
+        if may_come_up(&self.links[place], peer) {
+            self.tell_up(place, peer, moment);
+        } else {
+            self.end_here(place, End::Unwelcome, moment);
+        }
+    }
+
+    /// The node is told that its neighbour is up, unless the connection has ended.
+    fn greet_peer(&mut self, place: usize, peer: NodeNo, moment: Moment)
+        requires { place < length self.old.links.items }
+        ensures tells { Tells N.on_event self.old self.new }
+        ensures places { length self.new.links.items ≡ length self.old.links.items }
+        ensures does { AtPlace self.old place (λ link. DoesAct N.on_event place (life.PeerUp peer) link self.old self.new) }
+    {
+        if is_waiting(&self.links[place]) {
+            self.greet_waiting(place, peer, moment);
+        }
+    }
+
+    /// The node is told of a message, unless the connection has ended or no node is up on it.
+    fn pass<P: Wire>(&mut self, place: usize, message: Message, moment: Moment)
+        requires { place < length self.old.links.items }
+        ensures tells { Tells N.on_event self.old self.new }
+        ensures places { length self.new.links.items ≡ length self.old.links.items }
+        ensures does { AtPlace self.old place (λ link. DoesAct N.on_event place (life.Pass message) link self.old self.new) }
+    {
+        if let Some(peer) = open_peer(&self.links[place]) {
+            self.tell_message::<P>(place, peer, message, moment);
+        }
+    }
+
+    /// The node is told that its neighbour leaves, unless the connection has ended or no node is up on it.
+    fn let_leave(&mut self, place: usize, cause: DisconnectCause, moment: Moment)
+        requires { place < length self.old.links.items }
+        ensures tells { Tells N.on_event self.old self.new }
+        ensures places { length self.new.links.items ≡ length self.old.links.items }
+        ensures does { AtPlace self.old place (λ link. DoesAct N.on_event place (life.PeerLeaves cause) link self.old self.new) }
+    {
+        if let Some(peer) = open_peer(&self.links[place]) {
+            self.tell_leaving(place, peer, cause, moment);
+        }
+    }
+
+    /// An act of the life of a connection.
+    fn act<P: Wire>(&mut self, place: usize, act: Act, why: End, moment: Moment)
+        requires { place < length self.old.links.items }
+        ensures tells { Tells N.on_event self.old self.new }
+        ensures places { length self.new.links.items ≡ length self.old.links.items }
+        ensures does { AtPlace self.old place (λ link. DoesAct N.on_event place act link self.old self.new) }
+    {
+        match act {
+            Act::Send(message) => self.send_here(place, &message, moment),
+            Act::PeerUp(peer) => self.greet_peer(place, peer, moment),
+            Act::PeerLeaves(cause) => self.let_leave(place, cause, moment),
+            Act::Pass(message) => self.pass::<P>(place, message, moment),
+            Act::Drop => self.end_here(place, why, moment),
+        }
+    }
+
+    /// The acts of the life of a connection, in their order.
+    pub fn perform<P: Wire>(&mut self, place: usize, acts: Acts, why: End, moment: Moment)
+        requires { place < length self.old.links.items }
+        ensures tells { Tells N.on_event self.old self.new }
+        ensures places { length self.new.links.items ≡ length self.old.links.items }
+        ensures performs { Performs N.on_event place self.old acts self.new }
+    {
+        let mut acts = acts;
+        while let Some(act) = acts.take_first() {
+            self.act::<P>(place, act, why, moment);
+        }
+    }
+
+    /// What the life of a connection says to a message, or why the connection ends.
+    fn acts_at_message<P: Wire>(
+        &mut self,
+        locals: &[LocalNode],
+        place: usize,
+        message: Message,
+        moment: Moment,
+    ) -> Result<Acts, End>
+        requires { place < length self.old.links.items }
+        ensures kept { kept_by self.new ≡ kept_by self.old }
+        ensures places { length self.new.links.items ≡ length self.old.links.items }
+        ensures heard { AtPlace self.old place (λ link. Heard moment message place link self.old self.new result) }
+    {
+        let link = &self.links[place];
+        let Some(site) = site_of(locals, link.local) else {
+            return Err(End::Closed);
+        };
+        let Ok(misnamed) = misnamed::<P, R, W>(self.alloc, link, site, &message) else {
+            return Err(End::OutOfMemory);
+        };
+        let Ok(unwelcome) = unwelcome_with(self.alloc, &self.links, link, misnamed) else {
+            return Err(End::OutOfMemory);
+        };
+        let (alloc, conn) = (self.alloc, link.id);
+        self.notes.misnamed::<P>(alloc, conn, misnamed, &message);
+        hear_at::<P, R, W>(
+            alloc,
+            &mut self.links[place],
+            site,
+            &unwelcome,
+            message,
+            moment,
+        )
+    }
+
+    /// A message came on a connection.
+    fn hear<P: Wire>(
+        &mut self,
+        locals: &[LocalNode],
+        place: usize,
+        message: Message,
+        moment: Moment,
+    )
+        requires { place < length self.old.links.items }
+        ensures tells { Tells N.on_event self.old self.new }
+        ensures places { length self.new.links.items ≡ length self.old.links.items }
+        ensures hears { AtPlace self.old place (λ link. Hears N.on_event moment message place link self.old self.new) }
+    {
+        let link = &self.links[place];
+        if link.end.is_some() {
+            return;
+        }
+        let why = why_at_message(link.watch.waits());
+        match self.acts_at_message::<P>(locals, place, message, moment) {
+            Ok(acts) => self.perform::<P>(place, acts, why, moment),
+            Err(why) => self.end_here(place, why, moment),
+        }
+    }
+
+    /// Messages came on a connection.
+    fn hear_all<P: Wire>(
+        &mut self,
+        locals: &[LocalNode],
+        place: usize,
+        messages: Vec<Message>,
+        moment: Moment,
+    )
+        requires { place < length self.old.links.items }
+        ensures tells { Tells N.on_event self.old self.new }
+        ensures places { length self.new.links.items ≡ length self.old.links.items }
+        ensures hears { HearsAll N.on_event moment place self.old messages.items self.new }
+    {
+        for message in messages {
+            self.hear::<P>(locals, place, message, moment);
+        }
+    }
+
+    /// What a connection brings in one turn, so many messages at most.
+    fn received_here(&mut self, place: usize, piece: &mut [u8], most: usize) -> Received
+        requires within { place < length self.old.links.items }
+        requires piece { 0 < length piece.old }
+        ensures few { length result.messages.items ≤ most }
+        ensures kept { kept_by self.new ≡ kept_by self.old }
+        ensures places { length self.new.links.items ≡ length self.old.links.items }
+        ensures reads { AtPlace self.old place (λ link. Becomes (Reads R.remaining result.messages.items result.outcome link) place self.old self.new) }
+    {
+        receive_at(&mut self.links[place], piece, most)
+    }
+
+    /// A connection reads for one turn, so many messages at most. A number that none has changes nothing.
+    pub fn receive_on<P: Wire>(
+        &mut self,
+        locals: &[LocalNode],
+        conn: ConnId,
+        piece: &mut [u8],
+        most: usize,
+        moment: Moment,
+    )
+        requires { 0 < length piece.old }
+        ensures tells { Tells N.on_event self.old self.new }
+        ensures brings { BringsOn N.on_event R.remaining most moment conn self.old self.new }
+    {
+        if let Some(place) = place_of(&self.links, conn) {
+            self.receive::<P>(locals, place, piece, most, moment);
+        }
+    }
+
+    /// A connection writes for one turn. A number that none has changes nothing.
+    pub fn flush_on(&mut self, conn: ConnId, moment: Moment)
+        ensures kept { kept_by self.new ≡ kept_by self.old }
+    {
+        if let Some(place) = place_of(&self.links, conn) {
+            self.flush_here(place, moment);
+        }
+    }
+
+    fn flush_here(&mut self, place: usize, moment: Moment)
+        requires { place < length self.old.links.items }
+        ensures kept { kept_by self.new ≡ kept_by self.old }
+    {
+        flush_at(&mut self.links[place], moment);
+    }
+
+    /// A connection reads for one turn, so many messages at most.
+    fn receive<P: Wire>(
+        &mut self,
+        locals: &[LocalNode],
+        place: usize,
+        piece: &mut [u8],
+        most: usize,
+        moment: Moment,
+    )
+        requires within { place < length self.old.links.items }
+        requires piece { 0 < length piece.old }
+        ensures tells { Tells N.on_event self.old self.new }
+        ensures places { length self.new.links.items ≡ length self.old.links.items }
+        ensures brings { AtPlace self.old place (λ link. BringsHere N.on_event R.remaining most moment place link self.old self.new) }
+    {
+        if self.links[place].end.is_some() {
+            return;
+        }
+        let received = self.received_here(place, piece, most);
+        self.hear_all::<P>(locals, place, received.messages, moment);
+        if let Err(loss) = received.outcome {
+            self.end_here(place, End::Loss(loss), moment);
+        }
+    }
+
+    /// The node is told of each end that it has not been told of.
+    pub fn settle<P: Wire>(&mut self, moment: Moment)
+        ensures settled { AreSettled self.new.links.items }
+        ensures tells { Tells N.on_event self.old self.new }
+        ensures places { length self.new.links.items ≡ length self.old.links.items }
+        ensures settles { Settles N.on_event self.old self.new }
+    {
+        while let Some(place) = place_of_loss(&self.links) {
+            let Some((peer, why)) = loss_of(&self.links[place]) else {
+                unreachable!();
+            };
+            self.tell_lost::<P>(place, peer, why, moment);
+        }
+    }
+}

@@ -1,0 +1,495 @@
+//! A node with its connections, for those who have sockets.
+
+ghost use Rattle.std.specs.Prelude.{◌≡◌, ◌<◌, ◌+◌, [], length, true, IfOk, IfSome, IsNone};
+ghost use Rattle.farm_node.specs.Events as event;
+ghost use Rattle.farm_connections.specs.Calls.{AllClose, BringsOn, ThenSettles, TimePasses};
+ghost use Rattle.farm_connections.specs.Desks.{AreSettled, IsDownAt, IsEndOf, IsMade, IsRecordedOnly, Tells, kept_by};
+ghost use Rattle.farm_connections.specs.Doing.{Reacts};
+ghost use Rattle.farm_connections.specs.Turns.{IsDown, beginning};
+
+use crate::desk::{Desk, flush_all, greet, place_of};
+use crate::end::{End, Ended, NotTaken, Refusal};
+use crate::link::{Link, Standing, is_overdue};
+use crate::local::{LocalNode, site_of};
+use crate::naming::NameRule;
+use crate::note::{NOTE_LIMIT, Note, Notes};
+use dia_avp::Wire;
+use dia_base::{ConnId, Moment, NodeNo};
+use farm_metrics::Tally;
+use farm_net::{Conn, Device};
+use farm_node::{Node, Refuses};
+use farm_record::{Event, Recorded, Recorder};
+use farm_watch::{Acts, Numbering, Side, Watch};
+use std::alloc::{AllocError, Global};
+use std::io::{Read, Write};
+
+/// The most connections that others have made and on which no node is up. A further one is refused. Each is dropped an
+/// interval after it was made (`WatchSite::interval`), so that nobody keeps a place by saying nothing.
+pub const UNKNOWN_LIMIT: usize = 64;
+
+/// A node with its connections over any readers and writers: what they bring the node is told, and what it says is
+/// sent. The node may be several of the site, as all its fronts over one book are.
+pub struct Serving<N, R, W> {
+    desk: Desk<N, R, W>,
+    locals: Vec<LocalNode>,
+}
+
+// By hand, so that each exit of an owner is proved with one call.
+impl<N: Drop, R: Drop, W: Drop> Drop for Serving<N, R, W> {
+    fn drop(self) {
+        let Serving { desk: _, locals: _ } = self;
+    }
+}
+
+/// Whether the connection was made by others, and no node was ever up on it.
+fn is_unknown<R, W>(link: &Link<R, W>) -> bool {
+    link.accepted && link.standing == Standing::Waiting
+}
+
+/// Whether there is nothing more to do with a connection at this moment.
+fn is_over<R: Read + Device, W: Write + Device>(link: &Link<R, W>, moment: Moment) -> bool
+    ensures { result ≡ true → IsDown link.now.standing }
+{
+    match (link.end, link.standing) {
+        (None, _) | (Some(_), Standing::Up { .. }) => false,
+        (Some((_, since)), Standing::Waiting | Standing::Over { .. }) => {
+            link.conn.is_done() || is_overdue(since, moment)
+        }
+    }
+}
+
+/// The place of a connection with which there is nothing more to do.
+fn place_of_over<R: Read + Device, W: Write + Device>(
+    links: &[Link<R, W>],
+    moment: Moment,
+) -> Option<usize>
+    ensures within { IfSome result (λ place. place < length links.now) }
+    ensures down { IfSome result (λ place. IsDownAt links.now place) }
+{
+    links.iter().position(|link| is_over(link, moment))
+}
+
+impl<N: Node, R: Read + Device, W: Write + Device> Serving<N, R, W> {
+    /// A node without connections, which is all of these nodes of the site. Connections are numbered from 1.
+    pub fn new(alloc: Global, node: N, locals: Vec<LocalNode>) -> Self
+        ensures begins { kept_by result.desk ≡ beginning node }
+        ensures settled { AreSettled result.desk.links.items }
+    {
+        Serving {
+            desk: Desk {
+                alloc,
+                node,
+                links: Vec::new(alloc),
+                notes: Notes::new(alloc),
+                tally: Tally::nothing(alloc),
+                recorder: Recorder::off(alloc),
+                numbering: Numbering::HopByHop,
+                answers: 0,
+                made: 0,
+                failed: false,
+            },
+            locals,
+        }
+    }
+
+    /// Some node has connected to the node `local`, and it is none of `barred`, which may not come up that connect from where
+    /// it is. It has an interval to say who it is.
+    pub fn accept(
+        &mut self,
+        local: NodeNo,
+        barred: Vec<NodeNo>,
+        reader: R,
+        writer: W,
+        moment: Moment,
+    ) -> Result<ConnId, NotTaken<R, W>>
+        ensures made { IfOk result (λ conn. IsMade conn local barred.items NameRule.Any self.old.desk.links.items self.new.desk.links.items) }
+        ensures tells { Tells N.on_event self.old.desk self.new.desk }
+        ensures settled { AreSettled self.old.desk.links.items → AreSettled self.new.desk.links.items }
+    {
+        let unknown = self
+            .desk
+            .links
+            .iter()
+            .filter(|link| is_unknown(link))
+            .count();
+        if unknown >= UNKNOWN_LIMIT {
+            let limit = UNKNOWN_LIMIT;
+            let why = Refusal::TooManyUnknown { limit };
+            return Err(NotTaken {
+                reader,
+                writer,
+                why,
+            });
+        }
+        self.add(
+            local,
+            Side::Accepts,
+            barred,
+            NameRule::Any,
+            reader,
+            writer,
+            moment,
+        )
+    }
+
+    /// The node `local` has connected to the node `peer`, which comes up by a name of `names`: its
+    /// Capabilities-Exchange-Request waits to be written.
+    pub fn connect(
+        &mut self,
+        local: NodeNo,
+        peer: NodeNo,
+        names: NameRule,
+        reader: R,
+        writer: W,
+        moment: Moment,
+    ) -> Result<ConnId, NotTaken<R, W>>
+        ensures made { IfOk result (λ conn. IsMade conn local [] names self.old.desk.links.items self.new.desk.links.items) }
+        ensures tells { Tells N.on_event self.old.desk self.new.desk }
+        ensures settled { AreSettled self.old.desk.links.items → AreSettled self.new.desk.links.items }
+    {
+        let barred = Vec::new(self.desk.alloc);
+        self.add(
+            local,
+            Side::Connects(peer),
+            barred,
+            names,
+            reader,
+            writer,
+            moment,
+        )
+    }
+
+    /// A new connection, or why there is none.
+    fn add(
+        &mut self,
+        local: NodeNo,
+        side: Side,
+        barred: Vec<NodeNo>,
+        names: NameRule,
+        reader: R,
+        writer: W,
+        moment: Moment,
+    ) -> Result<ConnId, NotTaken<R, W>>
+        ensures made { IfOk result (λ conn. IsMade conn local barred.items names self.old.desk.links.items self.new.desk.links.items) }
+        ensures tells { Tells N.on_event self.old.desk self.new.desk }
+        ensures settled { AreSettled self.old.desk.links.items → AreSettled self.new.desk.links.items }
+    {
+        let (id, watch, acts) = match self.begin(local, side, moment) {
+            Ok(begun) => begun,
+            Err(why) => return Err(NotTaken {
+                reader,
+                writer,
+                why,
+            }),
+        };
+        if self.desk.links.reserve(1).is_err() {
+            let why = Refusal::OutOfMemory;
+            return Err(NotTaken {
+                reader,
+                writer,
+                why,
+            });
+        }
+        let mut link = Link {
+            id,
+            local,
+            accepted: side == Side::Accepts,
+            barred,
+            names,
+            watch,
+            conn: Conn::new(self.desk.alloc, reader, writer),
+            standing: Standing::Waiting,
+            open: 0,
+            farewell: None,
+            end: None,
+        };
+        let acts = self.desk.numbering.number(acts, moment);
+        greet(&mut link, acts, moment);
+        self.desk.put(link);
+        Ok(id)
+    }
+
+    /// The number and the life of a new connection, and what is sent on it first.
+    fn begin(
+        &self,
+        local: NodeNo,
+        side: Side,
+        moment: Moment,
+    ) -> Result<(ConnId, Watch, Acts), Refusal>
+        ensures { IfOk result (λ begun. begun.0.0 ≡ self.now.desk.made + 1) }
+    {
+        let Some(site) = site_of(&self.locals, local) else {
+            return Err(Refusal::UnknownLocal { local });
+        };
+        let Some(number) = self.desk.made.checked_add(1) else {
+            return Err(Refusal::NoNumber);
+        };
+        match Watch::new(self.desk.alloc, site, side, moment) {
+            Ok((watch, acts)) => Ok((ConnId(number), watch, acts)),
+            Err(AllocError) => Err(Refusal::OutOfMemory),
+        }
+    }
+
+    /// A connection may have octets. They are read for one turn, at most 64 times, `piece` at a time, and so many messages at
+    /// most. The node is told of what came. What is sent for it waits to be written ([`Serving::write_all`]). `piece` is not
+    /// empty, and what it holds is of no account. A number that no connection has changes nothing.
+    pub fn readable<P: Wire>(&mut self, conn: ConnId, piece: &mut [u8], most: usize, moment: Moment)
+        requires { 0 < length piece.old }
+        ensures settled { AreSettled self.new.desk.links.items }
+        ensures tells { Tells N.on_event self.old.desk self.new.desk }
+        ensures brings { ThenSettles N.on_event (BringsOn N.on_event R.remaining most moment conn) self.old.desk self.new.desk }
+    {
+        self.desk
+            .receive_on::<P>(&self.locals, conn, piece, most, moment);
+        self.desk.settle::<P>(moment);
+    }
+
+    /// A connection may take octets: it writes for one turn, at most 64 times.
+    pub fn writable<P: Wire>(&mut self, conn: ConnId, moment: Moment)
+        ensures settled { AreSettled self.new.desk.links.items }
+        ensures tells { Tells N.on_event self.old.desk self.new.desk }
+        ensures writes { ThenSettles N.on_event (λ old mid. kept_by mid ≡ kept_by old) self.old.desk self.new.desk }
+    {
+        self.desk.flush_on(conn, moment);
+        self.desk.settle::<P>(moment);
+    }
+
+    /// Each connection writes for one turn.
+    pub fn write_all<P: Wire>(&mut self, moment: Moment)
+        ensures settled { AreSettled self.new.desk.links.items }
+        ensures tells { Tells N.on_event self.old.desk self.new.desk }
+        ensures writes { ThenSettles N.on_event (λ old mid. kept_by mid ≡ kept_by old) self.old.desk self.new.desk }
+    {
+        flush_all(&mut self.desk.links, moment);
+        self.desk.settle::<P>(moment);
+    }
+
+    /// Time has passed: for the node, and for the life of each connection.
+    pub fn tick<P: Wire>(&mut self, moment: Moment)
+        ensures settled { AreSettled self.new.desk.links.items }
+        ensures tells { Tells N.on_event self.old.desk self.new.desk }
+        ensures passes { ThenSettles N.on_event (TimePasses N.on_event moment) self.old.desk self.new.desk }
+    {
+        self.desk.tick_node::<P>(moment);
+        self.desk.tick_all::<P>(&self.locals, moment);
+        self.desk.settle::<P>(moment);
+    }
+
+    /// Something that works for the node elsewhere has something for it.
+    pub fn wake<P: Wire>(&mut self, moment: Moment)
+        ensures settled { AreSettled self.new.desk.links.items }
+        ensures tells { Tells N.on_event self.old.desk self.new.desk }
+        ensures woken { ThenSettles N.on_event (Reacts N.on_event event.wake) self.old.desk self.new.desk }
+    {
+        self.desk.wake_node::<P>(moment);
+        self.desk.settle::<P>(moment);
+    }
+
+    /// Each connection is to end in good order: the other end of one that is up is told by Disconnect-Peer-Request,
+    /// and one that is not up ends at once.
+    pub fn close_all<P: Wire>(&mut self, moment: Moment)
+        ensures settled { AreSettled self.new.desk.links.items }
+        ensures tells { Tells N.on_event self.old.desk self.new.desk }
+        ensures closes { ThenSettles N.on_event (AllClose N.on_event moment) self.old.desk self.new.desk }
+    {
+        self.desk.close_all::<P>(&self.locals, moment);
+        self.desk.settle::<P>(moment);
+    }
+
+    /// Takes out a connection that has ended and on which nothing waits to be written any more, or for longer than
+    /// [`crate::LINGER`]. The node was told of its end before. To be called until there is none.
+    pub fn take_ended(&mut self, moment: Moment) -> Option<Ended<R, W>>
+        ensures tells { Tells N.on_event self.old.desk self.new.desk }
+        ensures settled { AreSettled self.old.desk.links.items → AreSettled self.new.desk.links.items }
+        ensures none { IsNone result → self.new ≡ self.old }
+        ensures of_link { IfSome result (IsEndOf self.old.desk.links.items) }
+    {
+        let place = place_of_over(&self.desk.links, moment)?;
+        let (why, _) = self.desk.links[place].end?;
+        let link = self.desk.take_out(place);
+        self.desk.notes.let_go(link.id, link.standing, why);
+        self.desk.recorder.gone(self.desk.alloc, link.id);
+        Some(Ended {
+            conn: link.id,
+            local: link.local,
+            peer: link.standing.peer(),
+            why,
+            farewell: link.farewell,
+            streams: link.conn,
+        })
+    }
+
+    /// From now on the requests of the lives of its connections are numbered so from end to end. At first each has its
+    /// Hop-by-Hop Identifier.
+    pub fn number(&mut self, numbering: Numbering)
+        ensures { self.new ≡ record self.old { desk = record self.old.desk { numbering = numbering } } }
+    {
+        self.desk.numbering = numbering;
+    }
+
+    /// From now on it is recorded what happens.
+    pub fn begin_record(&mut self, recorder: Recorder)
+        ensures { IsRecordedOnly self.old.desk self.new.desk }
+    {
+        self.desk.recorder = recorder;
+    }
+
+    /// What is recorded from now on happens at this moment.
+    pub fn begin_turn(&mut self, moment: Moment)
+        ensures { IsRecordedOnly self.old.desk self.new.desk }
+    {
+        self.desk.recorder.begin_turn(moment);
+    }
+
+    /// Records a connection that the node `local` opens with the node `peer`, which both ends call so.
+    pub fn record_dial(&mut self, conn: ConnId, local: NodeNo, peer: NodeNo, label: u64)
+        ensures { IsRecordedOnly self.old.desk self.new.desk }
+    {
+        self.desk
+            .recorder
+            .dials(self.desk.alloc, conn, local, peer, label);
+    }
+
+    /// What both ends call a connection that somebody has opened. It is recorded once the node at the other end is known.
+    pub fn record_taken(&mut self, conn: ConnId, label: u64)
+        ensures { IsRecordedOnly self.old.desk self.new.desk }
+    {
+        self.desk.recorder.takes(conn, label);
+    }
+
+    /// Records an event of the process.
+    pub fn record_event(&mut self, event: &Event)
+        ensures { IsRecordedOnly self.old.desk self.new.desk }
+    {
+        self.desk.recorder.tell(self.desk.alloc, event);
+    }
+
+    /// What is recorded and not written yet.
+    pub fn recorder(&self) -> &Recorder {
+        &self.desk.recorder
+    }
+
+    /// What is recorded was written.
+    pub fn record_written(&mut self)
+        ensures { IsRecordedOnly self.old.desk self.new.desk }
+    {
+        self.desk.recorder.clear();
+    }
+
+    /// What is recorded cannot be written, and no more is recorded.
+    pub fn record_failed(&mut self)
+        ensures { IsRecordedOnly self.old.desk self.new.desk }
+    {
+        self.desk.recorder.stop();
+    }
+
+    /// Takes out a note; the oldest first.
+    pub fn take_note(&mut self) -> Option<Note> {
+        self.desk.notes.take_first()
+    }
+
+    /// How many notes had no place.
+    pub fn notes_dropped(&self) -> u64 {
+        self.desk.notes.dropped()
+    }
+
+    /// How many answers the node has sent: those of the node, and not those of the life of its connections.
+    pub fn answers(&self) -> u64 {
+        self.desk.answers
+    }
+
+    /// What the node has been told and has sent, counted.
+    pub fn tally(&self) -> &Tally {
+        &self.desk.tally
+    }
+
+    /// How many connections there are, with those that have ended and are not taken out.
+    pub fn count(&self) -> usize {
+        self.desk.links.len()
+    }
+
+    /// A connection, to be looked at: its standing, whether it has ended, its reader and writer, and whether it wants to
+    /// write. None where no connection has this number.
+    pub fn link(&self, conn: ConnId) -> Option<&Link<R, W>> {
+        let place = place_of(&self.desk.links, conn)?;
+        self.desk.links.get(place)
+    }
+
+    /// All connections, to be looked at.
+    pub fn links(&self) -> &[Link<R, W>]
+        ensures { result.now ≡ self.now.desk.links.items }
+    {
+        &self.desk.links
+    }
+
+    /// Memory was missing where the node was told that a connection has ended. It cannot go on then: the process is to
+    /// end, with status 4.
+    pub fn has_failed(&self) -> bool {
+        self.desk.failed
+    }
+
+    /// The node.
+    pub fn node(&self) -> &N {
+        &self.desk.node
+    }
+}
+
+impl<N, R: Drop, W: Drop> Serving<N, R, W> {
+    /// The node, and what is recorded and not written yet. The connections are let go.
+    pub fn into_parts(self) -> (N, Recorder)
+        ensures { result.0 ≡ self.desk.node }
+    {
+        let Serving { desk, locals: _ } = self;
+        let Desk {
+            alloc: _,
+            node,
+            links: _,
+            notes: _,
+            tally: _,
+            recorder,
+            numbering: _,
+            answers: _,
+            made: _,
+            failed: _,
+        } = desk;
+        (node, recorder)
+    }
+}
+
+impl<N: Node + Recorded, R: Read + Device, W: Write + Device> Serving<N, R, W> {
+    /// Records what the node has done that only it can tell of.
+    pub fn record_node(&mut self)
+        ensures tells { Tells N.on_event self.old.desk self.new.desk }
+        ensures settled { AreSettled self.old.desk.links.items → AreSettled self.new.desk.links.items }
+    {
+        self.desk
+            .node
+            .tell_events(self.desk.alloc, &mut self.desk.recorder);
+    }
+}
+
+impl<N: Node + Refuses, R: Read + Device, W: Write + Device> Serving<N, R, W> {
+    /// Notes the requests that the node has refused since this was called last, as far as there is room for notes.
+    pub fn note_refused(&mut self)
+        ensures kept { kept_by self.new.desk ≡ kept_by self.old.desk }
+        ensures links { self.new.desk.links ≡ self.old.desk.links }
+    {
+        for _ in 0..NOTE_LIMIT {
+            if !self.note_one() {
+                return;
+            }
+        }
+    }
+
+    /// Notes the oldest request that the node has refused, if there is one.
+    fn note_one(&mut self) -> bool
+        ensures kept { kept_by self.new.desk ≡ kept_by self.old.desk }
+        ensures links { self.new.desk.links ≡ self.old.desk.links }
+    {
+        let Some(refused) = self.desk.node.take_refused() else {
+            return false;
+        };
+        self.desk.notes.refused(refused);
+        true
+    }
+}

@@ -1,5 +1,0 @@
-use Rattle.farm_place.proofs.Callers.{callers_same}
-use Rattle.farm_place.proofs.laws.callers_call.Goals as goal
-
-pub returns : goal.returns
-returns c = λ site from to. callers_same from to site.links

@@ -1,0 +1,19 @@
+use Rattle.std.proofs.Common.{◌≡◌, ◌+◌, ◌∷◌, ◌++◌, [], List, take, sym, subst, ap, ◌∙◌}
+use Rattle.std.proofs.lemmas.List.{take_more}
+use Rattle.dia_base.specs.declared.number.ConnId.{ConnId}
+use Rattle.dia_message.specs.declared.message.Message.{Message}
+use Rattle.farm_record.specs.Recording.{TellsAll, tells_none, tells_more}
+use Rattle.farm_record.proofs.recorder.Recorder.tell_messages.Goals as goal
+
+pub loop-conn-init : goal.loop-conn-init
+loop-conn-init c = tells_none
+
+pub loop-conn-preserved : goal.loop-conn-preserved
+loop-conn-preserved c =
+    let messages = c.args.messages.now in
+    let at = c.loop-conn.conn-index in
+    let item = c.loop-conn-item.result in
+    let more : take (at + 1) messages ≡ take at messages ++ (item.0, item.1) ∷ [] =
+    take_more messages at item c.loop-conn-test.true ∙ ap (λ (x : ConnId × Message). take at messages ++ x ∷ []) (sym c.loop-conn-item.is) in
+    subst (λ (told : List (ConnId × Message)). TellsAll c.args.word.now c.args.self.now told c.tell_message.new.self) (sym more)
+    (tells_more (take at messages) c.loop-conn.self c.tell_message.new.self item.0 item.1 c.loop-conn.invariant c.tell_message.ensures)

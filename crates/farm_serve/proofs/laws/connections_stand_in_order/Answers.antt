@@ -1,5 +1,0 @@
-use Rattle.farm_serve.proofs.Turning.{in_order}
-use Rattle.farm_serve.proofs.laws.connections_stand_in_order.Goals as goal
-
-pub returns : goal.returns
-returns g c = λ node told kept goes. in_order node told kept goes

@@ -1,6 +1,0 @@
-use Rattle.std.proofs.Common.{◌≡◌, ◌++◌, map, take, drop}
-use Rattle.farm_tally.specs.Counting.{row_after}
-use Rattle.farm_tally.proofs.times.count_in.Given as goal
-
-abbrev pub invariant-loop-row : goal.invariant-loop-row
-invariant-loop-row l = l.rows ≡ map (row_after l.millis) (take l.row-index l.fn.rows) ++ drop l.row-index l.fn.rows
