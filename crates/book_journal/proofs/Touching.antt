@@ -1,6 +1,8 @@
 -- What is touched, and what a list has elsewhere.
-use Rattle.std.proofs.Common.{◌≡◌, ◌==◌, ℕ, zero, suc, ◌+◌, ◌-◌, ◌≤◌, ◌<◌, Bool, true, false, cond, List, [], ◌∷◌, ◌++◌, length, take, get_or, set, Option, Some, None, slice_get, swap_remove, refl, sym, ap, subst, ◌∙◌, arith, true≢false, ◌⊎◌, inl, inr}
+use Rattle.std.proofs.Common.{◌≡◌, ◌==◌, ◌||◌, ℕ, zero, suc, ◌+◌, ◌-◌, ◌≤◌, ◌<◌, Bool, true, false, cond, List, [], ◌∷◌, ◌++◌, length, take, get_or, set, Option, Some, None, slice_get, swap_remove, refl, sym, ap, subst, ◌∙◌, arith, true≢false, ◌⊎◌, inl, inr}
 use Rattle.std.specs.Prelude.{count_by, ◌≢◌}
+use Rattle.std.specs.Bool.{one_answer}
+use Rattle.std.specs.List.{list_any}
 use Rattle.std.specs.Option.{option_map_or}
 use Rattle.std.proofs.lemmas.Bool.Decides.{Decides-eqb}
 use Rattle.std.proofs.lemmas.Option.{slice_get-get_or, slice_get_past}
@@ -31,6 +33,19 @@ touched_before q (x ∷ xs) ys e = go (q == x) e (touched_before q xs ys)
     go : (b : Bool) → cond b true (is_touched q (xs ++ ys)) ≡ false → (is_touched q (xs ++ ys) ≡ false → is_touched q xs ≡ false) → cond b true (is_touched q xs) ≡ false
     go true h rest = h
     go false h rest = rest h
+
+turned : (m n : ℕ) → (m == n) ≡ (n == m)
+turned m n = one_answer (m == n) (n == m) (Decides-eqb m n) ((λ has. sym ((Decides-eqb n m).0 has)), (λ it. (Decides-eqb n m).1 (sym it)))
+
+-- as the standard library looks for it
+pub touched_any : (q : ℕ) (xs : List ℕ) → list_any (λ y. y == q) xs ≡ is_touched q xs
+touched_any q [] = refl
+touched_any q (x ∷ xs) =
+    ap (λ (b : Bool). b || list_any (λ y. y == q) xs) (turned x q) ∙ ap (λ (b : Bool). (q == x) || b) (touched_any q xs) ∙ as_cond (q == x) (is_touched q xs)
+  where
+    as_cond : (a b : Bool) → (a || b) ≡ cond a true b
+    as_cond true b = refl
+    as_cond false b = refl
 
 pub touched_last : (q : ℕ) (xs : List ℕ) → is_touched q (xs ++ q ∷ []) ≡ true
 touched_last q [] = ap (λ (b : Bool). cond b true false) (same q)

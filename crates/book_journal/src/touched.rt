@@ -32,6 +32,18 @@ fn touch(places: &mut Vec<usize>, place: usize) -> Result<(), AllocError>
     Ok(())
 }
 
+/// Touches a place that a request changes, unless it is touched. A batch has few of them.
+fn touch_once(places: &mut Vec<usize>, place: usize) -> Result<(), AllocError>
+    ensures grows { Grows places.old.items places.new.items }
+    ensures there { OnOk result (is_touched place places.new.items ≡ true) }
+    ensures once { is_touched place places.old.items ≡ true → places.new.items ≡ places.old.items }
+{
+    if places.contains(&place) {
+        return Ok(());
+    }
+    touch(places, place)
+}
+
 /// Touches the places from one to another.
 #[tactic(auto, using(crate::proofs::Touching::covers_more))]
 fn touch_from(places: &mut Vec<usize>, from: usize, to: usize) -> Result<(), AllocError>
@@ -50,7 +62,7 @@ fn touch_account(places: &mut Vec<usize>, account: Option<usize>) -> Result<(), 
     ensures there { OnOk result (CoversAccount places.new.items account) }
 {
     match account {
-        Some(place) => touch(places, place),
+        Some(place) => touch_once(places, place),
         None => Ok(()),
     }
 }
@@ -63,11 +75,11 @@ fn touch_change(places: &mut Vec<usize>, count: usize, change: &Change) -> Resul
 {
     match change {
         Change::Stays => Ok(()),
-        Change::Opens { .. } => touch(places, count),
-        Change::GoesOn { place, .. } => touch(places, *place),
+        Change::Opens { .. } => touch_once(places, count),
+        Change::GoesOn { place, .. } => touch_once(places, *place),
         Change::Ends { place } => {
-            touch(places, *place)?;
-            touch(places, count.saturating_sub(1))
+            touch_once(places, *place)?;
+            touch_once(places, count.saturating_sub(1))
         }
     }
 }

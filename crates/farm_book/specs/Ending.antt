@@ -48,8 +48,8 @@ status_of_append (append.Store error) = status_of_store error
 status_of_append append.NotBehind = status.Refused
 status_of_append append.NoPlace = status.Refused
 
--- A row that is not read, or is not the one that the book gives to its entry; and a table beside the rows that is not read, does not
--- have what the entries make of it, or is not written.
+-- A row that is not read, or is not the one that the book gives to its entry. A table beside the rows that is not read, does not have
+-- what the entries make of it, or is not written.
 abbrev pub status_of_journal : JournalError → Status
 status_of_journal (Unread place (row.Store error)) = status_of_store error
 status_of_journal (Unread place row.Damaged) = status.Refused
