@@ -424,7 +424,9 @@ impl<N: Node, R: Read + Device, W: Write + Device> Serving<N, R, W> {
 
     /// Memory was missing where the node was told that a connection has ended. It cannot go on then: the process is to
     /// end, with status 4.
-    pub fn has_failed(&self) -> bool {
+    pub fn has_failed(&self) -> bool
+        ensures { result ≡ self.now.desk.failed }
+    {
         self.desk.failed
     }
 

@@ -1,5 +1,5 @@
 -- When a connection is made that a process makes itself, and whether it was tried.
-use Rattle.std.specs.Prelude.{◌≡◌, ◌≤◌, ◌+◌, ◌*◌, ◌==◌, ◌&&◌, ◌||◌, ℕ, Bool, true, false, List, Option, Some, None, min}
+use Rattle.std.specs.Prelude.{◌≡◌, ◌≤◌, ◌+◌, ◌*◌, ◌==◌, ◌&&◌, ◌||◌, ℕ, Bool, true, false, if◌then◌else◌, List, Option, Some, None, min}
 use Rattle.std.specs.List.{list_any}
 use Rattle.dia_base.specs.declared.number.ConnId.{ConnId}
 use Rattle.dia_base.specs.declared.number.Moment.{Moment}
@@ -19,8 +19,18 @@ IsDue (Made conn) moment = ⊥
 IsDue Nowhere moment = ⊥
 
 -- so many milliseconds later; the last moment that there is, where that is behind it
-abbrev pub IsLater : Moment → ℕ → Moment → Type 0
-IsLater moment interval later = later.0 ≡ min (moment.0 + interval) 18446744073709551615
+abbrev pub later : Moment → ℕ → Moment
+later moment interval = record { 0 = min (moment.0 + interval) 18446744073709551615 }
+
+-- it was made, and has this number
+abbrev pub is_made : ConnId → DialState → Bool
+is_made conn (Due at) = false
+is_made conn (Made made) = made.0 == conn.0
+is_made conn Nowhere = false
+
+-- What was made under the number of a connection that has ended is made again so many milliseconds later.
+abbrev pub ended_on : ConnId → Moment → ℕ → Dial → Dial
+ended_on conn moment wait dial = if is_made conn dial.state then record dial { state = Due (later moment wait); has_ended = true } else dial
 
 -- How many milliseconds pass before a connection is made again, by why the node at its other end has said goodbye, if it has: one that
 -- is busy, or wants no messages, is left alone for ten intervals of the watchdog.

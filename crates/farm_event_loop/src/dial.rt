@@ -1,8 +1,8 @@
 //! The connections that a process makes itself.
 
-ghost use Rattle.std.specs.Prelude.{◌≡◌, ◌↔◌, IsTrue, true, false};
+ghost use Rattle.std.specs.Prelude.{◌≡◌, ◌↔◌, IsTrue, true, false, map};
 ghost use Rattle.std.specs.List.{list_all, list_any};
-ghost use Rattle.farm_event_loop.specs.Dialing.{IsDue, IsLater, has_come_up, is_tried, is_up_on, wait_after};
+ghost use Rattle.farm_event_loop.specs.Dialing.{IsDue, ended_on, has_come_up, is_made, is_tried, is_up_on, later, wait_after};
 
 use dia_base::{ConnId, Moment, NodeNo};
 use farm_connections::{Link, Standing};
@@ -98,8 +98,7 @@ impl Dial {
 
     /// It has failed, or has ended: it is made again so many milliseconds later.
     pub fn fail(&mut self, moment: Moment, interval: u32)
-        ensures state { (later : Moment) × (self.new.state ≡ DialState.Due later) × IsLater moment interval later }
-        ensures others { self.new ≡ record self.old { state = self.new.state; has_ended = true } }
+        ensures { self.new ≡ record self.old { state = DialState.Due (later moment interval); has_ended = true } }
     {
         let at = Moment(moment.0.saturating_add(u64::from(interval)));
         self.state = DialState::Due { at };
@@ -121,12 +120,30 @@ impl Dial {
 
     /// Whether it was made under this number.
     pub fn is_made(&self, conn: ConnId) -> bool
-        ensures { IsTrue result ↔ (self.now.state ≡ DialState.Made conn) }
+        ensures { result ≡ is_made conn self.now.state }
     {
         match self.state {
             DialState::Made { conn: made } => made.0 == conn.0,
             DialState::Due { .. } | DialState::Nowhere => false,
         }
+    }
+}
+
+/// What was made under the number of a connection that has ended is made again so many milliseconds later.
+pub fn end_on(dials: &mut [Dial], conn: ConnId, moment: Moment, wait: u32)
+    ensures { dials.new ≡ map (ended_on conn moment wait) dials.old }
+{
+    for dial in dials.iter_mut() {
+        end_one(dial, conn, moment, wait);
+    }
+}
+
+/// The same for one of them.
+fn end_one(dial: &mut Dial, conn: ConnId, moment: Moment, wait: u32)
+    ensures { dial.new ≡ ended_on conn moment wait dial.old }
+{
+    if dial.is_made(conn) {
+        dial.fail(moment, wait);
     }
 }
 

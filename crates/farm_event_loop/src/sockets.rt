@@ -1,7 +1,7 @@
 //! The sockets of a process: who listens, and which are ready.
 
-ghost use Rattle.std.specs.Prelude.{◌≡◌};
-ghost use Rattle.farm_event_loop.specs.Callers.{may_wait};
+ghost use Rattle.std.specs.Prelude.{◌≡◌, ◌||◌};
+ghost use Rattle.farm_event_loop.specs.Callers.{callers_after, may_wait};
 ghost use Rattle.farm_event_loop.specs.Tokens.{IsOf, token_for};
 
 use crate::pause::PIECE;
@@ -10,6 +10,7 @@ use mio::net::TcpListener;
 use mio::{Events, Interest, Poll, Registry, Token, Waker};
 use std::alloc::Global;
 use std::io;
+use std::io::ErrorKind;
 use std::net::{Net, SocketAddr};
 use std::time::Duration;
 
@@ -51,6 +52,23 @@ impl Callers {
     }
 }
 
+/// After how many milliseconds the system is asked again for a connection that it had no room for.
+const AGAIN: u64 = 1_000;
+
+/// Whether connections wait at a listener that has given none, for this reason: none does; some may behind one who has given up; or the system
+/// has no room for one more socket, and does not report those who wait again.
+pub fn callers_after(kind: ErrorKind, now: Moment) -> Callers
+    ensures { result ≡ callers_after kind now }
+{
+    match kind {
+        ErrorKind::WouldBlock => Callers::Nobody,
+        ErrorKind::ConnectionAborted => Callers::MayWait,
+        _ => Callers::From {
+            moment: Moment(now.0.saturating_add(AGAIN)),
+        },
+    }
+}
+
 /// What a report is of.
 #[derive(Clone, Copy)]
 pub enum Source {
@@ -67,6 +85,17 @@ pub struct Ready {
     pub reads: bool,
     /// Whether nothing comes behind what is there to be read.
     pub closes: bool,
+}
+
+/// What is reported of a source. An end is read: nothing comes behind what is there.
+fn ready_of(source: Source, is_readable: bool, closes: bool) -> Ready
+    ensures { result ≡ record { source = source; reads = is_readable || closes; closes = closes } }
+{
+    Ready {
+        source,
+        reads: is_readable || closes,
+        closes,
+    }
 }
 
 /// The sockets of a process, and what the system reports of them.
@@ -171,12 +200,10 @@ impl Sockets {
         self.ready.clear();
         let listeners = self.listeners.len();
         for event in &self.events {
+            let source = source_of(event.token(), listeners);
             let closes = event.is_read_closed() || event.is_error();
-            self.ready.push(Ready {
-                source: source_of(event.token(), listeners),
-                reads: event.is_readable() || closes,
-                closes,
-            })?;
+            self.ready
+                .push(ready_of(source, event.is_readable(), closes))?;
         }
         Ok(())
     }

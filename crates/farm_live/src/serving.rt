@@ -131,6 +131,7 @@ where
     let (alloc, site) = (setting.rt.alloc(), setting.site);
     let endpoints = parting_endpoints(setting, endpoints)?;
     let mut live = Live::over(setting.os, alloc, site, sockets, node, endpoints, timer)?;
+    live.try_addresses(setting.os, site)?;
     live.serving.number(numbering_of(setting));
     live.share_room(site, setting.access.strictness())?;
     serve_recorded(setting, numbers, live, jobs, answers)
