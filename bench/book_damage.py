@@ -95,12 +95,12 @@ class Damage:
         shutil.copy(self.whole, book)
         return book
 
-    def front_refuses(self, book, line, what):
-        """The fronts refuse it too, in the words that `check` has."""
+    def front_refuses(self, book, status, line, what):
+        """The fronts refuse it too, with the status and the words that `check` has."""
         why = line.split(": ", 1)[1]
         ran = subprocess.run([self.words.program, "front", "--site", SITE, "--book", book, "--log", "error"], capture_output=True, text=True,
                              timeout=SECONDS)
-        if ran.returncode == 0 or ran.stderr.strip() != f"the book cannot be opened: {why}":
+        if ran.returncode != status or ran.stderr.strip() != f"the book cannot be opened: {why}":
             raise Otherwise(f"{what}: the fronts end with status {ran.returncode}: {ran.stderr.strip()!r}, and not: {why!r}")
 
     def judge(self, book, what, kind, may_be_told=False):
@@ -111,7 +111,7 @@ class Damage:
             words = " ".join("N" if word.strip(":").isdigit() else word for word in lines[0].split())
             self.told[f"{kind}: {words}"] += 1
             if self.lines.setdefault(words, what) == what:
-                self.front_refuses(book, lines[0], what)
+                self.front_refuses(book, ran.returncode, lines[0], what)
             return
         if ran.returncode or lines:
             raise Otherwise(f"{what}: status {ran.returncode}: {ran.stderr.strip()!r}")
@@ -169,7 +169,7 @@ class Damage:
                 raise Otherwise(f"cut off at {end}: status {ran.returncode}: {ran.stderr.strip()!r}, {ran.stdout!r}")
             self.told[f"cut off: {ran.stderr.strip()}"] += 1
             if end in (0, ends[len(ends) // 2]):
-                self.front_refuses(book, ran.stderr.strip(), f"cut off at {end}")
+                self.front_refuses(book, ran.returncode, ran.stderr.strip(), f"cut off at {end}")
 
     def others(self):
         book = self.copy()

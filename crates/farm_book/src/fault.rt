@@ -1,20 +1,17 @@
 //! Why a task is not done.
 
 ghost use Rattle.std.specs.Prelude.{◌≡◌};
-ghost use Rattle.farm_book.specs.Ending.{status_of, status_of_append, status_of_book, status_of_copy, status_of_file, status_of_journal, status_of_rows, status_of_store};
+ghost use Rattle.farm_book.specs.Ending.{status_of, status_of_copy, status_of_rows};
 
 use book_copy::{CopyError, CopyFault};
-use book_entries::RowRefusal;
-use book_file::FileError;
-use book_journal::JournalError;
+use book_ending::{status_of_append, status_of_book, status_of_file, status_of_store};
 use book_lines::LinesFault;
 use book_opening::BookFault;
 use book_place::FileKeyFault;
-use book_store::{AppendError, CheckError, RowError};
+use book_store::{CheckError, RowError};
 use farm_command::Status;
 use farm_site::SiteFault;
 use farm_terms::{AccountsFault, SiteChangeFault, SiteTermsFault};
-use sqlite_trees::error::StoreError;
 use std::alloc::AllocError;
 use thiserror::Error;
 
@@ -63,7 +60,7 @@ impl TaskFault {
             TaskFault::NotMade(fault)
             | TaskFault::NotRead(fault)
             | TaskFault::NotChanged(fault)
-            | TaskFault::CopyNotRead(fault) => book_status(*fault),
+            | TaskFault::CopyNotRead(fault) => status_of_book(*fault),
             TaskFault::NotCopied(fault) => copy_status(*fault),
             TaskFault::OtherCopy => Status::Refused,
             TaskFault::Site(SiteFault::OutOfMemory)
@@ -81,29 +78,13 @@ impl TaskFault {
     }
 }
 
-/// How the program ends by a fault of a book.
-fn book_status(fault: BookFault) -> Status
-    ensures { result ≡ status_of_book fault }
-{
-    match fault {
-        BookFault::File(error) => file_status(error),
-        BookFault::Row(error) => journal_status(error),
-        BookFault::NotStored(error) => append_status(error),
-        BookFault::OtherTerms(_)
-        | BookFault::TermsDiffer(_)
-        | BookFault::NotChanged(_)
-        | BookFault::DamagedTerms => Status::Refused,
-        BookFault::OutOfMemory => Status::OutOfMemory,
-    }
-}
-
 /// How the program ends by a fault of a copy.
 fn copy_status(fault: CopyFault) -> Status
     ensures { result ≡ status_of_copy fault }
 {
     match fault {
         CopyFault::Stands => Status::Refused,
-        CopyFault::Book(error) | CopyFault::Copy(error) => file_status(error),
+        CopyFault::Book(error) | CopyFault::Copy(error) => status_of_file(error),
         CopyFault::Rows(error) => rows_status(error),
         CopyFault::Io(_) => Status::Failed,
         CopyFault::OutOfMemory => Status::OutOfMemory,
@@ -116,77 +97,10 @@ fn rows_status(error: CopyError) -> Status
 {
     match error {
         CopyError::Check(CheckError::Row(RowError::Store(error)))
-        | CopyError::Read(RowError::Store(error)) => store_status(error),
-        CopyError::Append(error) => append_status(error),
+        | CopyError::Read(RowError::Store(error)) => status_of_store(error),
+        CopyError::Append(error) => status_of_append(error),
         CopyError::Check(_) | CopyError::Read(_) => Status::Refused,
         CopyError::OutOfMemory => Status::OutOfMemory,
-    }
-}
-
-/// How the program ends by rows that are not stored.
-fn append_status(error: AppendError) -> Status
-    ensures { result ≡ status_of_append error }
-{
-    match error {
-        AppendError::Store(error) => store_status(error),
-        AppendError::NotBehind | AppendError::NoPlace => Status::Refused,
-    }
-}
-
-/// How the program ends by a fault of a file: one that is not there, is in use, or that the system does not read or write, has
-/// failed; one that is read, and is no book, is refused.
-fn file_status(error: FileError) -> Status
-    ensures { result ≡ status_of_file error }
-{
-    match error {
-        FileError::Missing | FileError::Busy | FileError::Io(_) => Status::Failed,
-        FileError::Store(error) => store_status(error),
-        FileError::OutOfMemory => Status::OutOfMemory,
-        FileError::Exists
-        | FileError::NoBooksFile
-        | FileError::NoBook
-        | FileError::OtherFormat
-        | FileError::DamagedBook
-        | FileError::StandsElsewhere
-        | FileError::Damaged(_)
-        | FileError::Full => Status::Refused,
-    }
-}
-
-/// How the program ends by a fault of the disk, or by a page that is not what was written.
-fn store_status(error: StoreError) -> Status
-    ensures { result ≡ status_of_store error }
-{
-    match error {
-        StoreError::OutOfMemory => Status::OutOfMemory,
-        StoreError::Corrupt => Status::Refused,
-        StoreError::Io | StoreError::Full | StoreError::Broken | StoreError::Unstorable =>
-            Status::Failed,
-    }
-}
-
-/// How the program ends by a row that is not taken.
-fn journal_status(error: JournalError) -> Status
-    ensures { result ≡ status_of_journal error }
-{
-    match error {
-        JournalError::Unread {
-            why: RowError::Store(error),
-            ..
-        } => store_status(error),
-        JournalError::Refused {
-            why: RowRefusal::OutOfMemory,
-            ..
-        } => Status::OutOfMemory,
-        JournalError::TableUnread {
-            why: RowError::Store(error),
-        } => store_status(error),
-        JournalError::Unwritten { why } => append_status(why),
-        JournalError::Unread { .. }
-        | JournalError::Refused { .. }
-        | JournalError::TableUnread { .. }
-        | JournalError::OtherAccount { .. }
-        | JournalError::OtherSession { .. } => Status::Refused,
     }
 }
 

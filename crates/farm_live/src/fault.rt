@@ -1,7 +1,7 @@
 //! Why the program does not do what it is asked to do.
 
 use book_clock::ClockBehind;
-use book_file::FileError;
+use book_ending::status_of_book;
 use book_opening::BookFault;
 use book_place::FileKeyFault;
 use farm_access::AccessFault;
@@ -152,8 +152,8 @@ impl Fault {
             | Fault::Lines(LinesFault::OutOfMemory)
             | Fault::Loop(LoopFault::OutOfMemory)
             | Fault::Start(StartFault::OutOfMemory)
-            | Fault::Book(BookFault::OutOfMemory | BookFault::File(FileError::OutOfMemory))
             | Fault::OutOfMemory => Status::OutOfMemory,
+            Fault::Book(fault) => status_of_book(*fault),
             Fault::Site(_)
             | Fault::Access(_)
             | Fault::FileKey(_)
@@ -161,14 +161,8 @@ impl Fault {
             | Fault::Clock(_)
             | Fault::Endpoint(EndpointFault::NoAddress | EndpointFault::UnknownName { .. })
             | Fault::Lines(LinesFault::NoMessage { .. })
-            | Fault::Book(
-                BookFault::OtherTerms(_)
-                | BookFault::TermsDiffer(_)
-                | BookFault::NotChanged(_)
-                | BookFault::DamagedTerms
-                | BookFault::Row(_),
-            )
             | Fault::NoToken
+            | Fault::TokenSeen
             | Fault::NoRecord => Status::Refused,
             Fault::SiteFile
             | Fault::Terms(SiteTermsFault::NotRead)
@@ -178,9 +172,7 @@ impl Fault {
             | Fault::Start(StartFault::NoWorker | StartFault::UnknownNode { .. })
             | Fault::Status(_)
             | Fault::TokenFile
-            | Fault::TokenSeen
             | Fault::Record(_)
-            | Fault::Book(BookFault::File(_) | BookFault::NotStored(_))
             | Fault::BookNotStored
             | Fault::Ended => Status::Failed,
         }

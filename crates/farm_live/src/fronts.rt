@@ -32,7 +32,7 @@ use farm_endpoints::{Endpoint, endpoint_of, fronts_of};
 use farm_event_loop::Sockets;
 use farm_terms::{site_change, site_terms};
 use front_pool::Pooling;
-use log::LevelFilter;
+use log::{LevelFilter, warn};
 use pool_node::{PoolFronts, Timing, seats_for, start_fronts};
 use std::alloc::Global;
 use std::marker::Brand;
@@ -133,7 +133,8 @@ fn book_in_memory<O>(
     ensures stored { IfOk result (λ opened. is_some opened.0.0.store ≡ false) }
     ensures leads { IfOk result (λ opened. LeadsToSite setting.now.site.now (is_some setting.now.accounts) (now_in opened.0.1) opened.1) }
 {
-    let (rt, site) = (setting.rt, setting.site);
+    let (rt, site, log) = (setting.rt, setting.site, setting.log);
+    warn!(log; target: "farm", event = "book_in_memory"; "the book is in memory, and ends with this process: --book is not given, and the site names none");
     let wanted = site_terms(rt, site, setting.accounts)?;
     let (journal, book) = serving_book(rt, None, site.limit, &wanted)?;
     let change = change_for(rt.alloc(), &book, &wanted)?;
