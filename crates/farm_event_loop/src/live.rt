@@ -1,6 +1,6 @@
 //! The loop of a process: sockets, its node with its connections, and the time.
 
-ghost use Rattle.std.specs.Prelude.{◌≡◌, [], IfOk, false};
+ghost use Rattle.std.specs.Prelude.{◌≡◌, [], IfOk, false, true};
 
 mod accepting;
 mod dialing;
@@ -251,7 +251,9 @@ impl<N: Node + Drop> Live<N> {
         self.outgoing.find(site, &self.serving)?;
         self.read_again(site, moment)?;
         self.serve_ready(site, moment)?;
-        self.accept_all(log, site, access, moment);
+        if !self.outgoing.drains() {
+            self.accept_all(log, site, access, moment);
+        }
         self.dial_all(os, log, site, access, moment);
         self.serving.tick::<ViewWire>(moment);
         Ok(moment)
@@ -298,13 +300,24 @@ impl<N: Node + Drop> Live<N> {
         })
     }
 
+    /// No new request is taken from now on, of clients and of relays that send to a front, and no connection: what is under way is
+    /// answered. To be called before [`Live::close`], for no longer than an interval of the watchdog, since what is not read there may be
+    /// a watchdog's request.
+    pub fn drain(&mut self)
+        ensures { self.new.outgoing.drains ≡ true }
+    {
+        self.outgoing.set_draining(true);
+    }
+
     /// Each connection is to end in good order.
     pub fn close<O: Clock>(&mut self, os: &O) -> Result<(), LoopFault>
         ensures dials { IfOk result (λ _. self.new.dials.items ≡ []) }
         ensures addresses { IfOk result (λ _. self.new.addresses.items ≡ []) }
+        ensures reads { IfOk result (λ _. self.new.outgoing.drains ≡ false) }
     {
         let moment = self.timer.now(os)?;
         self.serving.begin_turn(moment);
+        self.outgoing.set_draining(false);
         self.sockets.listeners.clear();
         self.addresses.clear();
         self.dials.clear();

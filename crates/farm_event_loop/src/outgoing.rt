@@ -1,6 +1,6 @@
 //! The connections of a process on which requests go out, and which others are read meanwhile.
 
-ghost use Rattle.std.specs.Prelude.{◌≡◌};
+ghost use Rattle.std.specs.Prelude.{◌≡◌, ◌||◌, not};
 ghost use Rattle.farm_event_loop.specs.Pausing.{makes_wait, sends_requests};
 
 use crate::pause::{Pause, Traffic, is_behind, traffic_on};
@@ -20,6 +20,8 @@ pub struct Outgoing {
     pause: Pause,
     /// How many requests each connection may have open.
     shares: Shares,
+    /// Whether no new request is taken.
+    drains: bool,
 }
 
 /// What a node of the site is.
@@ -50,6 +52,13 @@ fn sends_requests(traffic: Traffic) -> bool
     }
 }
 
+/// Whether a connection that brings this is read: where no new request is taken, not one that brings requests alone.
+fn takes(drains: bool, traffic: Traffic) -> bool
+    ensures { result ≡ (not drains || sends_requests traffic) }
+{
+    !drains || sends_requests(traffic)
+}
+
 /// Whether others wait while this connection is behind. One that has ended makes nobody wait.
 fn makes_wait<R: Read + Device, W: Write + Device>(link: &Link<R, W>) -> bool
     ensures { result ≡ makes_wait link.now }
@@ -72,7 +81,22 @@ impl Outgoing {
             conns: Vec::new(alloc),
             pause: Pause::new(interval, moment),
             shares: Shares::none(alloc),
+            drains: false,
         }
+    }
+
+    /// Whether no new request is taken from now on: what brings requests alone is not read.
+    pub fn set_draining(&mut self, drains: bool)
+        ensures { self.new ≡ record self.old { drains = drains } }
+    {
+        self.drains = drains;
+    }
+
+    /// Whether no new request is taken.
+    pub fn drains(&self) -> bool
+        ensures { result ≡ self.now.drains }
+    {
+        self.drains
     }
 
     /// From now on connections have these shares.
@@ -111,7 +135,7 @@ impl Outgoing {
     }
 
     /// How many messages are read at most of a connection at this moment, which was not read since another: none where it has to
-    /// wait ([`Pause::may_read`], [`room_left`]). One that is gone brings nothing.
+    /// wait ([`Pause::may_read`], [`room_left`]), or brings requests alone while none is taken. One that is gone brings nothing.
     pub fn most_on<N: Node, R: Read + Device, W: Write + Device>(
         &self,
         site: &Site,
@@ -124,6 +148,9 @@ impl Outgoing {
             return usize::MAX;
         };
         let traffic = traffic_of(site, link);
+        if !takes(self.drains, traffic) {
+            return 0;
+        }
         if !self.pause.may_read(traffic, link.conn.unsent(), moment) {
             return 0;
         }

@@ -5,7 +5,7 @@ use crate::jobs::BookJobs;
 use crate::recording::Record;
 use crate::setting::Setting;
 use crate::view::Booked;
-use crate::watching::Watching;
+use crate::watching::{Course, Watching};
 use book_store::RowStore;
 use cc_shared::Sharing;
 use farm_event_loop::Live;
@@ -74,10 +74,13 @@ where
 {
     for _ in setting.os.forever() {
         turn(setting, recording, live)?;
-        let is_asked_to_end = watching.look(setting, live, jobs)?;
-        let has_answered = answers > 0 && live.serving.answers() >= answers;
-        if is_asked_to_end || has_answered {
+        if answers > 0 && live.serving.answers() >= answers {
             return close(setting, recording, live);
+        }
+        match watching.look(setting, live, jobs)? {
+            Course::Serve => {}
+            Course::Drain => live.drain(),
+            Course::End => return close(setting, recording, live),
         }
     }
     Ok(())

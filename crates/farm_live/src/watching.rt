@@ -37,6 +37,17 @@ pub struct Watching {
     strangers: Rising,
     /// How many answers came whose request has another End-to-End Identifier.
     mismatched: Rising,
+    /// Whether the log has told that the process is asked to end.
+    is_end_told: bool,
+}
+
+/// What the process is to do.
+#[derive(Clone, Copy)]
+pub enum Course {
+    Serve,
+    /// It is asked to end: it takes no new request, and answers what is under way.
+    Drain,
+    End,
 }
 
 /// The hundredths of the book at which its filling is told.
@@ -127,17 +138,18 @@ impl Watching {
             timer: Timer::start(setting.os)?,
             strangers: Rising::zero(),
             mismatched: Rising::zero(),
+            is_end_told: false,
         })
     }
 
-    /// Answers who asks what the process does, and hands the jobs on that are asked for; whether the process is to end: it is asked to,
-    /// and no request is under way, or it was asked [`GRACE`] ago.
+    /// Answers who asks what the process does, and hands the jobs on that are asked for; what the process is to do: it ends if it is
+    /// asked to, and no request is under way, or it was asked [`GRACE`] ago.
     pub fn look<N, L, S, O>(
         &mut self,
         setting: &Setting<'_, O>,
         live: &Live<N>,
         jobs: &mut Option<BookJobs<L, S>>,
-    ) -> Result<bool, Fault>
+    ) -> Result<Course, Fault>
     where
         N: Node + Drop + Booked,
         L: Sharing + Send + Sync + 'static,
@@ -167,13 +179,13 @@ impl Watching {
         Ok(())
     }
 
-    /// Answers who asks at the status port, and hands on what is asked for; whether the process is to end.
+    /// Answers who asks at the status port, and hands on what is asked for; what the process is to do.
     fn serve_port<N, L, S, O>(
         &mut self,
         setting: &Setting<'_, O>,
         live: &Live<N>,
         jobs: &mut Option<BookJobs<L, S>>,
-    ) -> Result<bool, Fault>
+    ) -> Result<Course, Fault>
     where
         N: Node + Drop + Booked,
         L: Sharing + Send + Sync + 'static,
@@ -181,10 +193,10 @@ impl Watching {
         O: Threads + Wait + Clock + Copy + Send + 'static,
     {
         let Some(port) = &mut self.port else {
-            return Ok(false);
+            return Ok(Course::Serve);
         };
         let Some(uptime) = port.due(setting.os)? else {
-            return Ok(false);
+            return Ok(Course::Serve);
         };
         let told = told_of(jobs);
         let view = View {
@@ -199,9 +211,22 @@ impl Watching {
         if let Some(jobs) = jobs {
             jobs.ask(setting, &wanted);
         }
-        match port.asked_to_end() {
-            Some(millis) => Ok(millis >= GRACE || open_in(&live.serving) == 0),
-            None => Ok(false),
+        let Some(millis) = port.asked_to_end() else {
+            return Ok(Course::Serve);
+        };
+        let open = open_in(&live.serving);
+        self.tell_end(setting.log, open);
+        if millis >= GRACE || open == 0 {
+            return Ok(Course::End);
+        }
+        Ok(Course::Drain)
+    }
+
+    /// Tells once that the process is asked to end, and how many requests are under way.
+    fn tell_end(&mut self, log: &Logger, open: u64) {
+        if !self.is_end_told {
+            self.is_end_told = true;
+            info!(log; target: "farm", event = "draining", requests = open; "asked to end: no new request is taken, and {open} are under way");
         }
     }
 
