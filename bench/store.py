@@ -5,9 +5,10 @@ It lays bench/store beside the crates of a copy of the repository, proves and bu
 along), or builds it unproved (`rt try`, some hundred times slower: only to see that it runs). It writes books of 100,000 rows
 (1,000 unproved) in batches of 1, 32 and 256 rows, each of which is a commit with one sync, and opens the last one again. FOLDER
 is where the files lie, and so the disk that is measured; without it they lie in a folder of the system's for temporary files.
-A row holds a request of one service and its reply, some 230 octets; to make and spell it is part of what is measured. Beside it
-stands what a sync alone takes there, and what the same rows take in the same tables and batches by Python's sqlite3, which is handed
-their octets as they are (WAL, synchronous = FULL: one sync a commit). Nothing of it is part of the gate.
+A row holds a request of one service and its reply, some 230 octets; to make and spell it is part of what is measured. With each row
+goes the balance of its account, of a thousand. Beside it stands what a sync alone takes there, and what the same rows take in the same
+tables and batches by Python's sqlite3, which is handed their octets as they are (WAL, synchronous = FULL: one sync a commit). Nothing of
+it is part of the gate.
 """
 import os
 import sqlite3
@@ -19,8 +20,10 @@ from pathlib import Path
 
 from laid import build, lay
 
-DEPS = "dia_base dia_avp cc_view book_rows book_store book_file anyhow"
+DEPS = "dia_base dia_avp cc_view book_beside book_rows book_store book_file anyhow"
 ROWS = 100_000
+# How many accounts the rows charge, by turns.
+ACCOUNTS = 1_000
 BATCHES = [1, 32, 256]
 SYNCS = 200
 
@@ -48,12 +51,15 @@ def by_sqlite(file, batch):
     ours, other = sqlite3.connect(file), sqlite3.connect(f"{file}.stock", isolation_level=None)
     rows, (book,) = ours.execute("SELECT octets FROM entry ORDER BY rowid").fetchall(), ours.execute("SELECT octets FROM book").fetchone()
     ours.close()
-    for words in ("PRAGMA page_size = 4096", "PRAGMA journal_mode = WAL", "PRAGMA synchronous = FULL", "CREATE TABLE entry (octets BLOB NOT NULL)", "CREATE TABLE book (octets BLOB NOT NULL)"):
+    for words in ("PRAGMA page_size = 4096", "PRAGMA journal_mode = WAL", "PRAGMA synchronous = FULL", "CREATE TABLE entry (octets BLOB NOT NULL)", "CREATE TABLE book (octets BLOB NOT NULL)",
+                  "CREATE TABLE account (balance BLOB NOT NULL)"):
         other.execute(words)
     began = time.perf_counter()
     for first in range(0, len(rows), batch):
         other.execute("BEGIN IMMEDIATE")
         other.executemany("INSERT INTO entry (octets) VALUES (?)", rows[first : first + batch])
+        places = range(first, min(first + batch, len(rows)))
+        other.executemany("REPLACE INTO account (rowid, balance) VALUES (?, ?)", [(place % ACCOUNTS, b"%d" % (1_000_000_000 - place)) for place in places])
         other.execute("REPLACE INTO book (rowid, octets) VALUES (1, ?)", (book,))
         other.execute("COMMIT")
     took = time.perf_counter() - began
