@@ -52,11 +52,7 @@ impl AuditFault {
                 PlayFault::Found { position, .. }
                 | PlayFault::Record(RecordFault::Found { position, .. }),
             ) => Some(position.source),
-            AuditFault::Play(
-                PlayFault::Write
-                | PlayFault::OutOfMemory
-                | PlayFault::Record(RecordFault::OutOfMemory),
-            )
+            AuditFault::Play(PlayFault::OutOfMemory | PlayFault::Record(RecordFault::OutOfMemory))
             | AuditFault::SiteFile
             | AuditFault::BookFile
             | AuditFault::Site(_)
@@ -68,7 +64,7 @@ impl AuditFault {
 
 fn status_of(fault: &PlayFault) -> Status {
     match fault {
-        PlayFault::Write | PlayFault::Record(RecordFault::Unreadable { .. }) => Status::Failed,
+        PlayFault::Record(RecordFault::Unreadable { .. }) => Status::Failed,
         PlayFault::OutOfMemory | PlayFault::Record(RecordFault::OutOfMemory) => Status::OutOfMemory,
         PlayFault::Found { .. } | PlayFault::Record(RecordFault::Found { .. }) => Status::Refused,
     }

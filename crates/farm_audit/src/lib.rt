@@ -2,19 +2,21 @@
 //! each client received what the farm gives, that each request was charged as it charges, and what the book comes to. Where
 //! the records contradict one another or the farm, it tells the first place.
 //!
-//! `record_player` does it; here are the files and the exit statuses.
+//! - `order`: the records, in an order in which their events may happen, and what they come to. `record_player` plays them.
+//! - Here: the files and the exit statuses.
 #![tactic(auto)]
 
 ghost use Rattle.farm_base.specs.CheckedSite.{IsChecked};
 
 mod fault;
+mod order;
 
 use farm_command::{Audit as AuditCommand, AuditAction, end};
 use farm_site::site_of_octets;
 use farm_text::{ReadFault, file_at, write_text};
 use farm_world::Site;
 use fault::AuditFault;
-use record_player::Audit;
+use order::Audit;
 use record_reader::Source;
 use std::fs::File;
 use std::io;

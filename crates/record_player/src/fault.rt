@@ -44,14 +44,15 @@ pub enum PlayFault {
     Record(RecordFault),
     #[error("line {}: {why}", position.line)]
     Found { position: Position, why: Difference },
-    #[error("the output cannot be written")]
-    Write,
     #[error("out of memory")]
     OutOfMemory,
 }
 
+/// What comes of playing an entry.
+pub type PlayResult<T> = Result<T, PlayFault>;
+
 /// Something is wrong there.
-pub fn found<T>(position: Position, why: Difference) -> Result<T, PlayFault> {
+pub fn found<T>(position: Position, why: Difference) -> PlayResult<T> {
     Err(PlayFault::Found { position, why })
 }
 

@@ -1,43 +1,34 @@
-//! The farm, and what of the records is played with it.
+//! All that plays: whether an entry of a node may happen, and then it has.
 //!
-//! - `events`: whether an entry of a node may happen, and then it has. `messages`: that of a message that arrives.
-//! - `dials`: connections begin. `handing`: requests at fronts. `charges`: the book. `untold`: what only a book on disk tells.
+//! - `reading`: what is kept of entries that were read. `handing`: requests at fronts. `closing`: connections that fronts have lost.
+//! - `charges`: the book. `untold`: what only a book on disk tells.
 
 mod charges;
-mod dials;
-mod events;
+mod closing;
 mod handing;
-mod messages;
+mod reading;
 mod untold;
 
 ghost use Rattle.farm_base.specs.CheckedSite.{IsChecked};
 
-use crate::fault::{Difference, PlayFault, found};
-use dia_base::{NodeKind, NodeNo};
+use crate::fault::PlayResult;
+use crate::links::LinkPlayer;
+use crate::played::Played;
+use dia_base::NodeNo;
+use dia_message::Message;
 use farm_player::PlayedFarm;
-use farm_world::{Site, Step};
-use record_reader::{Action, End, Finished, NodeEvent, Position, RequestKey, Sweep};
-use record_state::{BookOrder, Connections, Fronts, Outcome};
+use farm_world::Site;
+use record_reader::{Action, End, NodeEvent, Position};
+use record_state::{Beginning, BookTold, Fronts, NodeEntry, RequestState};
 use std::alloc::{AllocError, Global};
-use untold::StoredBook;
 
-/// The farm that plays, and what was read of the records and is about connections, requests and the book.
+/// The farm that plays, and what was read of the records and is about connections, requests and the book. After a fault it is not to be
+/// used any further.
 pub struct Player<'s> {
     alloc: Global,
-    farm: PlayedFarm<'s>,
-    connections: Connections,
+    links: LinkPlayer<'s>,
     fronts: Fronts,
-    book: BookOrder,
-    /// The nodes that have a record.
-    recorded: Vec<NodeNo>,
-    /// The relays of which the start of their identifiers is known since they began.
-    numbered: Vec<NodeNo>,
-    /// The book on disk, if one is given.
-    stored: Option<StoredBook>,
-    /// Whether the records of fronts were read to their ends.
-    are_fronts_read: bool,
-    /// Whether requests are to be handed over, and a line of fronts that was not read may tell of one of them.
-    awaits_lines: bool,
+    book: BookTold,
 }
 
 // By hand, so that each exit of an owner is proved with one call.
@@ -45,24 +36,10 @@ impl<'s> Drop for Player<'s> {
     fn drop(self) {
         let Player {
             alloc: _,
-            farm: _,
-            connections: _,
+            links: _,
             fronts: _,
             book: _,
-            recorded: _,
-            numbered: _,
-            stored: _,
-            are_fronts_read: _,
-            awaits_lines: _,
         } = self;
-    }
-}
-
-/// The kind of a node.
-fn kind_of(site: &Site, node: NodeNo) -> NodeKind {
-    match site.nodes.as_slice().get(node.0 as usize) {
-        Some(node) => node.kind,
-        None => NodeKind::Client,
     }
 }
 
@@ -73,210 +50,150 @@ impl<'s> Player<'s> {
     {
         Ok(Player {
             alloc,
-            farm: PlayedFarm::open(alloc, site, prints)?,
-            connections: Connections::new(alloc),
+            links: LinkPlayer::new(alloc, Played::open(alloc, site, prints)?),
             fronts: Fronts::new(alloc, site)?,
-            book: BookOrder::new(alloc),
-            recorded: Vec::new(alloc),
-            numbered: Vec::new(alloc),
-            stored: None,
-            are_fronts_read: false,
-            awaits_lines: false,
+            book: BookTold::new(alloc),
         })
     }
 
     pub fn farm(&self) -> &PlayedFarm<'s> {
-        &self.farm
+        self.links.played.farm()
     }
 
-    pub fn farm_mut(&mut self) -> &mut PlayedFarm<'s> {
-        &mut self.farm
+    /// What was told of the book.
+    pub fn book(&self) -> &BookTold {
+        &self.book
     }
 
-    fn site(&self) -> &'s Site {
-        self.farm.site()
+    /// Hands out the lines of the steps since the last time.
+    pub fn take_lines(&mut self) -> Vec<u8> {
+        self.links.played.take_lines()
     }
-
-    // ---- what is read
-
-    /// A node has a record.
-    pub fn add_node(&mut self, node: NodeNo) -> Result<(), AllocError> {
-        self.recorded.push(node)?;
-        Ok(())
-    }
-
-    /// An end of a connection was told.
-    pub fn add_connection(&mut self, end: End, label: u64) -> Result<(), AllocError> {
-        self.connections.add(end, label)
-    }
-
-    /// An event was told that is of a request, or for which a front has sent answers at once.
-    pub fn add_event(&mut self, event: &NodeEvent) -> Result<(), AllocError> {
-        if let Some(number) = event.request {
-            let key = self.key_of(event);
-            self.fronts.add(number, event.end, key)?;
-        }
-        if event.is_received() && self.is_front(event.end.node) {
-            for (_, message) in &event.sent {
-                self.connections
-                    .add_answer(event.end.conn, message.clone()?)?;
-            }
-        }
-        Ok(())
-    }
-
-    /// By which the request of an event is found in the book on disk, if one is given.
-    fn key_of(&self, event: &NodeEvent) -> Option<RequestKey> {
-        match &event.action {
-            Action::Receive(message) if self.stored.is_some() => {
-                RequestKey::of_message(self.alloc, message)
-            }
-            _ => None,
-        }
-    }
-
-    /// A line tells what became of a request.
-    pub fn add_finished(&mut self, finished: Finished) -> Result<(), PlayFault> {
-        let outcome = Outcome {
-            place: finished.place,
-            is_new: finished.is_new,
-            ends_above: self.connections.ends(),
-        };
-        self.fronts.finish(finished.request, outcome);
-        if let Some(answer) = &finished.answer {
-            if finished.was_posted {
-                self.connections
-                    .add_answer(finished.end.conn, answer.clone()?)?;
-            }
-        }
-        if let Some(place) = self.book.place_taken(&finished) {
-            return found(finished.position, Difference::PlaceTwice { place });
-        }
-        self.book.add(finished)?;
-        Ok(())
-    }
-
-    pub fn add_sweep(&mut self, sweep: Sweep) -> Result<(), AllocError> {
-        self.book.add_sweep(sweep)
-    }
-
-    /// Whether a line that was not read yet may tell what stands next in the book, or what keeps a worker busy.
-    pub fn may_be_told(&self) -> bool {
-        if self.fronts.is_held_up() || self.book.is_next_known() {
-            return self.fronts.is_held_up();
-        }
-        match &self.stored {
-            Some(stored) => stored.may_be_told(self.book.next_sweep()),
-            None => self.waits_for_request() || self.book.waits_for_sweep(),
-        }
-    }
-
-    /// Whether a request of which no line tells yet what became of it may have the next place.
-    fn waits_for_request(&self) -> bool {
-        match self.book.open_up_to() {
-            Some(number) => self.fronts.has_unfinished_before(number),
-            None => false,
-        }
-    }
-
-    /// Nobody has wanted a worker or a line yet. `are_fronts_read`: whether the records of fronts were read to their ends.
-    pub fn feed_all(&mut self, are_fronts_read: bool) {
-        self.fronts.feed_all();
-        self.awaits_lines = false;
-        self.are_fronts_read = are_fronts_read;
-    }
-
-    /// Whether requests are to be handed over, and a line of fronts that was not read may tell of one of them.
-    pub fn awaits_lines(&self) -> bool {
-        self.awaits_lines
-    }
-
-    /// What was told of the book was played. Otherwise where the first line stands for which a place is missing.
-    pub fn look_at_places(&self) -> Result<(), PlayFault> {
-        let place = self.book.place();
-        match self.book.behind_missing() {
-            Some(position) => found(position, Difference::PlaceMissing { place }),
-            None => Ok(()),
-        }
-    }
-
-    /// The first line of a request that was not played.
-    pub fn first_left(&self) -> Option<Position> {
-        self.book.first_left()
-    }
-
-    // ---- steps
-
-    /// Takes a step, which has to apply.
-    fn play(&mut self, position: Position, step: &Step) -> Result<(), PlayFault> {
-        if self.farm.play(step)? {
-            Ok(())
-        } else {
-            found(position, Difference::CannotHappen)
-        }
-    }
-
-    /// The message at this place of those in flight arrives.
-    fn play_arrival(
-        &mut self,
-        position: Position,
-        from: NodeNo,
-        to: NodeNo,
-        place: usize,
-    ) -> Result<(), PlayFault> {
-        let place = place as u64;
-        self.play(position, &Step::Deliver { from, to, place })
-    }
-
-    // ---- nodes
 
     fn is_front(&self, node: NodeNo) -> bool {
-        kind_of(self.site(), node) == NodeKind::Front
+        self.links.played.is_front(node)
     }
 
-    fn is_relay(&self, node: NodeNo) -> bool {
-        kind_of(self.site(), node) == NodeKind::Relay
+    /// Plays the next entry of a node if it may happen. Whether it did.
+    pub fn try_entry(&mut self, entry: &NodeEntry) -> PlayResult<bool> {
+        match entry {
+            NodeEntry::Begin(beginning) => self.begin(beginning),
+            NodeEntry::Event(event) => self.try_event(event),
+        }
     }
 
-    /// Whether this is a client without a record.
-    fn is_silent(&self, position: Position, node: NodeNo) -> Result<bool, PlayFault> {
-        if self.recorded.contains(&node) {
+    fn try_event(&mut self, event: &NodeEvent) -> PlayResult<bool> {
+        let (position, end) = (event.position, event.end);
+        match &event.action {
+            Action::Dial => self.links.connections.dial(end.conn),
+            Action::Accept => return self.accept(position, end),
+            Action::Opened => return self.open(position, end),
+            Action::Send(message) => {
+                self.links
+                    .played
+                    .send(position, end.node, end.peer, message)?
+            }
+            Action::Receive(message) => return self.receive(event, message),
+            Action::Drop { was_up } => self.lose(event, *was_up)?,
+        }
+        Ok(true)
+    }
+
+    /// The process of a node begins. Where it does again, that of a front does once all that it has charged before is played: it has
+    /// forgotten all but the book. Whether it did.
+    fn begin(&mut self, beginning: &Beginning) -> PlayResult<bool> {
+        let (position, node) = (beginning.position, beginning.node);
+        let requests_before = beginning.requests_before;
+        if beginning.is_first {
+            return Ok(true);
+        }
+        if !self.is_front(node) {
+            self.links.begin_again(position, node)?;
+            return Ok(true);
+        }
+        let is_behind = self.book.is_behind(beginning.moment);
+        if is_behind || self.fronts.has_finished_before(node, requests_before) {
             return Ok(false);
         }
-        match kind_of(self.site(), node) {
-            NodeKind::Client => Ok(true),
-            NodeKind::Relay | NodeKind::Front => found(position, Difference::NoRecord),
+        self.links.connections.lose_all_of(node);
+        self.fronts.restart(node, requests_before);
+        self.links.played.crash(position, node)?;
+        Ok(true)
+    }
+
+    /// A connection is accepted once the other node has dialled it, and both have no other one any more. Whether it is.
+    fn accept(&mut self, position: Position, end: End) -> PlayResult<bool> {
+        let dials = self.links.open_dials(end);
+        if dials.is_none() && !self.links.played.is_silent(position, end.peer)? {
+            return Ok(false);
+        }
+        let opener = dials.map_or(end.conn, |dials| dials.first);
+        if !self.make_free(position, end, opener)? {
+            return Ok(false);
+        }
+        self.links.accept(position, end, dials)
+    }
+
+    /// A node learns that its connection is made. If a client without a record is to accept it, both have no other one any more. Whether
+    /// it does.
+    fn open(&mut self, position: Position, end: End) -> PlayResult<bool> {
+        let is_silent = self.links.played.is_silent(position, end.peer)?;
+        if is_silent && !self.make_free(position, end, end.conn)? {
+            return Ok(false);
+        }
+        self.links.opened(position, end, is_silent)
+    }
+
+    /// A message arrives, once it was sent. A request that a front hands to its workers stays in flight. Whether it did.
+    fn receive(&mut self, event: &NodeEvent, message: &Message) -> PlayResult<bool> {
+        let End { conn, node, peer } = event.end;
+        let arrived = self.fronts.arrived_on(conn);
+        let Some(place) = self.links.next_place(event, message, arrived)? else {
+            return Ok(false);
+        };
+        if !self.is_front(node) {
+            self.links.arrive(event, message, place)?;
+        } else if let Some(number) = event.request {
+            self.fronts.set_state(number, RequestState::Arrived);
+        } else if !message.header.request {
+            let position = event.position;
+            self.links.played.deliver(position, peer, node, place)?;
+        } else if !self.hand_back(event)? {
+            return Ok(false);
+        }
+        self.links.connections.set_sent(conn, false);
+        Ok(true)
+    }
+
+    /// A node learns that its connection has ended, or gives up one that it does not know.
+    fn lose(&mut self, event: &NodeEvent, was_up: bool) -> PlayResult<()> {
+        let (position, end) = (event.position, event.end);
+        self.links.connections.lose(end.conn);
+        if !was_up {
+            self.links.give_up(position, end)
+        } else if self.is_front(end.node) {
+            self.links.connections.set_closing(end.conn, true);
+            self.drop_if_done(position, end)
+        } else {
+            self.links.drop_end(event)
         }
     }
 
-    /// A client without a record receives what is in flight to it from this place on.
-    fn hand_to_silent(
-        &mut self,
-        position: Position,
-        node: NodeNo,
-        peer: NodeNo,
-        since: usize,
-    ) -> Result<(), PlayFault> {
-        let count = self.farm.flight(node, peer).len().saturating_sub(since);
-        if count == 0 || !self.is_silent(position, peer)? {
-            return Ok(());
-        }
-        for _ in 0..count {
-            self.play_arrival(position, node, peer, since)?;
-        }
-        Ok(())
+    // ---- where nothing else may happen
+
+    /// The dial that an entry may be of where nothing else may happen: an `accept`, of dials that were all given up.
+    pub fn late_dial(&self, entry: &NodeEntry) -> Option<usize> {
+        self.links.late_dial(entry)
     }
 
-    /// A client without a record drops its connection when the other node does.
-    fn drop_silent(
-        &mut self,
-        position: Position,
-        node: NodeNo,
-        peer: NodeNo,
-    ) -> Result<(), PlayFault> {
-        if self.is_silent(position, peer)? {
-            self.play(position, &Step::Drop { a: peer, b: node })?;
-        }
-        Ok(())
+    /// A connection is accepted that may be of this dial, which was given up.
+    pub fn accept_late(&mut self, event: &NodeEvent, dial: usize) -> PlayResult<()> {
+        self.links.accept_late(event, dial)
+    }
+
+    /// A node learns that its connection is made, though a dial before it may be the one that was accepted. Whether the entry
+    /// tells that, and it did.
+    pub fn open_late(&mut self, entry: &NodeEntry) -> PlayResult<bool> {
+        self.links.open_late(entry)
     }
 }

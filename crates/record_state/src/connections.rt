@@ -149,7 +149,7 @@ impl Connections {
     }
 
     /// An `accept` was of this dial.
-    pub fn accept(&mut self, conn: usize) {
+    fn accept(&mut self, conn: usize) {
         if let Some(told) = self.told.get_mut(conn) {
             told.is_accepted = true;
         }
@@ -254,11 +254,28 @@ impl Connections {
         self.between(node, peer)?.end_of(node)
     }
 
-    /// A connection stands from now on, in place of the one before.
-    pub fn establish(&mut self, established: Established) -> Result<(), AllocError> {
-        let (opener, acceptor) = (established.opener, established.acceptor);
+    /// A connection stands from now on, in place of the one before: `accepted` is the end of the node that accepted it, and `dial` that
+    /// of the node that opens it, as far as is known; none of a client without a record. After an error none stands.
+    pub fn establish(
+        &mut self,
+        opener: NodeNo,
+        acceptor: NodeNo,
+        accepted: Option<usize>,
+        dial: Option<usize>,
+    ) -> Result<(), AllocError> {
+        if let Some(dial) = dial {
+            self.accept(dial);
+        }
+        let label = accepted.or(dial).map_or(0, |conn| self.label(conn));
         self.established.retain(|old| !old.joins(opener, acceptor));
-        self.established.push(established)?;
+        self.established.push(Established {
+            opener,
+            acceptor,
+            opened: None,
+            accepted,
+            label,
+            dial,
+        })?;
         Ok(())
     }
 

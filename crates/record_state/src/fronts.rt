@@ -1,4 +1,8 @@
 //! What fronts hold in the farm that plays: their queues, their workers, and the requests that have arrived.
+//!
+//! - `wanted`: whether a request may go on, and what is wanted otherwise.
+
+mod wanted;
 
 use dia_base::{NodeKind, NodeNo};
 use farm_base::Site;
@@ -76,6 +80,13 @@ pub enum InHand {
     Passing,
 }
 
+/// A worker of a front, by its place among those of the front.
+#[derive(Clone, Copy)]
+pub struct Worker {
+    pub front: NodeNo,
+    pub worker: u64,
+}
+
 /// The requests of a front that were handed over.
 #[derive(Drop)]
 struct FrontWork {
@@ -103,8 +114,17 @@ impl FrontWork {
             .count()
     }
 
-    fn worker_of(&self, request: InHand) -> Option<usize> {
-        self.workers.iter().position(|held| *held == Some(request))
+    /// The worker at this place.
+    fn worker(&self, place: usize) -> Worker {
+        Worker {
+            front: self.node,
+            worker: place as u64,
+        }
+    }
+
+    fn worker_of(&self, request: InHand) -> Option<Worker> {
+        let place = self.workers.iter().position(|held| *held == Some(request))?;
+        Some(self.worker(place))
     }
 
     fn first_idle(&self) -> Option<usize> {
@@ -120,13 +140,13 @@ impl FrontWork {
     }
 
     /// The first idle worker takes the first request out of the queue.
-    fn pick(&mut self) -> Option<usize> {
-        let worker = self.first_idle()?;
+    fn pick(&mut self) -> Option<Worker> {
+        let place = self.first_idle()?;
         let first = self.queue.pop_front()?;
-        if let Some(held) = self.workers.get_mut(worker) {
+        if let Some(held) = self.workers.get_mut(place) {
             *held = Some(first);
         }
-        Some(worker)
+        Some(self.worker(place))
     }
 
     /// It has nothing in hand any more.
@@ -137,8 +157,8 @@ impl FrontWork {
         }
     }
 
-    fn release(&mut self, worker: usize) {
-        if let Some(held) = self.workers.get_mut(worker) {
+    fn release(&mut self, place: usize) {
+        if let Some(held) = self.workers.get_mut(place) {
             *held = None;
         }
     }
@@ -148,8 +168,14 @@ impl FrontWork {
 pub struct Fronts {
     fronts: Vec<FrontWork>,
     requests: Vec<Request>,
+    /// The most requests that wait in the queue of a front.
+    limit: usize,
     /// The fronts of which a worker is wanted, and none is idle.
     starved: Vec<NodeNo>,
+    /// Whether the records of fronts were read to their ends.
+    are_lines_read: bool,
+    /// Whether requests are to be handed over, and a line that was not read may tell of one of them.
+    awaits_lines: bool,
 }
 
 // By hand, so that each exit of an owner is proved with one call.
@@ -158,7 +184,10 @@ impl Drop for Fronts {
         let Fronts {
             fronts: _,
             requests: _,
+            limit: _,
             starved: _,
+            are_lines_read: _,
+            awaits_lines: _,
         } = self;
     }
 }
@@ -179,7 +208,10 @@ impl Fronts {
         Ok(Fronts {
             fronts,
             requests: Vec::new(alloc),
+            limit: site.queue as usize,
             starved: Vec::new(alloc),
+            are_lines_read: false,
+            awaits_lines: false,
         })
     }
 
@@ -236,12 +268,12 @@ impl Fronts {
         front: NodeNo,
         before: u64,
         needed: &[RequestKey],
-    ) -> Option<(usize, u64)> {
-        let workers = &self.front(front)?.workers;
-        for (worker, held) in workers.iter().enumerate() {
+    ) -> Option<(Worker, u64)> {
+        let work = self.front(front)?;
+        for (place, held) in work.workers.iter().enumerate() {
             if let Some(InHand::Told(number)) = held {
                 if self.is_untold(*number, before, needed) {
-                    return Some((worker, *number));
+                    return Some((work.worker(place), *number));
                 }
             }
         }
@@ -367,29 +399,22 @@ impl Fronts {
             .count()
     }
 
-    /// Whether one of those was told after so many requests, and no line tells yet what became of it.
-    pub fn has_unfinished_from(&self, number: u64, front: NodeNo, last: u64) -> bool {
-        self.requests.iter().any(|request| request.is_in_flight_to(front, last)
-            && !request.is_finished()
-            && request.number >= number)
-    }
-
     /// Of the requests that have arrived at a front and are in flight yet, up to this one, the one that goes first if they are handed
     /// over together: that with the first place in the book, or one that arrived before it and of which no line tells.
-    pub fn first_by_place(&self, front: NodeNo, last: u64) -> Option<u64> {
+    pub fn first_by_place(&self, front: NodeNo, last: u64) -> Option<Request> {
         let unfinished = self.requests.iter().find(|request| request.is_in_flight_to(front, last)
             && !request.is_finished());
         match (self.first_finished(front, last), unfinished) {
-            (Some(number), Some(request)) => Some(number.min(request.number)),
-            (Some(number), None) => Some(number),
-            (None, Some(request)) => Some(request.number),
+            (Some(finished), Some(request)) if request.number < finished.number => Some(*request),
+            (Some(finished), _) => Some(finished),
+            (None, Some(request)) => Some(*request),
             (None, None) => None,
         }
     }
 
     /// Of those, the one with the first place in the book.
-    fn first_finished(&self, front: NodeNo, last: u64) -> Option<u64> {
-        let mut first: Option<(u64, Outcome)> = None;
+    fn first_finished(&self, front: NodeNo, last: u64) -> Option<Request> {
+        let mut first: Option<(Request, Outcome)> = None;
         for request in &self.requests {
             let Some(outcome) = request.outcome else {
                 continue;
@@ -399,7 +424,7 @@ impl Fronts {
                 None => true,
             };
             if is_first && request.is_in_flight_to(front, last) {
-                first = Some((request.number, outcome));
+                first = Some((*request, outcome));
             }
         }
         Some(first?.0)
@@ -407,30 +432,26 @@ impl Fronts {
 
     // ---- queues and workers
 
-    /// How many requests are in the queue of a front.
-    pub fn queued(&self, front: NodeNo) -> usize {
-        self.front(front).map_or(0, |front| front.queue.len())
+    /// How many requests more the queue of a front has room for.
+    pub fn room(&self, front: NodeNo) -> usize {
+        let queued = self.front(front).map_or(0, |front| front.queue.len());
+        self.limit.saturating_sub(queued)
     }
 
-    /// How many workers of a front are idle.
-    pub fn idle(&self, front: NodeNo) -> usize {
-        self.front(front).map_or(0, |front| front.idle())
+    /// Whether a worker of a front is idle.
+    pub fn has_idle(&self, front: NodeNo) -> bool {
+        self.front(front).map_or(false, |front| front.idle() > 0)
+    }
+
+    /// Whether more workers of a front are idle than requests are in its queue.
+    pub fn has_spare(&self, front: NodeNo) -> bool {
+        self.front(front)
+            .map_or(false, |front| front.queue.len() < front.idle())
     }
 
     /// The worker of a front that has this request.
-    pub fn worker_of(&self, front: NodeNo, request: InHand) -> Option<usize> {
+    pub fn worker_of(&self, front: NodeNo, request: InHand) -> Option<Worker> {
         self.front(front)?.worker_of(request)
-    }
-
-    /// Whether a worker has the request, or may have it at once: those before it in the queue need one too.
-    pub fn may_start(&self, request: &Request) -> bool {
-        let told = InHand::Told(request.number);
-        match self.front(request.end.node) {
-            Some(front) => {
-                front.worker_of(told).is_some() || front.ahead_of(told) < front.idle()
-            }
-            None => false,
-        }
     }
 
     /// A request comes into the queue of a front.
@@ -443,38 +464,14 @@ impl Fronts {
 
     /// An idle worker takes the first request of the queue of a front: which one. None where the queue is empty or no worker is
     /// idle.
-    pub fn pick(&mut self, front: NodeNo) -> Option<usize> {
+    pub fn pick(&mut self, front: NodeNo) -> Option<Worker> {
         self.front_mut(front)?.pick()
     }
 
     /// A worker of a front is idle again.
-    pub fn release(&mut self, front: NodeNo, worker: usize) {
-        if let Some(front) = self.front_mut(front) {
-            front.release(worker);
+    pub fn release(&mut self, worker: Worker) {
+        if let Some(front) = self.front_mut(worker.front) {
+            front.release(worker.worker as usize);
         }
-    }
-
-    // ---- fronts that want a worker
-
-    /// A worker is wanted at this front, and none is idle.
-    pub fn starve(&mut self, front: NodeNo) -> Result<(), AllocError> {
-        if !self.starved.contains(&front) {
-            self.starved.push(front)?;
-        }
-        Ok(())
-    }
-
-    /// Nobody has wanted a worker yet.
-    pub fn feed_all(&mut self) {
-        self.starved.clear();
-    }
-
-    /// Whether a request of which no line tells yet what became of it keeps a worker busy that is wanted.
-    pub fn is_held_up(&self) -> bool {
-        self.requests.iter().any(|request| {
-            !request.is_finished()
-                && request.state != RequestState::NotSent
-                && self.starved.contains(&request.end.node)
-        })
     }
 }

@@ -5,25 +5,28 @@ use record_reader::{NodeEvent, Position, Source};
 use std::alloc::{AllocError, Global};
 use std::collections::VecDeque;
 
+/// The process of a node begins, for the first time or again.
+#[derive(Clone, Copy)]
+pub struct Beginning {
+    pub position: Position,
+    pub node: NodeNo,
+    pub is_first: bool,
+    pub moment: Moment,
+    /// How many requests were told before.
+    pub requests_before: u64,
+}
+
 /// An entry of a node.
 #[derive(Drop)]
 pub enum NodeEntry {
-    /// Its process begins, for the first time or again.
-    Begin {
-        position: Position,
-        node: NodeNo,
-        is_first: bool,
-        moment: Moment,
-        /// How many requests were told before.
-        requests_before: u64,
-    },
+    Begin(Beginning),
     Event(NodeEvent),
 }
 
 impl NodeEntry {
     pub fn position(&self) -> Position {
         match self {
-            NodeEntry::Begin { position, .. } => *position,
+            NodeEntry::Begin(beginning) => beginning.position,
             NodeEntry::Event(event) => event.position,
         }
     }
@@ -31,7 +34,7 @@ impl NodeEntry {
     /// The node at the other end of its connection.
     fn peer(&self) -> Option<NodeNo> {
         match self {
-            NodeEntry::Begin { .. } => None,
+            NodeEntry::Begin(_) => None,
             NodeEntry::Event(event) => Some(event.end.peer),
         }
     }

@@ -2,13 +2,12 @@
 
 ghost use Rattle.farm_base.specs.CheckedSite.{IsChecked};
 
-use crate::fault::{Difference, PlayFault, found};
-use crate::player::Player;
-use dia_base::{Moment, NodeNo};
+use crate::fault::AuditFault;
 use farm_text::write_text;
 use farm_world::Site;
+use record_player::{Difference, PlayFault, Player, found};
 use record_reader::{BookEntries, Entry, NodeEvent, Position, Records};
-use record_state::{NodeEntry, Queues, Reports};
+use record_state::{Beginning, NodeEntry, Queues, Reports};
 use std::alloc::{AllocError, Global};
 use std::io::{Read, Write};
 
@@ -32,28 +31,6 @@ pub struct Audit<'s, R> {
 struct LateAccept {
     queue: usize,
     dial: usize,
-}
-
-/// A process that begins.
-#[derive(Clone, Copy)]
-struct Begun {
-    position: Position,
-    is_first: bool,
-    moment: Moment,
-    requests_before: u64,
-}
-
-impl Begun {
-    /// The entry of one of its nodes.
-    fn entry_of(&self, node: NodeNo) -> NodeEntry {
-        NodeEntry::Begin {
-            position: self.position,
-            node,
-            is_first: self.is_first,
-            moment: self.moment,
-            requests_before: self.requests_before,
-        }
-    }
 }
 
 impl<'s, R: Read + Drop> Audit<'s, R> {
@@ -88,7 +65,7 @@ impl<'s, R: Read + Drop> Audit<'s, R> {
 
     /// Plays all entries, and writes the lines of the steps where they are asked for. What the book does comes last, so that
     /// a front never has more room than it had.
-    pub fn run<W: Write>(&mut self, writer: &mut W) -> Result<(), PlayFault> {
+    pub fn run<W: Write>(&mut self, writer: &mut W) -> Result<(), AuditFault> {
         for _ in 0..u64::MAX {
             let went = self.go_on()?;
             self.write_lines(writer, WRITTEN)?;
@@ -115,7 +92,7 @@ impl<'s, R: Read + Drop> Audit<'s, R> {
 
     /// The line with the places of entries of which no record tells, if a book on disk is given.
     fn push_untold(&self, text: &mut String) -> Result<(), PlayFault> {
-        let Some(places) = self.player.untold() else {
+        let Some(places) = self.player.book().untold() else {
             return Ok(());
         };
         let count = places.len();
@@ -130,9 +107,10 @@ impl<'s, R: Read + Drop> Audit<'s, R> {
     /// Looks up what the book on disk has at the next place.
     fn look_up_next(&mut self) -> Result<(), PlayFault> {
         if let Some(book) = &mut self.book {
-            let next = book.at(self.player.next_place_of_book())?;
+            let next = book.at(self.player.book().place())?;
             self.player.set_next_entry(next);
-            if let Some(moment) = self.player.needs_entries_until(self.records.are_at_end()) {
+            let are_all_read = self.records.are_at_end();
+            if let Some(moment) = self.player.book().needs_entries_until(are_all_read) {
                 self.player.set_needed(book.keys_until(moment)?);
             }
         }
@@ -164,7 +142,7 @@ impl<'s, R: Read + Drop> Audit<'s, R> {
         let Some(book) = &mut self.book else {
             return Ok(false);
         };
-        if self.player.next_change().is_none() || !book.has_other_ahead()? {
+        if self.player.book().next_change().is_none() || !book.has_other_ahead()? {
             return Ok(false);
         }
         self.change_terms()
@@ -186,7 +164,7 @@ impl<'s, R: Read + Drop> Audit<'s, R> {
         let Some(book) = &mut self.book else {
             return Ok(false);
         };
-        let Some(entry) = self.player.next_change() else {
+        let Some(entry) = self.player.book().next_change() else {
             return Ok(false);
         };
         let step = book.take_change(self.player.farm().site(), &entry)?;
@@ -195,14 +173,14 @@ impl<'s, R: Read + Drop> Audit<'s, R> {
     }
 
     /// Writes the lines of steps where they are at least so many octets.
-    fn write_lines<W: Write>(&mut self, writer: &mut W, least: usize) -> Result<(), PlayFault> {
+    fn write_lines<W: Write>(&mut self, writer: &mut W, least: usize) -> Result<(), AuditFault> {
         if self.player.farm().line_octets() < least {
             return Ok(());
         }
-        let lines = self.player.farm_mut().take_lines();
+        let lines = self.player.take_lines();
         match write_text(writer, &lines) {
             Ok(()) => Ok(()),
-            Err(_) => Err(PlayFault::Write),
+            Err(_) => Err(AuditFault::Write),
         }
     }
 
@@ -230,13 +208,15 @@ impl<'s, R: Read + Drop> Audit<'s, R> {
                 moment,
                 requests_before,
             } => {
-                let begun = Begun {
-                    position,
-                    is_first,
-                    moment,
-                    requests_before,
-                };
-                self.keep_begin(&begun, &nodes)?
+                for node in &nodes {
+                    self.keep_begin(Beginning {
+                        position,
+                        node: *node,
+                        is_first,
+                        moment,
+                        requests_before,
+                    })?;
+                }
             }
             Entry::Connection { event, label } => {
                 self.player.add_connection(event.end, label)?;
@@ -253,22 +233,17 @@ impl<'s, R: Read + Drop> Audit<'s, R> {
         Ok(())
     }
 
-    /// A process begins: that is the next entry of each of its nodes.
-    fn keep_begin(&mut self, begun: &Begun, nodes: &[NodeNo]) -> Result<(), AllocError> {
-        if !begun.is_first {
-            self.reports.forget(begun.position.source);
+    /// The process of a node begins: that is its next entry. What the process told of the book before was not the last.
+    fn keep_begin(&mut self, beginning: Beginning) -> Result<(), AllocError> {
+        let (source, node) = (beginning.position.source, beginning.node);
+        if beginning.is_first {
+            self.queues.add(source, node)?;
+            self.player.add_node(node)?;
+        } else {
+            self.reports.forget(source);
+            self.player.add_beginning(&beginning);
         }
-        for node in nodes {
-            if begun.is_first {
-                self.queues.add(begun.position.source, *node)?;
-                self.player.add_node(*node)?;
-            } else {
-                self.player
-                    .add_beginning(*node, begun.moment, begun.requests_before);
-            }
-            self.queues.push(*node, begun.entry_of(*node))?;
-        }
-        Ok(())
+        self.queues.push(node, NodeEntry::Begin(beginning))
     }
 
     fn keep_event(&mut self, event: NodeEvent) -> Result<(), AllocError> {
@@ -406,11 +381,15 @@ impl<'s, R: Read + Drop> Audit<'s, R> {
 
     /// Nothing is left. Where something is, it is told of an entry that waits for nobody else who waits.
     fn look_at_the_rest(&self) -> Result<(), PlayFault> {
-        if let Some(position) = self.player.entry_left() {
+        let book = self.player.book();
+        if let Some(position) = book.entry_left() {
             return found(position, Difference::Untold);
         }
-        self.player.look_at_places()?;
-        let left = self.queues.first_that_waits().or(self.player.first_left());
+        if let Some(position) = book.behind_missing() {
+            let place = book.place();
+            return found(position, Difference::PlaceMissing { place });
+        }
+        let left = self.queues.first_that_waits().or(book.first_left());
         match left {
             Some(position) => found(position, Difference::CannotHappen),
             None => Ok(()),

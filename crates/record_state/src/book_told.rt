@@ -1,12 +1,19 @@
 //! What the records tell of the book, in the order of its places.
+//!
+//! - `stored`: what a book on disk has beside it, of which no line may tell.
 
+mod stored;
+
+use crate::fronts::Fronts;
 use dia_base::Moment;
 use record_reader::{Finished, Position, Sweep};
 use std::alloc::{AllocError, Global};
 use std::collections::VecDeque;
+use stored::StoredBook;
 
 /// What was told of the book and is not played.
-pub struct BookOrder {
+pub struct BookTold {
+    alloc: Global,
     /// The place of the next entry of the book.
     place: u64,
     /// New requests, which wait for their places.
@@ -14,16 +21,20 @@ pub struct BookOrder {
     /// Requests of which the book has the first already or will have it, and those that were answered without it.
     repeats: Vec<Finished>,
     sweeps: VecDeque<Sweep>,
+    /// The book on disk, if one is given.
+    stored: Option<StoredBook>,
 }
 
 // By hand, so that each exit of an owner is proved with one call.
-impl Drop for BookOrder {
+impl Drop for BookTold {
     fn drop(self) {
-        let BookOrder {
+        let BookTold {
+            alloc: _,
             place: _,
             charges: _,
             repeats: _,
             sweeps: _,
+            stored: _,
         } = self;
     }
 }
@@ -39,13 +50,16 @@ fn requests_before(finished: &[Finished], place: Option<u64>) -> u64 {
     before
 }
 
-impl BookOrder {
+impl BookTold {
+    /// The empty book, of which nothing was told.
     pub fn new(alloc: Global) -> Self {
-        BookOrder {
+        BookTold {
+            alloc,
             place: 0,
             charges: Vec::new(alloc),
             repeats: Vec::new(alloc),
             sweeps: VecDeque::new(alloc),
+            stored: None,
         }
     }
 
@@ -134,24 +148,48 @@ impl BookOrder {
         Some(self.repeats.remove(at))
     }
 
-    /// Whether a sweep was told.
-    pub fn has_sweep(&self) -> bool {
-        !self.sweeps.is_empty()
+    /// Takes out the first sweep, if it may have the next place: a book on disk says so, or there is none, and no request can have it.
+    /// `are_all_read`: whether all records were read to their ends.
+    pub fn take_next_sweep(&mut self, fronts: &Fronts, are_all_read: bool) -> Option<Sweep> {
+        let moment = self.next_sweep()?;
+        let is_next = match &self.stored {
+            Some(stored) => stored.is_sweep_next(moment),
+            None => are_all_read || !self.waits_for_request(fronts),
+        };
+        if is_next {
+            self.sweeps.pop_front()
+        } else {
+            None
+        }
     }
 
     /// The moment of the first sweep.
-    pub fn next_sweep(&self) -> Option<Moment> {
+    fn next_sweep(&self) -> Option<Moment> {
         Some(self.sweeps.front()?.moment)
     }
 
-    /// Takes out the first sweep.
-    pub fn take_sweep(&mut self) -> Option<Sweep> {
-        self.sweeps.pop_front()
+    /// Whether a line that was not read yet may tell what stands next in the book.
+    pub fn may_be_told(&self, fronts: &Fronts) -> bool {
+        if self.is_next_known() {
+            return false;
+        }
+        match &self.stored {
+            Some(stored) => stored.may_be_told(self.next_sweep()),
+            None => self.waits_for_request(fronts) || self.waits_for_sweep(),
+        }
+    }
+
+    /// Whether a request of which no line tells yet what became of it may have the next place.
+    fn waits_for_request(&self, fronts: &Fronts) -> bool {
+        match self.open_up_to() {
+            Some(number) => fronts.has_unfinished_before(number),
+            None => false,
+        }
     }
 
     /// Requests with lower numbers, of which no line tells yet what became of them, may have the next place: they were told before
     /// each line that tells of a later place. None where there is no such line.
-    pub fn open_up_to(&self) -> Option<u64> {
+    fn open_up_to(&self) -> Option<u64> {
         let place = Some(self.place);
         let swept = match self.sweeps.front() {
             Some(sweep) => sweep.requests_before,
@@ -168,13 +206,13 @@ impl BookOrder {
     }
 
     /// Whether a line was read that tells what has the next place.
-    pub fn is_next_known(&self) -> bool {
+    fn is_next_known(&self) -> bool {
         self.is_known(self.place)
     }
 
     /// Whether a sweep stands next in the book whose line was not read yet: a line tells of a later place. A sweep is told once it
     /// is collected, as a charge is.
-    pub fn waits_for_sweep(&self) -> bool {
+    fn waits_for_sweep(&self) -> bool {
         let place = Some(self.place);
         self.sweeps.is_empty()
             && (self.charges.iter().any(|charge| charge.place > place)
