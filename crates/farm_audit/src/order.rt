@@ -5,7 +5,7 @@ ghost use Rattle.farm_base.specs.CheckedSite.{IsChecked};
 use crate::fault::AuditFault;
 use farm_text::write_text;
 use farm_world::Site;
-use record_player::{Difference, PlayFault, Player, found};
+use record_player::{Difference, PlayResult, Player, found};
 use record_reader::{BookEntries, Entry, NodeEvent, Position, Records};
 use record_state::{Beginning, NodeEntry, Queues, Reports};
 use std::alloc::{AllocError, Global};
@@ -35,7 +35,7 @@ struct LateAccept {
 
 impl<'s, R: Read + Drop> Audit<'s, R> {
     /// The farm of a site before its first event. `prints`: whether the lines of its steps are asked for.
-    pub fn new(alloc: Global, site: &'s Site, prints: bool) -> Result<Self, PlayFault>
+    pub fn new(alloc: Global, site: &'s Site, prints: bool) -> PlayResult<Self>
         requires { IsChecked site.now }
     {
         Ok(Audit {
@@ -56,7 +56,7 @@ impl<'s, R: Read + Drop> Audit<'s, R> {
     }
 
     /// A record more, of which the first entry is read.
-    pub fn add(&mut self, reader: R) -> Result<(), PlayFault> {
+    pub fn add(&mut self, reader: R) -> PlayResult<()> {
         let record = self.records.len();
         self.records.add(reader)?;
         let _begun = self.read(record)?;
@@ -80,7 +80,7 @@ impl<'s, R: Read + Drop> Audit<'s, R> {
     }
 
     /// How many records, entries and steps there were, and the report of the book.
-    pub fn summary(&self) -> Result<String, PlayFault> {
+    pub fn summary(&self) -> PlayResult<String> {
         let (records, events) = (self.records.len(), self.records.entries());
         let steps = self.player.farm().steps();
         let mut text = format!(in self.alloc; "records {records} events {events} steps {steps}\n")?;
@@ -91,7 +91,7 @@ impl<'s, R: Read + Drop> Audit<'s, R> {
     }
 
     /// The line with the places of entries of which no record tells, if a book on disk is given.
-    fn push_untold(&self, text: &mut String) -> Result<(), PlayFault> {
+    fn push_untold(&self, text: &mut String) -> PlayResult<()> {
         let Some(places) = self.player.book().untold() else {
             return Ok(());
         };
@@ -105,7 +105,7 @@ impl<'s, R: Read + Drop> Audit<'s, R> {
     }
 
     /// Looks up what the book on disk has at the next place.
-    fn look_up_next(&mut self) -> Result<(), PlayFault> {
+    fn look_up_next(&mut self) -> PlayResult<()> {
         if let Some(book) = &mut self.book {
             let next = book.at(self.player.book().place())?;
             self.player.set_next_entry(next);
@@ -118,7 +118,7 @@ impl<'s, R: Read + Drop> Audit<'s, R> {
     }
 
     /// Plays what may happen next. Whether there was something.
-    fn go_on(&mut self) -> Result<bool, PlayFault> {
+    fn go_on(&mut self) -> PlayResult<bool> {
         self.look_up_next()?;
         let are_fronts_read = self
             .records
@@ -138,7 +138,7 @@ impl<'s, R: Read + Drop> Audit<'s, R> {
     }
 
     /// Changes the terms, if the next entry of the book on disk does, and others than changes stand behind it. Whether it did.
-    fn change_between(&mut self) -> Result<bool, PlayFault> {
+    fn change_between(&mut self) -> PlayResult<bool> {
         let Some(book) = &mut self.book else {
             return Ok(false);
         };
@@ -149,7 +149,7 @@ impl<'s, R: Read + Drop> Audit<'s, R> {
     }
 
     /// Changes the terms as the last entries of the book on disk do: they stand there since the fronts have ended.
-    fn change_last(&mut self) -> Result<(), PlayFault> {
+    fn change_last(&mut self) -> PlayResult<()> {
         for _ in 0..u64::MAX {
             self.look_up_next()?;
             if !self.change_terms()? {
@@ -160,7 +160,7 @@ impl<'s, R: Read + Drop> Audit<'s, R> {
     }
 
     /// Changes the terms, if the next entry of the book on disk does. Whether it does.
-    fn change_terms(&mut self) -> Result<bool, PlayFault> {
+    fn change_terms(&mut self) -> PlayResult<bool> {
         let Some(book) = &mut self.book else {
             return Ok(false);
         };
@@ -187,7 +187,7 @@ impl<'s, R: Read + Drop> Audit<'s, R> {
     // ---- what is read
 
     /// Reads one more entry of a record. Whether there was one.
-    fn read(&mut self, record: usize) -> Result<bool, PlayFault> {
+    fn read(&mut self, record: usize) -> PlayResult<bool> {
         let site = self.player.farm().site();
         match self.records.next_entry(site, record)? {
             Some(entry) => {
@@ -199,7 +199,7 @@ impl<'s, R: Read + Drop> Audit<'s, R> {
     }
 
     /// An entry is kept until it is played.
-    fn keep(&mut self, entry: Entry) -> Result<(), PlayFault> {
+    fn keep(&mut self, entry: Entry) -> PlayResult<()> {
         match entry {
             Entry::Begin {
                 position,
@@ -251,7 +251,7 @@ impl<'s, R: Read + Drop> Audit<'s, R> {
     }
 
     /// Reads more of a record of which nothing is left to be played.
-    fn refill(&mut self, record: usize) -> Result<(), PlayFault> {
+    fn refill(&mut self, record: usize) -> PlayResult<()> {
         for _ in 0..u64::MAX {
             if self.queues.has_entries_of(record) || !self.read(record)? {
                 return Ok(());
@@ -261,7 +261,7 @@ impl<'s, R: Read + Drop> Audit<'s, R> {
     }
 
     /// Reads one more entry of the fronts, where one that was not read may have to come before one that was.
-    fn read_ahead(&mut self) -> Result<bool, PlayFault> {
+    fn read_ahead(&mut self) -> PlayResult<bool> {
         match self.records.unread_fronts(self.player.farm().site()) {
             Some(record) if self.player.may_be_told() => self.read(record),
             _ => Ok(false),
@@ -269,7 +269,7 @@ impl<'s, R: Read + Drop> Audit<'s, R> {
     }
 
     /// Reads one more entry of the fronts, where requests are to be handed over, and no line tells yet of one of them. Whether that is so.
-    fn read_awaited(&mut self) -> Result<bool, PlayFault> {
+    fn read_awaited(&mut self) -> PlayResult<bool> {
         if !self.player.awaits_lines() {
             return Ok(false);
         }
@@ -282,7 +282,7 @@ impl<'s, R: Read + Drop> Audit<'s, R> {
     // ---- what is played
 
     /// Plays the entries of each node as far as they may happen. Whether there was one.
-    fn advance_all(&mut self) -> Result<bool, PlayFault> {
+    fn advance_all(&mut self) -> PlayResult<bool> {
         let mut went = false;
         for queue in 0..self.queues.len() {
             if self.advance(queue)? {
@@ -293,7 +293,7 @@ impl<'s, R: Read + Drop> Audit<'s, R> {
     }
 
     /// Plays the entries of a node as far as they may happen. Whether there was one.
-    fn advance(&mut self, queue: usize) -> Result<bool, PlayFault> {
+    fn advance(&mut self, queue: usize) -> PlayResult<bool> {
         let mut went = false;
         for _ in 0..u64::MAX {
             if !self.advance_one(queue)? {
@@ -306,7 +306,7 @@ impl<'s, R: Read + Drop> Audit<'s, R> {
 
     /// Plays the next entry of a node if it may happen. Whether there was one, and it did. More is read where nothing of its
     /// record is left.
-    fn advance_one(&mut self, queue: usize) -> Result<bool, PlayFault> {
+    fn advance_one(&mut self, queue: usize) -> PlayResult<bool> {
         if let Some(record) = self.queues.record_of(queue) {
             self.refill(record)?;
         }
@@ -322,7 +322,7 @@ impl<'s, R: Read + Drop> Audit<'s, R> {
 
     /// Nothing else may happen: an `accept` is of a dial that was given up, or a node learns that its connection is made,
     /// though a dial before it may be the one that was accepted. Whether there is such an entry.
-    fn settle(&mut self) -> Result<bool, PlayFault> {
+    fn settle(&mut self) -> PlayResult<bool> {
         if let Some(late) = self.last_late_accept() {
             return self.accept_late(late);
         }
@@ -357,7 +357,7 @@ impl<'s, R: Read + Drop> Audit<'s, R> {
         self.player.late_dial(self.queues.head(queue)?)
     }
 
-    fn accept_late(&mut self, late: LateAccept) -> Result<bool, PlayFault> {
+    fn accept_late(&mut self, late: LateAccept) -> PlayResult<bool> {
         let Some(NodeEntry::Event(event)) = self.queues.head(late.queue) else {
             return Ok(false);
         };
@@ -366,7 +366,7 @@ impl<'s, R: Read + Drop> Audit<'s, R> {
         Ok(true)
     }
 
-    fn open_late(&mut self, queue: usize) -> Result<bool, PlayFault> {
+    fn open_late(&mut self, queue: usize) -> PlayResult<bool> {
         let Some(entry) = self.queues.head(queue) else {
             return Ok(false);
         };
@@ -380,7 +380,7 @@ impl<'s, R: Read + Drop> Audit<'s, R> {
     // ---- at the end
 
     /// Nothing is left. Where something is, it is told of an entry that waits for nobody else who waits.
-    fn look_at_the_rest(&self) -> Result<(), PlayFault> {
+    fn look_at_the_rest(&self) -> PlayResult<()> {
         let book = self.player.book();
         if let Some(position) = book.entry_left() {
             return found(position, Difference::Untold);
@@ -397,7 +397,7 @@ impl<'s, R: Read + Drop> Audit<'s, R> {
     }
 
     /// What records tell of the book is what it comes to.
-    fn compare_reports(&self) -> Result<(), PlayFault> {
+    fn compare_reports(&self) -> PlayResult<()> {
         let report = self.player.farm().report()?;
         let lines: Vec<&[u8]> = report
             .as_bytes()

@@ -6,7 +6,7 @@ mod wanted;
 
 use dia_base::{NodeKind, NodeNo};
 use farm_base::Site;
-use record_reader::{End, RequestKey};
+use record_reader::{End, Finished, RequestKey};
 use std::alloc::{AllocError, Global};
 use std::collections::VecDeque;
 
@@ -324,10 +324,14 @@ impl Fronts {
             .find(|request| request.number == number)
     }
 
-    /// A line was read that tells what became of a request.
-    pub fn finish(&mut self, number: u64, outcome: Outcome) {
-        if let Some(request) = self.request_mut(number) {
-            request.outcome = Some(outcome);
+    /// A line was read that tells what became of a request, below those that tell of so many ends of connections.
+    pub fn finish(&mut self, finished: &Finished, ends_above: usize) {
+        if let Some(request) = self.request_mut(finished.request) {
+            request.outcome = Some(Outcome {
+                place: finished.place,
+                is_new: finished.is_new,
+                ends_above,
+            });
         }
     }
 

@@ -90,13 +90,20 @@ impl<'s> LinkPlayer<'s> {
     /// receives it.
     pub fn compare(&mut self, event: &NodeEvent, peer: NodeNo, since: usize) -> PlayResult<()> {
         let (position, node) = (event.position, event.end.node);
-        let farm = self.played.farm();
-        if farm.has_end(peer, node) {
-            let sent = farm.flight(node, peer).get(since..).unwrap_or(&[]);
-            if !is_as_told(&event.sent, peer, sent, event.is_last) {
-                return found(position, Difference::SentOtherwise);
-            }
+        if !self.has_sent_as_told(event, peer, since) {
+            return found(position, Difference::SentOtherwise);
         }
         self.played.hand_to_silent(position, node, peer, since)
+    }
+
+    fn has_sent_as_told(&self, event: &NodeEvent, peer: NodeNo, since: usize) -> bool {
+        let node = event.end.node;
+        if !self.played.farm().has_end(peer, node) {
+            return true;
+        }
+        match self.played.farm().flight(node, peer).get(since..) {
+            Some(sent) => is_as_told(&event.sent, peer, sent, event.is_last),
+            None => is_as_told(&event.sent, peer, &[], event.is_last),
+        }
     }
 }

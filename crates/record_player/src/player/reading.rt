@@ -3,8 +3,8 @@
 use crate::fault::{Difference, PlayResult, found};
 use crate::player::Player;
 use dia_base::NodeNo;
-use record_reader::{Action, BookEntry, End, Finished, NodeEvent, RequestKey, Sweep};
-use record_state::{Beginning, Outcome};
+use record_reader::{BookEntry, End, Finished, NodeEvent, RequestKey, Sweep};
+use record_state::Beginning;
 use std::alloc::AllocError;
 
 impl<'s> Player<'s> {
@@ -21,7 +21,7 @@ impl<'s> Player<'s> {
     /// An event was told that is of a request, or for which a front has sent answers at once.
     pub fn add_event(&mut self, event: &NodeEvent) -> Result<(), AllocError> {
         if let Some(number) = event.request {
-            let key = self.key_of(event);
+            let key = self.book.key_of(event);
             self.fronts.add(number, event.end, key)?;
         }
         if event.is_received() && self.is_front(event.end.node) {
@@ -34,24 +34,9 @@ impl<'s> Player<'s> {
         Ok(())
     }
 
-    /// By which the request of an event is found in the book on disk, if one is given.
-    fn key_of(&self, event: &NodeEvent) -> Option<RequestKey> {
-        match &event.action {
-            Action::Receive(message) if self.book.is_stored() => {
-                RequestKey::of_message(self.alloc, message)
-            }
-            _ => None,
-        }
-    }
-
     /// A line tells what became of a request. It is a fault if a place of the book is told twice.
     pub fn add_finished(&mut self, finished: Finished) -> PlayResult<()> {
-        let outcome = Outcome {
-            place: finished.place,
-            is_new: finished.is_new,
-            ends_above: self.links.connections.ends(),
-        };
-        self.fronts.finish(finished.request, outcome);
+        self.fronts.finish(&finished, self.links.connections.ends());
         if let Some(answer) = &finished.answer {
             if finished.was_posted {
                 self.links

@@ -3,7 +3,7 @@
 
 use crate::book_told::BookTold;
 use dia_base::Moment;
-use record_reader::{BookEntry, BookEntryKind, Finished, Position, RequestKey};
+use record_reader::{Action, BookEntry, BookEntryKind, Finished, NodeEvent, Position, RequestKey};
 use std::alloc::{AllocError, Global};
 
 /// A book on disk.
@@ -72,9 +72,14 @@ impl BookTold {
         self.stored = Some(StoredBook::new(self.alloc));
     }
 
-    /// Whether it is on disk.
-    pub fn is_stored(&self) -> bool {
-        self.stored.is_some()
+    /// By which the request of an event is found in the book on disk, if one is given.
+    pub fn key_of(&self, event: &NodeEvent) -> Option<RequestKey> {
+        match &event.action {
+            Action::Receive(message) if self.stored.is_some() => {
+                RequestKey::of_message(self.alloc, message)
+            }
+            _ => None,
+        }
     }
 
     /// What the book on disk has at the next place; none behind its last entry.
