@@ -6,9 +6,9 @@ use crate::fault::{Difference, PlayResult, found};
 use dia_base::{Moment, NodeKind, NodeNo};
 use dia_message::Message;
 use farm_player::PlayedFarm;
-use farm_world::{Link, Site, Step};
+use farm_world::{Site, Step};
 use record_reader::{NodeEvent, Position};
-use record_state::Worker;
+use record_state::{Worker, linked_with};
 use std::alloc::{AllocError, Global};
 
 /// The farm that plays, which changes by the steps below alone, and what is known of its nodes beside it.
@@ -22,17 +22,6 @@ pub struct Played<'s> {
     recorded: Vec<NodeNo>,
     /// The relays of which the start of their identifiers is known since they began.
     numbered: Vec<NodeNo>,
-}
-
-/// The node at the other end of a link, if this one is at one end.
-pub fn linked_with(link: &Link, node: NodeNo) -> Option<NodeNo> {
-    if link.from == node {
-        Some(link.to)
-    } else if link.to == node {
-        Some(link.from)
-    } else {
-        None
-    }
 }
 
 impl<'s> Played<'s> {
@@ -56,10 +45,6 @@ impl<'s> Played<'s> {
         self.farm.take_lines()
     }
 
-    pub fn site(&self) -> &'s Site {
-        self.farm.site()
-    }
-
     // ---- nodes
 
     /// A node has a record.
@@ -69,7 +54,7 @@ impl<'s> Played<'s> {
     }
 
     fn kind_of(&self, node: NodeNo) -> NodeKind {
-        match self.site().nodes.as_slice().get(node.0 as usize) {
+        match self.farm.site().nodes.as_slice().get(node.0 as usize) {
             Some(node) => node.kind,
             None => NodeKind::Client,
         }
@@ -209,7 +194,7 @@ impl<'s> Played<'s> {
     pub fn crash(&mut self, position: Position, node: NodeNo) -> PlayResult<()> {
         self.numbered.retain(|known| *known != node);
         self.play(position, &Step::Crash { node })?;
-        for link in self.site().links.as_slice() {
+        for link in self.farm.site().links.as_slice() {
             let Some(client) = linked_with(link, node) else {
                 continue;
             };
@@ -222,7 +207,7 @@ impl<'s> Played<'s> {
 
     /// A node drops all its connections.
     pub fn drop_all_of(&mut self, position: Position, node: NodeNo) -> PlayResult<()> {
-        for _ in 0..self.site().links.as_slice().len() {
+        for _ in 0..self.farm.site().links.as_slice().len() {
             let Some(peer) = self.farm.some_peer(node) else {
                 return Ok(());
             };

@@ -123,7 +123,7 @@ impl<'s> Player<'s> {
 
     /// A connection is accepted once the other node has dialled it, and both have no other one any more. Whether it is.
     fn accept(&mut self, position: Position, end: End) -> PlayResult<bool> {
-        let dials = self.links.open_dials(end);
+        let dials = self.links.connections.open_dials(end);
         if dials.is_none() && !self.links.played.is_silent(position, end.peer)? {
             return Ok(false);
         }

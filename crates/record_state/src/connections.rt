@@ -2,9 +2,21 @@
 
 use dia_base::NodeNo;
 use dia_message::Message;
+use farm_base::Link;
 use record_reader::End;
 use std::alloc::{AllocError, Global};
 use std::collections::VecDeque;
+
+/// The node at the other end of a link, if this one is at one end.
+pub fn linked_with(link: &Link, node: NodeNo) -> Option<NodeNo> {
+    if link.from == node {
+        Some(link.to)
+    } else if link.to == node {
+        Some(link.from)
+    } else {
+        None
+    }
+}
 
 /// An end of a connection, as the record of its node tells of it.
 #[derive(Drop)]
@@ -48,15 +60,15 @@ pub struct OpenDials {
 
 /// A connection that stands in the farm that plays, with its ends by their places among all.
 #[derive(Clone, Copy)]
-pub struct Established {
-    pub opener: NodeNo,
-    pub acceptor: NodeNo,
+struct Established {
+    opener: NodeNo,
+    acceptor: NodeNo,
     /// The end of the node that has opened it, once that knows it; none of a client without a record.
-    pub opened: Option<usize>,
-    pub accepted: Option<usize>,
-    pub label: u64,
+    opened: Option<usize>,
+    accepted: Option<usize>,
+    label: u64,
     /// The dial that was accepted, as far as is known; none of a client without a record.
-    pub dial: Option<usize>,
+    dial: Option<usize>,
 }
 
 impl Established {
@@ -121,7 +133,7 @@ impl Connections {
         self.told.len()
     }
 
-    pub fn label(&self, conn: usize) -> u64 {
+    fn label(&self, conn: usize) -> u64 {
         self.told.get(conn).map_or(0, |told| told.label)
     }
 
@@ -133,8 +145,9 @@ impl Connections {
         }
     }
 
-    /// The dials under a label that an `accept` may be of; none where each was accepted.
-    pub fn open_dials(&self, opener: NodeNo, acceptor: NodeNo, label: u64) -> Option<OpenDials> {
+    /// The dials that the `accept` at this end may be of: those under its label; none where each was accepted.
+    pub fn open_dials(&self, end: End) -> Option<OpenDials> {
+        let (opener, acceptor, label) = (end.peer, end.node, self.label(end.conn));
         let first = self
             .told
             .iter()
@@ -152,15 +165,6 @@ impl Connections {
     fn accept(&mut self, conn: usize) {
         if let Some(told) = self.told.get_mut(conn) {
             told.is_accepted = true;
-        }
-    }
-
-    /// No dial of these nodes under this label is accepted any more.
-    pub fn accept_all(&mut self, opener: NodeNo, acceptor: NodeNo, label: u64) {
-        for told in self.told.iter_mut() {
-            if told.is_open_dial(opener, acceptor, label) {
-                told.is_accepted = true;
-            }
         }
     }
 
@@ -243,7 +247,7 @@ impl Connections {
     // ---- connections that stand
 
     /// The connection that stands between these nodes.
-    pub fn between(&self, a: NodeNo, b: NodeNo) -> Option<&Established> {
+    fn between(&self, a: NodeNo, b: NodeNo) -> Option<&Established> {
         self.established
             .iter()
             .find(|established| established.joins(a, b))
@@ -279,27 +283,45 @@ impl Connections {
         Ok(())
     }
 
-    /// Whether a connection of these nodes stands under this label which the node that opens it does not know.
-    pub fn is_awaited(&self, opener: NodeNo, acceptor: NodeNo, label: u64) -> bool {
-        self.awaited(opener, acceptor, label).is_some()
+    /// Whether a connection stands under the label of this end, which the node of the end opens and does not know.
+    pub fn is_awaited(&self, end: End) -> bool {
+        self.awaited(end).is_some()
     }
 
-    fn awaited(&self, opener: NodeNo, acceptor: NodeNo, label: u64) -> Option<usize> {
+    fn awaited(&self, end: End) -> Option<usize> {
+        let label = self.label(end.conn);
         self.established.iter().position(|established| {
-            established.opener == opener
-                && established.acceptor == acceptor
+            established.opener == end.node
+                && established.acceptor == end.peer
                 && established.opened.is_none()
                 && established.label == label
         })
     }
 
-    /// The node that opens a connection knows it from now on, by this end.
-    pub fn open(&mut self, end: End, label: u64) {
-        let Some(place) = self.awaited(end.node, end.peer, label) else {
-            return;
-        };
-        if let Some(established) = self.established.get_mut(place) {
-            established.opened = Some(end.conn);
+    /// The node that opens a connection knows it from now on, by this end. No other dial under its label is accepted any more.
+    pub fn open(&mut self, end: End) {
+        let label = self.label(end.conn);
+        if let Some(place) = self.awaited(end) {
+            if let Some(established) = self.established.get_mut(place) {
+                established.opened = Some(end.conn);
+            }
         }
+        for told in self.told.iter_mut() {
+            if told.is_open_dial(end.node, end.peer, label) {
+                told.is_accepted = true;
+            }
+        }
+    }
+
+    /// Whether the connection that stands under the label of this end, which its node accepts, may be of a dial that the other one has given
+    /// up, while that one waits for a later dial to be accepted.
+    pub fn is_given_up(&self, end: End) -> bool {
+        let Some(established) = self.between(end.peer, end.node) else {
+            return false;
+        };
+        established.opened.is_none()
+            && established.opener == end.peer
+            && established.label == self.label(end.conn)
+            && established.dial.map_or(false, |dial| self.is_gone(dial))
     }
 }

@@ -17,7 +17,7 @@ mod reports;
 
 pub use book_told::BookTold;
 pub use comparing::is_as_told;
-pub use connections::{Connections, Established, OpenDials};
+pub use connections::{Connections, OpenDials, linked_with};
 pub use fronts::{Fronts, InHand, Outcome, Request, RequestState, Worker};
 pub use queues::{Beginning, NodeEntry, Queues};
 pub use refusing::is_refused;

@@ -9,17 +9,10 @@
 
 use crate::fault::PlayResult;
 use crate::links::LinkPlayer;
-use dia_base::NodeNo;
 use record_reader::{Action, End, NodeEvent, Position};
 use record_state::{NodeEntry, OpenDials};
 
 impl<'s> LinkPlayer<'s> {
-    /// The dials that the `accept` at this end may be of.
-    pub fn open_dials(&self, end: End) -> Option<OpenDials> {
-        let label = self.connections.label(end.conn);
-        self.connections.open_dials(end.peer, end.node, label)
-    }
-
     /// A connection is accepted, of the first of these dials; where there are none, of a client without a record, which learns it at
     /// once. If each of them was given up, it waits until nothing else may happen. Whether it is accepted.
     pub fn accept(
@@ -63,9 +56,7 @@ impl<'s> LinkPlayer<'s> {
     /// Whether a connection stands under the label of this one, which the other node has accepted, and the node of this one
     /// does not know and has not given up.
     fn is_awaited(&self, end: End) -> bool {
-        let label = self.connections.label(end.conn);
-        self.played.farm().has_end(end.node, end.peer)
-            && self.connections.is_awaited(end.node, end.peer, label)
+        self.played.farm().has_end(end.node, end.peer) && self.connections.is_awaited(end)
     }
 
     /// A node learns that its connection is made, if the other one has accepted one under its label. Whether it has.
@@ -73,9 +64,7 @@ impl<'s> LinkPlayer<'s> {
         if !self.is_awaited(end) {
             return Ok(false);
         }
-        let label = self.connections.label(end.conn);
-        self.connections.open(end, label);
-        self.connections.accept_all(end.node, end.peer, label);
+        self.connections.open(end);
         self.played.opened(position, end.node, end.peer)?;
         Ok(true)
     }
@@ -92,36 +81,23 @@ impl<'s> LinkPlayer<'s> {
 
     /// The first dial that an entry may be of where nothing else may happen: an `accept`, of dials that were all given up.
     pub fn late_dial(&self, entry: &NodeEntry) -> Option<usize> {
-        let NodeEntry::Event(event) = entry else {
-            return None;
+        let end = match entry {
+            NodeEntry::Event(event) if matches!(&event.action, Action::Accept) => event.end,
+            _ => return None,
         };
-        if !matches!(&event.action, Action::Accept) {
+        if !self.played.farm().is_free(end.peer, end.node) && !self.was_given_up(end) {
             return None;
         }
-        let End { conn, node, peer } = event.end;
-        let label = self.connections.label(conn);
-        if !self.played.farm().is_free(peer, node) && !self.was_given_up(peer, node, label) {
-            return None;
-        }
-        Some(self.open_dials(event.end)?.first)
+        Some(self.connections.open_dials(end)?.first)
     }
 
-    /// Whether a node has dropped the connection that it accepted under this label, which may be of a dial that the other one
+    /// Whether the node of this end has dropped the connection that it accepted under its label, which may be of a dial that the other one
     /// has given up, while that one waits for a later dial to be accepted.
-    fn was_given_up(&self, opener: NodeNo, acceptor: NodeNo, label: u64) -> bool {
-        let Some(established) = self.connections.between(opener, acceptor) else {
-            return false;
-        };
+    fn was_given_up(&self, end: End) -> bool {
         let farm = self.played.farm();
-        let is_waited_for = farm.has_end(opener, acceptor)
-            && !farm.has_end(acceptor, opener)
-            && established.opened.is_none();
-        is_waited_for
-            && established.opener == opener
-            && established.label == label
-            && established
-                .dial
-                .map_or(false, |dial| self.connections.is_gone(dial))
+        farm.has_end(end.peer, end.node)
+            && !farm.has_end(end.node, end.peer)
+            && self.connections.is_given_up(end)
     }
 
     /// A connection is accepted that may be of this dial, which was given up. The one before it was, where that still waits.
@@ -131,7 +107,8 @@ impl<'s> LinkPlayer<'s> {
             self.played.drop_end(position, end.peer, end.node)?;
         }
         self.establish(position, end, Some(dial))?;
-        let is_awaited = self.open_dials(end).map_or(false, |dials| dials.is_awaited);
+        let dials = self.connections.open_dials(end);
+        let is_awaited = dials.map_or(false, |dials| dials.is_awaited);
         if self.connections.is_gone(dial) && !is_awaited {
             self.played.drop_end(position, end.peer, end.node)?;
         }

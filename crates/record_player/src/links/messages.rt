@@ -2,11 +2,10 @@
 
 use crate::fault::{Difference, PlayResult, found};
 use crate::links::LinkPlayer;
-use crate::played::linked_with;
 use dia_base::NodeNo;
 use dia_message::Message;
 use record_reader::{NodeEvent, Position};
-use record_state::is_as_told;
+use record_state::{is_as_told, linked_with};
 use std::alloc::AllocError;
 
 impl<'s> LinkPlayer<'s> {
@@ -66,7 +65,7 @@ impl<'s> LinkPlayer<'s> {
     /// How many messages are in flight from a node to each of the nodes that it is linked with.
     pub(super) fn flights_from(&self, node: NodeNo) -> Result<Vec<(NodeNo, usize)>, AllocError> {
         let mut flights = Vec::new(self.alloc);
-        for link in self.played.site().links.as_slice() {
+        for link in self.played.farm().site().links.as_slice() {
             if let Some(peer) = linked_with(link, node) {
                 flights.push((peer, self.played.farm().flight(node, peer).len()))?;
             }

@@ -130,14 +130,9 @@ impl<'s> Player<'s> {
         worker: Worker,
         moment: Moment,
     ) -> PlayResult<()> {
-        self.charge_by(position, worker, moment)?;
-        self.has_one_more(position, Difference::NotNew)
-    }
-
-    /// A worker has the request that it holds charged, and sends its answer.
-    fn charge_by(&mut self, position: Position, worker: Worker, moment: Moment) -> PlayResult<()> {
         self.links.played.charge(position, worker, moment)?;
-        self.emit(position, worker)
+        self.emit(position, worker)?;
+        self.has_one_more(position, Difference::NotNew)
     }
 
     /// A worker charges or refuses the request that it holds, which came on this connection, as a line tells.
@@ -146,10 +141,11 @@ impl<'s> Player<'s> {
         let entries = self.entries();
         let since = self.farm().flight(end.node, end.peer).len();
         if is_refused(self.alloc, finished) {
-            self.refuse(position, worker)?;
+            self.links.played.refuse(position, worker)?;
         } else {
-            self.charge_by(position, worker, finished.moment)?;
+            self.links.played.charge(position, worker, finished.moment)?;
         }
+        self.emit(position, worker)?;
         if !finished.is_new && self.entries() != entries {
             return found(position, Difference::IsNew);
         }
