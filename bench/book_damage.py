@@ -28,7 +28,7 @@ from pathlib import Path
 
 sys.dont_write_bytecode = True
 
-from loaded import PROGRAM, ROOT, Otherwise, end_when_told  # noqa: E402
+from loaded import PROGRAM, ROOT, Otherwise, end_when_told, free_ports  # noqa: E402
 
 BOOK_PROGRAM = ROOT / "crates/farm_book/out/farm_book"
 MODEL = ROOT / "examples/models/stored_book.py"
@@ -61,10 +61,18 @@ def rows_of(book):
         return None
 
 
+def site_with_ports():
+    """The row site, whose fronts have addresses, so that they could serve."""
+    lines = SITE.read_text().splitlines()
+    ports = iter(free_ports(len(lines)))
+    return "".join(f'{line}\naddress = "127.0.0.1:{next(ports)}"\n' if line.startswith('kind = "front"') else f"{line}\n" for line in lines)
+
+
 class Damage:
     def __init__(self, words, room):
         self.words, self.room, self.told, self.lines = words, room, Counter(), {}
-        self.whole = room / "whole.book"
+        self.whole, self.site = room / "whole.book", room / "site.toml"
+        self.site.write_text(site_with_ports())
         self.ask("create", self.whole)
         subprocess.run([sys.executable, MODEL, "changed", "fill", self.whole, str(words.entries)], check=True)
         with opened(self.whole):
@@ -80,7 +88,7 @@ class Damage:
         self.rows = rows_of(self.whole)
 
     def run(self, task, book):
-        return subprocess.run([self.words.book, "book", task, book, "--site", SITE], capture_output=True, text=True, timeout=SECONDS)
+        return subprocess.run([self.words.book, "book", task, book, "--site", self.site], capture_output=True, text=True, timeout=SECONDS)
 
     def ask(self, task, book):
         ran = self.run(task, book)
@@ -98,7 +106,7 @@ class Damage:
     def front_refuses(self, book, status, line, what):
         """The fronts refuse it too, with the status and the words that `check` has."""
         why = line.split(": ", 1)[1]
-        ran = subprocess.run([self.words.program, "front", "--site", SITE, "--book", book, "--log", "error"], capture_output=True, text=True,
+        ran = subprocess.run([self.words.program, "front", "--site", self.site, "--book", book, "--log", "error"], capture_output=True, text=True,
                              timeout=SECONDS)
         if ran.returncode != status or ran.stderr.strip() != f"the book cannot be opened: {why}":
             raise Otherwise(f"{what}: the fronts end with status {ran.returncode}: {ran.stderr.strip()!r}, and not: {why!r}")

@@ -26,7 +26,7 @@ import sys
 import tempfile
 import threading
 import time
-from collections import Counter
+from collections import Counter, deque
 from contextlib import closing
 from http.client import HTTPConnection, HTTPException
 from pathlib import Path
@@ -42,8 +42,9 @@ CLIENT, UNANSWERED, PATIENCE, RETRANSMITTED = "c1", 32, 20, 0x10
 COST, OCTETS = 20, 3200
 # Each account lasts for so many debits.
 DEBITS = {"491700000001": 10 ** 6, "491700000002": 300}
-# Of what was answered, one in so many is sent again in each round.
-AGAIN = 50
+# Of what was answered, one in so many is sent again in each round, so many at a time: a front answers DIAMETER_TOO_BUSY where its queue of
+# 1,024 is full.
+AGAIN, REPEATED = 50, 512
 MADE = "the terms were changed by the entry at place "
 
 
@@ -142,22 +143,22 @@ class Client:
 
     def serve(self, link, is_last):
         """Sends again what is open and some of what was answered, then one request for each answer, until the connection ends."""
-        again = [*self.open, *(serial for serial in self.answered if self.dice.randrange(AGAIN) == 0)]
+        again = deque([*self.open, *(serial for serial in self.answered if self.dice.randrange(AGAIN) == 0)])
         self.count["sent again"] += len(again)
-        waiting = len(again)
+        waiting = 0
         try:
-            for serial in again:
-                link.send(debit(serial, True))
-            while waiting < UNANSWERED and (request := self.next_of(is_last)):
-                link.send(request)
-                waiting += 1
-            while waiting and (answers := link.answers()):
+            while True:
+                while again and waiting < REPEATED:
+                    link.send(debit(again.popleft(), True))
+                    waiting += 1
+                while not again and waiting < UNANSWERED and (request := self.next_of(is_last)):
+                    link.send(request)
+                    waiting += 1
+                if not waiting or not (answers := link.answers()):
+                    return
                 for answer in answers:
                     self.take(answer)
-                    waiting -= 1
-                    if waiting < UNANSWERED and (request := self.next_of(is_last)):
-                        link.send(request)
-                        waiting += 1
+                waiting -= len(answers)
         except OSError:
             pass
 
