@@ -45,7 +45,7 @@ pub struct Watching {
 #[derive(Clone, Copy)]
 pub enum Course {
     Serve,
-    /// It is asked to end: it takes no new request, and answers what is under way.
+    /// It is asked to end: it answers what is under way ([`Live::drain`]).
     Drain,
     End,
 }
@@ -226,7 +226,7 @@ impl Watching {
     fn tell_end(&mut self, log: &Logger, open: u64) {
         if !self.is_end_told {
             self.is_end_told = true;
-            info!(log; target: "farm", event = "draining", requests = open; "asked to end: no new request is taken, and {open} are under way");
+            info!(log; target: "farm", event = "draining", requests = open; "asked to end: {open} requests are under way");
         }
     }
 
