@@ -166,22 +166,27 @@ module _ (validity : ℕ) (moment : Moment) (request : CcRequest) (posting : Pos
       let more = reserved_by-push account before in
       omega arith
 
+-- amounts within their bounds are small
+pub bounded-small : (terms : Terms) (balances : List ℤ) (sessions : List OpenSession) → length balances ≡ length terms.accounts
+    → All (λ session. session.account < length terms.accounts) sessions → IsBounded balances sessions → IsSmall terms balances sessions
+bounded-small terms balances sessions accounts known bounded = record {
+  accounts = accounts;
+  least = λ k d lt. (
+      let size = bounded.balance k lt in
+      let same = get_or_default balances k d (pos 0) lt in
+      let least = abs-least (slice_index_or balances k (pos 0)) in omega (arith, ints));
+  most = λ k d lt. (
+      let size = bounded.balance k lt in
+      let same = get_or_default balances k d (pos 0) lt in
+      let most = abs-most (slice_index_or balances k (pos 0)) in omega (arith, ints));
+  held = λ account. (let held = bounded.held account in omega arith);
+  known = known;
+}
+
 module _ {terms : Terms} {before : List Posting} {balances : List ℤ} {sessions : List OpenSession} (s : Stands terms before balances sessions) where
   -- the amounts of a book are so small that no sum of them leaves 128 bits
   pub small-bounded : IsBounded balances sessions → IsSmall terms balances sessions
-  small-bounded bounded = record {
-    accounts = s.accounts;
-    least = λ k d lt. (
-        let size = bounded.balance k lt in
-        let same = get_or_default balances k d (pos 0) lt in
-        let least = abs-least (slice_index_or balances k (pos 0)) in omega (arith, ints));
-    most = λ k d lt. (
-        let size = bounded.balance k lt in
-        let same = get_or_default balances k d (pos 0) lt in
-        let most = abs-most (slice_index_or balances k (pos 0)) in omega (arith, ints));
-    held = λ account. (let held = bounded.held account in omega arith);
-    known = s.known;
-  }
+  small-bounded bounded = bounded-small terms balances sessions s.accounts s.known bounded
 
   -- whether an account bears a request is told by what stands
   pub borne-stands : (account : Option ℕ) → MatchOption account (Unit {0}) (λ a. a < length terms.accounts)

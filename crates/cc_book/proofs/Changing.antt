@@ -241,7 +241,7 @@ module _ (joining : List Account) (least : All (λ opening. negsuc (2 ^ 63) ≤�
   unfolding alone
   joined-bounded place lt = (bounded-empty alone (openings_of joining) refl least most).balance place lt
 
-  both-bounded : (balances : List ℤ) (sessions : List OpenSession) → IsBounded balances sessions → IsBounded (balances ++ openings_of joining) sessions
+  pub both-bounded : (balances : List ℤ) (sessions : List OpenSession) → IsBounded balances sessions → IsBounded (balances ++ openings_of joining) sessions
   both-bounded balances sessions old = record {
     balance = λ account lt. elim (cases_lt account (length balances)) as (λ _.
         nat_abs (slice_index_or (balances ++ openings_of joining) account (pos 0)) < 2 ^ 124) [

@@ -89,7 +89,7 @@ module _ (validity : ℕ) (moment : Moment) where
     by false e more = let here : lasting_ids moment states weight s.id ≡ weight s.id = ap (λ (b : Bool). cond b 0 (weight s.id)) e in omega arith
 
   -- what they hold of an account is no more than before
-  reserved_in-kept : (account : ℕ) (sessions : List OpenSession) → reserved_in account (kept sessions) ≤ reserved_in account sessions
+  pub reserved_in-kept : (account : ℕ) (sessions : List OpenSession) → reserved_in account (kept sessions) ≤ reserved_in account sessions
   reserved_in-kept account [] = omega arith
   reserved_in-kept account (s ∷ sessions) = by (due s) (reserved_in-kept account sessions) where
     by : (b : Bool) → reserved_in account (kept sessions) ≤ reserved_in account sessions

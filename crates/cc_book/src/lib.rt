@@ -84,6 +84,7 @@ pub use charges::{Charge, last_charges};
 pub use content::same_request;
 pub use copy::{RequestCopy, copy_of_reply};
 pub use entry::Entry;
+pub use kept_terms::KeptTerms;
 pub use laws::{
     balances_move_by_debits, bare_services_decide_the_result, books_with_one_history_answer_alike,
     checks_tell_what_is_free, debits_pay_for_what_is_granted, ended_sessions_hold_nothing,
@@ -102,10 +103,12 @@ pub use laws::{
     updates_debit_and_then_grant,
 };
 pub use lookup::Lookup;
+pub use open_sessions::OpenSessions;
 pub use outcome::{Change, Outcome};
 pub use plan::{Plan, Taken};
 pub use price::{Price, Prices};
 pub use session::{Hold, OpenSession, held_in};
+pub use standing::Standing;
 pub use standing_laws::entries_change_sessions;
 pub use state::kept_answer;
 pub use subscriptions::Subscriptions;

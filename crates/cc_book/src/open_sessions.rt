@@ -60,6 +60,26 @@ impl OpenSessions {
         })
     }
 
+    /// Makes room for so many more to open. An error leaves the sessions as they are.
+    pub fn reserve(&mut self, more: usize) -> Result<(), AllocError>
+        ensures items { self.new.items ≡ self.old.items }
+        ensures accounts { self.new.accounts ≡ self.old.accounts }
+        ensures account_room { self.new.account_room ≡ self.old.account_room }
+        ensures ok { OnOk result (more ≤ self.new.room) }
+    {
+        self.sessions.reserve(more)?;
+        self.lasts.reserve(more)?;
+        Ok(())
+    }
+
+    /// For how many more to open there is room.
+    pub fn room(&self) -> usize
+        ensures { result ≡ self.now.room }
+    {
+        let spare = self.sessions.capacity() - self.sessions.len();
+        spare.min(self.lasts.capacity() - self.lasts.len())
+    }
+
     /// How many there are.
     pub fn len(&self) -> usize
         ensures { result ≡ length self.now.items }
