@@ -1,23 +1,51 @@
 //! What is counted of what a node is told and of what it sends.
 
-use dia_base::{ConnId, Moment};
+use crate::end::End;
+use dia_base::{ConnId, NodeNo};
 use dia_message::{Message, Out};
 use farm_metrics::{Tally, code_of_answer};
+use farm_node::NodeError;
+
+/// The node was told that its neighbour is up on a connection.
+pub fn count_up(
+    tally: &mut Tally,
+    conn: ConnId,
+    (local, peer): (NodeNo, NodeNo),
+    outcome: Result<(), NodeError>,
+) {
+    if outcome.is_ok() {
+        tally.peer_up(conn, local, peer);
+    }
+}
+
+/// The node was told that a connection has ended, for this reason.
+pub fn count_lost(tally: &mut Tally, conn: ConnId, why: End) {
+    let is_silent = match why {
+        End::Silent => true,
+        End::Loss(_)
+        | End::Unwelcome
+        | End::Disconnected
+        | End::Closed
+        | End::Refused(_)
+        | End::OutOfMemory => false,
+    };
+    tally.peer_lost(conn, is_silent);
+}
 
 /// A message was passed to the node.
-pub fn count_passed(tally: &mut Tally, conn: ConnId, message: &Message, moment: Moment) {
+pub fn count_passed(tally: &mut Tally, conn: ConnId, message: &Message) {
     if message.header.request {
-        tally.request_came(conn, message.header.hop, moment);
+        tally.request_came(conn, message.header.hop);
     }
 }
 
 /// The node has sent a message on a connection.
-pub fn count_sent(tally: &mut Tally, conn: ConnId, message: &Message, moment: Moment) {
+pub fn count_sent(tally: &mut Tally, conn: ConnId, message: &Message) {
     if message.header.request {
         tally.request_sent();
     } else {
         let code = code_of_answer(message.body.as_slice());
-        tally.answer_sent(conn, message.header.hop, code, moment);
+        tally.answer_sent(conn, message.header.hop, code);
     }
 }
 

@@ -9,7 +9,7 @@ ghost use Rattle.farm_connections.specs.Desks.{AreSettled, IsDownAt, IsPlaceOf, 
 ghost use Rattle.farm_connections.specs.Naming.{IsKeptOut};
 ghost use Rattle.farm_connections.specs.Sending.{AllGoOut, AreInOrder, GoesOut, HasNone, IsNumberedAt, IsSentOn};
 
-use crate::counting::{count_failovers, count_passed, count_sent};
+use crate::counting::{count_failovers, count_lost, count_passed, count_sent, count_up};
 use crate::end::End;
 use crate::link::{
     Link, Standing, be_over, come_up, end_at, end_unless_told, flush_at, greet_at, hear_at,
@@ -261,7 +261,7 @@ impl<N: Node, R: Read + Device, W: Write + Device> Desk<N, R, W> {
     {
         for (conn, message) in out.items.as_slice() {
             self.answers = count_after(self.answers, message);
-            count_sent(&mut self.tally, *conn, message, moment);
+            count_sent(&mut self.tally, *conn, message);
             send_one(&mut self.links, *conn, message, moment);
         }
     }
@@ -300,6 +300,7 @@ impl<N: Node, R: Read + Device, W: Write + Device> Desk<N, R, W> {
         let reaction = self.node.on_up(self.alloc, local, peer, conn);
         come_up(&mut self.links[place], peer, reaction.outcome, moment);
         self.notes.up(conn, local, peer, reaction.outcome);
+        count_up(&mut self.tally, conn, (local, peer), reaction.outcome);
         record_up(
             self.alloc,
             &mut self.recorder,
@@ -328,7 +329,7 @@ impl<N: Node, R: Read + Device, W: Write + Device> Desk<N, R, W> {
         let conn = self.links[place].id;
         let asks = message.header.request;
         let body = kept_body(&message);
-        count_passed(&mut self.tally, conn, &message, moment);
+        count_passed(&mut self.tally, conn, &message);
         record_message(self.alloc, &mut self.recorder, conn, &message);
         let reaction = self.node.on_message::<P>(self.alloc, conn, message);
         end_unless_told(&mut self.links[place], asks, reaction.outcome, moment);
@@ -370,6 +371,7 @@ impl<N: Node, R: Read + Device, W: Write + Device> Desk<N, R, W> {
         self.failed = has_failed(self.failed, &reaction.outcome);
         self.notes.lost(conn, peer, why);
         self.notes.failovers::<P>(self.alloc, conn, &reaction.out);
+        count_lost(&mut self.tally, conn, why);
         count_failovers(&mut self.tally, &reaction.out);
         record_lost(self.alloc, &mut self.recorder, conn, &reaction.outcome);
         record_sent(self.alloc, &mut self.recorder, &reaction.out);

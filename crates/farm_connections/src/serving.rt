@@ -15,7 +15,7 @@ use crate::naming::NameRule;
 use crate::note::{NOTE_LIMIT, Note, Notes};
 use dia_avp::Wire;
 use dia_base::{ConnId, Moment, NodeNo};
-use farm_metrics::Tally;
+use farm_metrics::{Micros, Tally};
 use farm_net::{Conn, Device};
 use farm_node::{Node, Refuses};
 use farm_record::{Event, Recorded, Recorder};
@@ -339,6 +339,14 @@ impl<N: Node, R: Read + Device, W: Write + Device> Serving<N, R, W> {
         ensures { IsRecordedOnly self.old.desk self.new.desk }
     {
         self.desk.recorder.begin_turn(moment);
+    }
+
+    /// What is counted from now on happens when the clock says this.
+    pub fn set_clock(&mut self, now: Micros)
+        ensures kept { kept_by self.new.desk ≡ kept_by self.old.desk }
+        ensures links { self.new.desk.links ≡ self.old.desk.links }
+    {
+        self.desk.tally.set_clock(now);
     }
 
     /// Records a connection that the node `local` opens with the node `peer`, which both ends call so.

@@ -6,3 +6,4 @@ pub mod Port
 pub mod Reading
 pub mod Sharing
 pub mod Tokens
+pub mod Lost

@@ -19,6 +19,7 @@
 //! is tested.
 #![tactic(auto)]
 
+mod causes;
 mod coming;
 mod dial;
 mod fault;
@@ -32,6 +33,7 @@ mod port;
 mod rejected;
 mod share;
 mod sockets;
+mod stopwatch;
 mod tell;
 mod telling;
 mod why;
@@ -47,6 +49,7 @@ pub use pause::{BEHIND, PATIENCE, PIECE, Pause, Traffic, is_behind, traffic_on};
 pub use port::{StatusPort, Wanted};
 pub use share::{room_left, share_of};
 pub use sockets::Sockets;
+pub use why::Why;
 
 /// A node with its connections over sockets.
 pub type Served<N> = Serving<N, Counted<Half>, Counted<Half>>;

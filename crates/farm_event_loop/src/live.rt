@@ -7,21 +7,25 @@ mod dialing;
 mod listening;
 mod reading;
 
+use crate::causes::{Cause, Causes};
 use crate::dial::{Dial, DialState};
 use crate::fault::LoopFault;
 use crate::limits::Limits;
 use crate::outgoing::Outgoing;
 use crate::share::Shares;
 use crate::sockets::Sockets;
+use crate::stopwatch::Stopwatch;
 use crate::telling::{explain, tell_note};
+use crate::why::Why;
 use crate::{Served, tell};
 use dia_avp::ViewWire;
 use dia_base::{Identity, Moment, NodeNo};
 use farm_access::{Access, Strictness};
 use farm_base::Site;
 use farm_clock::Timer;
-use farm_connections::{LocalNode, NOTE_LIMIT, Serving};
+use farm_connections::{LocalNode, NOTE_LIMIT, Note, Serving};
 use farm_endpoints::{Endpoint, socket_of};
+use farm_metrics::{Micros, Sample, Trend};
 use farm_node::Node;
 use farm_record::{Event, Recorder};
 use log::Log;
@@ -56,6 +60,11 @@ pub struct Live<N> {
     /// How many lines of the log were missing when that was last told.
     dropped: u64,
     timer: Timer,
+    /// The clock of what is counted, and what was counted lately.
+    stopwatch: Stopwatch,
+    trend: Trend,
+    /// Why neighbours were lost last.
+    causes: Causes,
     interval: u32,
 }
 
@@ -75,6 +84,9 @@ impl<N: Drop> Drop for Live<N> {
             limits: _,
             dropped: _,
             timer: _,
+            stopwatch: _,
+            trend: _,
+            causes: _,
             interval: _,
         } = self;
     }
@@ -162,6 +174,9 @@ impl<N: Node + Drop> Live<N> {
             limits,
             dropped: 0,
             timer,
+            stopwatch: Stopwatch::start(os)?,
+            trend: Trend::nothing(alloc),
+            causes: Causes::none(alloc),
             interval: site.watchdog,
         })
     }
@@ -214,6 +229,9 @@ impl<N: Node + Drop> Live<N> {
             limits: _,
             dropped: _,
             timer: _,
+            stopwatch: _,
+            trend: _,
+            causes: _,
             interval: _,
         } = self;
         serving.into_parts()
@@ -249,13 +267,15 @@ impl<N: Node + Drop> Live<N> {
         let moment = self.timer.now(os)?;
         self.serving.begin_turn(moment);
         self.outgoing.find(site, &self.serving)?;
-        self.read_again(site, moment)?;
-        self.serve_ready(site, moment)?;
+        self.read_again(os, site, moment)?;
+        self.serve_ready(os, site, moment)?;
         if !self.outgoing.drains() {
             self.accept_all(log, site, access, moment);
         }
         self.dial_all(os, log, site, access, moment);
+        self.set_clock(os)?;
         self.serving.tick::<ViewWire>(moment);
+        self.keep_trend();
         Ok(moment)
     }
 
@@ -278,6 +298,50 @@ impl<N: Node + Drop> Live<N> {
             return Err(LoopFault::OutOfMemory);
         }
         Ok(())
+    }
+
+    /// What is counted from now on happens now.
+    fn set_clock<O: Clock>(&mut self, os: &O) -> Result<(), LoopFault> {
+        let now = self.stopwatch.now(os)?;
+        self.serving.set_clock(now);
+        Ok(())
+    }
+
+    /// Keeps what is counted by now, where ten seconds have passed.
+    fn keep_trend(&mut self) {
+        let now = self.serving.tally().clock();
+        if self.trend.is_due(now) {
+            self.trend.add(Sample::of(self.serving.tally(), now));
+        }
+    }
+
+    /// What was counted during the last quarter of an hour.
+    pub fn trend(&self) -> &Trend {
+        &self.trend
+    }
+
+    /// What the clock of what is counted said last.
+    pub fn clock(&self) -> Micros {
+        self.serving.tally().clock()
+    }
+
+    /// Why a neighbour was lost last, if it was.
+    pub fn cause_of(&self, local: NodeNo, peer: NodeNo) -> Option<Why> {
+        self.causes.of(local, peer)
+    }
+
+    /// Keeps why a neighbour was lost, if a note is of that.
+    fn keep_cause(&mut self, note: &Note) {
+        if let Note::Lost { conn, peer, why } = note
+            && let Some(link) = self.serving.link(*conn)
+        {
+            let cause = Cause {
+                local: link.local,
+                peer: *peer,
+                why: Why::of(*why, link.farewell, &link.conn),
+            };
+            self.causes.set(cause);
+        }
     }
 
     /// Whether a connection of its own has failed or ended.
@@ -332,6 +396,7 @@ impl<N: Node + Drop> Live<N> {
             let Some(note) = self.serving.take_note() else {
                 return;
             };
+            self.keep_cause(&note);
             explain(self.dials.as_mut_slice(), &note);
             tell_note(log, &mut self.limits, site, &self.serving, &note, moment);
         }

@@ -268,6 +268,11 @@ impl StatusPort {
         Ok(Some(moment.0.saturating_sub(self.began.0)))
     }
 
+    /// When it was opened.
+    pub fn began(&self) -> Moment {
+        self.began
+    }
+
     /// Takes who waits, and reads, answers and writes what may be done at once. It gives the jobs that somebody has asked for who may, of
     /// those that the node may be asked for.
     pub fn look<S: Source>(&mut self, source: &S, jobs: Jobs) -> Wanted {

@@ -1,2 +1,3 @@
 mod Served
 mod SiteFile
+mod Crossing

@@ -11,6 +11,7 @@ ghost use Rattle.farm_terms.specs.SiteAccounts.{AreTermsOf};
 ghost use Rattle.farm_terms.specs.SiteChange.{LeadsToSite};
 ghost use Rattle.pool_node.specs.Fronts.{site_of};
 
+use crate::boxed::{Boxed, behind_pointer};
 use crate::fault::Fault;
 use crate::jobs::BookJobs;
 use crate::serving::serve_over;
@@ -69,21 +70,20 @@ where
     };
     let workers = workers.max(1);
     let (opened, change) = book_of(setting)?;
-    match allowed_to_serve(alloc, opened, change, timer, setting.command) {
-        Ok((journal, book, timing)) => serve_on::<Brand, FileBook, O>(
-            setting,
-            nodes,
-            listening,
-            Blank::new(workers),
-            BlankHistory::new(),
-            book,
-            journal,
-            timing,
-            workers,
-            answers,
-        ),
-        Err(fault) => Err(fault),
-    }
+    let (journal, book, timing) = allowed_to_serve(alloc, opened, change, timer, setting.command)?;
+    let journal = behind_pointer(alloc, journal)?;
+    serve_on::<Brand, Boxed<FileBook>, O>(
+        setting,
+        nodes,
+        listening,
+        Blank::new(workers),
+        BlankHistory::new(),
+        book,
+        journal,
+        timing,
+        workers,
+        answers,
+    )
 }
 
 /// The book that serves, with the change that leads from its terms to those of the site: that of the file, or where none is named an empty

@@ -92,6 +92,18 @@ pub struct JobsTold<'a> {
     pub changed_entries: u64,
 }
 
+/// How many entries the book of a process had behind the last change that was made, 0 where none was, or where it has no book.
+pub fn changed_entries<L, S>(jobs: &Option<BookJobs<L, S>>) -> u64
+where
+    L: Sharing + Send + Sync + 'static,
+    S: RowStore + Drop + Send + 'static,
+{
+    match jobs {
+        Some(jobs) => jobs.changed_entries(),
+        None => 0,
+    }
+}
+
 /// What is told of the jobs of a process, if it has a book.
 pub fn told_of<L, S>(jobs: &Option<BookJobs<L, S>>) -> JobsTold<'_>
 where

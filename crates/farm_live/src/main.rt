@@ -4,7 +4,7 @@
 //! - `relay`, `fronts`, `sending`: to serve as a relay or as all fronts, or to send. `serving`, `turns`: what these have in
 //!   common.
 //! - `label`: how the log is spelled, and what it calls the process.
-//! - `waker`: how the workers of fronts end the wait of the loop.
+//! - `boxed`: the file of a book behind a pointer. `waker`: how the workers of fronts end the wait of the loop.
 //! - `watching`, `rising`, `view`, `token`: what it says of itself in its log and on its status port, and who may end it there.
 //! - `jobs`: what is asked for at its status port and done on the book: `changing`, changes of its terms, and `looking`, looks at its
 //!   accounts, which `naming` reads.
@@ -12,6 +12,7 @@
 //! - `fault`: why the program does not do it, and its exit status.
 #![tactic(auto)]
 
+mod boxed;
 mod changing;
 mod charged;
 mod fault;

@@ -3,17 +3,20 @@
 use crate::jobs::JobsTold;
 use book_store::RowStore;
 use cc_book::Book;
-use dia_base::{NodeNo, PENDING_LIMIT};
+use dia_base::{Moment, NodeNo, PENDING_LIMIT};
 use farm_base::Site;
 use farm_client::Sender;
 use farm_connections::Standing;
 use farm_event_loop::{Live, Served};
 use farm_node::Node;
 use farm_record::Recorder;
-use farm_status::{BookStatus, Connections, FrontStatus, Peer, PeerState, Source, Status, Work};
+use farm_status::{
+    BookStatus, Connections, FrontStatus, Peer, PeerPast, PeerState, ServedCount, Source, Status,
+    Work,
+};
 use farm_text::read_text;
 use front_pool::Pooling;
-use pool_node::{BookFigures, PoolFronts};
+use pool_node::{BookFigures, PoolFronts, ServedCounts};
 use relay_core::PartingRelay;
 use std::alloc::{AllocError, Global};
 use std::fs::File;
@@ -161,8 +164,9 @@ pub struct View<'a, 'b, N> {
     /// The nodes of the process.
     pub nodes: &'a [NodeNo],
     pub live: &'a Live<N>,
-    /// How long it has served, in milliseconds.
+    /// How long it has served, in milliseconds, and since when.
     pub uptime: u64,
+    pub began: Moment,
     /// What is told of the jobs on its book.
     pub told: JobsTold<'b>,
 }
@@ -177,6 +181,33 @@ fn name_of(alloc: Global, site: &Site, node: NodeNo) -> Result<String, AllocErro
             .map(|octet| char::from(*octet))
             .collect(alloc),
         None => String::from_str(alloc, "nobody"),
+    }
+}
+
+/// Where a node of the site listens, as the site file says it.
+fn address_of(alloc: Global, site: &Site, node: NodeNo) -> Result<Option<String>, AllocError> {
+    let Some(found) = site.nodes.as_slice().get(node.0 as usize) else {
+        return Ok(None);
+    };
+    let Some(address) = &found.address else {
+        return Ok(None);
+    };
+    let text: String = address
+        .as_slice()
+        .iter()
+        .map(|octet| char::from(*octet))
+        .collect(alloc)?;
+    Ok(Some(text))
+}
+
+/// Requests by what they came to, as the page says it.
+fn served_of(served: &ServedCounts) -> ServedCount {
+    ServedCount {
+        charges: served.charges,
+        enquiries: served.enquiries,
+        credit_refusals: served.credit_refusals,
+        refusals: served.refusals,
+        repeats: served.repeats,
     }
 }
 
@@ -222,6 +253,15 @@ fn connections_of<N: Node>(serving: &Served<N>) -> Connections {
         }
     }
     connections
+}
+
+/// How many octets wait to be written on all connections.
+fn unsent_in<N: Node>(serving: &Served<N>) -> u64 {
+    let mut unsent: u64 = 0;
+    for link in serving.links() {
+        unsent = unsent.saturating_add(link.conn.unsent() as u64);
+    }
+    unsent
 }
 
 /// How many requests wait for their answer at a node of the process.
@@ -283,7 +323,26 @@ impl<N: Node + Drop + Booked> View<'_, '_, N> {
             state,
             takes_requests: sends_to(self.site, local, peer),
             conn,
+            address: address_of(alloc, self.site, peer)?,
+            past: self.past(local, peer)?,
         })
+    }
+
+    /// What became of a neighbour, if it was ever up.
+    fn past(&self, local: NodeNo, peer: NodeNo) -> Result<Option<PeerPast>, AllocError> {
+        let Some(count) = self.live.serving.tally().peers.of(local, peer) else {
+            return Ok(None);
+        };
+        let cause = match self.live.cause_of(local, peer) {
+            Some(why) => Some(format!(in self.rt.alloc(); "{why}")?),
+            None => None,
+        };
+        let micros = self.live.clock().0.saturating_sub(count.since.0);
+        Ok(Some(PeerPast {
+            since: micros / 1_000,
+            count,
+            cause,
+        }))
     }
 
     /// The neighbours of the nodes of the process, by the links of the site.
@@ -331,7 +390,7 @@ impl<N: Node + Drop + Booked> View<'_, '_, N> {
                     entries: figures.entries.max(self.told.changed_entries),
                     limit: self.site.limit,
                     sessions: figures.sessions(),
-                    charges: figures.charges,
+                    served: served_of(&figures.served),
                 };
                 let fronts = self.fronts()?;
                 Ok(Work::Fronts {
@@ -353,11 +412,14 @@ impl<N: Node + Drop + Booked> Source for View<'_, '_, N> {
         Ok(Status {
             names: self.names()?,
             uptime: self.uptime,
+            began: self.began.0,
             memory: resident(self.rt),
             peers: self.peers()?,
             connections: connections_of(&self.live.serving),
+            unsent: unsent_in(&self.live.serving),
             work: self.work()?,
             tally: self.live.serving.tally(),
+            trend: self.live.trend(),
         })
     }
 

@@ -1,10 +1,12 @@
 //! What a serving process does beside serving: it says what it does, is asked to end and for jobs on its book, and tells when that gets
 //! full.
 
+ghost use Rattle.std.specs.Prelude.{◌≡◌, ◌/◌, min};
+
 use crate::Logger;
 use crate::changing::LastChange;
 use crate::fault::Fault;
-use crate::jobs::{BookJobs, told_of};
+use crate::jobs::{BookJobs, changed_entries, told_of};
 use crate::rising::Rising;
 use crate::setting::Setting;
 use crate::token::token_at;
@@ -53,9 +55,17 @@ pub enum Course {
 /// The hundredths of the book at which its filling is told.
 const FILLINGS: [u64; 3] = [80, 90, 95];
 
-/// How long requests that are under way may keep a process from its end, in milliseconds. Those that are not answered then
+/// How long requests that are under way may keep a process from its end at most, in milliseconds. Those that are not answered then
 /// are sent again by whoever has sent them.
 const GRACE: u64 = 1_000;
+
+/// How long they may, where the interval of the watchdog is this: no longer than half of it, since a neighbour of which nothing is read
+/// would take this process for dead.
+fn grace(interval: u32) -> u64
+    ensures { result ≡ min 1000 (interval / 2) }
+{
+    u64::from(interval / 2).min(GRACE)
+}
 
 /// The address of a status port: a number alone is a port of this machine.
 fn address_of(text: &str) -> Result<SocketAddr, Fault> {
@@ -143,7 +153,7 @@ impl Watching {
     }
 
     /// Answers who asks what the process does, and hands the jobs on that are asked for; what the process is to do: it ends if it is
-    /// asked to, and no request is under way, or it was asked [`GRACE`] ago.
+    /// asked to, and no request is under way, or it was asked so long ago that it waits no more ([`grace`]).
     pub fn look<N, L, S, O>(
         &mut self,
         setting: &Setting<'_, O>,
@@ -161,7 +171,7 @@ impl Watching {
         {
             tell_change(setting.log, jobs.last_change());
         }
-        self.tell(setting, live, told_of(jobs).changed_entries)?;
+        self.tell(setting, live, changed_entries(jobs))?;
         self.serve_port(setting, live, jobs)
     }
 
@@ -205,6 +215,7 @@ impl Watching {
             nodes: &self.nodes,
             live,
             uptime,
+            began: port.began(),
             told,
         };
         let wanted = port.look(&view, told.jobs);
@@ -216,7 +227,7 @@ impl Watching {
         };
         let open = open_in(&live.serving);
         self.tell_end(setting.log, open);
-        if millis >= GRACE || open == 0 {
+        if millis >= grace(setting.site.watchdog) || open == 0 {
             return Ok(Course::End);
         }
         Ok(Course::Drain)

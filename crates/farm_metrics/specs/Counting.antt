@@ -2,7 +2,7 @@
 use Rattle.std.specs.Prelude.{◌≡◌, ◌==◌, ◌+◌, ◌-◌, ◌∷◌, ◌++◌, ◌⊎◌, ◌*◌, ◌%◌, ◌^◌, ◌<◌, [], ℕ, Bool, List, Option, Some, None, map, min, sum_by, set, get_or, length, nat_le, replicate, if◌then◌else◌}
 use Rattle.std.specs.List.{position}
 use Rattle.dia_base.specs.declared.number.ConnId.{ConnId}
-use Rattle.dia_base.specs.declared.number.Moment.{Moment}
+use Rattle.farm_metrics.specs.declared.times.Micros.{Micros}
 use Rattle.farm_metrics.specs.declared.times.TimeRow.{TimeRow}
 use Rattle.farm_metrics.specs.declared.times.Times.{Times}
 use Rattle.farm_metrics.specs.declared.answers.Answers.{Answers}
@@ -19,23 +19,23 @@ most = 18446744073709551615
 abbrev pub plus : ℕ → ℕ → ℕ
 plus a b = min (a + b) most
 
--- ---- times, in milliseconds
+-- ---- times, in microseconds
 
 -- a time is counted where it is no longer than the bound
 abbrev pub row_after : ℕ → TimeRow → TimeRow
-row_after millis row = record { bound = row.bound; count = if nat_le millis row.bound then plus row.count 1 else row.count }
+row_after micros row = record { bound = row.bound; count = if nat_le micros row.bound then plus row.count 1 else row.count }
 
 abbrev pub rows_after : ℕ → List TimeRow → List TimeRow
-rows_after millis rows = map (row_after millis) rows
+rows_after micros rows = map (row_after micros) rows
 
 abbrev pub times_after : ℕ → Times → Times
-times_after millis times = record { rows = rows_after millis times.rows; count = plus times.count 1; sum = plus times.sum millis }
+times_after micros times = record { rows = rows_after micros times.rows; count = plus times.count 1; sum = plus times.sum micros }
 
 abbrev pub new_row : ℕ → TimeRow
 new_row bound = record { bound = bound; count = 0 }
 
 abbrev pub new_rows : List TimeRow
-new_rows = map new_row (1 ∷ 2 ∷ 5 ∷ 10 ∷ 20 ∷ 50 ∷ 100 ∷ 200 ∷ 500 ∷ 1000 ∷ 2000 ∷ 5000 ∷ [])
+new_rows = map new_row (50 ∷ 100 ∷ 250 ∷ 500 ∷ 1000 ∷ 2500 ∷ 5000 ∷ 10000 ∷ 25000 ∷ 50000 ∷ 100000 ∷ 250000 ∷ 500000 ∷ 1000000 ∷ 2500000 ∷ 5000000 ∷ [])
 
 -- ---- answers by Result-Code
 
@@ -79,21 +79,21 @@ abbrev pub clocked_at : Clocks → ConnId → ℕ → Option Clocked
 clocked_at clocks conn hop = get_or clocks.places.items (place_of_request clocks conn hop) None
 
 -- from now on a request is timed, in place of what stood at its place; without places nothing is
-abbrev pub IsBegun : Clocks → ConnId → ℕ → Moment → Clocks → Type 0
+abbrev pub IsBegun : Clocks → ConnId → ℕ → Micros → Clocks → Type 0
 IsBegun old conn hop since new =
     new.places.items ≡ set old.places.items (place_of_request old conn hop) (Some (record { conn = conn; hop = hop; since = since }))
 
--- this request stands at its place, since this moment
-abbrev pub IsTimedSince : Clocks → ConnId → ℕ → Moment → Type 0
+-- this request stands at its place, since the clock said this
+abbrev pub IsTimedSince : Clocks → ConnId → ℕ → Micros → Type 0
 IsTimedSince clocks conn hop since = clocked_at clocks conn hop ≡ Some (record { conn = conn; hop = hop; since = since })
 
--- it stands at its place, and so many milliseconds have passed since it came
-abbrev pub IsClocked : Clocks → ConnId → ℕ → Moment → ℕ → Type 0
-IsClocked clocks conn hop moment millis = (since : Moment) × IsTimedSince clocks conn hop since × (millis ≡ moment.0 - since.0)
+-- it stands at its place, and so many microseconds have passed since it came
+abbrev pub IsClocked : Clocks → ConnId → ℕ → Micros → ℕ → Type 0
+IsClocked clocks conn hop now micros = (since : Micros) × IsTimedSince clocks conn hop since × (micros ≡ now.0 - since.0)
 
 -- nothing stands at its place, or another request
 abbrev pub IsUntimed : Clocks → ConnId → ℕ → Type 0
-IsUntimed clocks conn hop = (since : Moment) → ¬ IsTimedSince clocks conn hop since
+IsUntimed clocks conn hop = (since : Micros) → ¬ IsTimedSince clocks conn hop since
 
 -- its place is free from now on, and each other place is as it was
 abbrev pub IsEnded : Clocks → ConnId → ℕ → Clocks → Type 0
@@ -117,9 +117,10 @@ pub record IsNothing (tally : Tally) : Type 0 where
   pub given_up : tally.given_up ≡ 0
   pub times : tally.times ≡ record { rows = new_rows; count = 0; sum = 0 }
   pub clocks : HasNoClocks tally.clocks
+  pub peers : tally.peers.counts.items ≡ []
 
 -- where its request was timed, the time of an answer is counted and its clock ends; where it was not, nothing changes
-abbrev pub IsTimed : Tally → ConnId → ℕ → Moment → Tally → Type 0
-IsTimed old conn hop moment new =
-    ((millis : ℕ) × IsClocked old.clocks conn hop moment millis × IsEnded old.clocks conn hop new.clocks × (new.times ≡ times_after millis old.times))
+abbrev pub IsTimed : Tally → ConnId → ℕ → Tally → Type 0
+IsTimed old conn hop new =
+    ((micros : ℕ) × IsClocked old.clocks conn hop old.clock micros × IsEnded old.clocks conn hop new.clocks × (new.times ≡ times_after micros old.times))
     ⊎ (IsUntimed old.clocks conn hop × (new.clocks ≡ old.clocks) × (new.times ≡ old.times))

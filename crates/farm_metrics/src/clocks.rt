@@ -3,7 +3,8 @@
 ghost use Rattle.std.specs.Prelude.{◌≡◌, ◌<◌, IfNone, IfSome, OnSome};
 ghost use Rattle.farm_metrics.specs.Counting.{HasNoClocks, IsBegun, IsClocked, IsEnded, IsUntimed, place_for};
 
-use dia_base::{ConnId, Moment};
+use crate::times::Micros;
+use dia_base::ConnId;
 use std::alloc::Global;
 
 /// How many requests are timed at once. A further one may take the place of another one, which is not timed then.
@@ -14,7 +15,7 @@ pub const CLOCK_LIMIT: usize = 4_096;
 pub struct Clocked {
     pub conn: ConnId,
     pub hop: u32,
-    pub since: Moment,
+    pub since: Micros,
 }
 
 /// Since when requests are waiting. Each has its place by its connection and its identifier, and nothing is ever looked for.
@@ -47,7 +48,7 @@ impl Clocks {
     }
 
     /// A request came.
-    pub fn begin(&mut self, conn: ConnId, hop: u32, since: Moment)
+    pub fn begin(&mut self, conn: ConnId, hop: u32, since: Micros)
         ensures { IsBegun self.old conn hop since self.new }
     {
         let count = self.places.len();
@@ -57,9 +58,9 @@ impl Clocks {
         }
     }
 
-    /// It is answered: how many milliseconds it took, if it was timed. It is not timed any more.
-    pub fn end(&mut self, conn: ConnId, hop: u32, moment: Moment) -> Option<u64>
-        ensures timed { IfSome result (IsClocked self.old conn hop moment) }
+    /// It is answered: how many microseconds it took, if it was timed. It is not timed any more.
+    pub fn end(&mut self, conn: ConnId, hop: u32, now: Micros) -> Option<u64>
+        ensures timed { IfSome result (IsClocked self.old conn hop now) }
         ensures ended { OnSome result (IsEnded self.old conn hop self.new) }
         ensures untimed { IfNone result ((IsUntimed self.old conn hop) × (self.new ≡ self.old)) }
         ensures once { IsUntimed self.new conn hop }
@@ -74,6 +75,6 @@ impl Clocks {
             return None;
         }
         self.places[place] = None;
-        Some(moment.0.saturating_sub(clocked.since.0))
+        Some(now.0.saturating_sub(clocked.since.0))
     }
 }

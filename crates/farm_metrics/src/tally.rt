@@ -2,11 +2,13 @@
 
 ghost use Rattle.std.specs.Prelude.{◌≡◌};
 ghost use Rattle.farm_metrics.specs.Counting.{IsBegun, IsCounted, IsNothing, IsTimed, IsUntimed, plus};
+ghost use Rattle.farm_metrics.specs.Neighbours.{IsCountedUp, changed, place_of, place_on, with_answer, with_loss, with_request};
 
 use crate::answers::Answers;
 use crate::clocks::Clocks;
-use crate::times::Times;
-use dia_base::{ConnId, Moment};
+use crate::peers::Peers;
+use crate::times::{Micros, Times};
+use dia_base::{ConnId, NodeNo};
 use std::alloc::Global;
 
 /// What a node counts while it serves.
@@ -24,7 +26,11 @@ pub struct Tally {
     pub given_up: u64,
     /// From when a request came until its answer was handed to its connection.
     pub times: Times,
+    /// What was counted of each neighbour.
+    pub peers: Peers,
     clocks: Clocks,
+    /// What the clock said last.
+    clock: Micros,
 }
 
 impl Tally {
@@ -39,17 +45,51 @@ impl Tally {
             failovers: 0,
             given_up: 0,
             times: Times::none(),
+            peers: Peers::none(alloc),
             clocks: Clocks::none(alloc),
+            clock: Micros(0),
         }
     }
 
+    /// The clock says this: what is counted from now on happens then.
+    pub fn set_clock(&mut self, now: Micros)
+        ensures { self.new ≡ record self.old { clock = now } }
+    {
+        self.clock = now;
+    }
+
+    /// A neighbour of a node here is up on a connection.
+    pub fn peer_up(&mut self, conn: ConnId, local: NodeNo, peer: NodeNo)
+        ensures counted { IsCountedUp local peer self.old.clock (place_of local peer self.old.peers.counts.items) self.old.peers.counts.items self.new.peers.counts.items }
+        ensures others { self.new ≡ record self.old { peers = self.new.peers } }
+    {
+        self.peers.up(conn, local, peer, self.clock);
+    }
+
+    /// The neighbour that was up on a connection is lost, since it was silent or not.
+    pub fn peer_lost(&mut self, conn: ConnId, is_silent: bool)
+        ensures counted { self.new.peers.counts.items ≡ changed (with_loss is_silent self.old.clock) (place_on self.old.peers conn) self.old.peers.counts.items }
+        ensures others { self.new ≡ record self.old { peers = self.new.peers } }
+    {
+        self.peers.lost(conn, is_silent, self.clock);
+    }
+
+    /// What the clock said last.
+    pub fn clock(&self) -> Micros
+        ensures { result ≡ self.now.clock }
+    {
+        self.clock
+    }
+
     /// A request came on a connection, under this Hop-by-Hop Identifier.
-    pub fn request_came(&mut self, conn: ConnId, hop: u32, moment: Moment)
-        ensures counted { self.new ≡ record self.old { requests = plus self.old.requests 1; clocks = self.new.clocks } }
-        ensures timed { IsBegun self.old.clocks conn hop moment self.new.clocks }
+    pub fn request_came(&mut self, conn: ConnId, hop: u32)
+        ensures counted { self.new ≡ record self.old { requests = plus self.old.requests 1; clocks = self.new.clocks; peers = self.new.peers } }
+        ensures by_peer { self.new.peers.counts.items ≡ changed with_request (place_on self.old.peers conn) self.old.peers.counts.items }
+        ensures timed { IsBegun self.old.clocks conn hop self.old.clock self.new.clocks }
     {
         self.requests = self.requests.saturating_add(1);
-        self.clocks.begin(conn, hop, moment);
+        self.peers.request_came(conn);
+        self.clocks.begin(conn, hop, self.clock);
     }
 
     /// The node has sent a request.
@@ -60,15 +100,17 @@ impl Tally {
     }
 
     /// The node has sent an answer on a connection, under this Hop-by-Hop Identifier and with this Result-Code.
-    pub fn answer_sent(&mut self, conn: ConnId, hop: u32, code: u32, moment: Moment)
+    pub fn answer_sent(&mut self, conn: ConnId, hop: u32, code: u32)
         ensures counted { IsCounted code self.old.answers self.new.answers }
-        ensures timed { IsTimed self.old conn hop moment self.new }
+        ensures timed { IsTimed self.old conn hop self.new }
         ensures once { IsUntimed self.new.clocks conn hop }
-        ensures others { self.new ≡ record self.old { answers = self.new.answers; times = self.new.times; clocks = self.new.clocks } }
+        ensures others { self.new ≡ record self.old { answers = self.new.answers; times = self.new.times; clocks = self.new.clocks; peers = self.new.peers } }
+        ensures by_peer { self.new.peers.counts.items ≡ changed (with_answer code) (place_on self.old.peers conn) self.old.peers.counts.items }
     {
         self.answers.add(code);
-        if let Some(millis) = self.clocks.end(conn, hop, moment) {
-            self.times.add(millis);
+        self.peers.answer_sent(conn, code);
+        if let Some(micros) = self.clocks.end(conn, hop, self.clock) {
+            self.times.add(micros);
         }
     }
 

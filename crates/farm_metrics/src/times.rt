@@ -3,7 +3,11 @@
 ghost use Rattle.std.specs.Prelude.{◌≡◌, ◌+◌, map};
 ghost use Rattle.farm_metrics.specs.Counting.{new_rows, plus, row_after, rows_after, times_after};
 
-/// How many times were no longer than a bound, in milliseconds.
+/// A reading of a clock of microseconds that never goes back. Where it begins is of no account.
+#[derive(Clone, Copy, PartialEq, Eq)]
+pub struct Micros(pub u64);
+
+/// How many times were no longer than a bound, in microseconds.
 #[derive(Clone, Copy, PartialEq, Eq)]
 pub struct TimeRow {
     pub bound: u64,
@@ -11,11 +15,11 @@ pub struct TimeRow {
 }
 
 impl TimeRow {
-    /// A time of so many milliseconds.
-    pub fn add(&mut self, millis: u64)
-        ensures { self.new ≡ row_after millis self.old }
+    /// A time of so many microseconds.
+    pub fn add(&mut self, micros: u64)
+        ensures { self.new ≡ row_after micros self.old }
     {
-        if millis <= self.bound {
+        if micros <= self.bound {
             self.count = self.count.saturating_add(1);
         }
     }
@@ -25,11 +29,11 @@ impl TimeRow {
 /// of a single one.
 #[derive(Clone, Copy, PartialEq, Eq)]
 pub struct Times {
-    /// A row for each bound, from 1 to 5,000 milliseconds: a time is counted in the first row that it is within, and in each
+    /// A row for each bound, from 50 microseconds to 5 seconds: a time is counted in the first row that it is within, and in each
     /// further one.
-    pub rows: [TimeRow; 12],
+    pub rows: [TimeRow; 16],
     pub count: u64,
-    /// In milliseconds.
+    /// In microseconds.
     pub sum: u64,
 }
 
@@ -41,11 +45,11 @@ fn row(bound: u64) -> TimeRow
 }
 
 /// Counts a time in each row that it is within.
-fn count_in(rows: &mut [TimeRow], millis: u64)
-    ensures { rows.new ≡ rows_after millis rows.old }
+fn count_in(rows: &mut [TimeRow], micros: u64)
+    ensures { rows.new ≡ rows_after micros rows.old }
 {
     for row in rows.iter_mut() {
-        row.add(millis);
+        row.add(micros);
     }
 }
 
@@ -57,30 +61,34 @@ impl Times {
     {
         Times {
             rows: [
-                row(1),
-                row(2),
-                row(5),
-                row(10),
-                row(20),
                 row(50),
                 row(100),
-                row(200),
+                row(250),
                 row(500),
                 row(1_000),
-                row(2_000),
+                row(2_500),
                 row(5_000),
+                row(10_000),
+                row(25_000),
+                row(50_000),
+                row(100_000),
+                row(250_000),
+                row(500_000),
+                row(1_000_000),
+                row(2_500_000),
+                row(5_000_000),
             ],
             count: 0,
             sum: 0,
         }
     }
 
-    /// A request took so many milliseconds.
-    pub fn add(&mut self, millis: u64)
-        ensures { self.new ≡ times_after millis self.old }
+    /// A request took so many microseconds.
+    pub fn add(&mut self, micros: u64)
+        ensures { self.new ≡ times_after micros self.old }
     {
-        count_in(&mut self.rows, millis);
+        count_in(&mut self.rows, micros);
         self.count = self.count.saturating_add(1);
-        self.sum = self.sum.saturating_add(millis);
+        self.sum = self.sum.saturating_add(micros);
     }
 }

@@ -3,3 +3,5 @@ pub mod Figures
 pub mod Health
 pub mod Replies
 pub mod Tokens
+pub mod Neighbours
+pub mod Lately

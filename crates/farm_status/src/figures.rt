@@ -51,7 +51,7 @@ pub(crate) fn refusals(answers: &Answers, kind: Refusal) -> u64
     sum
 }
 
-/// The mean of all times, in milliseconds.
+/// The mean of all times, in microseconds.
 pub(crate) fn mean(times: &Times) -> u64
     ensures { result ≡ mean times.now }
 {
@@ -68,7 +68,7 @@ fn has_at_least(row: &TimeRow, thousandths: u64, count: u64) -> bool
     u128::from(row.count) * 1_000 >= u128::from(count) * u128::from(thousandths)
 }
 
-/// The least bound, in milliseconds, that so many thousandths of the times are within; none where they are not within any.
+/// The least bound, in microseconds, that so many thousandths of the times are within; none where they are not within any.
 pub(crate) fn within(times: &Times, thousandths: u64) -> Option<u64>
     ensures { result ≡ within thousandths times.now }
 {

@@ -6,8 +6,9 @@ ghost use Rattle.farm_status.specs.Escapes.{label_of};
 
 use crate::escape::push_label;
 use crate::health::health_of;
-use crate::numbers::Seconds;
-use crate::status::{BookStatus, FrontStatus, Peer, PeerState, Status, Work};
+use crate::lately::lately;
+use crate::numbers::{FineSeconds, Seconds};
+use crate::status::{BookStatus, FrontStatus, Peer, PeerPast, PeerState, Status, Work};
 use farm_metrics::{Answers, Tally};
 use std::alloc::AllocError;
 
@@ -36,6 +37,14 @@ fn push_optional(out: &mut String, number: Option<u64>) -> Result<(), AllocError
     }
 }
 
+/// A text, or null where there is none.
+fn push_optional_text(out: &mut String, text: Option<&String>) -> Result<(), AllocError> {
+    match text {
+        Some(text) => push_text(out, text),
+        None => out.push_str("null"),
+    }
+}
+
 fn push_names(out: &mut String, names: &[String]) -> Result<(), AllocError> {
     out.push_str("\"nodes\":[")?;
     for (place, name) in names.iter().enumerate() {
@@ -50,9 +59,10 @@ fn push_process(out: &mut String, status: &Status<'_>) -> Result<(), AllocError>
         health_of(&status.peers, &status.work),
         Seconds(status.uptime),
     );
+    let began = Seconds(status.began);
     write!(
         out,
-        ",\"health\":\"{health}\",\"uptime_seconds\":{uptime},\"memory_bytes\":"
+        ",\"health\":\"{health}\",\"uptime_seconds\":{uptime},\"start_time_seconds\":{began},\"memory_bytes\":"
     )?;
     push_optional(out, status.memory)
 }
@@ -76,7 +86,28 @@ fn push_peer(out: &mut String, peer: &Peer) -> Result<(), AllocError> {
         ",\"state\":\"{state}\",\"takes_requests\":{takes},\"connection\":"
     )?;
     push_optional(out, peer.conn)?;
+    out.push_str(",\"address\":")?;
+    push_optional_text(out, peer.address.as_ref())?;
+    if let Some(past) = &peer.past {
+        push_past(out, past)?;
+    }
     out.push_str("}")
+}
+
+/// What became of a neighbour.
+fn push_past(out: &mut String, past: &PeerPast) -> Result<(), AllocError> {
+    let (since, count) = (Seconds(past.since), past.count);
+    let (losses, silences) = (count.losses, count.silences);
+    write!(
+        out,
+        ",\"state_seconds\":{since},\"losses\":{losses},\"silences\":{silences}"
+    )?;
+    let (requests, answers, refusals) = (count.requests, count.answers, count.refusals);
+    write!(
+        out,
+        ",\"requests\":{requests},\"answers\":{answers},\"refusals\":{refusals},\"cause\":"
+    )?;
+    push_optional_text(out, past.cause.as_ref())
 }
 
 fn push_peers(out: &mut String, peers: &[Peer]) -> Result<(), AllocError> {
@@ -91,9 +122,10 @@ fn push_peers(out: &mut String, peers: &[Peer]) -> Result<(), AllocError> {
 fn push_connections(out: &mut String, status: &Status<'_>) -> Result<(), AllocError> {
     let connections = status.connections;
     let (up, unknown, ending) = (connections.up, connections.unknown, connections.ending);
+    let unsent = status.unsent;
     write!(
         out,
-        ",\"connections\":{{\"up\":{up},\"unknown\":{unknown},\"ending\":{ending}}}"
+        ",\"connections\":{{\"up\":{up},\"unknown\":{unknown},\"ending\":{ending}}},\"unsent_bytes\":{unsent}"
     )
 }
 
@@ -112,10 +144,22 @@ fn push_traffic(out: &mut String, tally: &Tally) -> Result<(), AllocError> {
     let (failovers, given_up) = (tally.failovers, tally.given_up);
     write!(out, ",\"failovers\":{failovers},\"given_up\":{given_up}")?;
     push_answers(out, &tally.answers)?;
-    let (count, sum) = (tally.times.count, Seconds(tally.times.sum));
+    let (count, sum) = (tally.times.count, FineSeconds(tally.times.sum));
     write!(
         out,
         ",\"request_seconds\":{{\"count\":{count},\"sum\":{sum}}}"
+    )
+}
+
+/// The rates of the last minute, where they are known.
+fn push_rates(out: &mut String, status: &Status<'_>) -> Result<(), AllocError> {
+    let Some(rates) = lately(status.trend.samples()) else {
+        return Ok(());
+    };
+    let (requests, answers) = (rates.requests, rates.answers);
+    write!(
+        out,
+        ",\"requests_per_second\":{requests},\"answers_per_second\":{answers}"
     )
 }
 
@@ -141,8 +185,17 @@ fn push_fronts(out: &mut String, fronts: &[FrontStatus]) -> Result<(), AllocErro
 fn push_book(out: &mut String, book: BookStatus) -> Result<(), AllocError> {
     let (entries, limit) = (book.entries, book.limit);
     write!(out, "{{\"entries\":{entries},\"limit\":{limit}")?;
-    let (sessions, charges) = (book.sessions, book.charges);
-    write!(out, ",\"open_sessions\":{sessions},\"charges\":{charges}}}")
+    let (sessions, served) = (book.sessions, book.served);
+    let (charges, enquiries) = (served.charges, served.enquiries);
+    write!(
+        out,
+        ",\"open_sessions\":{sessions},\"charges\":{charges},\"enquiries\":{enquiries}"
+    )?;
+    let (credit, refusals, repeats) = (served.credit_refusals, served.refusals, served.repeats);
+    write!(
+        out,
+        ",\"credit_refusals\":{credit},\"refusals\":{refusals},\"repeats\":{repeats}}}"
+    )
 }
 
 fn push_work(out: &mut String, work: &Work) -> Result<(), AllocError> {
@@ -173,6 +226,7 @@ pub fn push_json(out: &mut String, status: &Status<'_>) -> Result<(), AllocError
     push_peers(out, &status.peers)?;
     push_connections(out, status)?;
     push_traffic(out, status.tally)?;
+    push_rates(out, status)?;
     push_work(out, &status.work)?;
     out.push_str("}\n")
 }

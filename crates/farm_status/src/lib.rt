@@ -17,10 +17,12 @@ mod escape;
 mod figures;
 mod health;
 mod json;
+mod lately;
 mod metrics;
 mod names;
 mod numbers;
 mod page;
+mod peers;
 mod reply;
 mod status;
 mod tiles;
@@ -34,5 +36,7 @@ pub use metrics::push_metrics;
 pub use names::code_name;
 pub use page::push_page;
 pub use reply::{Job, Jobs, Reply, reply_to};
-pub use status::{BookStatus, Connections, FrontStatus, Peer, PeerState, Status, Work};
+pub use status::{
+    BookStatus, Connections, FrontStatus, Peer, PeerPast, PeerState, ServedCount, Status, Work,
+};
 pub use token::{TOKEN_LEAST, TOKEN_MOST, Token, TokenFault};

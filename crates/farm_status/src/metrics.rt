@@ -4,14 +4,15 @@ ghost use Rattle.std.specs.Prelude.{◌≡◌, ◌++◌, OnOk, string_bytes};
 ghost use Rattle.farm_status.specs.Figures.{sample_text};
 
 use crate::escape::push_label;
-use crate::numbers::{Bound, Seconds};
-use crate::status::{BookStatus, FrontStatus, Peer, PeerState, Status, Work};
+use crate::numbers::{Bound, FineSeconds, Seconds};
+use crate::peers::push_peers;
+use crate::status::{BookStatus, FrontStatus, ServedCount, Status, Work};
 use farm_metrics::{Answers, Times};
 use std::alloc::AllocError;
 
 /// What kind of number a metric is.
 #[derive(Clone, Copy)]
-enum Kind {
+pub(crate) enum Kind {
     Counter,
     Gauge,
     Histogram,
@@ -28,7 +29,7 @@ impl Kind {
 }
 
 /// The two lines above the samples of a metric.
-fn head(out: &mut String, name: &str, kind: Kind, help: &str) -> Result<(), AllocError> {
+pub(crate) fn head(out: &mut String, name: &str, kind: Kind, help: &str) -> Result<(), AllocError> {
     let kind = kind.word();
     write!(out, "# HELP {name} {help}\n# TYPE {name} {kind}\n")
 }
@@ -66,6 +67,11 @@ fn push_process(out: &mut String, status: &Status<'_>) -> Result<(), AllocError>
     head(out, name, Kind::Gauge, "How long the process has served.")?;
     let uptime = Seconds(status.uptime);
     write!(out, "{name} {uptime}\n")?;
+    let name = "farm_start_time_seconds";
+    let help = "When the process began, in seconds since 1970.";
+    head(out, name, Kind::Gauge, help)?;
+    let began = Seconds(status.began);
+    write!(out, "{name} {began}\n")?;
     if let Some(memory) = status.memory {
         let help = "Octets of the process that are in memory.";
         single(out, "farm_resident_memory_bytes", Kind::Gauge, help, memory)?;
@@ -78,33 +84,16 @@ fn push_process(out: &mut String, status: &Status<'_>) -> Result<(), AllocError>
     Ok(())
 }
 
-/// Whether the connection with a neighbour is up.
-fn push_peer(out: &mut String, name: &str, peer: &Peer) -> Result<(), AllocError> {
-    write!(out, "{name}{{node=\"")?;
-    push_label(out, &peer.local)?;
-    write!(out, "\",peer=\"")?;
-    push_label(out, &peer.name)?;
-    let value = match peer.state {
-        PeerState::Up => 1,
-        PeerState::Connecting | PeerState::Down => 0,
-    };
-    write!(out, "\"}} {value}\n")
-}
-
-/// The neighbours, and the connections by their state.
+/// The connections by their state, and what waits to be written on them.
 fn push_connections(out: &mut String, status: &Status<'_>) -> Result<(), AllocError> {
-    let name = "farm_peer_up";
-    let help = "Whether a node of the process is connected with its neighbour.";
-    head(out, name, Kind::Gauge, help)?;
-    for peer in &status.peers {
-        push_peer(out, name, peer)?;
-    }
     let name = "farm_connections";
     head(out, name, Kind::Gauge, "Connections by their state.")?;
     let connections = status.connections;
     labelled(out, name, "state", "up", connections.up)?;
     labelled(out, name, "state", "unknown", connections.unknown)?;
-    labelled(out, name, "state", "ending", connections.ending)
+    labelled(out, name, "state", "ending", connections.ending)?;
+    let help = "Octets that wait to be written.";
+    single(out, "farm_unsent_bytes", Kind::Gauge, help, status.unsent)
 }
 
 /// Answers by their Result-Code.
@@ -161,7 +150,7 @@ fn push_times(out: &mut String, times: &Times) -> Result<(), AllocError> {
         let bound = Bound(row.bound);
         write!(out, "{name}_bucket{{le=\"{bound}\"}} {}\n", row.count)?;
     }
-    let (count, sum) = (times.count, Seconds(times.sum));
+    let (count, sum) = (times.count, FineSeconds(times.sum));
     write!(out, "{name}_bucket{{le=\"+Inf\"}} {count}\n")?;
     write!(out, "{name}_sum {sum}\n{name}_count {count}\n")
 }
@@ -201,8 +190,25 @@ fn push_book(out: &mut String, book: &BookStatus) -> Result<(), AllocError> {
     single(out, "farm_book_limit", Kind::Gauge, help, book.limit)?;
     let help = "Sessions that are open.";
     single(out, "farm_sessions_open", Kind::Gauge, help, book.sessions)?;
-    let help = "Requests that the book has taken, each once.";
-    single(out, "farm_charges_total", Kind::Counter, help, book.charges)
+    push_served(out, &book.served)
+}
+
+/// Requests by what they came to.
+fn push_served(out: &mut String, served: &ServedCount) -> Result<(), AllocError> {
+    let (name, help) = ("farm_charges_total", "Requests that were charged.");
+    single(out, name, Kind::Counter, help, served.charges)?;
+    let name = "farm_enquiries_total";
+    let help = "Requests that asked for a price or a balance, and were told.";
+    single(out, name, Kind::Counter, help, served.enquiries)?;
+    let name = "farm_credit_refusals_total";
+    let help = "Requests that were refused for want of credit.";
+    single(out, name, Kind::Counter, help, served.credit_refusals)?;
+    let name = "farm_charge_refusals_total";
+    let help = "Requests that the book has refused for another reason.";
+    single(out, name, Kind::Counter, help, served.refusals)?;
+    let name = "farm_repeats_total";
+    let help = "Requests that were sent again, and were answered as before.";
+    single(out, name, Kind::Counter, help, served.repeats)
 }
 
 /// What the process does.
@@ -240,6 +246,7 @@ fn push_work(out: &mut String, work: &Work) -> Result<(), AllocError> {
 /// Puts what a node says of itself behind a text, as Prometheus reads it.
 pub fn push_metrics(out: &mut String, status: &Status<'_>) -> Result<(), AllocError> {
     push_process(out, status)?;
+    push_peers(out, &status.peers)?;
     push_connections(out, status)?;
     push_traffic(out, status)?;
     push_times(out, &status.tally.times)?;

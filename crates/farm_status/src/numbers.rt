@@ -45,13 +45,23 @@ impl fmt::Display for Seconds {
     }
 }
 
-/// Milliseconds as seconds, without zeros at the end: how Prometheus spells a bound.
+/// Microseconds as seconds.
 #[derive(Clone, Copy)]
-pub struct Bound(pub u64);
+pub struct FineSeconds(pub u64);
 
-impl fmt::Display for Bound {
+impl fmt::Display for FineSeconds {
     fn fmt<W: fmt::Write>(&self, f: &mut fmt::Formatter<W>) -> fmt::Result {
-        let (whole, rest) = (self.0 / 1_000, self.0 % 1_000);
+        write!(f, "{}.{:06}", self.0 / 1_000_000, self.0 % 1_000_000)
+    }
+}
+
+/// Microseconds as milliseconds, without zeros at the end.
+#[derive(Clone, Copy)]
+pub struct Millis(pub u64);
+
+impl fmt::Display for Millis {
+    fn fmt<W: fmt::Write>(&self, f: &mut fmt::Formatter<W>) -> fmt::Result {
+        let (whole, rest) = (Grouped(self.0 / 1_000), self.0 % 1_000);
         if rest == 0 {
             write!(f, "{whole}")
         } else if rest % 100 == 0 {
@@ -60,6 +70,32 @@ impl fmt::Display for Bound {
             write!(f, "{whole}.{:02}", rest / 10)
         } else {
             write!(f, "{whole}.{rest:03}")
+        }
+    }
+}
+
+/// Microseconds, ten or more and in whole tens, as seconds without zeros at the end: how Prometheus spells a bound, of which one below
+/// 100 microseconds has an exponent.
+#[derive(Clone, Copy)]
+pub struct Bound(pub u64);
+
+impl fmt::Display for Bound {
+    fn fmt<W: fmt::Write>(&self, f: &mut fmt::Formatter<W>) -> fmt::Result {
+        let (whole, rest) = (self.0 / 1_000_000, self.0 % 1_000_000);
+        if self.0 < 100 {
+            write!(f, "{}e-05", self.0 / 10)
+        } else if rest == 0 {
+            write!(f, "{whole}")
+        } else if rest % 100_000 == 0 {
+            write!(f, "{whole}.{}", rest / 100_000)
+        } else if rest % 10_000 == 0 {
+            write!(f, "{whole}.{:02}", rest / 10_000)
+        } else if rest % 1_000 == 0 {
+            write!(f, "{whole}.{:03}", rest / 1_000)
+        } else if rest % 100 == 0 {
+            write!(f, "{whole}.{:04}", rest / 100)
+        } else {
+            write!(f, "{whole}.{:05}", rest / 10)
         }
     }
 }

@@ -7,9 +7,10 @@ ghost use Rattle.farm_status.specs.Health.{what_cannot_be};
 use crate::escape::push_html;
 use crate::figures::{peers_up, within};
 use crate::health::{Health, health_of};
+use crate::lately::push_lately;
 use crate::names::code_name;
-use crate::numbers::{Grouped, Seconds, Size, Span, percent};
-use crate::status::{BookStatus, FrontStatus, Peer, PeerState, Status, Work};
+use crate::numbers::{Grouped, Millis, Size, Span, percent};
+use crate::status::{BookStatus, FrontStatus, Peer, PeerPast, PeerState, Status, Work};
 use crate::tiles::push_tiles;
 use farm_metrics::{Answers, Times};
 use std::alloc::AllocError;
@@ -42,6 +43,10 @@ th{color:#57606a;font-weight:600}
 .down{color:#cf222e}
 .away{color:#57606a}
 .banner{padding:.6rem 1rem;border:1px solid #cf222e;border-radius:.5rem;background:#ffebe9;color:#82071e;font-weight:600}
+.line{width:100%;height:5rem;background:#fff;border:1px solid #d8dee4}
+.line polyline{fill:none;stroke:#0969da;stroke-width:1.5}
+.wide{overflow-x:auto}
+.wide table{min-width:44rem}
 .bar{width:35%}
 .bar i{display:block;height:.8rem;min-width:1px;border-radius:.2rem;background:#0969da}
 .bar i.full{background:#cf222e}
@@ -121,7 +126,7 @@ fn push_banner(out: &mut String, status: &Status<'_>) -> Result<(), AllocError> 
 /// The neighbours.
 fn push_peers(out: &mut String, status: &Status<'_>) -> Result<(), AllocError> {
     out.push_str(
-        "<h2>Neighbours</h2>\n<table>\n<tr><th>Node</th><th>Neighbour</th><th>State</th><th class=\"n\">Connection</th></tr>\n",
+        "<h2>Neighbours</h2>\n<div class=\"wide\"><table>\n<tr><th>Node</th><th>Neighbour</th><th>State</th><th class=\"n\">Requests</th><th class=\"n\">Refused</th><th class=\"n\">Lost</th><th>Lost last by</th></tr>\n",
     )?;
     for peer in &status.peers {
         push_peer(out, peer)?;
@@ -129,7 +134,7 @@ fn push_peers(out: &mut String, status: &Status<'_>) -> Result<(), AllocError> {
     let (unknown, ending) = (status.connections.unknown, status.connections.ending);
     write!(
         out,
-        "</table>\n<p>Connections of which nobody has said whose they are: {unknown}. Connections that are ending: {ending}.</p>\n"
+        "</table></div>\n<p>Connections of which nobody has said whose they are: {unknown}. Connections that are ending: {ending}.</p>\n"
     )
 }
 
@@ -161,12 +166,33 @@ fn push_peer(out: &mut String, peer: &Peer) -> Result<(), AllocError> {
     out.push_str("</td><td>")?;
     push_html(out, &peer.name)?;
     let (class, state) = (state_class(peer), state_word(peer.state));
+    if let Some(address) = &peer.address {
+        out.push_str("<br>")?;
+        push_html(out, address)?;
+    }
+    write!(out, "</td><td class=\"s {class}\">{state}")?;
+    match &peer.past {
+        Some(past) => push_past(out, past),
+        None => out.push_str(
+            "</td><td class=\"n\"></td><td class=\"n\"></td><td class=\"n\"></td><td></td></tr>\n",
+        ),
+    }
+}
+
+/// What became of a neighbour, from its state on.
+fn push_past(out: &mut String, past: &PeerPast) -> Result<(), AllocError> {
+    let since = Span(past.since);
+    let (requests, refusals, losses) = (
+        Grouped(past.count.requests),
+        Grouped(past.count.refusals),
+        Grouped(past.count.losses),
+    );
     write!(
         out,
-        "</td><td class=\"s {class}\">{state}</td><td class=\"n\">"
+        "<br>for {since}</td><td class=\"n\">{requests}</td><td class=\"n\">{refusals}</td><td class=\"n\">{losses}</td><td>"
     )?;
-    if let Some(conn) = peer.conn {
-        write!(out, "{conn}")?;
+    if let Some(cause) = &past.cause {
+        push_html(out, cause)?;
     }
     out.push_str("</td></tr>\n")
 }
@@ -207,11 +233,11 @@ fn push_percentile(
 ) -> Result<(), AllocError> {
     match within(times, thousandths) {
         Some(bound) => {
-            let bound = Grouped(bound);
+            let bound = Millis(bound);
             write!(out, "{name}: at most {bound} ms. ")
         }
         None => {
-            let greatest = Grouped(times.rows[times.rows.len() - 1].bound);
+            let greatest = Millis(times.rows[times.rows.len() - 1].bound);
             write!(out, "{name}: above {greatest} ms. ")
         }
     }
@@ -232,16 +258,16 @@ fn push_percentiles(out: &mut String, times: &Times) -> Result<(), AllocError> {
 /// How long requests took, each row without those before it.
 fn push_times(out: &mut String, times: &Times) -> Result<(), AllocError> {
     out.push_str(
-        "<h2>Time of a request</h2>\n<table>\n<tr><th>Seconds</th><th class=\"n\">Requests</th><th class=\"n\">Share</th><th></th></tr>\n",
+        "<h2>Time of a request</h2>\n<table>\n<tr><th>Milliseconds</th><th class=\"n\">Requests</th><th class=\"n\">Share</th><th></th></tr>\n",
     )?;
     let (mut before, mut least) = (0, 0);
     for row in times.rows {
-        let (from, to) = (Seconds(least), Seconds(row.bound));
+        let (from, to) = (Millis(least), Millis(row.bound));
         write!(out, "<tr><td>{from} to {to}</td>")?;
         push_bar(out, row.count.saturating_sub(before), times.count)?;
         (before, least) = (row.count, row.bound);
     }
-    let from = Seconds(least);
+    let from = Millis(least);
     write!(out, "<tr><td>more than {from}</td>")?;
     push_bar(out, times.count.saturating_sub(before), times.count)?;
     out.push_str("</table>\n")?;
@@ -278,14 +304,33 @@ fn push_book(out: &mut String, book: &BookStatus) -> Result<(), AllocError> {
         Grouped(book.limit),
         Grouped(book.limit.saturating_sub(book.entries)),
     );
-    let (sessions, charges) = (Grouped(book.sessions), Grouped(book.charges));
+    let sessions = Grouped(book.sessions);
     write!(
         out,
         "<h2>Book</h2>\n<table>\n<tr><th>Entries</th><td class=\"n\">{entries} of {limit}, {left} left</td><td class=\"n\">{share} %</td><td class=\"bar\"><i class=\"{class}\" style=\"width:{share}%\"></i></td></tr>\n"
     )?;
     write!(
         out,
-        "<tr><th>Charges</th><td class=\"n\">{charges}</td><td></td><td></td></tr>\n<tr><th>Open sessions</th><td class=\"n\">{sessions}</td><td></td><td></td></tr>\n</table>\n"
+        "<tr><th>Open sessions</th><td class=\"n\">{sessions}</td><td></td><td></td></tr>\n"
+    )?;
+    for (name, count) in [
+        ("Charges", book.served.charges),
+        ("Enquiries", book.served.enquiries),
+        ("Refused for want of credit", book.served.credit_refusals),
+        ("Refused otherwise", book.served.refusals),
+        ("Repeats", book.served.repeats),
+    ] {
+        push_row(out, name, count)?;
+    }
+    out.push_str("</table>\n")
+}
+
+/// A row of the book's table.
+fn push_row(out: &mut String, name: &str, count: u64) -> Result<(), AllocError> {
+    let count = Grouped(count);
+    write!(
+        out,
+        "<tr><th>{name}</th><td class=\"n\">{count}</td><td></td><td></td></tr>\n"
     )
 }
 
@@ -318,6 +363,7 @@ pub fn push_page(out: &mut String, status: &Status<'_>) -> Result<(), AllocError
     push_head(out, status)?;
     push_banner(out, status)?;
     push_tiles(out, status)?;
+    push_lately(out, status.trend.samples())?;
     push_peers(out, status)?;
     push_work(out, &status.work)?;
     push_answers(out, &status.tally.answers)?;

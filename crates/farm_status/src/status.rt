@@ -1,6 +1,6 @@
 //! What a node says of itself.
 
-use farm_metrics::Tally;
+use farm_metrics::{PeerCount, Tally, Trend};
 
 /// Where the connection with a neighbour stands.
 #[derive(Clone, Copy, PartialEq, Eq)]
@@ -24,6 +24,20 @@ pub struct Peer {
     pub takes_requests: bool,
     /// The number of the connection that is up.
     pub conn: Option<u64>,
+    /// Where it listens by the site file, if it does.
+    pub address: Option<String>,
+    /// What became of it since it came up first, if it ever was.
+    pub past: Option<PeerPast>,
+}
+
+/// What became of a neighbour since it came up first.
+#[derive(Drop)]
+pub struct PeerPast {
+    /// For how many milliseconds it is up, or lost.
+    pub since: u64,
+    pub count: PeerCount,
+    /// Why it was lost last, if it was.
+    pub cause: Option<String>,
 }
 
 /// The connections of the process by their state.
@@ -57,8 +71,22 @@ pub struct BookStatus {
     pub limit: u64,
     /// Sessions that are open.
     pub sessions: u64,
-    /// Requests that it has taken, each once, however often it came.
+    pub served: ServedCount,
+}
+
+/// Requests that workers have answered by the book since the process began, by what they came to. Each is counted once.
+#[derive(Clone, Copy, PartialEq, Eq)]
+pub struct ServedCount {
+    /// It was charged: DIAMETER_SUCCESS, and more than a price or a balance was asked for.
     pub charges: u64,
+    /// A price or a balance was asked for, and told.
+    pub enquiries: u64,
+    /// Refused for want of credit.
+    pub credit_refusals: u64,
+    /// Refused for another reason.
+    pub refusals: u64,
+    /// It was sent again, and answered as before.
+    pub repeats: u64,
 }
 
 /// What the process does.
@@ -84,13 +112,18 @@ pub struct Status<'a> {
     pub names: Vec<String>,
     /// How many milliseconds it has served.
     pub uptime: u64,
+    /// When it began, in milliseconds since 1970.
+    pub began: u64,
     /// Octets of the process that are in memory, where the system tells.
     pub memory: Option<u64>,
     pub peers: Vec<Peer>,
     pub connections: Connections,
+    /// Octets that wait to be written.
+    pub unsent: u64,
     pub work: Work,
-    /// What it has counted.
+    /// What it has counted, and what it had during the last quarter of an hour.
     pub tally: &'a Tally,
+    pub trend: &'a Trend,
 }
 
 // By hand, so that each exit of an owner is proved with one call.
@@ -99,11 +132,14 @@ impl<'a> Drop for Status<'a> {
         let Status {
             names: _,
             uptime: _,
+            began: _,
             memory: _,
             peers: _,
             connections: _,
+            unsent: _,
             work: _,
             tally: _,
+            trend: _,
         } = self;
     }
 }

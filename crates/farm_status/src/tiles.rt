@@ -1,7 +1,8 @@
 //! What is to be seen of a node at one look: numbers that stand large on the page.
 
 use crate::figures::{Refusal, mean, peers_up, refusals};
-use crate::numbers::Grouped;
+use crate::lately::lately;
+use crate::numbers::{Grouped, Millis};
 use crate::status::{Status, Work};
 use std::alloc::AllocError;
 
@@ -31,6 +32,15 @@ fn tile_of(
     )
 }
 
+/// A time that is seen at once, in microseconds, and what it is of.
+fn tile_of_time(out: &mut String, micros: u64, what: &str) -> Result<(), AllocError> {
+    let millis = Millis(micros);
+    write!(
+        out,
+        "<div class=\"tile\"><b>{millis}</b><span>{what}</span></div>\n"
+    )
+}
+
 /// What is to be seen at one look.
 pub(crate) fn push_tiles(out: &mut String, status: &Status<'_>) -> Result<(), AllocError> {
     let tally = status.tally;
@@ -38,6 +48,9 @@ pub(crate) fn push_tiles(out: &mut String, status: &Status<'_>) -> Result<(), Al
     out.push_str("<div class=\"tiles\">\n")?;
     tile_of(out, up < all, up, all, "neighbours up")?;
     tile(out, false, tally.requests, "requests")?;
+    if let Some(rates) = lately(status.trend.samples()) {
+        tile(out, false, rates.requests, "requests a second")?;
+    }
     tile(out, false, tally.answers.total(), "answers")?;
     let for_credit = refusals(&tally.answers, Refusal::Credit);
     tile(out, false, for_credit, "refused for credit")?;
@@ -45,7 +58,7 @@ pub(crate) fn push_tiles(out: &mut String, status: &Status<'_>) -> Result<(), Al
     tile(out, false, others, "other refusals")?;
     push_work_tiles(out, &status.work)?;
     tile(out, false, tally.failovers, "failovers")?;
-    tile(out, false, mean(&tally.times), "ms a request")?;
+    tile_of_time(out, mean(&tally.times), "ms a request")?;
     out.push_str("</div>\n")
 }
 
@@ -73,7 +86,7 @@ fn push_work_tiles(out: &mut String, work: &Work) -> Result<(), AllocError> {
             }
             tile(out, false, waiting, "requests under way")?;
             match book {
-                Some(book) => tile(out, false, book.charges, "charges"),
+                Some(book) => tile(out, false, book.served.charges, "charges"),
                 None => Ok(()),
             }
         }

@@ -8,9 +8,9 @@ mod asking;
 mod fronts;
 mod health;
 
-use farm_metrics::{Tally, code_of_answer};
+use farm_metrics::{Tally, Trend, code_of_answer};
 use farm_status::{Status, push_json, push_metrics, push_page};
-use fronts::{status_of, tally_of};
+use fronts::{status_of, tally_of, trend_of};
 use std::alloc::Global;
 use std::random::RandomSource;
 
@@ -57,8 +57,8 @@ fn print_json(rt: &impl Print, alloc: Global, status: &Status<'_>) -> anyhow::Re
     Ok(())
 }
 
-fn print_each(rt: &impl Print, alloc: Global, tally: &Tally) -> anyhow::Result<()> {
-    let status = status_of(alloc, tally)?;
+fn print_each(rt: &impl Print, alloc: Global, tally: &Tally, trend: &Trend) -> anyhow::Result<()> {
+    let status = status_of(alloc, tally, trend)?;
     print_metrics(rt, alloc, &status)?;
     print_page(rt, alloc, &status)?;
     print_json(rt, alloc, &status)
@@ -67,7 +67,7 @@ fn print_each(rt: &impl Print, alloc: Global, tally: &Tally) -> anyhow::Result<(
 /// Prints what two fronts say of themselves, and what requests over HTTP are answered.
 pub fn print_all(rt: &(impl Print + RandomSource), alloc: Global) -> anyhow::Result<()> {
     print_codes(rt)?;
-    print_each(rt, alloc, &tally_of(alloc))?;
+    print_each(rt, alloc, &tally_of(alloc), &trend_of(alloc))?;
     health::print_all(rt, alloc)?;
     asking::print_all(rt, alloc)
 }

@@ -9,6 +9,7 @@ use Rattle.cc_book.specs.Balance.{open_sessions_of}
 use Rattle.cc_book.specs.Taking.{Ledger}
 use Rattle.cc_shared.specs.declared.receipt.Receipt.{Receipt}
 use Rattle.pool_node.specs.declared.figures.BookFigures.{BookFigures}
+use Rattle.pool_node.specs.Served.{came_to, counted, no_requests}
 
 -- a count that goes up stays at the greatest number
 abbrev pub sum_of : ℕ → ℕ → ℕ
@@ -33,16 +34,16 @@ ends _ _ = false
 abbrev pub count_if : Bool → ℕ → ℕ
 count_if one n = if one then next_of n else n
 
--- a request more was charged
+-- a request more was taken
 pub record HasCharged (receipt : Receipt) (old new : BookFigures) : Type 0 where
-  pub charges : new.charges ≡ next_of old.charges
+  pub served : new.served ≡ counted (came_to receipt) old.served
   pub entries : new.entries ≡ max old.entries (next_of receipt.place)
   pub opened : new.opened ≡ count_if (opens receipt.request.kind receipt.reply.code) old.opened
   pub ended : new.ended ≡ count_if (ends receipt.request.kind receipt.reply.code) old.ended
 
--- a repeat was charged before
+-- a repeat was taken before, and is counted as one
 abbrev pub HasTaken : Receipt → BookFigures → BookFigures → Type 0
-HasTaken receipt old new = MatchBool receipt.fresh (HasCharged receipt old new) (new ≡ old)
+HasTaken receipt old new = MatchBool receipt.fresh (HasCharged receipt old new) (new ≡ record old { served = counted (came_to receipt) old.served })
 
 -- a job without a receipt was not charged
 abbrev pub HasCollected : Option Receipt → BookFigures → BookFigures → Type 0
@@ -55,7 +56,7 @@ with_sweep sessions old = record old { entries = next_of old.entries; ended = su
 
 -- a book as it is opened, of which no request was served
 abbrev pub figures_of : Ledger → BookFigures
-figures_of book = record { entries = length book.history; charges = 0; opened = open_sessions_of book.terms book.history; ended = 0 }
+figures_of book = record { entries = length book.history; served = no_requests; opened = open_sessions_of book.terms book.history; ended = 0 }
 
 -- A sweep came to this: one that ends no session is no entry, nor is one that was refused.
 abbrev pub figures_after : Result ℕ BookRefusal → BookFigures → BookFigures

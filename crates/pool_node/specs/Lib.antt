@@ -4,3 +4,4 @@ pub mod Figures
 pub mod Fronts
 pub mod Measure
 pub mod Sweeping
+pub mod Served

@@ -3,6 +3,7 @@
 ghost use Rattle.std.specs.Prelude.{◌≡◌, ◌-◌};
 ghost use Rattle.pool_node.specs.Figures.{HasCollected, HasTaken, count_if, ends, figures_after, figures_of, opens};
 
+use crate::served::{ServedCounts, came_to};
 use cc_book::{Book, BookRefusal};
 use cc_shared::Receipt;
 use cc_view::{RequestKind, ResultCode};
@@ -13,8 +14,8 @@ use front_pool::Finished;
 pub struct BookFigures {
     /// Entries of the history.
     pub entries: u64,
-    /// Requests that were taken since the book was opened, each once.
-    pub charges: u64,
+    /// Requests that were answered since the book was opened, by what they came to.
+    pub served: ServedCounts,
     /// Sessions that were open as the book was opened or were opened since, and those of them that have ended.
     pub opened: u64,
     pub ended: u64,
@@ -55,7 +56,7 @@ impl BookFigures {
     {
         BookFigures {
             entries: book.history().len() as u64,
-            charges: 0,
+            served: ServedCounts::none(),
             opened: book.open_sessions(),
             ended: 0,
         }
@@ -81,11 +82,11 @@ impl BookFigures {
     fn taken(&mut self, receipt: &Receipt)
         ensures { HasTaken receipt.now self.old self.new }
     {
+        self.served.count(came_to(receipt));
         if !receipt.fresh {
             return;
         }
         let (kind, code) = (receipt.request.kind, receipt.reply.code);
-        self.charges = self.charges.saturating_add(1);
         self.entries = self.entries.max(receipt.place.saturating_add(1));
         self.opened = count_if(opens(kind, code), self.opened);
         self.ended = count_if(ends(kind, code), self.ended);

@@ -10,6 +10,7 @@ use dia_base::{ConnId, Moment};
 use farm_base::Site;
 use farm_node::Node;
 use std::mem::swap;
+use std::rt::Clock;
 
 /// A connection that is read again at the next turn.
 #[derive(Clone, Copy)]
@@ -61,7 +62,13 @@ impl<N: Node + Drop> Live<N> {
 
     /// Reads on a connection for one turn, unless it has to wait for others, or for its own answers. Where more may be there, it is
     /// read again at the next one.
-    fn read_one(&mut self, site: &Site, unread: Unread, moment: Moment) -> Result<(), LoopFault> {
+    fn read_one<O: Clock>(
+        &mut self,
+        os: &O,
+        site: &Site,
+        unread: Unread,
+        moment: Moment,
+    ) -> Result<(), LoopFault> {
         self.outgoing.look(&self.serving, moment);
         let most = self.most_of(site, unread, moment);
         if most == 0 {
@@ -71,6 +78,7 @@ impl<N: Node + Drop> Live<N> {
             })?;
             return Ok(());
         }
+        self.set_clock(os)?;
         let piece = self.sockets.piece.as_mut_slice();
         if piece.is_empty() {
             return Ok(());
@@ -91,40 +99,65 @@ impl<N: Node + Drop> Live<N> {
     }
 
     /// Reads where more may be there: first those that have waited for others, so that each has its turn.
-    pub(super) fn read_again(&mut self, site: &Site, moment: Moment) -> Result<(), LoopFault> {
+    pub(super) fn read_again<O: Clock>(
+        &mut self,
+        os: &O,
+        site: &Site,
+        moment: Moment,
+    ) -> Result<(), LoopFault> {
         swap(&mut self.again, &mut self.later);
         self.later.clear();
-        self.read_those(site, true, moment)?;
-        self.read_those(site, false, moment)
+        self.read_those(os, site, true, moment)?;
+        self.read_those(os, site, false, moment)
     }
 
     /// Reads again those that have waited for others, or those that have not.
-    fn read_those(&mut self, site: &Site, waits: bool, moment: Moment) -> Result<(), LoopFault> {
+    fn read_those<O: Clock>(
+        &mut self,
+        os: &O,
+        site: &Site,
+        waits: bool,
+        moment: Moment,
+    ) -> Result<(), LoopFault> {
         for at in 0..self.again.len() {
             if let Some(unread) = self.again.get(at)
                 && unread.waits == waits
             {
                 let unread = *unread;
-                self.read_one(site, unread, moment)?;
+                self.read_one(os, site, unread, moment)?;
             }
         }
         Ok(())
     }
 
     /// Serves what was reported.
-    pub(super) fn serve_ready(&mut self, site: &Site, moment: Moment) -> Result<(), LoopFault> {
+    pub(super) fn serve_ready<O: Clock>(
+        &mut self,
+        os: &O,
+        site: &Site,
+        moment: Moment,
+    ) -> Result<(), LoopFault> {
         for at in 0..self.sockets.ready.len() {
             if let Some(ready) = self.sockets.ready.get(at) {
                 let ready = *ready;
-                self.serve_one(site, ready, moment)?;
+                self.serve_one(os, site, ready, moment)?;
             }
         }
         Ok(())
     }
 
-    fn serve_one(&mut self, site: &Site, ready: Ready, moment: Moment) -> Result<(), LoopFault> {
+    fn serve_one<O: Clock>(
+        &mut self,
+        os: &O,
+        site: &Site,
+        ready: Ready,
+        moment: Moment,
+    ) -> Result<(), LoopFault> {
         match ready.source {
-            Source::Waker => self.serving.wake::<ViewWire>(moment),
+            Source::Waker => {
+                self.set_clock(os)?;
+                self.serving.wake::<ViewWire>(moment);
+            }
             Source::Listener { place } => {
                 if let Some(listening) = self.sockets.listeners.get_mut(place) {
                     listening.callers = Callers::MayWait;
@@ -132,7 +165,7 @@ impl<N: Node + Drop> Live<N> {
             }
             Source::Conn { conn } => {
                 if ready.reads {
-                    self.read_reported(site, conn, ready.closes, moment)?;
+                    self.read_reported(os, site, conn, ready.closes, moment)?;
                 }
             }
         }
@@ -140,8 +173,9 @@ impl<N: Node + Drop> Live<N> {
     }
 
     /// Reads on a connection that was reported, unless it was read for this turn and is read again at the next one.
-    fn read_reported(
+    fn read_reported<O: Clock>(
         &mut self,
+        os: &O,
         site: &Site,
         conn: ConnId,
         closes: bool,
@@ -159,6 +193,6 @@ impl<N: Node + Drop> Live<N> {
             waits: false,
             since: moment,
         };
-        self.read_one(site, unread, moment)
+        self.read_one(os, site, unread, moment)
     }
 }

@@ -1,7 +1,7 @@
 //! A request over HTTP, in memory.
 
 use crate::status::fronts::status_of;
-use farm_metrics::Tally;
+use farm_metrics::{Tally, Trend};
 use farm_status::{Answering, Job, Jobs, Source, Status, Token};
 use http_server::{Config, Connection};
 use std::alloc::{AllocError, Global};
@@ -13,11 +13,12 @@ use std::random::RandomSource;
 struct Fronts<'a> {
     alloc: Global,
     tally: &'a Tally,
+    trend: &'a Trend,
 }
 
 impl Source for Fronts<'_> {
     fn status(&self) -> Result<Status<'_>, AllocError> {
-        status_of(self.alloc, self.tally)
+        status_of(self.alloc, self.tally, self.trend)
     }
 
     fn terms(&self) -> Result<String, AllocError> {
@@ -121,10 +122,11 @@ const UNDER_WAY: [Jobs; 3] = [
 
 /// Prints what each request is answered, by a node that has a token.
 pub fn print_all(rt: &(impl Print + RandomSource), alloc: Global) -> anyhow::Result<()> {
-    let tally = Tally::nothing(alloc);
+    let (tally, trend) = (Tally::nothing(alloc), Trend::nothing(alloc));
     let source = Fronts {
         alloc,
         tally: &tally,
+        trend: &trend,
     };
     let token = Token::read(alloc, b"0123456789abcdef\n")?;
     let keys = RandomState::new(rt)?;

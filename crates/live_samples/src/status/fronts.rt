@@ -1,26 +1,75 @@
 //! Two fronts, one of which has a name that is no word.
 
-use dia_base::{ConnId, Moment};
-use farm_metrics::Tally;
-use farm_status::{BookStatus, Connections, FrontStatus, Peer, PeerState, Status, Work};
+use dia_base::{ConnId, NodeNo};
+use farm_metrics::{Micros, Sample, Tally, Trend};
+use farm_status::{
+    BookStatus, Connections, FrontStatus, Peer, PeerPast, PeerState, ServedCount, Status, Work,
+};
 use std::alloc::{AllocError, Global};
 
-/// Three requests, four answers, a failover and a request that was given up. One answer is to no request.
+/// The front with a name that is a word, and its neighbour.
+const LOCAL: NodeNo = NodeNo(0);
+
+const PEER: NodeNo = NodeNo(2);
+
+/// Three requests, four answers, a failover and a request that was given up. One answer is to no request. A neighbour comes up, brings
+/// two of the requests, is silent, and comes up again.
 pub fn tally_of(alloc: Global) -> Tally {
     let mut tally = Tally::nothing(alloc);
     let (one, other) = (ConnId(1), ConnId(2));
-    tally.request_came(one, 7, Moment(1_000));
-    tally.request_came(one, 8, Moment(1_000));
-    tally.request_came(other, 7, Moment(1_000));
-    tally.answer_sent(one, 7, 2001, Moment(1_001));
-    tally.answer_sent(one, 8, 2001, Moment(1_030));
-    tally.answer_sent(other, 7, 4012, Moment(8_000));
-    tally.answer_sent(other, 9, 3004, Moment(8_000));
+    tally.peer_up(one, LOCAL, PEER);
+    tally.set_clock(Micros(1_000_000));
+    tally.request_came(one, 7);
+    tally.request_came(one, 8);
+    tally.request_came(other, 7);
+    tally.set_clock(Micros(1_000_040));
+    tally.answer_sent(one, 7, 2001);
+    tally.set_clock(Micros(1_030_000));
+    tally.answer_sent(one, 8, 2001);
+    tally.set_clock(Micros(8_000_000));
+    tally.answer_sent(other, 7, 4012);
+    tally.answer_sent(other, 9, 3004);
+    tally.peer_lost(one, true);
+    tally.peer_up(ConnId(3), LOCAL, PEER);
     tally.request_sent();
     tally.failed_over();
     tally.gave_up();
     tally
 }
+
+/// Twenty seconds, in the first half of which a hundred requests came, and three hundred in the second.
+pub fn trend_of(alloc: Global) -> Trend {
+    let mut trend = Trend::nothing(alloc);
+    for (at, requests, answers) in [(0, 0, 0), (10_000_000, 100, 90), (20_000_000, 400, 380)] {
+        trend.add(Sample {
+            at: Micros(at),
+            requests,
+            answers,
+        });
+    }
+    trend
+}
+
+/// What became of the neighbour that came up again.
+fn past(alloc: Global, tally: &Tally) -> Result<Option<PeerPast>, AllocError> {
+    let Some(count) = tally.peers.of(LOCAL, PEER) else {
+        return Ok(None);
+    };
+    Ok(Some(PeerPast {
+        since: 65_000,
+        count,
+        cause: Some(String::from_str(alloc, "the other end is silent")?),
+    }))
+}
+
+/// Requests of the book by what they came to.
+const SERVED: ServedCount = ServedCount {
+    charges: 837_000,
+    enquiries: 61,
+    credit_refusals: 700,
+    refusals: 239,
+    repeats: 42,
+};
 
 fn peer(
     alloc: Global,
@@ -35,6 +84,8 @@ fn peer(
         state,
         takes_requests: false,
         conn,
+        address: None,
+        past: None,
     })
 }
 
@@ -48,13 +99,20 @@ fn front(alloc: Global, name: &str, waiting: u64) -> Result<FrontStatus, AllocEr
 }
 
 /// What the two fronts say of themselves.
-pub fn status_of<'a>(alloc: Global, tally: &'a Tally) -> Result<Status<'a>, AllocError> {
+pub fn status_of<'a>(
+    alloc: Global,
+    tally: &'a Tally,
+    trend: &'a Trend,
+) -> Result<Status<'a>, AllocError> {
     let (plain, odd) = ("f1.example", "f2<\"&\\'>");
     let mut names = Vec::new(alloc);
     names.push(String::from_str(alloc, plain)?)?;
     names.push(String::from_str(alloc, odd)?)?;
     let mut peers = Vec::new(alloc);
-    peers.push(peer(alloc, plain, "r1.example", PeerState::Up, Some(3))?)?;
+    let mut first = peer(alloc, plain, "r1.example", PeerState::Up, Some(3))?;
+    first.address = Some(String::from_str(alloc, "127.0.0.1:3868")?);
+    first.past = past(alloc, tally)?;
+    peers.push(first)?;
     peers.push(peer(alloc, odd, "r1.example", PeerState::Connecting, None)?)?;
     let mut fronts = Vec::new(alloc);
     fronts.push(front(alloc, plain, 2)?)?;
@@ -62,6 +120,7 @@ pub fn status_of<'a>(alloc: Global, tally: &'a Tally) -> Result<Status<'a>, Allo
     Ok(Status {
         names,
         uptime: 3_723_004,
+        began: 1_795_000_000_250,
         memory: Some(12_345_678),
         peers,
         connections: Connections {
@@ -69,15 +128,17 @@ pub fn status_of<'a>(alloc: Global, tally: &'a Tally) -> Result<Status<'a>, Allo
             unknown: 2,
             ending: 0,
         },
+        unsent: 4_096,
         work: Work::Fronts {
             fronts,
             book: Some(BookStatus {
                 entries: 838_861,
                 limit: 1_048_576,
                 sessions: 12,
-                charges: 838_000,
+                served: SERVED,
             }),
         },
         tally,
+        trend,
     })
 }

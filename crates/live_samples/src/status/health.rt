@@ -1,6 +1,6 @@
 //! Whether a relay or fronts can do their work.
 
-use farm_status::{BookStatus, Peer, PeerState, Work, health_of};
+use farm_status::{BookStatus, Peer, PeerState, ServedCount, Work, health_of};
 use std::alloc::{AllocError, Global};
 
 /// A relay's neighbours: a gateway, which is up, and a server.
@@ -16,6 +16,8 @@ fn peers_of(alloc: Global, server: PeerState) -> Result<Vec<Peer>, AllocError> {
             state,
             takes_requests,
             conn: None,
+            address: None,
+            past: None,
         })?;
     }
     Ok(peers)
@@ -36,7 +38,13 @@ fn fronts_with(alloc: Global, entries: u64) -> Work {
             entries,
             limit: 100,
             sessions: 0,
-            charges: entries,
+            served: ServedCount {
+                charges: entries,
+                enquiries: 0,
+                credit_refusals: 0,
+                refusals: 0,
+                repeats: 0,
+            },
         }),
     }
 }

@@ -127,7 +127,7 @@ impl<L: Pooling, R: Threads + Wait + Clock + Print + Copy> Running<'_, L, R> {
         let figures = self.fronts.figures();
         println!(rt;
             "entries {} charges {} opened {} ended {}",
-            figures.entries, figures.charges, figures.opened, figures.ended
+            figures.entries, figures.served.charges, figures.opened, figures.ended
         )?;
         Ok(())
     }

@@ -1,4 +1,4 @@
-use Rattle.std.proofs.Common.{◌≡◌, ◌≢◌, ◌<◌, ◌≤◌, ◌+◌, ◌∙◌, ℕ, List, [], Some, None, length, drop, refl, sym, ap, subst, rules, arith, length-drop}
+use Rattle.std.proofs.Common.{◌≡◌, ◌≢◌, ◌<◌, ◌∙◌, ℕ, List, [], Some, None, length, drop, sym, ap, subst, arith, length-drop}
 use Rattle.std.proofs.lemmas.List.{drop_all}
 use Rattle.farm_metrics.specs.Reading.{code_in, code_of, code_within, room_of}
 use Rattle.farm_metrics.proofs.Codes.{HasCode, code_behind, code_first, code_of_none, code_without, drop_behind, take_behind}

@@ -8,4 +8,4 @@ pub loop-row-preserved : goal.loop-row-preserved
 loop-row-preserved c =
     let item : TimeRow = get_or c.loop-row.rows c.loop-row.row-index (record { bound = 0; count = 0 }) in
     let is : item ≡ get_or c.loop-row.rows c.loop-row.row-index item = search rules in
-    rw c.add.ensures (map_over_more (row_after c.args.millis) c.args.rows.now c.loop-row.rows c.loop-row.row-index item (omega arith) c.loop-row.invariant is)
+    rw c.add.ensures (map_over_more (row_after c.args.micros) c.args.rows.now c.loop-row.rows c.loop-row.row-index item (omega arith) c.loop-row.invariant is)
