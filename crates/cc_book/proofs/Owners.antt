@@ -380,3 +380,29 @@ knows-more ids id old new knows updated other =
       two true later = refl
       two false later = later
     by false e (x ∷ more) = ap (λ (b : Bool). same_subscription other x || b) (by false e more)
+
+-- an account of an owner passes by the owner's digest too
+own_passes : (id : Subscription) (accounts : List Account) (place : ℕ) → passes_at (owns id) accounts place ≡ true → passes_at (has_digest (digest_of id)) accounts place ≡ true
+own_passes id [] place e = absurd cc
+own_passes id (a ∷ accounts) zero e = own-digest id a e
+own_passes id (a ∷ accounts) (suc place) e = own_passes id accounts place e
+
+pub confirmed-within : (p : Account → Bool) (accounts : List Account) (told : Option ℕ) → IfSome (confirmed p accounts told) (λ (place : ℕ). place < length accounts)
+confirmed-within p accounts None = tt
+confirmed-within p accounts (Some place) = by (passes_at p accounts place) refl where
+  by : (b : Bool) → passes_at p accounts place ≡ b → IfSome (cond b (Some place) None) (λ (at : ℕ). at < length accounts)
+  by true e = passes_at-within p accounts place e
+  by false e = tt
+
+-- a place that the index tells of an owner's digest, where the account there is the owner's, is that of the owner's first account
+pub first-own : (id : Subscription) (accounts : List Account) (told : Option ℕ)
+    → confirmed (has_digest (digest_of id)) accounts told ≡ position (has_digest (digest_of id)) accounts
+    → is_some (confirmed (owns id) accounts told) ≡ true → confirmed (owns id) accounts told ≡ account_with accounts id
+first-own id accounts None finds some = absurd cc
+first-own id accounts (Some place) finds some = by (passes_at (owns id) accounts place) refl some where
+  by : (b : Bool) → passes_at (owns id) accounts place ≡ b → is_some (cond b (Some place) None) ≡ true → cond b (Some place) None ≡ account_with accounts id
+  by true e is =
+      let told : confirmed (has_digest (digest_of id)) accounts (Some place) ≡ Some place =
+      ap (λ (b : Bool). cond b (Some place) None) (own_passes id accounts place e) in
+      sym (first-digest id accounts place (sym finds ∙ told) e)
+  by false e is = absurd cc

@@ -1,8 +1,8 @@
 -- Accounts and their Subscription-Ids, and what an index finds by one: the first account of a list that has it.
-use Rattle.std.proofs.Common.{◌≡◌, ℕ, zero, suc, List, [], ◌∷◌, ◌++◌, Bool, true, false, ◌&&◌, eqb, refl, rules}
+use Rattle.std.proofs.Common.{◌≡◌, ℕ, zero, suc, List, [], ◌∷◌, Bool, true, false, ◌&&◌, eqb, refl, rules}
 use Rattle.std.specs.Prelude.{◌==◌, nat_eq, Option, Some, None, if◌then◌else◌}
 use Rattle.std.specs.List.{fold, list_any, position}
-use Rattle.std.specs.Hash.{u8 as fed_u8, u32 as fed_u32, slice as fed_slice}
+use Rattle.std.specs.Hash.{u32 as fed_u32}
 use Rattle.std.specs.Hash.DefaultHasher.{finish, initial, write}
 use Rattle.std.proofs.lemmas.Bool.{and_parts}
 use Rattle.indexmap.specs.IndexMap.{get}
@@ -40,9 +40,9 @@ owner_of account = record { kind = account.id_kind; text = account.id }
 
 -- ---- what is looked up
 
--- a number that few other Subscription-Ids have: SipHash over the type and the text
+-- a number that few other Subscription-Ids have: SipHash over the text and the type
 unfoldable pub digest_of : Subscription → ℕ
-digest_of id = finish (fold write initial (fed_u32 id.kind ++ fed_slice fed_u8 id.text))
+digest_of id = finish (fold write initial (id.text ∷ fed_u32 id.kind))
 
 -- whether this is the digest of an account's owner
 abbrev pub has_digest : ℕ → Account → Bool

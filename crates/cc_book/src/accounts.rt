@@ -41,13 +41,15 @@ impl<'a> Equivalent<Subscription> for Owner<'a> {
 }
 
 impl<'a> Owner<'a> {
-    /// A number that few other owners have: SipHash over the type and the text.
+    /// A number that few other owners have: SipHash over the text and the type, in this order, since it reads a text from its
+    /// beginning eight octets at a time.
     #[tactic(auto, unfolding(crate::specs::Owners::digest_of))]
     fn digest(self) -> u64
         ensures { result ≡ digest_of (record { kind = self.entry.kind; text = self.entry.text.now }) }
     {
         let mut hasher = DefaultHasher::new();
-        self.hash(&mut hasher);
+        hasher.write(self.text.as_slice());
+        hasher.write_u32(self.kind);
         hasher.finish()
     }
 }
@@ -260,12 +262,26 @@ fn indexed_place(
     ensures within { IfSome result (λ place. place < length accounts.now) }
 {
     let digest = owner.digest();
-    let place = confirmed(accounts, firsts.get(&digest).copied(), digest)?;
-    if is_of(&accounts[place], owner) {
-        return Some(place);
+    let told = firsts.get(&digest).copied();
+    let own = confirmed_for(accounts, told, owner);
+    if own.is_some() {
+        return own;
     }
-    // Another owner has the same digest.
+    // Nobody has the digest, or another owner.
+    let _other = confirmed(accounts, told, digest)?;
     first_place(accounts, owner)
+}
+
+/// A place that an index tells, if the account there is that of an owner.
+fn confirmed_for(accounts: &[Account], told: Option<usize>, owner: Owner<'_>) -> Option<usize>
+    ensures { result ≡ confirmed (owns (record { kind = owner.entry.kind; text = owner.entry.text.now })) accounts.now told }
+{
+    let place = told?;
+    if is_of(accounts.get(place)?, owner) {
+        Some(place)
+    } else {
+        None
+    }
 }
 
 /// The place of the first account with each digest.
