@@ -78,6 +78,7 @@ impl<L: Sharing> Sweeper<L> {
     pub fn collect<R: Wait>(&mut self, rt: &R) -> Option<SweepDone>
         ensures { CollectsIt L.shared self.old result self.new }
     {
+        self.asked?;
         let Errand::Done { done } = self.desk.errand.load_as::<Sees<L>, R>(rt, &mut self.pass)
         else {
             return None;

@@ -145,7 +145,9 @@ fn drop_front(octets: &mut Vec<u8>, count: usize)
     requires { count ≤ length octets.now.items }
     ensures { octets.new.items ≡ drop count octets.old.items }
 {
-    octets.drain(..count);
+    let kept = octets.len() - count;
+    octets.copy_within(count.., 0);
+    octets.truncate(kept);
 }
 
 /// The whole messages at the front, and how many octets they take.

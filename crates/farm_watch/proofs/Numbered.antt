@@ -1,11 +1,12 @@
 -- Requests that are numbered by the clock: those of a process count on, and the seconds tell them apart over restarts.
-use Rattle.std.proofs.Common.{◌≡◌, ◌≢◌, ℕ, zero, suc, ◌+◌, ◌*◌, ◌/◌, ◌%◌, ◌<◌, ◌≤◌, List, [], ◌∷◌, ◌++◌, Bool, true, false, get_or, length, refl, sym, ap, subst, append_assoc, arith, ◌∙◌}
+use Rattle.std.proofs.Common.{◌≡◌, ◌≢◌, ℕ, zero, suc, ◌+◌, ◌*◌, ◌/◌, ◌%◌, ◌<◌, ◌≤◌, List, [], ◌∷◌, ◌++◌, Bool, true, false, true≢false, ◌||◌, get_or, length, refl, sym, ap, subst, append_assoc, arith, ◌∙◌}
 use Rattle.std.specs.Prelude.{if◌then◌else◌}
+use Rattle.std.specs.List.{list_any}
 use Rattle.std.proofs.Math.Nat.{mod-add-mod}
 use Rattle.std.proofs.lemmas.Nat.{mod-mul-add}
 use Rattle.dia_base.specs.declared.number.Moment.{Moment}
 use Rattle.dia_message.specs.declared.message.Message.{Message}
-use Rattle.farm_watch.specs.Numbering.{Said, count_after, count_after_act, count_after_acts, end_of, ends_by, ends_of, identifier_at, numbered_act, numbered_by_clock, numbered_message, with_end}
+use Rattle.farm_watch.specs.Numbering.{Said, count_after, count_after_act, count_after_acts, end_of, ends_by, ends_of, identifier_at, numbered_act, numbered_by_clock, numbered_message, sends_request, with_end}
 use Rattle.farm_watch.specs.declared.acts.Act.{Act}
 use Rattle.farm_watch.specs.declared.acts.Act.TheVariants.{Send, PeerUp, PeerLeaves, Pass, Drop}
 
@@ -20,6 +21,54 @@ numbered_append moment count (x ∷ xs) ys =
 pub counted_append : (count : ℕ) (xs ys : List Act) → count_after_acts count (xs ++ ys) ≡ count_after_acts (count_after_acts count xs) ys
 counted_append count [] ys = refl
 counted_append count (x ∷ xs) ys = counted_append (count_after_act count x) xs ys
+
+-- ---- acts that send no request
+
+first_false : (a b : Bool) → (a || b) ≡ false → a ≡ false
+first_false true b none = absurd (true≢false none)
+first_false false b none = refl
+
+rest_false : (a b : Bool) → (a || b) ≡ false → b ≡ false
+rest_false true b none = absurd (true≢false none)
+rest_false false b none = none
+
+message_still : (request : Bool) (identifier : ℕ) (m : Message) → request ≡ false → (if request then with_end identifier m else m) ≡ m
+message_still true identifier m none = absurd (true≢false none)
+message_still false identifier m none = refl
+
+count_still : (request : Bool) (next count : ℕ) → request ≡ false → (if request then next else count) ≡ count
+count_still true next count none = absurd (true≢false none)
+count_still false next count none = refl
+
+act_still : (moment : Moment) (count : ℕ) (act : Act) → sends_request act ≡ false → numbered_act moment count act ≡ act
+act_still moment count (Send m) none = ap Send (message_still m.header.request (identifier_at moment count) m none)
+act_still moment count (PeerUp node) none = refl
+act_still moment count (PeerLeaves cause) none = refl
+act_still moment count (Pass m) none = refl
+act_still moment count Drop none = refl
+
+takes_none : (count : ℕ) (act : Act) → sends_request act ≡ false → count_after_act count act ≡ count
+takes_none count (Send m) none = count_still m.header.request (count_after count) count none
+takes_none count (PeerUp node) none = refl
+takes_none count (PeerLeaves cause) none = refl
+takes_none count (Pass m) none = refl
+takes_none count Drop none = refl
+
+pub nothing_counted : (count : ℕ) (acts : List Act) → list_any sends_request acts ≡ false → count_after_acts count acts ≡ count
+nothing_counted count [] none = refl
+nothing_counted count (act ∷ acts) none =
+    let first = first_false (sends_request act) (list_any sends_request acts) none in
+    let rest = rest_false (sends_request act) (list_any sends_request acts) none in
+    ap (λ (n : ℕ). count_after_acts n acts) (takes_none count act first) ∙ nothing_counted count acts rest
+
+pub nothing_numbered : (moment : Moment) (count : ℕ) (acts : List Act) → list_any sends_request acts ≡ false → numbered_by_clock moment count acts ≡ acts
+nothing_numbered moment count [] none = refl
+nothing_numbered moment count (act ∷ acts) none =
+    let first = first_false (sends_request act) (list_any sends_request acts) none in
+    let rest = rest_false (sends_request act) (list_any sends_request acts) none in
+    ap (λ (x : Act). x ∷ numbered_by_clock moment (count_after_act count act) acts) (act_still moment count act first)
+    ∙ ap (λ (n : ℕ). act ∷ numbered_by_clock moment n acts) (takes_none count act first)
+    ∙ ap (λ (more : List Act). act ∷ more) (nothing_numbered moment count acts rest)
 
 -- ---- one process
 

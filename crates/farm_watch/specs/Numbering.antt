@@ -1,5 +1,5 @@
 -- The End-to-End Identifiers of the requests that a process writes itself on its connections (RFC 6733, section 3).
-use Rattle.std.specs.Prelude.{ℕ, ◌+◌, ◌*◌, ◌/◌, ◌%◌, List, [], ◌∷◌, ◌++◌, if◌then◌else◌}
+use Rattle.std.specs.Prelude.{ℕ, Bool, false, ◌+◌, ◌*◌, ◌/◌, ◌%◌, List, [], ◌∷◌, ◌++◌, if◌then◌else◌}
 use Rattle.dia_base.specs.declared.number.Moment.{Moment}
 use Rattle.dia_message.specs.declared.message.Message.{Message}
 use Rattle.farm_watch.specs.Table.{Effect}
@@ -34,6 +34,14 @@ numbered_act moment count (PeerUp node) = PeerUp node
 numbered_act moment count (PeerLeaves cause) = PeerLeaves cause
 numbered_act moment count (Pass m) = Pass m
 numbered_act moment count Drop = Drop
+
+-- a request that the connection sends itself
+abbrev pub sends_request : Act → Bool
+sends_request (Send m) = m.header.request
+sends_request (PeerUp node) = false
+sends_request (PeerLeaves cause) = false
+sends_request (Pass m) = false
+sends_request Drop = false
 
 -- each request that is sent takes one
 abbrev pub count_after_act : ℕ → Act → ℕ

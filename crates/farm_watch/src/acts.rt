@@ -1,6 +1,8 @@
 //! What a connection asks of those who keep it.
 
 ghost use Rattle.std.specs.Prelude.{◌≡◌, [], ◌∷◌, ◌++◌, option_to_list, IfNone};
+ghost use Rattle.std.specs.List.{list_any};
+ghost use Rattle.farm_watch.specs.Numbering.{sends_request};
 
 use crate::cause::DisconnectCause;
 use dia_base::NodeNo;
@@ -36,6 +38,16 @@ impl Model for Acts {
     ghost Value = { List Act };
 
     ghost view = { λ acts. option_to_list acts.first ++ option_to_list acts.second };
+}
+
+/// Whether an act, if there is one, sends a request.
+fn sends_a_request(act: &Option<Act>) -> bool
+    ensures { result ≡ list_any sends_request (option_to_list act.now) }
+{
+    match act {
+        Some(Act::Send(message)) => message.header.request,
+        _ => false,
+    }
 }
 
 impl Acts {
@@ -79,6 +91,13 @@ impl Acts {
         ensures { result ≡ option_to_list first ++ option_to_list second }
     {
         Acts { first, second }
+    }
+
+    /// Whether one of them sends a request.
+    pub(crate) fn send_a_request(&self) -> bool
+        ensures { result ≡ list_any sends_request self.now }
+    {
+        sends_a_request(&self.first) || sends_a_request(&self.second)
     }
 
     /// Takes the first act that is left off, if there is one.

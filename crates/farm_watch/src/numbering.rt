@@ -1,7 +1,7 @@
 //! The End-to-End Identifiers of the requests that a process writes itself (RFC 6733, section 3).
 
 ghost use Rattle.std.specs.Prelude.{◌≡◌, option_to_list};
-ghost use Rattle.farm_watch.specs.Numbering.{count_after, count_after_act, count_after_acts, identifier_at, numbered, numbered_act, numbered_by_clock, numbered_message, numbering_after};
+ghost use Rattle.farm_watch.specs.Numbering.{count_after, count_after_acts, identifier_at, numbered, numbered_by_clock, numbering_after, with_end};
 
 use crate::acts::{Act, Acts};
 use dia_base::Moment;
@@ -27,12 +27,14 @@ pub enum Numbering {
 impl Numbering {
     /// The same acts, as they are done at this moment, in milliseconds since 1970: each request that they send has its
     /// End-to-End Identifier. Answers, and what the node is passed, are as they were.
+    #[tactic(auto, using(crate::proofs::Numbered::nothing_numbered, crate::proofs::Numbered::nothing_counted))]
     pub fn number(&mut self, acts: Acts, moment: Moment) -> Acts
         ensures acts { result ≡ numbered self.old moment acts }
         ensures next { self.new ≡ numbering_after self.old acts }
     {
         match *self {
             Numbering::HopByHop => acts,
+            Numbering::ByClock { .. } if !acts.send_a_request() => acts,
             Numbering::ByClock { count } => {
                 let (acts, count) = numbered_by_clock(acts, moment, count);
                 *self = Numbering::ByClock { count };
@@ -60,42 +62,18 @@ fn numbered_option(act: Option<Act>, moment: Moment, count: u32) -> (Option<Act>
     ensures next { result.1 ≡ count_after_acts count (option_to_list act) }
 {
     match act {
-        Some(act) => {
-            let next = count_after_act(&act, count);
-            (Some(numbered_act(act, moment, count)), next)
+        Some(Act::Send(message)) if message.header.request => {
+            let numbered = with_end(message, identifier_at(moment, count));
+            (Some(Act::Send(numbered)), count_after(count))
         }
-        None => (None, count),
+        other => (other, count),
     }
 }
 
-fn numbered_act(act: Act, moment: Moment, count: u32) -> Act
-    ensures { result ≡ numbered_act moment count act }
+/// The message with this End-to-End Identifier.
+fn with_end(message: Message, end: u32) -> Message
+    ensures { result ≡ with_end end message }
 {
-    match act {
-        Act::Send(message) => Act::Send(numbered_message(message, moment, count)),
-        Act::PeerUp(node) => Act::PeerUp(node),
-        Act::PeerLeaves(cause) => Act::PeerLeaves(cause),
-        Act::Pass(message) => Act::Pass(message),
-        Act::Drop => Act::Drop,
-    }
-}
-
-fn count_after_act(act: &Act, count: u32) -> u32
-    ensures { result ≡ count_after_act count act.now }
-{
-    match act {
-        Act::Send(message) if message.header.request => count_after(count),
-        Act::Send(_) | Act::PeerUp(_) | Act::PeerLeaves(_) | Act::Pass(_) | Act::Drop => count,
-    }
-}
-
-fn numbered_message(message: Message, moment: Moment, count: u32) -> Message
-    ensures { result ≡ numbered_message moment count message }
-{
-    if !message.header.request {
-        return message;
-    }
-    let end = identifier_at(moment, count);
     Message {
         header: Header {
             end,

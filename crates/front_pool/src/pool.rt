@@ -204,12 +204,18 @@ impl<L: Pooling> Pool<L> {
         None
     }
 
-    /// What a worker has put among the finished jobs. None where nothing is.
+    /// What a worker has put among the finished jobs. None where nothing is, which is asked first, since it takes less.
     fn take<R: Wait>(&mut self, rt: &R) -> Option<Finished>
         ensures some { IfSome result (λ finished. self.new ≡ record self.old { taken = self.old.taken ++ finished ∷ [] }) }
         ensures none { IfNone result (self.new ≡ self.old) }
         ensures answered { IfSome result (λ finished. IsAnsweredByOne L.site L.shared finished) }
     {
+        let there = self
+            .finished
+            .len_as::<TakesAnswered<L>, R>(rt, &mut self.finished_pass);
+        if there == 0 {
+            return None;
+        }
         self.finished
             .pop_as::<TakesAnswered<L>, R>(rt, &mut self.finished_pass)
     }
