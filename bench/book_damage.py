@@ -11,7 +11,7 @@ It makes a book with entries by `farm book create` and the model, and damages co
 Each copy is read by `farm book check`. Either that refuses it by one line and status 3, or 1 where the file cannot be opened; or it
 prints what it printed of the whole book, and stock SQLite reads the same rows as before. Of the terms and the identity no sum is
 made: a bit of those may also be told (another identity, or `look:`), or, where no entry and no account of the site rests on it, change
-nothing that is printed. Where `check` refuses, `farm front` refuses too, with the same line and before it listens, which is tried for
+nothing that is printed. Where `check` refuses, `farm front` refuses too, with the same first line and before it listens, which is tried for
 the first of each kind of line. Status 1 where something is otherwise. It needs the programs (./farm prove front, ./farm prove book). Not
 part of the gate.
 """
@@ -108,7 +108,7 @@ class Damage:
         why = line.split(": ", 1)[1]
         ran = subprocess.run([self.words.program, "front", "--site", self.site, "--book", book, "--log", "error"], capture_output=True, text=True,
                              timeout=SECONDS)
-        if ran.returncode != status or ran.stderr.strip() != f"the book cannot be opened: {why}":
+        if ran.returncode != status or ran.stderr.splitlines()[:1] != [f"the book cannot be opened: {why}"]:
             raise Otherwise(f"{what}: the fronts end with status {ran.returncode}: {ran.stderr.strip()!r}, and not: {why!r}")
 
     def judge(self, book, what, kind, may_be_told=False):

@@ -263,7 +263,7 @@ def port_in_use(relay):
     Path(f"{relay.room}/other.toml").write_text(other)
     words = [relay.words[0], "relay", "--site", f"{relay.room}/other.toml", "--name", "r1.example", "--status", str(relay.status)]
     done = subprocess.run(words, capture_output=True, text=True, timeout=30, stdin=subprocess.DEVNULL)
-    line = done.stderr.strip().splitlines()[-1] if done.stderr.strip() else ""
+    line = done.stderr.splitlines()[0] if done.stderr else ""
     return done.returncode == 1 and line.startswith("the status port cannot be opened"), f"status {done.returncode}: {line}"
 
 

@@ -5,6 +5,7 @@
 //!   the book back, once it has seen that every receipt stands in its one history.
 //! - [`SharedBook::sweep`] ends sessions that are due, and [`SharedBook::change_terms`] changes the terms (`specs/Changing`).
 //! - [`SharedBook::snapshot`] shows all accounts, and [`SharedBook::account`] one (`specs/Looking`).
+//! - [`SharedBook::commits`]: how often something was stored.
 //! - [`Seat`]: what a thread serves through. It counts its takes, in a ledger whose total stands beside the book.
 //! - [`Sharing`]: names one sharing.
 //!
@@ -33,6 +34,7 @@ mod asking;
 mod batching;
 mod charged;
 mod checking;
+mod commits;
 mod error;
 mod history;
 mod kept;
@@ -49,6 +51,7 @@ mod untold;
 
 pub use asking::{Asked, Served};
 pub use charged::SHOWN_CHARGES;
+pub use commits::Commits;
 pub use error::{ChangeError, CloseError, ServeError, ServeRefusal};
 pub use history::{Beginning, BlankHistory, Length, OneHistory, SeenHistory};
 pub use logged::Logged;

@@ -14,6 +14,7 @@ ghost use Rattle.book_journal.specs.Kept.{IsKeptBy, IsSettled};
 
 use crate::asking::{Asked, Served};
 use crate::batching::Batching;
+use crate::commits::{CommitCounts, Commits};
 use crate::error::{ChangeError, CloseError, ServeError, ServeRefusal};
 use crate::history::{Beginning, BlankHistory, ClosedHistory, Length, SeenHistory};
 use crate::kept::KeptBook;
@@ -54,6 +55,7 @@ pub struct LockedBook<L: Sharing, S: RowStore> {
     /// 1 once something was not stored, and 0 before.
     failed: AtomicU64,
     batching: Batching,
+    commits: CommitCounts,
 }
 
 /// Refuses these requests, since the book is closed.
@@ -172,6 +174,7 @@ impl<L: Sharing, S: RowStore + Drop> LockedBook<L, S> {
                 lock,
                 failed: AtomicU64::new(0),
                 batching,
+                commits: CommitCounts::none(),
             },
         ) else {
             return Err(book);
@@ -197,6 +200,11 @@ impl<L: Sharing, S: RowStore + Drop> LockedBook<L, S> {
         &self.batching
     }
 
+    /// How often something was stored since the book is shared, and how many entries that were.
+    pub fn commits(&self) -> Commits {
+        self.commits.so_far()
+    }
+
     /// Stores what an open book has done, in one commit; it stands behind the lock then, and what it has answered is told. None
     /// where it was not stored: the book is closed then.
     fn settle<T: Drop>(
@@ -208,8 +216,10 @@ impl<L: Sharing, S: RowStore + Drop> LockedBook<L, S> {
         requires { book ≡ untold.behind }
         ensures { IfSome result (λ told. told ≡ untold.told) }
     {
+        let waiting = book.waiting();
         match book.settle() {
             Ok(kept) => {
+                self.commits.add(waiting);
                 let told = untold.tell(&kept);
                 *behind = Behind::Open(kept);
                 Some(told)

@@ -303,6 +303,11 @@ impl<L: Sharing, S: RowStore + Drop> OpenBook<L, S> {
         }
     }
 
+    /// How many entries wait to be stored.
+    pub fn waiting(&self) -> u64 {
+        self.journal.waiting.len() as u64
+    }
+
     /// Stores all that waits, in one commit. What is stored is the whole history then. Without that whether it is stored is not
     /// known: the book is gone, and its history is handed back.
     pub fn settle(self) -> Result<KeptBook<L, S>, Beginning<L>>

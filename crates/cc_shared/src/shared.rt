@@ -10,6 +10,7 @@ ghost use Rattle.cc_shared.specs.Closing.{FinishesWith, HasCause, IsFinished, Is
 ghost use Rattle.book_journal.specs.Kept.{IsKeptBy, IsSettled};
 
 use crate::asking::{Asked, Served};
+use crate::commits::Commits;
 use crate::error::{ChangeError, CloseError, ServeError};
 use crate::history::BlankHistory;
 use crate::locked::LockedBook;
@@ -98,6 +99,11 @@ impl<L: Sharing, S: RowStore + Drop> SharedBook<L, S> {
     /// Whether the book is stored.
     pub fn is_stored(&self) -> bool {
         self.locked.batching().is_stored()
+    }
+
+    /// How often something of it was stored since it is shared, each time with one sync of the disk, and how many entries that were.
+    pub fn commits(&self) -> Commits {
+        self.locked.commits()
     }
 
     /// Waits until no other thread collects requests for a stored book. It does not wait where the book is in memory. What is collected

@@ -7,7 +7,9 @@
 //! charged, and the sweeps that end sessions. So whoever sets the system's clock ends no connection, and no session.
 #![tactic(auto)]
 
-ghost use Rattle.std.specs.Prelude.{◌≡◌, ◌≤◌, IfOk, max};
+ghost use Rattle.std.specs.Prelude.{◌≡◌, ◌≤◌, ◌+◌, ◌-◌, ◌/◌, IfOk, max, min};
+ghost use Rattle.std.specs.Duration.{as_nanos};
+ghost use Rattle.std.specs.Time.{instant_nanos};
 
 use dia_base::Moment;
 use std::io;
@@ -23,7 +25,9 @@ pub struct Timer {
 }
 
 /// Whole milliseconds, as many as fit.
-fn millis(duration: Duration) -> u64 {
+fn millis(duration: Duration) -> u64
+    ensures { result ≡ min (as_nanos duration / 1000000) 18446744073709551615 }
+{
     match u64::try_from(duration.as_millis()) {
         Ok(millis) => millis,
         Err(_) => u64::MAX,
@@ -62,11 +66,19 @@ impl Timer {
         Moment(self.first)
     }
 
+    /// The moment that it was at this instant, which the clock that never goes back has told.
+    pub fn at(&self, instant: Instant) -> Moment
+        ensures told { result.0 ≡ min (self.now.first + min ((instant_nanos instant - instant_nanos self.now.began) / 1000000) 18446744073709551615) 18446744073709551615 }
+        ensures behind { self.now.first ≤ result.0 }
+    {
+        let passed = millis(instant.duration_since(self.began));
+        Moment(self.first.saturating_add(passed))
+    }
+
     /// The moment that it is now.
     pub fn now<R: Clock>(&self, rt: &R) -> io::Result<Moment>
         ensures { IfOk result (λ moment. self.now.first ≤ moment.0) }
     {
-        let passed = millis(self.began.elapsed(rt)?);
-        Ok(Moment(self.first.saturating_add(passed)))
+        Ok(self.at(Instant::now(rt)?))
     }
 }

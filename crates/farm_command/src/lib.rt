@@ -23,6 +23,7 @@ pub use command::{
     Action, Audit, AuditAction, BookCommand, Check, Command, LogFormat, Picture, Process, Run, Task,
 };
 pub use fault::CliFault;
+pub use lines::VERSION;
 pub use reading::command_of;
 pub use status::{Status, Stream, end, refuse};
 pub use subcommand::Subcommand;

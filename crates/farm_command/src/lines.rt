@@ -35,6 +35,9 @@ enum Piece {
     },
 }
 
+/// The version of all programs.
+pub const VERSION: &str = "0.1.0";
+
 const SITE: Piece = Piece::Option {
     word: Word::Site,
     help: "The site file",
@@ -284,7 +287,7 @@ fn program<'a>(alloc: Global) -> Result<Line<'a>, AllocError>
         .about("Diameter relays and fronts for online charging")
         .bin_name("farm")?;
     Ok(
-        bare.version("0.1.0")
+        bare.version(VERSION)
             .no_binary_name(true)
             .disable_help_subcommand(true),
     )

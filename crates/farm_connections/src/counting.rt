@@ -1,6 +1,7 @@
 //! What is counted of what a node is told and of what it sends.
 
 use crate::end::End;
+use crate::link::Standing;
 use dia_base::{ConnId, NodeNo};
 use dia_message::{Message, Out};
 use farm_metrics::{Tally, code_of_answer};
@@ -57,5 +58,14 @@ pub fn count_failovers(tally: &mut Tally, out: &Out) {
         } else {
             tally.gave_up();
         }
+    }
+}
+
+/// A connection is let go, which somebody else has made or the node itself. It counts where nobody was ever up on it.
+pub fn count_let_go(tally: &mut Tally, accepted: bool, standing: Standing) {
+    match standing {
+        Standing::Waiting if accepted => tally.conn_refused(),
+        Standing::Waiting => tally.dial_failed(),
+        Standing::Up { .. } | Standing::Over { .. } => {}
     }
 }

@@ -7,6 +7,7 @@ ghost use Rattle.farm_connections.specs.Desks.{AreSettled, IsDownAt, IsEndOf, Is
 ghost use Rattle.farm_connections.specs.Doing.{Reacts};
 ghost use Rattle.farm_connections.specs.Turns.{IsDown, beginning};
 
+use crate::counting::count_let_go;
 use crate::desk::{Desk, flush_all, greet, place_of};
 use crate::end::{End, Ended, NotTaken, Refusal};
 use crate::link::{Link, Standing, is_overdue};
@@ -308,6 +309,7 @@ impl<N: Node, R: Read + Device, W: Write + Device> Serving<N, R, W> {
         let (why, _) = self.desk.links[place].end?;
         let link = self.desk.take_out(place);
         self.desk.notes.let_go(link.id, link.standing, why);
+        count_let_go(&mut self.desk.tally, link.accepted, link.standing);
         self.desk.recorder.gone(self.desk.alloc, link.id);
         Some(Ended {
             conn: link.id,
@@ -347,6 +349,22 @@ impl<N: Node, R: Read + Device, W: Write + Device> Serving<N, R, W> {
         ensures links { self.new.desk.links ≡ self.old.desk.links }
     {
         self.desk.tally.set_clock(now);
+    }
+
+    /// Counts a connection that somebody has made to a node here, and that was not taken.
+    pub fn count_refused(&mut self)
+        ensures kept { kept_by self.new.desk ≡ kept_by self.old.desk }
+        ensures links { self.new.desk.links ≡ self.old.desk.links }
+    {
+        self.desk.tally.conn_refused();
+    }
+
+    /// Counts a connection of a node here that was not made.
+    pub fn count_dial_failed(&mut self)
+        ensures kept { kept_by self.new.desk ≡ kept_by self.old.desk }
+        ensures links { self.new.desk.links ≡ self.old.desk.links }
+    {
+        self.desk.tally.dial_failed();
     }
 
     /// Records a connection that the node `local` opens with the node `peer`, which both ends call so.

@@ -33,9 +33,9 @@ mod port;
 mod rejected;
 mod share;
 mod sockets;
-mod stopwatch;
 mod tell;
 mod telling;
+mod turn_clock;
 mod why;
 
 pub use dial::{Dial, DialState, PATIENT_INTERVALS, are_tried, wait_after};

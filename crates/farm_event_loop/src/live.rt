@@ -14,8 +14,8 @@ use crate::limits::Limits;
 use crate::outgoing::Outgoing;
 use crate::share::Shares;
 use crate::sockets::Sockets;
-use crate::stopwatch::Stopwatch;
 use crate::telling::{explain, tell_note};
+use crate::turn_clock::TurnClock;
 use crate::why::Why;
 use crate::{Served, tell};
 use dia_avp::ViewWire;
@@ -59,9 +59,8 @@ pub struct Live<N> {
     limits: Limits,
     /// How many lines of the log were missing when that was last told.
     dropped: u64,
-    timer: Timer,
-    /// The clock of what is counted, and what was counted lately.
-    stopwatch: Stopwatch,
+    clock: TurnClock,
+    /// What was counted lately.
     trend: Trend,
     /// Why neighbours were lost last.
     causes: Causes,
@@ -83,8 +82,7 @@ impl<N: Drop> Drop for Live<N> {
             outgoing: _,
             limits: _,
             dropped: _,
-            timer: _,
-            stopwatch: _,
+            clock: _,
             trend: _,
             causes: _,
             interval: _,
@@ -157,7 +155,7 @@ impl<N: Node + Drop> Live<N> {
         endpoints: Vec<Endpoint>,
         timer: Timer,
     ) -> Result<Self, LoopFault> {
-        let moment = timer.now(os)?;
+        let clock = TurnClock::start(os, timer)?;
         let dials = dials_of(alloc, site, &endpoints)?;
         let (addresses, locals) = ends_of(alloc, endpoints)?;
         let limits = Limits::new(alloc, site.nodes.as_slice().len())?;
@@ -170,11 +168,10 @@ impl<N: Node + Drop> Live<N> {
             listens: false,
             again: Vec::new(alloc),
             later: Vec::new(alloc),
-            outgoing: Outgoing::new(alloc, site.watchdog, moment),
+            outgoing: Outgoing::new(alloc, site.watchdog, clock.moment()),
             limits,
             dropped: 0,
-            timer,
-            stopwatch: Stopwatch::start(os)?,
+            clock,
             trend: Trend::nothing(alloc),
             causes: Causes::none(alloc),
             interval: site.watchdog,
@@ -206,7 +203,7 @@ impl<N: Node + Drop> Live<N> {
         nodes: Vec<NodeNo>,
         is_client: bool,
     ) -> Result<(), LoopFault> {
-        let moment = self.timer.now(os)?;
+        let moment = self.begin_turn(os)?;
         let names = names_of(self.alloc, site)?;
         self.serving
             .begin_record(Recorder::on(self.alloc, names, is_client));
@@ -228,8 +225,7 @@ impl<N: Node + Drop> Live<N> {
             outgoing: _,
             limits: _,
             dropped: _,
-            timer: _,
-            stopwatch: _,
+            clock: _,
             trend: _,
             causes: _,
             interval: _,
@@ -260,12 +256,11 @@ impl<N: Node + Drop> Live<N> {
         site: &Site,
         access: &Access,
     ) -> Result<Moment, LoopFault> {
-        let before = self.timer.now(os)?;
+        let before = self.clock.moment();
         self.outgoing.look(&self.serving, before);
         let at_once = self.may_not_wait(site, before);
         self.sockets.wait(at_once)?;
-        let moment = self.timer.now(os)?;
-        self.serving.begin_turn(moment);
+        let moment = self.begin_turn(os)?;
         self.outgoing.find(site, &self.serving)?;
         self.read_again(os, site, moment)?;
         self.serve_ready(os, site, moment)?;
@@ -300,10 +295,20 @@ impl<N: Node + Drop> Live<N> {
         Ok(())
     }
 
-    /// What is counted from now on happens now.
-    fn set_clock<O: Clock>(&mut self, os: &O) -> Result<(), LoopFault> {
-        let now = self.stopwatch.now(os)?;
+    /// A turn begins: what happens in it is recorded with its moment, and counted from now on.
+    fn begin_turn<O: Clock>(&mut self, os: &O) -> Result<Moment, LoopFault> {
+        let now = self.clock.begin_turn(os)?;
+        let moment = self.clock.moment();
+        self.serving.begin_turn(moment);
         self.serving.set_clock(now);
+        Ok(moment)
+    }
+
+    /// What is counted from now on happens now, which the clock is asked for unless the turn has just begun.
+    fn set_clock<O: Clock>(&mut self, os: &O) -> Result<(), LoopFault> {
+        if let Some(now) = self.clock.look(os)? {
+            self.serving.set_clock(now);
+        }
         Ok(())
     }
 
@@ -318,6 +323,11 @@ impl<N: Node + Drop> Live<N> {
     /// What was counted during the last quarter of an hour.
     pub fn trend(&self) -> &Trend {
         &self.trend
+    }
+
+    /// The moment at which the last turn began.
+    pub fn moment(&self) -> Moment {
+        self.clock.moment()
     }
 
     /// What the clock of what is counted said last.
@@ -379,8 +389,7 @@ impl<N: Node + Drop> Live<N> {
         ensures addresses { IfOk result (λ _. self.new.addresses.items ≡ []) }
         ensures reads { IfOk result (λ _. self.new.outgoing.drains ≡ false) }
     {
-        let moment = self.timer.now(os)?;
-        self.serving.begin_turn(moment);
+        let moment = self.begin_turn(os)?;
         self.outgoing.set_draining(false);
         self.sockets.listeners.clear();
         self.addresses.clear();

@@ -3,26 +3,30 @@
 use crate::jobs::JobsTold;
 use book_store::RowStore;
 use cc_book::Book;
+use cc_shared::Commits;
 use dia_base::{Moment, NodeNo, PENDING_LIMIT};
 use farm_base::Site;
 use farm_client::Sender;
+use farm_command::VERSION;
 use farm_connections::Standing;
 use farm_event_loop::{Live, Served};
 use farm_node::Node;
 use farm_record::Recorder;
 use farm_status::{
-    BookStatus, Connections, FrontStatus, Peer, PeerPast, PeerState, ServedCount, Source, Status,
-    Work,
+    BookFile, BookStatus, Connections, FrontStatus, Peer, PeerPast, PeerState, ServedCount,
+    SiteFile, Source, Status, Work,
 };
 use farm_text::read_text;
 use front_pool::Pooling;
 use pool_node::{BookFigures, PoolFronts, ServedCounts};
 use relay_core::PartingRelay;
 use std::alloc::{AllocError, Global};
+use std::fs;
 use std::fs::File;
 use std::rt::Clock;
 use std::sync::Wait;
 use std::thread::Threads;
+use std::time::UNIX_EPOCH;
 
 /// A node that says what its book has come to, if it has one, and how many requests it has passed on and awaits answers for.
 pub trait Booked: Node + Drop {
@@ -35,6 +39,9 @@ pub trait Booked: Node + Drop {
 
     /// Whether something that its book has done was not stored: the process is to end then.
     fn has_failed(&self) -> bool;
+
+    /// How often something that its book has done was stored, if that is stored.
+    fn commits(&self) -> Option<Commits>;
 
     /// How many answers were dropped since their request has another End-to-End Identifier.
     fn mismatched(&self) -> u64;
@@ -66,6 +73,10 @@ impl Booked for PartingRelay {
 
     fn has_failed(&self) -> bool {
         false
+    }
+
+    fn commits(&self) -> Option<Commits> {
+        None
     }
 
     fn mismatched(&self) -> u64 {
@@ -101,6 +112,10 @@ impl Booked for Sender {
         false
     }
 
+    fn commits(&self) -> Option<Commits> {
+        None
+    }
+
     fn mismatched(&self) -> u64 {
         0
     }
@@ -134,6 +149,10 @@ impl<L: Pooling, S: RowStore + Drop, R: Wait + Drop> Booked for PoolFronts<L, S,
         PoolFronts::has_failed(self)
     }
 
+    fn commits(&self) -> Option<Commits> {
+        PoolFronts::commits(self)
+    }
+
     fn mismatched(&self) -> u64 {
         0
     }
@@ -164,6 +183,13 @@ pub struct View<'a, 'b, N> {
     /// The nodes of the process.
     pub nodes: &'a [NodeNo],
     pub live: &'a Live<N>,
+    /// The path of the site file, and that of the file with the book, if there is one.
+    pub site_path: &'a str,
+    pub book_path: Option<&'a str>,
+    /// When something of the book was stored last, if anything was.
+    pub last_commit: Option<Moment>,
+    /// Whether what happens is to be recorded.
+    pub is_recorded: bool,
     /// How long it has served, in milliseconds, and since when.
     pub uptime: u64,
     pub began: Moment,
@@ -232,6 +258,23 @@ fn resident_in(status: &str) -> Option<u64> {
         }
     }
     None
+}
+
+/// When the file at a path was changed last, in milliseconds since 1970, as far as the system tells.
+fn changed_at(rt: &HostRuntime, path: &str) -> Option<u64> {
+    let changed = fs::metadata(rt, path).ok()?.modified().ok()?;
+    let since = changed.duration_since(UNIX_EPOCH).ok()?;
+    u64::try_from(since.as_millis()).ok()
+}
+
+/// How many octets the file with a book has, with those of its log.
+fn size_at(rt: &HostRuntime, path: &str) -> Option<u64> {
+    let book = fs::metadata(rt, path).ok()?.len();
+    let log = format!(in rt.alloc(); "{path}-wal").ok()?;
+    match fs::metadata(rt, &log) {
+        Ok(found) => Some(book.saturating_add(found.len())),
+        Err(_) => Some(book),
+    }
 }
 
 /// The connections by their state.
@@ -382,6 +425,39 @@ impl<N: Node + Drop + Booked> View<'_, '_, N> {
         Ok(fronts)
     }
 
+    /// The site file.
+    fn site_file(&self) -> SiteFile<'_> {
+        let now = self.began.0.saturating_add(self.uptime);
+        SiteFile {
+            path: self.site_path,
+            age: changed_at(self.rt, self.site_path).map(|changed| now.saturating_sub(changed)),
+        }
+    }
+
+    /// The file of the book, if it is stored.
+    fn book_file(&self) -> Option<BookFile> {
+        let commits = self.live.serving.node().commits()?;
+        let size = match self.book_path {
+            Some(path) => size_at(self.rt, path),
+            None => None,
+        };
+        Some(BookFile {
+            size,
+            commits: commits.count,
+            committed: commits.entries,
+            last_commit: self.last_commit.map(|moment| moment.0),
+        })
+    }
+
+    /// Whether what happens is recorded no more.
+    fn is_record_lost(&self) -> Option<bool> {
+        if self.is_recorded {
+            Some(self.live.serving.recorder().has_failed())
+        } else {
+            None
+        }
+    }
+
     /// What the process does.
     fn work(&self) -> Result<Work, AllocError> {
         match self.live.serving.node().book() {
@@ -391,6 +467,7 @@ impl<N: Node + Drop + Booked> View<'_, '_, N> {
                     limit: self.site.limit,
                     sessions: figures.sessions(),
                     served: served_of(&figures.served),
+                    file: self.book_file(),
                 };
                 let fronts = self.fronts()?;
                 Ok(Work::Fronts {
@@ -410,6 +487,8 @@ impl<N: Node + Drop + Booked> View<'_, '_, N> {
 impl<N: Node + Drop + Booked> Source for View<'_, '_, N> {
     fn status(&self) -> Result<Status<'_>, AllocError> {
         Ok(Status {
+            version: VERSION,
+            site: self.site_file(),
             names: self.names()?,
             uptime: self.uptime,
             began: self.began.0,
@@ -417,6 +496,7 @@ impl<N: Node + Drop + Booked> Source for View<'_, '_, N> {
             peers: self.peers()?,
             connections: connections_of(&self.live.serving),
             unsent: unsent_in(&self.live.serving),
+            is_record_lost: self.is_record_lost(),
             work: self.work()?,
             tally: self.live.serving.tally(),
             trend: self.live.trend(),

@@ -13,9 +13,8 @@ use crate::token::token_at;
 use crate::view::{Booked, View, open_in};
 use book_store::RowStore;
 use cc_shared::Sharing;
-use dia_base::NodeNo;
+use dia_base::{Moment, NodeNo};
 use farm_base::Site;
-use farm_clock::Timer;
 use farm_command::Process;
 use farm_event_loop::{Live, StatusPort};
 use farm_node::Node;
@@ -34,7 +33,11 @@ pub struct Watching {
     nodes: Vec<NodeNo>,
     /// The hundredths of the book that were told of last.
     told: u64,
-    timer: Timer,
+    /// The moment of the turn at which it was looked at last.
+    looked: Moment,
+    /// How often the book was stored when that was last looked at, and when that was first seen, if it was stored.
+    commits: u64,
+    last_commit: Option<Moment>,
     /// How many answers came that nobody waited for.
     strangers: Rising,
     /// How many answers came whose request has another End-to-End Identifier.
@@ -145,7 +148,9 @@ impl Watching {
             port,
             nodes,
             told: 0,
-            timer: Timer::start(setting.os)?,
+            looked: Moment(0),
+            commits: 0,
+            last_commit: None,
             strangers: Rising::zero(),
             mismatched: Rising::zero(),
             is_end_told: false,
@@ -153,7 +158,8 @@ impl Watching {
     }
 
     /// Answers who asks what the process does, and hands the jobs on that are asked for; what the process is to do: it ends if it is
-    /// asked to, and no request is under way, or it was asked so long ago that it waits no more ([`grace`]).
+    /// asked to, and no request is under way, or it was asked so long ago that it waits no more ([`grace`]). It looks once at each moment:
+    /// of turns that begin within one millisecond only the first looks.
     pub fn look<N, L, S, O>(
         &mut self,
         setting: &Setting<'_, O>,
@@ -166,13 +172,29 @@ impl Watching {
         S: RowStore + Drop + Send + 'static,
         O: Threads + Wait + Clock + Copy + Send + 'static,
     {
+        let moment = live.moment();
+        if moment.0 == self.looked.0 {
+            return Ok(Course::Serve);
+        }
+        self.looked = moment;
+        self.see_commits(live);
         if let Some(jobs) = jobs
             && jobs.look(setting.os, setting.rt.alloc())
         {
             tell_change(setting.log, jobs.last_change());
         }
-        self.tell(setting, live, changed_entries(jobs))?;
+        self.tell(setting, live, changed_entries(jobs));
         self.serve_port(setting, live, jobs)
+    }
+
+    /// Sees whether something of the book was stored since the last look.
+    fn see_commits<N: Node + Drop + Booked>(&mut self, live: &Live<N>) {
+        if let Some(commits) = live.serving.node().commits()
+            && commits.count != self.commits
+        {
+            self.commits = commits.count;
+            self.last_commit = Some(live.moment());
+        }
     }
 
     /// Tells what the log says of the process now. Its book has `entries` at least.
@@ -181,12 +203,11 @@ impl Watching {
         setting: &Setting<'_, O>,
         live: &Live<N>,
         entries: u64,
-    ) -> Result<(), Fault> {
+    ) {
         self.tell_filling(setting.log, setting.site, live, entries);
-        let second = self.timer.now(setting.os)?.0 / 1_000;
+        let second = live.moment().0 / 1_000;
         self.tell_strangers(setting.log, live, second);
         self.tell_mismatched(setting.log, live, second);
-        Ok(())
     }
 
     /// Answers who asks at the status port, and hands on what is asked for; what the process is to do.
@@ -214,6 +235,10 @@ impl Watching {
             site: setting.site,
             nodes: &self.nodes,
             live,
+            site_path: setting.command.site,
+            book_path: setting.book,
+            last_commit: self.last_commit,
+            is_recorded: setting.command.record_path.is_some(),
             uptime,
             began: port.began(),
             told,

@@ -115,6 +115,8 @@ pub record IsNothing (tally : Tally) : Type 0 where
   pub answers : HasNoAnswers tally.answers
   pub failovers : tally.failovers ≡ 0
   pub given_up : tally.given_up ≡ 0
+  pub refused : tally.refused ≡ 0
+  pub dial_failures : tally.dial_failures ≡ 0
   pub times : tally.times ≡ record { rows = new_rows; count = 0; sum = 0 }
   pub clocks : HasNoClocks tally.clocks
   pub peers : tally.peers.counts.items ≡ []

@@ -1,6 +1,6 @@
 -- What is counted of each neighbour.
-use Rattle.std.specs.Prelude.{◌≡◌, ◌==◌, ◌&&◌, ◌||◌, ◌++◌, ◌∷◌, ◌⊎◌, [], ℕ, Bool, List, Option, Some, None, set, get_or, nat_le, slice_get, if◌then◌else◌}
-use Rattle.std.specs.List.{find, position}
+use Rattle.std.specs.Prelude.{◌≡◌, ◌==◌, ◌&&◌, ◌||◌, ◌++◌, ◌∷◌, ◌⊎◌, [], ℕ, Bool, List, Option, Some, None, set, get_or, nat_le, slice_get, not, if◌then◌else◌}
+use Rattle.std.specs.List.{filter, find, position}
 use Rattle.std.specs.Option.{option_map}
 use Rattle.dia_base.specs.declared.number.ConnId.{ConnId}
 use Rattle.dia_base.specs.declared.number.NodeNo.{NodeNo}
@@ -12,7 +12,7 @@ use Rattle.farm_metrics.specs.declared.peers.PeerConn.{PeerConn}
 
 -- a neighbour that was never up
 abbrev pub new_count : NodeNo → NodeNo → PeerCount
-new_count local peer = record { local = local; peer = peer; ups = 0; losses = 0; silences = 0; requests = 0; answers = 0; refusals = 0; since = record { 0 = 0 } }
+new_count local peer = record { local = local; peer = peer; losses = 0; silences = 0; requests = 0; answers = 0; refusals = 0; since = record { 0 = 0 } }
 
 -- a Result-Code that is none, or of no success: 3000 and above (RFC 6733, section 7.1)
 abbrev pub is_refusal : ℕ → Bool
@@ -21,7 +21,7 @@ is_refusal code = nat_le 3000 code || (code == 0)
 -- ---- one more
 
 abbrev pub with_up : Micros → PeerCount → PeerCount
-with_up now count = record count { ups = plus count.ups 1; since = now }
+with_up now count = record count { since = now }
 
 abbrev pub with_loss : Bool → Micros → PeerCount → PeerCount
 with_loss is_silent now count = record count { losses = plus count.losses 1; silences = if is_silent then plus count.silences 1 else count.silences; since = now }
@@ -60,3 +60,14 @@ changed change (Some place) counts = set counts place (change (get_or counts pla
 abbrev pub IsCountedUp : NodeNo → NodeNo → Micros → Option ℕ → List PeerCount → List PeerCount → Type 0
 IsCountedUp local peer now (Some place) old new = new ≡ changed (with_up now) (Some place) old
 IsCountedUp local peer now None old new = (new ≡ old ++ with_up now (new_count local peer) ∷ []) ⊎ (new ≡ old)
+
+-- ---- on which connection
+
+-- A neighbour that is counted at a place is noted behind those that are up, or, without memory, nowhere.
+abbrev pub IsNoted : ConnId → Option ℕ → List PeerConn → List PeerConn → Type 0
+IsNoted conn (Some place) old new = (new ≡ old ++ (record { conn = conn; place = place }) ∷ []) ⊎ (new ≡ old)
+IsNoted conn None old new = new ≡ old
+
+-- those that are up on others
+abbrev pub without : ConnId → List PeerConn → List PeerConn
+without conn conns = filter (λ (up : PeerConn). not (up.conn.0 == conn.0)) conns

@@ -1,7 +1,7 @@
 //! What is counted of each neighbour.
 
-ghost use Rattle.std.specs.Prelude.{◌≡◌, []};
-ghost use Rattle.farm_metrics.specs.Neighbours.{IsCountedUp, changed, count_of, is_refusal, new_count, place_of, place_on, with_answer, with_loss, with_request, with_up};
+ghost use Rattle.std.specs.Prelude.{◌≡◌, [], IfSome, Some};
+ghost use Rattle.farm_metrics.specs.Neighbours.{IsCountedUp, IsNoted, changed, count_of, is_refusal, new_count, place_of, place_on, with_answer, with_loss, with_request, with_up, without};
 
 use crate::times::Micros;
 use dia_base::{ConnId, NodeNo};
@@ -12,8 +12,7 @@ use std::alloc::Global;
 pub struct PeerCount {
     pub local: NodeNo,
     pub peer: NodeNo,
-    /// How often it came up, and how often it was lost then.
-    pub ups: u64,
+    /// How often it was lost.
     pub losses: u64,
     /// How often it was lost since it was silent (RFC 6733, section 5.5).
     pub silences: u64,
@@ -56,7 +55,6 @@ impl PeerCount {
         PeerCount {
             local,
             peer,
-            ups: 0,
             losses: 0,
             silences: 0,
             requests: 0,
@@ -70,7 +68,6 @@ impl PeerCount {
     fn up(&mut self, now: Micros)
         ensures { self.new ≡ with_up now self.old }
     {
-        self.ups = self.ups.saturating_add(1);
         self.since = now;
     }
 
@@ -133,34 +130,34 @@ impl Peers {
 
     /// Nobody is up on a connection any more.
     fn remove(&mut self, conn: ConnId)
-        ensures { self.new.counts ≡ self.old.counts }
+        ensures counts { self.new.counts ≡ self.old.counts }
+        ensures conns { self.new.conns.items ≡ without conn self.old.conns.items }
     {
-        if let Some(at) = self.conns.iter().position(|up| up.conn.0 == conn.0) {
-            let _ended = self.conns.swap_remove(at);
-        }
+        self.conns.retain(|up| up.conn.0 != conn.0);
     }
 
     /// A neighbour comes up: the place of what is counted of it. None without memory.
     fn count_up(&mut self, local: NodeNo, peer: NodeNo, now: Micros) -> Option<usize>
         ensures conns { self.new.conns ≡ self.old.conns }
         ensures counts { IsCountedUp local peer now (place_of local peer self.old.counts.items) self.old.counts.items self.new.counts.items }
+        ensures place { IfSome result (λ place. place_of local peer self.new.counts.items ≡ Some place) }
     {
         if let Some(place) = place_of(&self.counts, local, peer) {
             self.counts[place].up(now);
             return Some(place);
         }
-        let place = self.counts.len();
         let mut count = PeerCount::of(local, peer);
         count.up(now);
         match self.counts.push(count) {
-            Ok(()) => Some(place),
+            Ok(()) => place_of(&self.counts, local, peer),
             Err(_) => None,
         }
     }
 
     /// A neighbour comes up on a connection. Without memory nothing more is counted of it on that.
     pub fn up(&mut self, conn: ConnId, local: NodeNo, peer: NodeNo, now: Micros)
-        ensures { IsCountedUp local peer now (place_of local peer self.old.counts.items) self.old.counts.items self.new.counts.items }
+        ensures counts { IsCountedUp local peer now (place_of local peer self.old.counts.items) self.old.counts.items self.new.counts.items }
+        ensures conns { IsNoted conn (place_of local peer self.new.counts.items) self.old.conns.items self.new.conns.items }
     {
         if let Some(place) = self.count_up(local, peer, now) {
             let _ = self.conns.push(PeerConn { conn, place });
@@ -170,11 +167,11 @@ impl Peers {
     /// The neighbour that was up on a connection is lost, since it was silent or not.
     pub fn lost(&mut self, conn: ConnId, is_silent: bool, now: Micros)
         ensures counts { self.new.counts.items ≡ changed (with_loss is_silent now) (place_on self.old conn) self.old.counts.items }
+        ensures conns { self.new.conns.items ≡ without conn self.old.conns.items }
     {
-        let Some(place) = self.place_on(conn) else {
-            return;
-        };
-        if place < self.counts.len() {
+        if let Some(place) = self.place_on(conn)
+            && place < self.counts.len()
+        {
             self.counts[place].lost(is_silent, now);
         }
         self.remove(conn);

@@ -2,7 +2,7 @@
 
 ghost use Rattle.std.specs.Prelude.{◌≡◌};
 ghost use Rattle.farm_metrics.specs.Counting.{IsBegun, IsCounted, IsNothing, IsTimed, IsUntimed, plus};
-ghost use Rattle.farm_metrics.specs.Neighbours.{IsCountedUp, changed, place_of, place_on, with_answer, with_loss, with_request};
+ghost use Rattle.farm_metrics.specs.Neighbours.{IsCountedUp, IsNoted, changed, place_of, place_on, with_answer, with_loss, with_request, without};
 
 use crate::answers::Answers;
 use crate::clocks::Clocks;
@@ -24,6 +24,10 @@ pub struct Tally {
     pub failovers: u64,
     /// Requests that it has answered itself, since a connection was lost and they could not be sent again.
     pub given_up: u64,
+    /// Connections that others have made and that ended with nobody up.
+    pub refused: u64,
+    /// Connections of its own that were not made, or ended with nobody up.
+    pub dial_failures: u64,
     /// From when a request came until its answer was handed to its connection.
     pub times: Times,
     /// What was counted of each neighbour.
@@ -44,6 +48,8 @@ impl Tally {
             answers: Answers::none(alloc),
             failovers: 0,
             given_up: 0,
+            refused: 0,
+            dial_failures: 0,
             times: Times::none(),
             peers: Peers::none(alloc),
             clocks: Clocks::none(alloc),
@@ -61,6 +67,7 @@ impl Tally {
     /// A neighbour of a node here is up on a connection.
     pub fn peer_up(&mut self, conn: ConnId, local: NodeNo, peer: NodeNo)
         ensures counted { IsCountedUp local peer self.old.clock (place_of local peer self.old.peers.counts.items) self.old.peers.counts.items self.new.peers.counts.items }
+        ensures conns { IsNoted conn (place_of local peer self.new.peers.counts.items) self.old.peers.conns.items self.new.peers.conns.items }
         ensures others { self.new ≡ record self.old { peers = self.new.peers } }
     {
         self.peers.up(conn, local, peer, self.clock);
@@ -69,6 +76,7 @@ impl Tally {
     /// The neighbour that was up on a connection is lost, since it was silent or not.
     pub fn peer_lost(&mut self, conn: ConnId, is_silent: bool)
         ensures counted { self.new.peers.counts.items ≡ changed (with_loss is_silent self.old.clock) (place_on self.old.peers conn) self.old.peers.counts.items }
+        ensures conns { self.new.peers.conns.items ≡ without conn self.old.peers.conns.items }
         ensures others { self.new ≡ record self.old { peers = self.new.peers } }
     {
         self.peers.lost(conn, is_silent, self.clock);
@@ -119,6 +127,20 @@ impl Tally {
         ensures { self.new ≡ record self.old { failovers = plus self.old.failovers 1 } }
     {
         self.failovers = self.failovers.saturating_add(1);
+    }
+
+    /// A connection that somebody has made was not taken, or ended with nobody up.
+    pub fn conn_refused(&mut self)
+        ensures { self.new ≡ record self.old { refused = plus self.old.refused 1 } }
+    {
+        self.refused = self.refused.saturating_add(1);
+    }
+
+    /// A connection of its own was not made, or ended with nobody up.
+    pub fn dial_failed(&mut self)
+        ensures { self.new ≡ record self.old { dial_failures = plus self.old.dial_failures 1 } }
+    {
+        self.dial_failures = self.dial_failures.saturating_add(1);
     }
 
     /// The node has answered a request itself, since a connection was lost.

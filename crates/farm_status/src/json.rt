@@ -8,7 +8,7 @@ use crate::escape::push_label;
 use crate::health::health_of;
 use crate::lately::lately;
 use crate::numbers::{FineSeconds, Seconds};
-use crate::status::{BookStatus, FrontStatus, Peer, PeerPast, PeerState, Status, Work};
+use crate::status::{BookFile, BookStatus, FrontStatus, Peer, PeerPast, PeerState, Status, Work};
 use farm_metrics::{Answers, Tally};
 use std::alloc::AllocError;
 
@@ -64,7 +64,19 @@ fn push_process(out: &mut String, status: &Status<'_>) -> Result<(), AllocError>
         out,
         ",\"health\":\"{health}\",\"uptime_seconds\":{uptime},\"start_time_seconds\":{began},\"memory_bytes\":"
     )?;
-    push_optional(out, status.memory)
+    push_optional(out, status.memory)?;
+    out.push_str(",\"version\":")?;
+    push_text(out, status.version)?;
+    out.push_str(",\"site_file\":")?;
+    push_text(out, status.site.path)?;
+    if let Some(age) = status.site.age {
+        let age = Seconds(age);
+        write!(out, ",\"site_file_age_seconds\":{age}")?;
+    }
+    match status.is_record_lost {
+        Some(is_lost) => write!(out, ",\"record_lost\":{is_lost}"),
+        None => Ok(()),
+    }
 }
 
 fn state_word(state: PeerState) -> &'static str {
@@ -126,6 +138,11 @@ fn push_connections(out: &mut String, status: &Status<'_>) -> Result<(), AllocEr
     write!(
         out,
         ",\"connections\":{{\"up\":{up},\"unknown\":{unknown},\"ending\":{ending}}},\"unsent_bytes\":{unsent}"
+    )?;
+    let (refused, failures) = (status.tally.refused, status.tally.dial_failures);
+    write!(
+        out,
+        ",\"connections_refused\":{refused},\"dial_failures\":{failures}"
     )
 }
 
@@ -194,8 +211,31 @@ fn push_book(out: &mut String, book: BookStatus) -> Result<(), AllocError> {
     let (credit, refusals, repeats) = (served.credit_refusals, served.refusals, served.repeats);
     write!(
         out,
-        ",\"credit_refusals\":{credit},\"refusals\":{refusals},\"repeats\":{repeats}}}"
-    )
+        ",\"credit_refusals\":{credit},\"refusals\":{refusals},\"repeats\":{repeats}"
+    )?;
+    push_file(out, book.file)?;
+    out.push_str("}")
+}
+
+/// The file of the book, or that it is kept in memory alone.
+fn push_file(out: &mut String, file: Option<BookFile>) -> Result<(), AllocError> {
+    let Some(file) = file else {
+        return out.push_str(",\"kept\":\"memory\"");
+    };
+    out.push_str(",\"kept\":\"file\",\"file_bytes\":")?;
+    push_optional(out, file.size)?;
+    let (commits, committed) = (file.commits, file.committed);
+    write!(
+        out,
+        ",\"commits\":{commits},\"committed_entries\":{committed},\"last_commit_seconds\":"
+    )?;
+    match file.last_commit {
+        Some(moment) => {
+            let last = Seconds(moment);
+            write!(out, "{last}")
+        }
+        None => out.push_str("null"),
+    }
 }
 
 fn push_work(out: &mut String, work: &Work) -> Result<(), AllocError> {

@@ -37,6 +37,7 @@ pub use names::code_name;
 pub use page::push_page;
 pub use reply::{Job, Jobs, Reply, reply_to};
 pub use status::{
-    BookStatus, Connections, FrontStatus, Peer, PeerPast, PeerState, ServedCount, Status, Work,
+    BookFile, BookStatus, Connections, FrontStatus, Peer, PeerPast, PeerState, ServedCount,
+    SiteFile, Status, Work,
 };
 pub use token::{TOKEN_LEAST, TOKEN_MOST, Token, TokenFault};

@@ -6,7 +6,7 @@ ghost use Rattle.farm_status.specs.Figures.{sample_text};
 use crate::escape::push_label;
 use crate::numbers::{Bound, FineSeconds, Seconds};
 use crate::peers::push_peers;
-use crate::status::{BookStatus, FrontStatus, ServedCount, Status, Work};
+use crate::status::{BookFile, BookStatus, FrontStatus, ServedCount, Status, Work};
 use farm_metrics::{Answers, Times};
 use std::alloc::AllocError;
 
@@ -16,6 +16,7 @@ pub(crate) enum Kind {
     Counter,
     Gauge,
     Histogram,
+    Summary,
 }
 
 impl Kind {
@@ -24,6 +25,7 @@ impl Kind {
             Kind::Counter => "counter",
             Kind::Gauge => "gauge",
             Kind::Histogram => "histogram",
+            Kind::Summary => "summary",
         }
     }
 }
@@ -61,7 +63,7 @@ fn labelled(
     write!(out, "\"}} {value}\n")
 }
 
-/// Who it is, since when, and how much memory it takes.
+/// Who it is, since when, how much memory it takes, and whether its record is lost.
 fn push_process(out: &mut String, status: &Status<'_>) -> Result<(), AllocError> {
     let name = "farm_uptime_seconds";
     head(out, name, Kind::Gauge, "How long the process has served.")?;
@@ -76,6 +78,14 @@ fn push_process(out: &mut String, status: &Status<'_>) -> Result<(), AllocError>
         let help = "Octets of the process that are in memory.";
         single(out, "farm_resident_memory_bytes", Kind::Gauge, help, memory)?;
     }
+    let name = "farm_build_info";
+    head(out, name, Kind::Gauge, "The version of the program.")?;
+    labelled(out, name, "version", status.version, 1)?;
+    if let Some(is_lost) = status.is_record_lost {
+        let help = "Whether what happens is recorded no more, since that could not be written.";
+        let lost = u64::from(is_lost);
+        single(out, "farm_record_lost", Kind::Gauge, help, lost)?;
+    }
     let name = "farm_node_info";
     head(out, name, Kind::Gauge, "A node of the process.")?;
     for node in &status.names {
@@ -84,7 +94,7 @@ fn push_process(out: &mut String, status: &Status<'_>) -> Result<(), AllocError>
     Ok(())
 }
 
-/// The connections by their state, and what waits to be written on them.
+/// The connections by their state, what waits to be written on them, and those on which nobody came up.
 fn push_connections(out: &mut String, status: &Status<'_>) -> Result<(), AllocError> {
     let name = "farm_connections";
     head(out, name, Kind::Gauge, "Connections by their state.")?;
@@ -93,7 +103,13 @@ fn push_connections(out: &mut String, status: &Status<'_>) -> Result<(), AllocEr
     labelled(out, name, "state", "unknown", connections.unknown)?;
     labelled(out, name, "state", "ending", connections.ending)?;
     let help = "Octets that wait to be written.";
-    single(out, "farm_unsent_bytes", Kind::Gauge, help, status.unsent)
+    single(out, "farm_unsent_bytes", Kind::Gauge, help, status.unsent)?;
+    let name = "farm_connections_refused_total";
+    let help = "Connections that others have made and on which no node came up.";
+    single(out, name, Kind::Counter, help, status.tally.refused)?;
+    let name = "farm_dial_failures_total";
+    let help = "Connections that were to be made and on which no node came up.";
+    single(out, name, Kind::Counter, help, status.tally.dial_failures)
 }
 
 /// Answers by their Result-Code.
@@ -190,7 +206,32 @@ fn push_book(out: &mut String, book: &BookStatus) -> Result<(), AllocError> {
     single(out, "farm_book_limit", Kind::Gauge, help, book.limit)?;
     let help = "Sessions that are open.";
     single(out, "farm_sessions_open", Kind::Gauge, help, book.sessions)?;
-    push_served(out, &book.served)
+    push_served(out, &book.served)?;
+    match book.file {
+        Some(file) => push_file(out, file),
+        None => Ok(()),
+    }
+}
+
+/// The file that the book is stored in.
+fn push_file(out: &mut String, file: BookFile) -> Result<(), AllocError> {
+    if let Some(size) = file.size {
+        let help = "Octets of the file of the book, with its log.";
+        single(out, "farm_book_file_bytes", Kind::Gauge, help, size)?;
+    }
+    let name = "farm_book_commit_entries";
+    let help = "How many entries were stored with one sync of the disk.";
+    head(out, name, Kind::Summary, help)?;
+    let (commits, committed) = (file.commits, file.committed);
+    write!(out, "{name}_sum {committed}\n{name}_count {commits}\n")?;
+    if let Some(moment) = file.last_commit {
+        let name = "farm_book_last_commit_timestamp_seconds";
+        let help = "When something was stored last, in seconds since 1970.";
+        head(out, name, Kind::Gauge, help)?;
+        let last = Seconds(moment);
+        write!(out, "{name} {last}\n")?;
+    }
+    Ok(())
 }
 
 /// Requests by what they came to.

@@ -10,7 +10,7 @@ use crate::health::{Health, health_of};
 use crate::lately::push_lately;
 use crate::names::code_name;
 use crate::numbers::{Grouped, Millis, Size, Span, percent};
-use crate::status::{BookStatus, FrontStatus, Peer, PeerPast, PeerState, Status, Work};
+use crate::status::{BookFile, BookStatus, FrontStatus, Peer, PeerPast, PeerState, Status, Work};
 use crate::tiles::push_tiles;
 use farm_metrics::{Answers, Times};
 use std::alloc::AllocError;
@@ -34,7 +34,7 @@ p{margin:.2rem 0;color:#57606a}
 .tile span{color:#57606a}
 .bad{border-color:#cf222e;background:#ffebe9}
 table{border-collapse:collapse;width:100%;background:#fff;border:1px solid #d8dee4}
-th,td{text-align:left;padding:.3rem .75rem;border-top:1px solid #eaeef2;overflow-wrap:anywhere}
+th,td{text-align:left;padding:.3rem .75rem;border-top:1px solid #eaeef2;overflow-wrap:break-word}
 th{color:#57606a;font-weight:600}
 .n{text-align:right;font-variant-numeric:tabular-nums;white-space:nowrap}
 .s{font-weight:600}
@@ -97,6 +97,25 @@ fn push_head(out: &mut String, status: &Status<'_>) -> Result<(), AllocError> {
         let size = Size(memory);
         write!(out, " &middot; {size} in memory")?;
     }
+    out.push_str(" &middot; version ")?;
+    push_html(out, status.version)?;
+    out.push_str("</p>\n")?;
+    push_site(out, status)
+}
+
+/// The site file, and that it was changed since it was read, if it was.
+fn push_site(out: &mut String, status: &Status<'_>) -> Result<(), AllocError> {
+    out.push_str("<p>site file ")?;
+    push_html(out, status.site.path)?;
+    if let Some(age) = status.site.age {
+        let span = Span(age);
+        write!(out, ", changed {span} ago")?;
+        if age < status.uptime {
+            out.push_str(
+                " <b>and so since this process has read it: what it says now does not hold yet</b>",
+            )?;
+        }
+    }
     out.push_str("</p>\n")
 }
 
@@ -135,6 +154,14 @@ fn push_peers(out: &mut String, status: &Status<'_>) -> Result<(), AllocError> {
     write!(
         out,
         "</table></div>\n<p>Connections of which nobody has said whose they are: {unknown}. Connections that are ending: {ending}.</p>\n"
+    )?;
+    let (refused, failures) = (
+        Grouped(status.tally.refused),
+        Grouped(status.tally.dial_failures),
+    );
+    write!(
+        out,
+        "<p>Connections on which no node came up: {refused} that others have made, {failures} of this process.</p>\n"
     )
 }
 
@@ -209,7 +236,7 @@ fn push_bar(out: &mut String, count: u64, all: u64) -> Result<(), AllocError> {
 /// Answers by their Result-Code.
 fn push_answers(out: &mut String, answers: &Answers) -> Result<(), AllocError> {
     out.push_str(
-        "<h2>Answers</h2>\n<table>\n<tr><th>Result-Code</th><th>Name</th><th class=\"n\">Answers</th><th class=\"n\">Share</th><th></th></tr>\n",
+        "<h2>Answers</h2>\n<div class=\"wide\"><table>\n<tr><th>Result-Code</th><th>Name</th><th class=\"n\">Answers</th><th class=\"n\">Share</th><th></th></tr>\n",
     )?;
     let all = answers.total();
     for at in &answers.codes {
@@ -221,7 +248,7 @@ fn push_answers(out: &mut String, answers: &Answers) -> Result<(), AllocError> {
         out.push_str("<tr><td>others</td><td></td>")?;
         push_bar(out, answers.others, all)?;
     }
-    out.push_str("</table>\n")
+    out.push_str("</table></div>\n")
 }
 
 /// How long so many thousandths of the requests took at most.
@@ -277,7 +304,7 @@ fn push_times(out: &mut String, times: &Times) -> Result<(), AllocError> {
 /// What is under way at fronts.
 fn push_fronts(out: &mut String, fronts: &[FrontStatus]) -> Result<(), AllocError> {
     out.push_str(
-        "<h2>Fronts</h2>\n<table>\n<tr><th>Front</th><th class=\"n\">Under way</th><th class=\"n\">May wait</th><th class=\"n\">Workers</th></tr>\n",
+        "<h2>Fronts</h2>\n<div class=\"wide\"><table>\n<tr><th>Front</th><th class=\"n\">Under way</th><th class=\"n\">May wait</th><th class=\"n\">Workers</th></tr>\n",
     )?;
     for front in fronts {
         out.push_str("<tr><td>")?;
@@ -292,7 +319,7 @@ fn push_fronts(out: &mut String, fronts: &[FrontStatus]) -> Result<(), AllocErro
             "</td><td class=\"n\">{waiting}</td><td class=\"n\">{queue}</td><td class=\"n\">{workers}</td></tr>\n"
         )?;
     }
-    out.push_str("</table>\n")
+    out.push_str("</table></div>\n")
 }
 
 /// What the book has come to, and what is left of it. From 80 hundredths on it is shown as full.
@@ -307,7 +334,7 @@ fn push_book(out: &mut String, book: &BookStatus) -> Result<(), AllocError> {
     let sessions = Grouped(book.sessions);
     write!(
         out,
-        "<h2>Book</h2>\n<table>\n<tr><th>Entries</th><td class=\"n\">{entries} of {limit}, {left} left</td><td class=\"n\">{share} %</td><td class=\"bar\"><i class=\"{class}\" style=\"width:{share}%\"></i></td></tr>\n"
+        "<h2>Book</h2>\n<div class=\"wide\"><table>\n<tr><th>Entries</th><td class=\"n\">{entries} of {limit}, {left} left</td><td class=\"n\">{share} %</td><td class=\"bar\"><i class=\"{class}\" style=\"width:{share}%\"></i></td></tr>\n"
     )?;
     write!(
         out,
@@ -322,7 +349,27 @@ fn push_book(out: &mut String, book: &BookStatus) -> Result<(), AllocError> {
     ] {
         push_row(out, name, count)?;
     }
-    out.push_str("</table>\n")
+    out.push_str("</table></div>\n")?;
+    push_file(out, book.file)
+}
+
+/// The file of the book, or that it is kept in memory alone.
+fn push_file(out: &mut String, file: Option<BookFile>) -> Result<(), AllocError> {
+    let Some(file) = file else {
+        return out.push_str(
+            "<p><b>The book is kept in memory</b>: it ends with this process, and the next one begins with the openings.</p>\n",
+        );
+    };
+    out.push_str("<p>The book is kept in a file")?;
+    if let Some(size) = file.size {
+        let size = Size(size);
+        write!(out, " of {size}")?;
+    }
+    let (commits, committed) = (Grouped(file.commits), Grouped(file.committed));
+    write!(
+        out,
+        ". Entries that were stored since the process began: {committed}, in {commits} commits.</p>\n"
+    )
 }
 
 /// A row of the book's table.

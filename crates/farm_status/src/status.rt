@@ -72,6 +72,20 @@ pub struct BookStatus {
     /// Sessions that are open.
     pub sessions: u64,
     pub served: ServedCount,
+    /// The file that it is stored in; none where it is kept in memory alone.
+    pub file: Option<BookFile>,
+}
+
+/// The file that a book is stored in.
+#[derive(Clone, Copy, PartialEq, Eq)]
+pub struct BookFile {
+    /// Its octets, with those of its log; none where the system does not tell.
+    pub size: Option<u64>,
+    /// How often something was stored since the process began, each time with one sync of the disk, and how many entries that were.
+    pub commits: u64,
+    pub committed: u64,
+    /// When something was stored last, in milliseconds since 1970, if anything was.
+    pub last_commit: Option<u64>,
 }
 
 /// Requests that workers have answered by the book since the process began, by what they came to. Each is counted once.
@@ -106,8 +120,19 @@ pub enum Work {
     },
 }
 
+/// The site file that the process has read.
+#[derive(Clone, Copy)]
+pub struct SiteFile<'a> {
+    pub path: &'a str,
+    /// For how many milliseconds it is as it is now, where the system tells.
+    pub age: Option<u64>,
+}
+
 /// What a node says of itself.
 pub struct Status<'a> {
+    /// The version of the program.
+    pub version: &'a str,
+    pub site: SiteFile<'a>,
     /// The nodes of the process by their names: a relay, or all fronts of a site.
     pub names: Vec<String>,
     /// How many milliseconds it has served.
@@ -120,6 +145,8 @@ pub struct Status<'a> {
     pub connections: Connections,
     /// Octets that wait to be written.
     pub unsent: u64,
+    /// Whether what happens is recorded no more, since that could not be written; none where nothing is to be recorded.
+    pub is_record_lost: Option<bool>,
     pub work: Work,
     /// What it has counted, and what it had during the last quarter of an hour.
     pub tally: &'a Tally,
@@ -130,6 +157,8 @@ pub struct Status<'a> {
 impl<'a> Drop for Status<'a> {
     fn drop(self) {
         let Status {
+            version: _,
+            site: _,
             names: _,
             uptime: _,
             began: _,
@@ -137,6 +166,7 @@ impl<'a> Drop for Status<'a> {
             peers: _,
             connections: _,
             unsent: _,
+            is_record_lost: _,
             work: _,
             tally: _,
             trend: _,

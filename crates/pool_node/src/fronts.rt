@@ -13,7 +13,7 @@ use crate::front::PoolFront;
 use crate::timing::Timing;
 use book_store::RowStore;
 use cc_book::BookRefusal;
-use cc_shared::{ClosedBook, SharedBook};
+use cc_shared::{ClosedBook, Commits, SharedBook};
 use cc_sweeper::{SweepDone, Sweeper};
 use dia_avp::Wire;
 use dia_base::{ConnId, Listing, Moment, NodeNo};
@@ -174,6 +174,16 @@ impl<L: Pooling, S: RowStore + Drop, R: Wait> PoolFronts<L, S, R> {
     /// Whether something that the book has done was not stored. The process is to end then: whether it stands is not known.
     pub fn has_failed(&self) -> bool {
         self.shared.has_failed()
+    }
+
+    /// How often something of the book was stored since the process began, and how many entries that were; none where it is kept in
+    /// memory alone.
+    pub fn commits(&self) -> Option<Commits> {
+        if self.shared.is_stored() {
+            Some(self.shared.commits())
+        } else {
+            None
+        }
     }
 
     /// What the book has come to, as far as answers were collected.

@@ -86,6 +86,7 @@ impl<N: Node + Drop> Live<N> {
         let address = canonical(peer.ip());
         let node = Named { site, node: local };
         if !access.admits(address) {
+            self.serving.count_refused();
             if self.limits.admit(Kind::NotAdmitted, None, moment) {
                 tell::not_admitted(log, node, address);
             }
@@ -140,7 +141,7 @@ impl<N: Node + Drop> Live<N> {
         }
     }
 
-    /// Tells that one was not.
+    /// Counts one that was not taken, and tells of it.
     fn tell_not_taken<L: Log>(
         &mut self,
         log: &L,
@@ -149,6 +150,7 @@ impl<N: Node + Drop> Live<N> {
         why: Refusal,
         moment: Moment,
     ) {
+        self.serving.count_refused();
         if self.limits.admit(Kind::NotTaken, None, moment) {
             tell::not_taken(log, node, address, why);
         }

@@ -61,6 +61,9 @@ impl<N: Node + Drop> Live<N> {
                         None => dial.fail(moment, self.interval),
                     }
                 }
+                if state.is_none() {
+                    self.serving.count_dial_failed();
+                }
             }
         }
     }

@@ -3,7 +3,8 @@
 use dia_base::{ConnId, NodeNo};
 use farm_metrics::{Micros, Sample, Tally, Trend};
 use farm_status::{
-    BookStatus, Connections, FrontStatus, Peer, PeerPast, PeerState, ServedCount, Status, Work,
+    BookFile, BookStatus, Connections, FrontStatus, Peer, PeerPast, PeerState, ServedCount,
+    SiteFile, Status, Work,
 };
 use std::alloc::{AllocError, Global};
 
@@ -34,6 +35,9 @@ pub fn tally_of(alloc: Global) -> Tally {
     tally.request_sent();
     tally.failed_over();
     tally.gave_up();
+    tally.conn_refused();
+    tally.conn_refused();
+    tally.dial_failed();
     tally
 }
 
@@ -61,6 +65,14 @@ fn past(alloc: Global, tally: &Tally) -> Result<Option<PeerPast>, AllocError> {
         cause: Some(String::from_str(alloc, "the other end is silent")?),
     }))
 }
+
+/// The file of the book: thirty-one commits.
+const FILE: BookFile = BookFile {
+    size: Some(402_653_184),
+    commits: 31,
+    committed: 838_000,
+    last_commit: Some(1_795_003_723_000),
+};
 
 /// Requests of the book by what they came to.
 const SERVED: ServedCount = ServedCount {
@@ -118,6 +130,11 @@ pub fn status_of<'a>(
     fronts.push(front(alloc, plain, 2)?)?;
     fronts.push(front(alloc, odd, 0)?)?;
     Ok(Status {
+        version: "0.1.0",
+        site: SiteFile {
+            path: "two-fronts.toml",
+            age: Some(7_200_000),
+        },
         names,
         uptime: 3_723_004,
         began: 1_795_000_000_250,
@@ -129,6 +146,7 @@ pub fn status_of<'a>(
             ending: 0,
         },
         unsent: 4_096,
+        is_record_lost: Some(false),
         work: Work::Fronts {
             fronts,
             book: Some(BookStatus {
@@ -136,6 +154,7 @@ pub fn status_of<'a>(
                 limit: 1_048_576,
                 sessions: 12,
                 served: SERVED,
+                file: Some(FILE),
             }),
         },
         tally,

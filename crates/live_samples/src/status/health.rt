@@ -45,6 +45,7 @@ fn fronts_with(alloc: Global, entries: u64) -> Work {
                 refusals: 0,
                 repeats: 0,
             },
+            file: None,
         }),
     }
 }
