@@ -9,9 +9,10 @@
 //! - `jobs`: what is asked for at its status port and done on the book: `changing`, changes of its terms, and `looking`, looks at its
 //!   accounts, which `naming` reads.
 //! - `recording`: the record of what happens, which is written before anything goes to the sockets.
-//! - `fault`: why the program does not do it, and its exit status.
+//! - `fault`: why the program does not do it, and its exit status; `about`: the file, address or names that it is about.
 #![tactic(auto)]
 
+mod about;
 mod boxed;
 mod changing;
 mod charged;
@@ -46,6 +47,6 @@ pub type Logger = Logged<HostRuntime, Lines<HostRuntime>>;
 fn main(rt: HostRuntime) -> ExitCode {
     match farm(&rt, &rt) {
         Ok(()) => ExitCode::SUCCESS,
-        Err(fault) => end(&rt, fault.status(), Some(&fault)),
+        Err(told) => end(&rt, told.status(), Some(&told)),
     }
 }

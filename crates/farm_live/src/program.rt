@@ -8,6 +8,7 @@ ghost use Rattle.farm_site.specs.Spelling.{IsSiteFile};
 ghost use Rattle.toml.specs.Parse.{parse_document};
 ghost use Rattle.toml.specs.View.{table_view};
 
+use crate::about::Told;
 use crate::fault::Fault;
 use crate::fronts::serve_fronts;
 use crate::label::lines_of;
@@ -124,12 +125,17 @@ fn spelled_at(rt: &HostRuntime, command: &Process<'_>) -> Result<Spelled, Fault>
 }
 
 /// Carries out a command.
-fn carry_out<O>(os: &O, rt: &HostRuntime, command: &Process<'_>) -> Result<(), Fault>
+fn carry_out<O>(os: &O, rt: &HostRuntime, command: &Process<'_>) -> Result<(), Told>
 where
     O: Threads + Wait + Net + Clock + RandomSource + Copy + Send + 'static,
 {
-    let spelled = spelled_at(rt, command)?;
-    let lines = lines_of(rt, command, &spelled.site)?;
+    let spelled = match spelled_at(rt, command) {
+        Ok(spelled) => spelled,
+        Err(fault) => return Err(Told::of_site_file(rt, command, fault)),
+    };
+    let Ok(lines) = lines_of(rt, command, &spelled.site) else {
+        return Err(Told::alone(Fault::OutOfMemory));
+    };
     let log = Logged::new(*rt, command.level, lines);
     let setting = Setting {
         os,
@@ -141,7 +147,10 @@ where
         book: spelled.book.as_deref(),
         accounts: spelled.accounts.as_deref(),
     };
-    run_task(&setting)
+    match run_task(&setting) {
+        Ok(()) => Ok(()),
+        Err(fault) => Err(Told::of(&setting, fault)),
+    }
 }
 
 /// Does what the command asks for, on its site.
@@ -168,11 +177,14 @@ fn process_of<'a>(alloc: Global, words: &'a [String]) -> Result<Process<'a>, Fau
 }
 
 /// Does what the words of the command line ask for. Of `os` come the sockets, the threads, and the leave to wait.
-pub fn farm<O>(os: &O, rt: &HostRuntime) -> Result<(), Fault>
+pub fn farm<O>(os: &O, rt: &HostRuntime) -> Result<(), Told>
 where
     O: Threads + Wait + Net + Clock + RandomSource + Copy + Send + 'static,
 {
-    let words = words_of(rt).map_err(Fault::Words)?;
-    let command = process_of(rt.alloc(), &words)?;
+    let words = match words_of(rt) {
+        Ok(words) => words,
+        Err(fault) => return Err(Told::alone(Fault::Words(fault))),
+    };
+    let command = process_of(rt.alloc(), &words).map_err(Told::alone)?;
     carry_out(os, rt, &command)
 }
