@@ -6,6 +6,7 @@ pub mod Fitting
 mod Ending
 mod Granting
 mod Greatest
+mod HeldByAll
 pub mod Changing
 mod Holding
 mod Joining

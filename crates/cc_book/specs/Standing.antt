@@ -51,6 +51,11 @@ abbrev pub reserved_in : ℕ → List OpenSession → ℕ
 reserved_in account [] = 0
 reserved_in account (session ∷ sessions) = (if session.account == account then held_in session.holds else 0) + reserved_in account sessions
 
+-- what all sessions hold together
+abbrev pub held_by_all : List OpenSession → ℕ
+held_by_all [] = 0
+held_by_all (session ∷ sessions) = held_in session.holds + held_by_all sessions
+
 -- what is free of an account, nothing without one
 abbrev pub free_in : List ℤ → List OpenSession → Option ℕ → ℤ
 free_in balances sessions None = pos 0

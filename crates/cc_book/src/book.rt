@@ -1,6 +1,6 @@
 //! The account book: a history of requests, sweeps and changes of terms, from which every balance and reply is made.
 
-ghost use Rattle.std.specs.Prelude.{◌≡◌, ◌≢◌, ◌≤◌, ◌<◌, ◌^◌, [], length, map, nat_abs, Err, IfNone, IfOk, IfSome, MatchOption, if◌then◌else◌, nat_lt, slice_get, Some, None, pos};
+ghost use Rattle.std.specs.Prelude.{◌≡◌, ◌≢◌, ◌≤◌, ◌<◌, ◌^◌, ◌%◌, [], length, map, nat_abs, Err, IfNone, IfOk, IfSome, MatchOption, if◌then◌else◌, nat_lt, slice_get, Some, None, pos};
 ghost use Rattle.cc_book.specs.declared.book.BookRefusal.TheVariants.{OutOfMemory};
 ghost use Rattle.cc_book.specs.declared.terms_change.ChangeRefusal.TheVariants as refused;
 ghost use Rattle.cc_book.specs.Taking.{AnswersWith, answer_of, answer_within};
@@ -82,7 +82,7 @@ impl Book {
     ghost use Rattle.cc_book.specs.Changing.{ChangesWith, after_change_with, change_answer};
     ghost use Rattle.cc_book.specs.History.{IsLegal};
     ghost use Rattle.cc_book.specs.Planning.{IsGoodFor, PlansWith, after_plan, answer_planned};
-    ghost use Rattle.cc_book.specs.Standing.{sessions_in};
+    ghost use Rattle.cc_book.specs.Standing.{held_by_all, sessions_in};
     ghost use Rattle.cc_book.specs.Taking.{SweepsWith, is_fresh, sweep_answer, after_sweep_with, with_take};
 
     /// A book with no entry, and no account that is closed. It takes up to `limit` entries, of which the caller makes no more than
@@ -272,6 +272,13 @@ impl Book {
         ensures { result ≡ open_sessions_of self.now.terms self.now.history }
     {
         self.state.open_sessions()
+    }
+
+    /// What the open sessions have reserved of all accounts together, in minor units, modulo 2^128.
+    pub fn reserved_by_all(&self) -> u128
+        ensures { result ≡ held_by_all (sessions_in self.now.terms self.now.history) % 2 ^ 128 }
+    {
+        self.state.reserved_by_all()
     }
 
     /// How many sessions are open: the length of their list, in which the last takes the place of one that ends.

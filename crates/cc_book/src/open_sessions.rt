@@ -1,9 +1,9 @@
 //! The sessions that are open, by their Session-Id, and what they hold of each account.
 
-ghost use Rattle.std.specs.Prelude.{◌≡◌, ℕ, ◌+◌, ◌<◌, ◌≤◌, ◌^◌, ◌++◌, ◌∷◌, [], length, replicate, slice_get, slice_set, count_by, None, Some, IfOk, OnOk, OnErr, MatchOption, nat_le};
+ghost use Rattle.std.specs.Prelude.{◌≡◌, ℕ, ◌+◌, ◌%◌, ◌<◌, ◌≤◌, ◌^◌, ◌++◌, ◌∷◌, [], length, replicate, slice_get, slice_set, count_by, None, Some, IfOk, OnOk, OnErr, MatchOption, nat_le};
 ghost use Rattle.cc_book.specs.Session.{deadline_at};
 ghost use Rattle.cc_book.specs.OpenSessions.{GoesOnAt};
-ghost use Rattle.cc_book.specs.Standing.{IsOpenAt, held_in, is_due, place_in, reserved_in, without_at, without_due};
+ghost use Rattle.cc_book.specs.Standing.{IsOpenAt, held_by_all, held_in, is_due, place_in, reserved_in, without_at, without_due};
 
 use crate::session::{OpenSession, held_in, is_past};
 use dia_avp::Octets;
@@ -21,6 +21,8 @@ pub struct OpenSessions {
     lasts: Vec<Moment>,
     /// What they hold of each account.
     totals: Vec<u128>,
+    /// What they hold together, modulo 2^128.
+    held: u128,
 }
 
 // By hand, so that each exit of an owner is proved with one call.
@@ -30,20 +32,23 @@ impl Drop for OpenSessions {
             sessions: _,
             lasts: _,
             totals: _,
+            held: _,
         } = self;
     }
 }
 
 impl Model for OpenSessions {
-    ghost use Rattle.std.specs.Prelude.{◌≡◌, ◌-◌, length, min, vec_capacity};
+    ghost use Rattle.std.specs.Prelude.{◌≡◌, ◌-◌, ◌%◌, ◌^◌, length, min, vec_capacity};
     ghost use Rattle.indexmap.specs.IndexMap.{spare, values};
     ghost use Rattle.cc_book.specs.OpenSessions.{IsKept, Sessions, lasts_of};
+    ghost use Rattle.cc_book.specs.Standing.{held_by_all};
 
     ghost Value = { Sessions };
 
     ghost view = { λ sessions. record { items = values sessions.sessions; room = min (spare sessions.sessions) (vec_capacity sessions.lasts - length sessions.lasts.items); accounts = length sessions.totals.items; account_room = vec_capacity sessions.totals - length sessions.totals.items } };
 
-    ghost invariant = { λ sessions. IsKept sessions.sessions.entries sessions.totals.items × (sessions.lasts.items ≡ lasts_of (values sessions.sessions)) };
+    ghost invariant = { λ sessions. IsKept sessions.sessions.entries sessions.totals.items × (sessions.lasts.items ≡ lasts_of (values sessions.sessions))
+        × (sessions.held ≡ held_by_all (values sessions.sessions) % 2 ^ 128) };
 }
 
 impl OpenSessions {
@@ -57,6 +62,7 @@ impl OpenSessions {
             sessions: IndexMap::with_capacity(alloc, room)?,
             lasts: Vec::with_capacity(alloc, room)?,
             totals: vec![in alloc; 0; accounts]?,
+            held: 0,
         })
     }
 
@@ -110,6 +116,13 @@ impl OpenSessions {
         self.totals.get(account).copied().unwrap_or(0)
     }
 
+    /// What they hold of all accounts together, in minor units, modulo 2^128.
+    pub fn held(&self) -> u128
+        ensures { result ≡ held_by_all self.now.items % 2 ^ 128 }
+    {
+        self.held
+    }
+
     /// How many of them have ended by a moment.
     pub fn count_due(&self, validity: u32, moment: Moment) -> usize
         ensures { result ≡ count_by (is_due validity moment) self.now.items }
@@ -129,7 +142,9 @@ impl OpenSessions {
         ensures room { self.old.room ≤ self.new.room + 1 }
         ensures accounts { self.new.accounts ≡ self.old.accounts }
     {
-        self.totals[session.account] += held_in(session.holds.as_slice());
+        let more = held_in(session.holds.as_slice());
+        self.totals[session.account] += more;
+        self.held = self.held.wrapping_add(more);
         self.lasts.push_reserved(session.last);
         self.sessions.insert(id, session).unwrap();
     }
@@ -168,7 +183,9 @@ impl OpenSessions {
     {
         let before = held_in(self.sessions[place].holds.as_slice());
         let left = self.totals[session.account] - before;
-        self.totals[session.account] = left + held_in(session.holds.as_slice());
+        let after = held_in(session.holds.as_slice());
+        self.totals[session.account] = left + after;
+        self.held = self.held.wrapping_sub(before).wrapping_add(after);
         self.lasts[place] = session.last;
         self.sessions[place] = session;
     }
@@ -182,7 +199,9 @@ impl OpenSessions {
         ensures accounts { self.new.accounts ≡ self.old.accounts }
     {
         if let Some((id, ended)) = self.sessions.swap_remove_index(place) {
-            self.totals[ended.account] -= held_in(ended.holds.as_slice());
+            let less = held_in(ended.holds.as_slice());
+            self.totals[ended.account] -= less;
+            self.held = self.held.wrapping_sub(less);
             let _last = self.lasts.swap_remove(place);
             drop((id, ended));
         }

@@ -1,10 +1,10 @@
 //! What a history has left: balances, and the sessions that are open.
 
-ghost use Rattle.std.specs.Prelude.{◌≡◌, ℕ, ◌<◌, ◌≤◌, ◌^◌, ◌+◌, ◌-◌, [], length, map, pos, negsuc, ◌≤ℤ◌, ◌++◌, IfOk, OnOk, OnErr, All, count_by};
+ghost use Rattle.std.specs.Prelude.{◌≡◌, ℕ, ◌<◌, ◌≤◌, ◌^◌, ◌+◌, ◌-◌, ◌%◌, [], length, map, pos, negsuc, ◌≤ℤ◌, ◌++◌, IfOk, OnOk, OnErr, All, count_by};
 ghost use Rattle.std.specs.Option.{ForSome};
 ghost use Rattle.cc_book.specs.Changing.{HasAccountRoom};
 ghost use Rattle.cc_book.specs.OpenSessions.{FitsIn};
-ghost use Rattle.cc_book.specs.Standing.{after_change, after_debit, is_due, openings_of, reserved_in, without_due};
+ghost use Rattle.cc_book.specs.Standing.{after_change, after_debit, held_by_all, is_due, openings_of, reserved_in, without_due};
 
 use crate::account::Account;
 use crate::lookup::Lookup;
@@ -77,6 +77,13 @@ impl Standing {
         ensures { result ≡ reserved_in account self.now.sessions.items }
     {
         self.sessions.total(account)
+    }
+
+    /// What the sessions have reserved of all accounts together, modulo 2^128.
+    pub fn reserved_by_all(&self) -> u128
+        ensures { result ≡ held_by_all self.now.sessions.items % 2 ^ 128 }
+    {
+        self.sessions.held()
     }
 
     /// How many of the open sessions have ended by a moment.

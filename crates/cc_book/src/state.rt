@@ -1,6 +1,6 @@
 //! What a book keeps: its history, and beside it what the entries replied and what they have left.
 
-ghost use Rattle.std.specs.Prelude.{◌≡◌, ◌≢◌, ◌≤◌, ◌<◌, ◌^◌, [], length, map, nat_abs, Err, IfOk, IfSome, MatchOption, if◌then◌else◌, nat_lt, slice_get, Some, None, pos};
+ghost use Rattle.std.specs.Prelude.{◌≡◌, ◌≢◌, ◌≤◌, ◌<◌, ◌^◌, ◌%◌, [], length, map, nat_abs, Err, IfOk, IfSome, MatchOption, if◌then◌else◌, nat_lt, slice_get, Some, None, pos};
 ghost use Rattle.cc_book.specs.declared.book.BookRefusal.TheVariants.{OutOfMemory};
 
 mod changing;
@@ -67,7 +67,7 @@ impl BookState {
     ghost use Rattle.cc_book.specs.Charging.{charges_of};
     ghost use Rattle.cc_book.specs.Balance.{balance_of, reserved_of, open_sessions_of};
     ghost use Rattle.cc_book.specs.History.{IsLegal};
-    ghost use Rattle.cc_book.specs.Standing.{sessions_in};
+    ghost use Rattle.cc_book.specs.Standing.{held_by_all, sessions_in};
     ghost use Rattle.cc_book.specs.Taking.{Ledger, SweepsWith, is_fresh, sweep_answer, after_sweep_with, with_take};
 
     /// A book under these terms, with no entry, and with room for so many.
@@ -165,6 +165,13 @@ impl BookState {
         } else {
             None
         }
+    }
+
+    /// What the open sessions have reserved of all accounts together, modulo 2^128.
+    pub fn reserved_by_all(&self) -> u128
+        ensures { result ≡ held_by_all (sessions_in self.now.terms self.now.history) % 2 ^ 128 }
+    {
+        self.standing.reserved_by_all()
     }
 
     /// How many sessions are open: the length of their list.

@@ -5,7 +5,7 @@
 //!   the book back, once it has seen that every receipt stands in its one history.
 //! - [`SharedBook::sweep`] ends sessions that are due, and [`SharedBook::change_terms`] changes the terms (`specs/Changing`).
 //! - [`SharedBook::snapshot`] shows all accounts, and [`SharedBook::account`] one (`specs/Looking`).
-//! - [`SharedBook::commits`]: how often something was stored.
+//! - [`SharedBook::commits`]: how often something was stored; [`SharedBook::reserved`]: what open sessions have reserved.
 //! - [`Seat`]: what a thread serves through. It counts its takes, in a ledger whose total stands beside the book.
 //! - [`Sharing`]: names one sharing.
 //!

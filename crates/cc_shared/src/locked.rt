@@ -1,6 +1,6 @@
 //! A book behind its lock.
 
-ghost use Rattle.std.specs.Prelude.{◌≡◌, ◌≤◌, ◌<◌, [], ◌∷◌, ◌++◌, Err, IfErr, IfOk, IfSome, MatchResult, is_some, length, map, replicate, true, vec_capacity};
+ghost use Rattle.std.specs.Prelude.{◌≡◌, ◌-◌, ◌%◌, ◌^◌, ◌≤◌, ◌<◌, [], ◌∷◌, ◌++◌, Err, IfErr, IfOk, IfSome, MatchResult, is_some, length, map, min, replicate, true, vec_capacity};
 ghost use Rattle.cc_shared.specs.Receipts.{IsEnteredAt, IsReceiptOf};
 ghost use Rattle.cc_shared.specs.Sharing.{IsNoSweep, IsSnapshot, IsSweep};
 ghost use Rattle.cc_shared.specs.Serving.{IsRefused, ServesAll, count_after, refused_closed};
@@ -9,6 +9,7 @@ ghost use Rattle.cc_shared.specs.Looking.{IsAccountLook};
 ghost use Rattle.cc_shared.specs.Closing.{HasCause, IsFinished, IsWhole};
 ghost use Rattle.cc_shared.specs.History.{is_closed};
 ghost use Rattle.cc_shared.specs.declared.logged.Logged.TheVariants.{Closed};
+ghost use Rattle.cc_book.specs.Standing.{held_by_all, sessions_in};
 ghost use Rattle.cc_book.specs.declared.book.BookRefusal.TheVariants.{OutOfMemory};
 ghost use Rattle.book_journal.specs.Kept.{IsKeptBy, IsSettled};
 
@@ -56,6 +57,15 @@ pub struct LockedBook<L: Sharing, S: RowStore> {
     failed: AtomicU64,
     batching: Batching,
     commits: CommitCounts,
+    /// What open sessions have reserved. No clause knows anything of it.
+    reserved: AtomicU64,
+}
+
+/// What the open sessions of a book have reserved, in minor units: 2^64 - 1 where it is more.
+fn reserved_in(book: &Book) -> u64
+    ensures { result ≡ min (held_by_all (sessions_in book.now.terms book.now.history) % 2 ^ 128) (2 ^ 64 - 1) }
+{
+    u64::try_from(book.reserved_by_all()).unwrap_or(u64::MAX)
 }
 
 /// Refuses these requests, since the book is closed.
@@ -163,6 +173,7 @@ impl<L: Sharing, S: RowStore + Drop> LockedBook<L, S> {
     {
         let (length, seen) = history.named::<L>();
         let batching = Batching::new(journal.store.is_some());
+        let reserved = AtomicU64::new(reserved_in(&book));
         let lock = Mutex::new(Behind::Nothing);
         let Ok(mut places) = Vec::with_capacity(alloc, seats as usize) else {
             return Err(book);
@@ -175,6 +186,7 @@ impl<L: Sharing, S: RowStore + Drop> LockedBook<L, S> {
                 failed: AtomicU64::new(0),
                 batching,
                 commits: CommitCounts::none(),
+                reserved,
             },
         ) else {
             return Err(book);
@@ -205,6 +217,11 @@ impl<L: Sharing, S: RowStore + Drop> LockedBook<L, S> {
         self.commits.so_far()
     }
 
+    /// What open sessions have reserved, in minor units: 2^64 - 1 where it is more.
+    pub fn reserved(&self) -> u64 {
+        self.reserved.load(Ordering::SeqCst)
+    }
+
     /// Stores what an open book has done, in one commit; it stands behind the lock then, and what it has answered is told. None
     /// where it was not stored: the book is closed then.
     fn settle<T: Drop>(
@@ -217,9 +234,11 @@ impl<L: Sharing, S: RowStore + Drop> LockedBook<L, S> {
         ensures { IfSome result (λ told. told ≡ untold.told) }
     {
         let waiting = book.waiting();
+        let reserved = reserved_in(&book.book);
         match book.settle() {
             Ok(kept) => {
                 self.commits.add(waiting);
+                self.reserved.store(reserved, Ordering::SeqCst);
                 let told = untold.tell(&kept);
                 *behind = Behind::Open(kept);
                 Some(told)

@@ -106,6 +106,11 @@ impl<L: Sharing, S: RowStore + Drop> SharedBook<L, S> {
         self.locked.commits()
     }
 
+    /// What its open sessions have reserved, in minor units: 2^64 - 1 where it is more.
+    pub fn reserved(&self) -> u64 {
+        self.locked.reserved()
+    }
+
     /// Waits until no other thread collects requests for a stored book. It does not wait where the book is in memory. What is collected
     /// from then on is to be asked in one call, [`SharedBook::serve`] or [`SharedBook::serve_all`], which ends the batch.
     pub fn begin_batch<R: Wait>(&self, rt: &R) {

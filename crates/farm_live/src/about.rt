@@ -130,9 +130,8 @@ fn may_stand(site: &Site, task: &Task<'_>, role: Role, place: usize, kind: NodeK
         (Role::Client, _) => kind == NodeKind::Client,
         (Role::Peer, Task::Send { client, .. }) => {
             let links = site.links.as_slice();
-            links
-                .iter()
-                .any(|link| link.to.0 as usize == place && is_named(site, link.from, client))
+            links.iter().any(|link| link.to.0 as usize == place
+                && is_named(site, link.from, client))
         }
         (Role::Peer, _) => false,
     }

@@ -43,6 +43,9 @@ pub trait Booked: Node + Drop {
     /// How often something that its book has done was stored, if that is stored.
     fn commits(&self) -> Option<Commits>;
 
+    /// What the open sessions of its book have reserved, in minor units: none without a book.
+    fn reserved(&self) -> u64;
+
     /// How many answers were dropped since their request has another End-to-End Identifier.
     fn mismatched(&self) -> u64;
 
@@ -77,6 +80,10 @@ impl Booked for PartingRelay {
 
     fn commits(&self) -> Option<Commits> {
         None
+    }
+
+    fn reserved(&self) -> u64 {
+        0
     }
 
     fn mismatched(&self) -> u64 {
@@ -116,6 +123,10 @@ impl Booked for Sender {
         None
     }
 
+    fn reserved(&self) -> u64 {
+        0
+    }
+
     fn mismatched(&self) -> u64 {
         0
     }
@@ -151,6 +162,10 @@ impl<L: Pooling, S: RowStore + Drop, R: Wait + Drop> Booked for PoolFronts<L, S,
 
     fn commits(&self) -> Option<Commits> {
         PoolFronts::commits(self)
+    }
+
+    fn reserved(&self) -> u64 {
+        PoolFronts::reserved(self)
     }
 
     fn mismatched(&self) -> u64 {
@@ -466,6 +481,7 @@ impl<N: Node + Drop + Booked> View<'_, '_, N> {
                     entries: figures.entries.max(self.told.changed_entries),
                     limit: self.site.limit,
                     sessions: figures.sessions(),
+                    reserved: self.live.serving.node().reserved(),
                     served: served_of(&figures.served),
                     file: self.book_file(),
                 };

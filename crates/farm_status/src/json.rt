@@ -202,12 +202,13 @@ fn push_fronts(out: &mut String, fronts: &[FrontStatus]) -> Result<(), AllocErro
 fn push_book(out: &mut String, book: BookStatus) -> Result<(), AllocError> {
     let (entries, limit) = (book.entries, book.limit);
     write!(out, "{{\"entries\":{entries},\"limit\":{limit}")?;
-    let (sessions, served) = (book.sessions, book.served);
-    let (charges, enquiries) = (served.charges, served.enquiries);
+    let (sessions, reserved, served) = (book.sessions, book.reserved, book.served);
     write!(
         out,
-        ",\"open_sessions\":{sessions},\"charges\":{charges},\"enquiries\":{enquiries}"
+        ",\"open_sessions\":{sessions},\"reserved_minor_units\":{reserved}"
     )?;
+    let (charges, enquiries) = (served.charges, served.enquiries);
+    write!(out, ",\"charges\":{charges},\"enquiries\":{enquiries}")?;
     let (credit, refusals, repeats) = (served.credit_refusals, served.refusals, served.repeats);
     write!(
         out,

@@ -206,6 +206,9 @@ fn push_book(out: &mut String, book: &BookStatus) -> Result<(), AllocError> {
     single(out, "farm_book_limit", Kind::Gauge, help, book.limit)?;
     let help = "Sessions that are open.";
     single(out, "farm_sessions_open", Kind::Gauge, help, book.sessions)?;
+    let (name, reserved) = ("farm_reserved_minor_units", book.reserved);
+    let help = "What open sessions have reserved, in minor units of money.";
+    single(out, name, Kind::Gauge, help, reserved)?;
     push_served(out, &book.served)?;
     match book.file {
         Some(file) => push_file(out, file),

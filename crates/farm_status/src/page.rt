@@ -331,14 +331,14 @@ fn push_book(out: &mut String, book: &BookStatus) -> Result<(), AllocError> {
         Grouped(book.limit),
         Grouped(book.limit.saturating_sub(book.entries)),
     );
-    let sessions = Grouped(book.sessions);
+    let (sessions, reserved) = (Grouped(book.sessions), Grouped(book.reserved));
     write!(
         out,
         "<h2>Book</h2>\n<div class=\"wide\"><table>\n<tr><th>Entries</th><td class=\"n\">{entries} of {limit}, {left} left</td><td class=\"n\">{share} %</td><td class=\"bar\"><i class=\"{class}\" style=\"width:{share}%\"></i></td></tr>\n"
     )?;
     write!(
         out,
-        "<tr><th>Open sessions</th><td class=\"n\">{sessions}</td><td></td><td></td></tr>\n"
+        "<tr><th>Open sessions</th><td class=\"n\">{sessions}</td><td></td><td></td></tr>\n<tr><th>Reserved, in minor units</th><td class=\"n\">{reserved}</td><td></td><td></td></tr>\n"
     )?;
     for (name, count) in [
         ("Charges", book.served.charges),

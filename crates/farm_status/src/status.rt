@@ -69,8 +69,9 @@ pub struct BookStatus {
     /// Entries of its history, and how many it takes at most.
     pub entries: u64,
     pub limit: u64,
-    /// Sessions that are open.
+    /// Sessions that are open, and what they have reserved, in minor units.
     pub sessions: u64,
+    pub reserved: u64,
     pub served: ServedCount,
     /// The file that it is stored in; none where it is kept in memory alone.
     pub file: Option<BookFile>,

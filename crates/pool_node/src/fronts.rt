@@ -186,6 +186,11 @@ impl<L: Pooling, S: RowStore + Drop, R: Wait> PoolFronts<L, S, R> {
         }
     }
 
+    /// What the book's open sessions have reserved, in minor units: 2^64 - 1 where it is more.
+    pub fn reserved(&self) -> u64 {
+        self.shared.reserved()
+    }
+
     /// What the book has come to, as far as answers were collected.
     pub fn figures(&self) -> BookFigures
         ensures { result ≡ self.now.figures }

@@ -153,6 +153,7 @@ pub fn status_of<'a>(
                 entries: 838_861,
                 limit: 1_048_576,
                 sessions: 12,
+                reserved: 34_500,
                 served: SERVED,
                 file: Some(FILE),
             }),

@@ -38,6 +38,7 @@ fn fronts_with(alloc: Global, entries: u64) -> Work {
             entries,
             limit: 100,
             sessions: 0,
+            reserved: 0,
             served: ServedCount {
                 charges: entries,
                 enquiries: 0,

@@ -8,4 +8,5 @@ invariant-loop-account l = record {
   room : vec_len l.self-inside.totals + (l.joining - l._account) ≤ vec_capacity l.self-inside.totals;
   sessions : l.self-inside.sessions ≡ l.initial.self-inside.sessions;
   lasts : l.self-inside.lasts ≡ l.initial.self-inside.lasts;
+  held : l.self-inside.held ≡ l.initial.self-inside.held;
 }
