@@ -3,6 +3,7 @@
 ghost use Rattle.std.specs.Prelude.{◌≡◌};
 ghost use Rattle.farm_command.specs.Ending.{code_of, status_of, stream_of};
 
+use crate::about::About;
 use crate::fault::CliFault;
 use std::fmt::Display;
 use std::process::ExitCode;
@@ -92,6 +93,20 @@ pub fn end<T: Display>(rt: &HostRuntime, status: Status, told: Option<&T>) -> Ex
     }
     let _ = rt.eprintln("the output cannot be written");
     ExitCode::from(Status::Failed.code())
+}
+
+/// Ends a program as [`end`] does, and tells on standard error, on a second line, what its fault is about, if there is something.
+pub fn end_about<T: Display>(
+    rt: &HostRuntime,
+    status: Status,
+    told: Option<&T>,
+    about: Option<About<'_>>,
+) -> ExitCode {
+    let code = end(rt, status, told);
+    if let Some(about) = about {
+        let _ = rt.eprintln(&about.line(rt));
+    }
+    code
 }
 
 /// Ends a program whose words are no command of its own: by its usage, but for help and the version, and for want of memory.

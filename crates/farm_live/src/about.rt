@@ -4,12 +4,11 @@ use crate::fault::Fault;
 use crate::setting::Setting;
 use dia_base::{NodeKind, NodeNo};
 use farm_base::Site;
-use farm_command::{Process, Status, Task};
+use farm_command::{About, Process, Status, Task};
 use farm_endpoints::{EndpointFault, Role};
 use farm_terms::SiteTermsFault;
 use std::alloc::AllocError;
 use std::fmt;
-use std::fs::File;
 
 /// A fault, and on a second line the file, the address or the names that it is about.
 #[derive(Debug, Drop)]
@@ -52,30 +51,28 @@ impl Told {
     }
 }
 
-/// A file, and why it cannot be opened, if it cannot.
-fn about_file(rt: &HostRuntime, path: Option<&str>) -> Result<Option<String>, AllocError> {
-    let Some(path) = path else {
+/// A file, or a book, and why it cannot be read, if it cannot.
+fn line_of(rt: &HostRuntime, about: Option<About<'_>>) -> Result<Option<String>, AllocError> {
+    let Some(about) = about else {
         return Ok(None);
     };
-    let text = match File::open(rt, path) {
-        Ok(_file) => String::from_str(rt.alloc(), path)?,
-        Err(error) => format!(in rt.alloc(); "{path}: {error}")?,
-    };
-    Ok(Some(text))
+    let line = about.line(rt);
+    Ok(Some(format!(in rt.alloc(); "{line}")?))
 }
 
-/// The file of the book. One that is not there is made by a command.
+/// The file at a path, if there is one.
+fn about_file(rt: &HostRuntime, path: Option<&str>) -> Result<Option<String>, AllocError> {
+    line_of(rt, path.map(About::File))
+}
+
+/// The file of the book.
 fn about_book<O>(setting: &Setting<'_, O>) -> Result<Option<String>, AllocError> {
-    let Some(path) = setting.book else {
-        return Ok(None);
-    };
     let site = setting.command.site;
-    match File::open(setting.rt, path) {
-        Ok(_file) => about_file(setting.rt, Some(path)),
-        Err(error) => Ok(Some(format!(in setting.rt.alloc();
-            "{path}: {error}: farm book create {path} --site {site} makes it"
-        )?)),
-    }
+    let about = match setting.book {
+        Some(path) => Some(About::Book { path, site }),
+        None => None,
+    };
+    line_of(setting.rt, about)
 }
 
 /// What a fault is about, if anything.
