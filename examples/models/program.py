@@ -61,7 +61,11 @@ def performed(words):
     arguments = parsed(words)
     named = getattr(arguments, "site", None)
     try:
-        site = ROW_SITE if named is None else site_of(Path(named).read_bytes())
+        file = None if named is None else Path(named).read_bytes()
+    except OSError as fault:
+        return "", f"the site file cannot be read\n{named}: {fault.strerror} (os error {fault.errno})\n", STREAM_FAULT
+    try:
+        site = ROW_SITE if file is None else site_of(file)
         skipped = getattr(arguments, "skipped", None) is not None
         return run(sys.stdin.buffer.read(), site, report=arguments.command == "report", skipped=skipped)
     except SiteFault as fault:

@@ -16,12 +16,9 @@ mod replay;
 mod sites;
 mod skipped;
 
-use ending::Ending;
-use farm_command::end;
 use program::farm;
 use std::process::ExitCode;
 
 fn main(rt: HostRuntime) -> ExitCode {
-    let ending = Ending::of(farm(&rt));
-    end(&rt, ending.status, ending.told.as_ref())
+    farm(&rt)
 }

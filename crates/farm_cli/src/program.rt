@@ -1,13 +1,15 @@
 //! What the program does, from the words of its command line to its output.
 
+use crate::ending::Ending;
 use crate::fault::Fault;
 use crate::sites::{replay_row_site, replay_site_file};
 use dia_base::SCHEDULE_LIMIT;
-use farm_command::{CliFault, Command, Run, command_of, words_of};
+use farm_command::{About, CliFault, Command, Run, command_of, end_about, words_of};
 use farm_site::{SITE_LIMIT, SiteFault};
 use farm_text::{ReadFault, TEXT_LIMIT, file_at, write_text};
 use std::alloc::Global;
 use std::io;
+use std::process::ExitCode;
 
 // A text of either is read up to one octet above its limit.
 const _: () = prove!(SITE_LIMIT == TEXT_LIMIT && SCHEDULE_LIMIT == TEXT_LIMIT);
@@ -46,13 +48,36 @@ fn carry_out(rt: &HostRuntime, run: &Run<'_>, named: &mut Vec<u8>) -> Result<(),
     }
 }
 
-/// Does what the words of the command line ask for. What was printed stands, whether or not steps can be named on
-/// standard error.
-pub fn farm(rt: &HostRuntime) -> Result<(), Fault> {
-    let words = words_of(rt).map_err(Fault::Words)?;
-    let run = run_of(rt.alloc(), &words)?;
+/// Carries out a run. What was printed stands, whether or not steps can be named on standard error.
+fn run_and_name(rt: &HostRuntime, run: &Run<'_>) -> Result<(), Fault> {
     let mut named = Vec::new(rt.alloc());
-    carry_out(rt, &run, &mut named)?;
+    carry_out(rt, run, &mut named)?;
     let _ = write_text(&mut rt.stderr(), &named);
     Ok(())
+}
+
+/// Ends the program. A site file that cannot be read is named.
+fn finish(rt: &HostRuntime, done: Result<(), Fault>, site: Option<&str>) -> ExitCode {
+    let ending = Ending::of(done);
+    let about = match &ending.told {
+        Some(Fault::SiteFile) => site.map(About::File),
+        _ => None,
+    };
+    end_about(rt, ending.status, ending.told.as_ref(), about)
+}
+
+/// Does what the words behind the program's name ask for.
+fn run_words(rt: &HostRuntime, words: &[String]) -> ExitCode {
+    match run_of(rt.alloc(), words) {
+        Ok(run) => finish(rt, run_and_name(rt, &run), run.site),
+        Err(fault) => finish(rt, Err(fault), None),
+    }
+}
+
+/// Does what the words of the command line ask for, and ends the program.
+pub fn farm(rt: &HostRuntime) -> ExitCode {
+    match words_of(rt) {
+        Ok(words) => run_words(rt, &words),
+        Err(fault) => finish(rt, Err(Fault::Words(fault)), None),
+    }
 }
