@@ -26,8 +26,9 @@ pub enum CheckFault {
     /// What the file says of where the book or the accounts are is refused; and what is told of it, likewise.
     #[error("{1}")]
     File(FileKeyFault, String),
+    /// The file of accounts at this path.
     #[error("the file of accounts cannot be read")]
-    AccountsFile,
+    AccountsFile(String),
     /// The file of accounts is refused; and what is told of it: its own line, and what was expected there.
     #[error("{1}")]
     Accounts(AccountsFault, String),
@@ -43,7 +44,8 @@ impl CheckFault {
         ensures { result ≡ status_of self.now }
     {
         match self {
-            CheckFault::SiteFile | CheckFault::AccountsFile | CheckFault::Write => Status::Failed,
+            CheckFault::SiteFile | CheckFault::AccountsFile(_) | CheckFault::Write =>
+                Status::Failed,
             CheckFault::Site(_, _)
             | CheckFault::Access(_, _)
             | CheckFault::File(_, _)

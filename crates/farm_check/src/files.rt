@@ -70,8 +70,8 @@ fn place_text(alloc: Global, file: &[u8], key: FileKey) -> Result<String, AllocE
 /// Why the accounts of a file are not had.
 #[derive(Drop)]
 pub enum AccountsRefusal {
-    /// The file cannot be read.
-    NotRead,
+    /// The file at this path cannot be read.
+    NotRead(String),
     /// It is refused; and what is told of it: its own line, and what was expected there.
     Refused(AccountsFault, String),
     OutOfMemory,
@@ -99,7 +99,9 @@ pub fn accounts_at(
             Err(fault) => refused(rt.alloc(), path, fault),
         },
         Err(SiteTermsFault::Accounts(fault)) => refused(rt.alloc(), path, fault),
-        Err(SiteTermsFault::NotRead) => Err(AccountsRefusal::NotRead),
+        Err(SiteTermsFault::NotRead) => {
+            Err(AccountsRefusal::NotRead(String::from_str(rt.alloc(), path)?))
+        }
         Err(SiteTermsFault::OutOfMemory) => Err(AccountsRefusal::OutOfMemory),
     }
 }

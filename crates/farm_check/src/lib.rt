@@ -29,7 +29,7 @@ mod told;
 use book_place::{FileKey, path_from};
 use cc_book::Account;
 use farm_access::Access;
-use farm_command::{Check, end};
+use farm_command::{About, Check, end_about};
 use farm_site::{SiteDocument, SiteFault, site_document_of_octets};
 use farm_text::{ReadFault, file_at, write_text};
 use fault::CheckFault;
@@ -144,7 +144,7 @@ fn check_file<W: Write>(
     let accepted = accepted_in(rt.alloc(), site, file)?;
     let accounts = match accounts_at(rt, &accepted.read.site, accepted.files.accounts.as_deref()) {
         Ok(accounts) => accounts,
-        Err(AccountsRefusal::NotRead) => return Err(CheckFault::AccountsFile),
+        Err(AccountsRefusal::NotRead(path)) => return Err(CheckFault::AccountsFile(path)),
         Err(AccountsRefusal::Refused(fault, told)) => {
             return Err(CheckFault::Accounts(fault, told));
         }
@@ -174,10 +174,19 @@ fn check(rt: &HostRuntime, command: &Check<'_>) -> Result<(), CheckFault> {
     check_file(rt, command.site, &file, &mut io::writer(rt))
 }
 
+/// The file that cannot be read, if this is the fault of a command.
+fn about<'a>(fault: &'a CheckFault, command: &'a Check<'_>) -> Option<About<'a>> {
+    match fault {
+        CheckFault::SiteFile => Some(About::File(command.site)),
+        CheckFault::AccountsFile(path) => Some(About::File(path.as_str())),
+        _ => None,
+    }
+}
+
 /// Checks the site file that a command names, and prints what it comes to, or its fault.
 pub fn check_site(rt: &HostRuntime, command: &Check<'_>) -> ExitCode {
     match check(rt, command) {
         Ok(()) => ExitCode::SUCCESS,
-        Err(fault) => end(rt, fault.status(), Some(&fault)),
+        Err(fault) => end_about(rt, fault.status(), Some(&fault), about(&fault, command)),
     }
 }
