@@ -1,10 +1,11 @@
 //! An account book on disk: it is made, checked, printed and copied, under the terms of a site.
 #![tactic(auto)]
 
+mod about;
 mod fault;
 mod tasks;
 
-use farm_command::{CliFault, Command, command_of, end, refuse, words_of};
+use farm_command::{CliFault, Command, command_of, refuse, words_of};
 use std::process::ExitCode;
 use tasks::carry_out_task;
 
@@ -15,10 +16,7 @@ const USAGE: &str =
 /// Does what the words behind the program's name ask for.
 fn carry_out(rt: &HostRuntime, words: &[String]) -> ExitCode {
     match command_of(rt.alloc(), words) {
-        Ok(Command::Book(command)) => match carry_out_task(rt, &command) {
-            Ok(()) => ExitCode::SUCCESS,
-            Err(fault) => end(rt, fault.status(), Some(&fault)),
-        },
+        Ok(Command::Book(command)) => carry_out_task(rt, &command),
         Ok(_) => refuse(rt, &CliFault::Elsewhere, USAGE),
         Err(fault) => refuse(rt, &fault, USAGE),
     }

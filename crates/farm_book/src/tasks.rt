@@ -10,6 +10,7 @@ ghost use Rattle.farm_terms.specs.SiteAccounts.{AreTermsOf};
 ghost use Rattle.farm_terms.specs.SiteChange.{LeadsToSite};
 ghost use Rattle.farm_book.specs.Told.{IsCopyOf, IsStoredFor, IsTold, summary_text, text_of};
 
+use crate::about::about;
 use crate::fault::TaskFault;
 use book_copy::{Copied, copy_file};
 use book_lines::{entry_lines, made_line, push_difference_line, summary};
@@ -19,13 +20,14 @@ use book_store::FIRST_SUM;
 use cc_book::{Terms, TermsChange};
 use dia_base::HISTORY_LIMIT;
 use farm_base::Site;
-use farm_command::{BookCommand, BookTask};
+use farm_command::{BookCommand, BookTask, end_about};
 use farm_report::report;
 use farm_site::{SiteDocument, site_document_of_octets};
 use farm_terms::{site_change, site_terms};
 use farm_text::{ReadFault, file_at, write_text};
 use std::alloc::Global;
 use std::io;
+use std::process::ExitCode;
 use toml::Table;
 
 /// The site of a file, with its document.
@@ -315,13 +317,48 @@ fn told_of(
     text_of(rt.alloc(), command.task, site.limit, &stored, &change)
 }
 
-/// Does what a command asks for, and prints it. Nothing is printed before it is done.
-pub fn carry_out_task(rt: &HostRuntime, command: &BookCommand<'_>) -> Result<(), TaskFault> {
+/// The site of a command, and the path of the file of accounts, if its site file names one.
+fn site_of(rt: &HostRuntime, command: &BookCommand<'_>) -> Result<(Site, Option<String>), TaskFault>
+    ensures { IfOk result (λ read. IsChecked read.0) }
+{
     let read = site_at(rt, command.site)?;
     let accounts = accounts_at(rt.alloc(), command.site, &read.document)?;
-    let told = told_of(rt, command, &read.site, accounts.as_deref())?;
-    match write_text(&mut io::writer(rt), &told) {
+    Ok((read.site, accounts))
+}
+
+/// Prints what is told of a task.
+fn print(rt: &HostRuntime, told: &[u8]) -> Result<(), TaskFault> {
+    match write_text(&mut io::writer(rt), told) {
         Ok(()) => Ok(()),
         Err(_) => Err(TaskFault::Write),
     }
+}
+
+/// Ends the program, by the fault of a command, if there is one.
+fn finish(
+    rt: &HostRuntime,
+    command: &BookCommand<'_>,
+    accounts: Option<&str>,
+    done: Result<(), TaskFault>,
+) -> ExitCode {
+    match done {
+        Ok(()) => ExitCode::SUCCESS,
+        Err(fault) => {
+            let about = about(&fault, command, accounts);
+            end_about(rt, fault.status(), Some(&fault), about)
+        }
+    }
+}
+
+/// Does what a command asks for, and prints it. Nothing is printed before it is done.
+pub fn carry_out_task(rt: &HostRuntime, command: &BookCommand<'_>) -> ExitCode {
+    let (site, accounts) = match site_of(rt, command) {
+        Ok(read) => read,
+        Err(fault) => return finish(rt, command, None, Err(fault)),
+    };
+    let done = match told_of(rt, command, &site, accounts.as_deref()) {
+        Ok(told) => print(rt, &told),
+        Err(fault) => Err(fault),
+    };
+    finish(rt, command, accounts.as_deref(), done)
 }
