@@ -13,14 +13,26 @@ from records import Finding
 from site_file import SiteFault, site_of
 
 
+class Unread(Exception):
+    """A file that cannot be read: the two lines that are told."""
+
+
+def octets_of(path, told):
+    """The octets of a file; where it cannot be read, this is told, and the file with the reason."""
+    try:
+        return Path(path).read_bytes()
+    except OSError as fault:
+        raise Unread(f"{told}\n{path}: {fault.strerror} (os error {fault.errno})") from fault
+
+
 def main(words):
     if len(words) < 4 or words[0] not in ("audit", "schedule") or words[1] != "--site":
         print("usage: schedule --site FILE [--book FILE] RECORD.., or audit --site FILE [--book FILE] RECORD..", file=sys.stderr)
         return 2
     try:
-        site = site_of(Path(words[2]).read_bytes())
-        audit = Audit(site, [(name, Path(name).read_bytes()) for name in words[3:]]).run()
-    except OSError as fault:
+        site = site_of(octets_of(words[2], "the site file cannot be read"))
+        audit = Audit(site, [(name, octets_of(name, f"{name}: a record cannot be read")) for name in words[3:]]).run()
+    except Unread as fault:
         print(fault, file=sys.stderr)
         return 1
     except (SiteFault, Finding) as fault:

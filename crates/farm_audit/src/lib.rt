@@ -11,13 +11,14 @@ ghost use Rattle.farm_base.specs.CheckedSite.{IsChecked};
 mod fault;
 mod order;
 
-use farm_command::{Audit as AuditCommand, AuditAction, end};
+use farm_command::{About, Audit as AuditCommand, AuditAction, end_about};
 use farm_site::site_of_octets;
 use farm_text::{ReadFault, file_at, write_text};
 use farm_world::Site;
 use fault::AuditFault;
 use order::Audit;
-use record_reader::Source;
+use record_player::PlayFault;
+use record_reader::{RecordFault, Source};
 use std::fs::File;
 use std::io;
 use std::io::Write;
@@ -96,18 +97,35 @@ fn audit_records(rt: &HostRuntime, command: &AuditCommand<'_>) -> Result<(), Aud
     }
 }
 
+/// The file of a command in which a fault is found, if it is found in one.
+fn found_in<'a>(fault: &AuditFault, command: &AuditCommand<'a>) -> Option<&'a str> {
+    match fault.source()? {
+        Source::Record(record) => command.records.get(record).copied(),
+        Source::Book => command.book,
+    }
+}
+
+/// The file of a command that cannot be read, if this is its fault.
+fn unreadable<'a>(fault: &AuditFault, command: &AuditCommand<'a>) -> Option<&'a str> {
+    match fault {
+        AuditFault::SiteFile => Some(command.site),
+        AuditFault::BookFile => command.book,
+        AuditFault::RecordFile { .. }
+        | AuditFault::Play(PlayFault::Record(RecordFault::Unreadable { .. })) => found_in(
+            fault, command,
+        ),
+        _ => None,
+    }
+}
+
 /// Ends by a fault, which is told behind the name of the file where it is found.
 fn end_by(rt: &HostRuntime, command: &AuditCommand<'_>, fault: &AuditFault) -> ExitCode {
-    let name = match fault.source() {
-        Some(Source::Record(record)) => command.records.get(record).copied(),
-        Some(Source::Book) => command.book,
-        None => None,
-    };
-    if let Some(name) = name {
+    if let Some(name) = found_in(fault, command) {
         let _ = rt.eprint(name);
         let _ = rt.eprint(": ");
     }
-    end(rt, fault.status(), Some(fault))
+    let about = unreadable(fault, command).map(About::File);
+    end_about(rt, fault.status(), Some(fault), about)
 }
 
 /// Audits the records that a command names, and prints what they come to, or their steps where these are asked for.

@@ -25,7 +25,7 @@ mod ways;
 
 use dia_avp::ViewWire;
 use drawing::draw;
-use farm_command::{Picture, end};
+use farm_command::{About, Picture, end_about};
 use farm_script::steps_of;
 use farm_site::site_of_octets;
 use farm_text::{ReadFault, file_at, read_text, write_text};
@@ -138,10 +138,18 @@ fn picture(rt: &HostRuntime, command: &Picture<'_>) -> Result<(), PictureFault> 
     }
 }
 
+/// The site file of a command, if its fault is that this cannot be read.
+fn about<'a>(fault: &PictureFault, command: &Picture<'a>) -> Option<About<'a>> {
+    match fault {
+        PictureFault::SiteFile => command.site.map(About::File),
+        _ => None,
+    }
+}
+
 /// Draws what a command asks for of the schedule on standard input.
 pub fn draw_run(rt: &HostRuntime, command: &Picture<'_>) -> ExitCode {
     match picture(rt, command) {
         Ok(()) => ExitCode::SUCCESS,
-        Err(fault) => end(rt, fault.status(), Some(&fault)),
+        Err(fault) => end_about(rt, fault.status(), Some(&fault), about(&fault, command)),
     }
 }
