@@ -3,17 +3,17 @@
 ghost use Rattle.std.specs.Prelude.{◌≡◌, IfSome, None, Ok, Some};
 ghost use Rattle.cc_view.specs.Answer.{answer_to};
 ghost use Rattle.cc_view.specs.RequestView.{view_under};
-ghost use Rattle.front_pool.specs.Answering.{IsAnsweredByOne, IsServedAt, Reads, answered, too_busy};
+ghost use Rattle.front_pool.specs.Answering.{IsAnsweredByOne, IsServedAt, Reads, too_busy};
 ghost use Rattle.front_pool.specs.Counting.{takes_of, takes_served};
 ghost use Rattle.front_pool.specs.Jobs.{job_of};
 
 use crate::gate::Gate;
-use crate::job::{Finished, Job};
 use crate::site::{PoolSite, Pooling};
+use crate::task::{Done, Task};
 use cc_shared::{Asked, Receipt, Served};
 use cc_view::{CcRequest, Refusal, ResultCode, answer_bytes, refusal_bytes};
 use dia_avp::Wire;
-use dia_base::{Moment, NodeNo};
+use dia_base::NodeNo;
 use dia_message::Message;
 use farm_clock::Timer;
 use front_core::{Prepared, prepare};
@@ -55,51 +55,20 @@ fn answer<W: Wire>(
 /// A job of a front whose message was read.
 pub enum Reading {
     /// It is answered without the book.
-    Answered { finished: Finished },
+    Answered { finished: Done },
     /// The book is asked.
-    Asks { asked: Asked<Job> },
-}
-
-/// A job of a front that is answered so.
-fn answered(
-    front: NodeNo,
-    job: Job,
-    answer: Option<Message>,
-    receipt: Option<Receipt>,
-    moment: Option<Moment>,
-) -> Finished
-    ensures { result ≡ answered front job answer receipt moment }
-{
-    let Job {
-        number,
-        conn,
-        request,
-    } = job;
-    Finished {
-        job: number,
-        front,
-        conn,
-        request,
-        answer,
-        receipt,
-        moment,
-    }
+    Asks { asked: Asked<Task> },
 }
 
 /// A job of this front of which the book was not asked: DIAMETER_TOO_BUSY.
-pub fn refuse<W: Wire, L: Pooling>(
-    alloc: Global,
-    front: NodeNo,
-    site: &PoolSite,
-    job: Job,
-) -> Finished
+pub fn refuse<W: Wire, L: Pooling>(alloc: Global, front: NodeNo, site: &PoolSite, job: Task) -> Done
     requires site { site.now ≡ L.site front }
     ensures job { job_of result ≡ job }
     ensures answered { IsAnsweredByOne L.site L.shared result }
     ensures receipt { result.receipt ≡ None }
 {
-    let busy = too_busy::<W>(alloc, site, &job.request);
-    answered(front, job, busy, None, None)
+    let busy = too_busy::<W>(alloc, site, job.request());
+    job.finish(front, busy, None, None)
 }
 
 /// Asks the book for a request that was read in a message. Where no moment can be read, the job is answered DIAMETER_TOO_BUSY.
@@ -109,7 +78,7 @@ fn ask<W: Wire, L: Pooling, R: Clock>(
     front: NodeNo,
     site: &PoolSite,
     timer: Timer,
-    job: Job,
+    job: Task,
     request: CcRequest,
 ) -> Reading
     requires site { site.now ≡ L.site front }
@@ -138,17 +107,17 @@ pub fn read<W: Wire, L: Pooling, R: Wait + Clock, G: Gate>(
     site: &PoolSite,
     timer: Timer,
     gate: &G,
-    job: Job,
+    job: Task,
 ) -> Reading
     requires { site.now ≡ L.site front }
     ensures { Reads L.site L.shared front job result }
 {
     let profile = site.profile.as_profile();
-    let prepared = prepare::<W>(alloc, &site.name, &site.realm, profile, &job.request);
-    gate.before_book(rt, job.number);
+    let prepared = prepare::<W>(alloc, &site.name, &site.realm, profile, job.request());
+    gate.before_book(rt, job.number());
     match prepared {
         Ok(Prepared::Refused(refusal)) => Reading::Answered {
-            finished: answered(front, job, Some(refusal), None, None),
+            finished: job.finish(front, Some(refusal), None, None),
         },
         Ok(Prepared::Ask(request)) => {
             ask::<W, L, R>(rt, alloc, front, site, timer, job, request)
@@ -164,8 +133,8 @@ pub fn spell<W: Wire, L: Pooling>(
     alloc: Global,
     front: NodeNo,
     site: &PoolSite,
-    served: Served<Job>,
-) -> Finished
+    served: Served<Task>,
+) -> Done
     requires site { site.now ≡ L.site front }
     requires served { IsServedAt (L.site front) L.shared served }
     ensures job { job_of result ≡ served.job }
@@ -180,12 +149,12 @@ pub fn spell<W: Wire, L: Pooling>(
     } = served;
     match result {
         Ok(receipt) => {
-            let written = answer::<W>(alloc, site, &job.request, &receipt);
-            answered(front, job, written, Some(receipt), Some(moment))
+            let written = answer::<W>(alloc, site, job.request(), &receipt);
+            job.finish(front, written, Some(receipt), Some(moment))
         }
         Err(_) => {
-            let busy = too_busy::<W>(alloc, site, &job.request);
-            answered(front, job, busy, None, Some(moment))
+            let busy = too_busy::<W>(alloc, site, job.request());
+            job.finish(front, busy, None, Some(moment))
         }
     }
 }

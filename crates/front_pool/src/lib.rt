@@ -19,7 +19,8 @@
 //! let mut pool = Pool::start::<ViewWire, _, _, _>(&rt, alloc, shared.another()?, seats, Wakes { waker }, queue)?;
 //! let number = pool.submit(&rt, conn, request)?;          // a full queue hands the request back
 //! while let Some(finished) = pool.collect(&rt) {
-//!     send(finished.conn, finished.answer);
+//!     let (conn, answer) = finished.into_answer();
+//!     send(conn, answer);
 //! }
 //! let stopped = pool.stop(&rt);                           // each job once: in finished or in unserved
 //! let book = shared.finish(&rt, alloc, stopped.seats, &receipts)?;
@@ -37,6 +38,7 @@ mod pool;
 mod queues;
 mod site;
 mod starting;
+mod task;
 mod worker;
 
 pub use error::{StartFailed, SubmitError};
@@ -46,3 +48,4 @@ pub use laws::fresh_receipts_are_charges;
 pub use pool::Pool;
 pub use queues::Moves;
 pub use site::{PoolQueue, PoolSite, Pooling};
+pub use task::Done;

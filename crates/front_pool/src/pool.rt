@@ -16,6 +16,7 @@ use crate::error::SubmitError;
 use crate::job::{Finished, Job, Stopped, is_of};
 use crate::queues::{FinishedPass, FinishedQueue, JobPass, JobQueue, Puts, TakesAnswered};
 use crate::site::Pooling;
+use crate::task::{Done, Task};
 use cc_shared::Seat;
 use dia_base::{ConnId, NodeNo};
 use dia_message::Message;
@@ -34,6 +35,8 @@ const NOT_YET: u64 = 1;
 /// the jobs that were handed over and not collected, and all that it has put into its queue of jobs and taken out of that of
 /// finished ones.
 pub struct Pool<L: Pooling> {
+    /// Of it comes the memory for tasks.
+    alloc: Global,
     front: NodeNo,
     jobs: Arc<JobQueue>,
     job_pass: JobPass,
@@ -54,6 +57,7 @@ pub struct Pool<L: Pooling> {
 impl<L: Pooling> Drop for Pool<L> {
     fn drop(self) {
         let Pool {
+            alloc: _,
             front: _,
             jobs: _,
             job_pass: _,
@@ -119,6 +123,7 @@ impl<L: Pooling> Pool<L> {
             control,
         } = desk;
         Pool {
+            alloc,
             front,
             jobs,
             job_pass,
@@ -147,7 +152,7 @@ impl<L: Pooling> Pool<L> {
         let Some(number) = self.last.checked_add(1) else {
             return Err(SubmitError::PoolFull { request });
         };
-        let Ok(kept) = request.clone() else {
+        let Ok(copy) = request.clone() else {
             return Err(SubmitError::OutOfMemory { request });
         };
         if self.unanswered.reserve(1).is_err()
@@ -158,18 +163,19 @@ impl<L: Pooling> Pool<L> {
         let job = Job {
             number,
             conn,
-            request,
+            request: copy,
+        };
+        let Ok(task) = Task::new(self.alloc, self.front, job) else {
+            return Err(SubmitError::OutOfMemory { request });
         };
         let unanswered = self.unanswered.len();
-        if let Err(job) = put(rt, &self.jobs, &mut self.job_pass, unanswered, job) {
-            return Err(SubmitError::PoolFull {
-                request: job.request,
-            });
+        if put(rt, &self.jobs, &mut self.job_pass, unanswered, task).is_err() {
+            return Err(SubmitError::PoolFull { request });
         }
         self.unanswered.push_reserved(Job {
             number,
             conn,
-            request: kept,
+            request,
         });
         self.last = number;
         self.control.tell_one();
@@ -177,7 +183,7 @@ impl<L: Pooling> Pool<L> {
     }
 
     /// A finished job. None where none that it waits for is there: what else is there is dropped, and counted.
-    pub fn collect<R: Wait>(&mut self, rt: &R) -> Option<Finished>
+    pub fn collect<R: Wait>(&mut self, rt: &R) -> Option<Done>
         ensures collects { Collects self.old result self.new }
         ensures answered { IfSome result (λ finished. IsAnsweredBy self.old.front L.site L.shared finished) }
     {
@@ -192,12 +198,12 @@ impl<L: Pooling> Pool<L> {
     }
 
     /// The finished job, if the pool waits for it, from now on no more. Else it is dropped, and counted.
-    fn own(&mut self, finished: Finished) -> Option<Finished>
+    fn own(&mut self, finished: Done) -> Option<Done>
         ensures some { IfSome result (λ own. (own ≡ finished) × (own.front ≡ self.old.front)
             × IsTakenOff (job_of own) self.old.unanswered self.new.unanswered × (self.new ≡ record self.old { unanswered = self.new.unanswered })) }
         ensures none { IfNone result (IsStranger self.old finished × (self.new ≡ self.old)) }
     {
-        if take_off(self.front, &mut self.unanswered, &finished) {
+        if take_off(self.front, &mut self.unanswered, finished.as_finished()) {
             return Some(finished);
         }
         self.strangers = self.strangers.saturating_add(1);
@@ -205,7 +211,7 @@ impl<L: Pooling> Pool<L> {
     }
 
     /// What a worker has put among the finished jobs. None where nothing is, which is asked first, since it takes less.
-    fn take<R: Wait>(&mut self, rt: &R) -> Option<Finished>
+    fn take<R: Wait>(&mut self, rt: &R) -> Option<Done>
         ensures some { IfSome result (λ finished. self.new ≡ record self.old { taken = self.old.taken ++ finished ∷ [] }) }
         ensures none { IfNone result (self.new ≡ self.old) }
         ensures answered { IfSome result (λ finished. IsAnsweredByOne L.site L.shared finished) }
@@ -232,6 +238,7 @@ impl<L: Pooling> Pool<L> {
         ensures answered { All (IsAnsweredBy self.front L.site L.shared) result.finished.items }
     {
         let Pool {
+            alloc: _,
             front,
             jobs: _,
             job_pass: _,
@@ -273,8 +280,8 @@ fn put<R: Wait>(
     queue: &JobQueue,
     pass: &mut JobPass,
     unanswered: usize,
-    job: Job,
-) -> Result<(), Job>
+    job: Task,
+) -> Result<(), Task>
     requires pass { IsPassOf queue.now pass.old × ((view pass.old).by_pool ≡ true) }
     ensures pass { IsPassOf queue.now pass.new }
     ensures put { IfOk result (λ _. view pass.new ≡ with_put (view pass.old) job) }
@@ -350,8 +357,8 @@ fn drain<L: Pooling, R: Wait + Clock>(
         let all_ended = control.ended() >= workers;
         match queue.pop_as::<TakesAnswered<L>, R>(rt, &mut pass) {
             Some(next) => {
-                if take_off(front, &mut left, &next) {
-                    finished.push_reserved(next);
+                if take_off(front, &mut left, next.as_finished()) {
+                    finished.push_reserved(next.into_finished());
                 }
             }
             None if all_ended => break,

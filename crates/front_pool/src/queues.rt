@@ -2,8 +2,8 @@
 
 ghost use Rattle.std.specs.Prelude.{◌≡◌, ⊤};
 
-use crate::job::{Finished, Job};
 use crate::site::Pooling;
+use crate::task::{Done, Task};
 use crossbeam_queue::protocol::{Lesson, Outcome, Protocol, Split};
 use crossbeam_queue::{Pass, RuledArrayQueue};
 use std::collections::LinkedList;
@@ -19,7 +19,7 @@ pub struct Moves<T> {
 /// The rule of the jobs: what was put was taken, or is there still. The pool alone puts, and its workers take.
 pub struct JobRule;
 
-impl Protocol<Job, Moves<Job>> for JobRule {
+impl Protocol<Task, Moves<Task>> for JobRule {
     ghost use Rattle.front_pool.specs.Moving.{Anything, Balanced, GivesJobs, of_pool};
 
     ghost holds = { Balanced GivesJobs Anything };
@@ -33,7 +33,7 @@ pub struct FinishedRule<L> {
     pool: PhantomData<L>,
 }
 
-impl<L: Pooling> Protocol<Finished, Moves<Finished>> for FinishedRule<L> {
+impl<L: Pooling> Protocol<Done, Moves<Done>> for FinishedRule<L> {
     ghost use Rattle.front_pool.specs.Answering.{IsAnsweredByOne};
     ghost use Rattle.front_pool.specs.Moving.{Balanced, GivesFinished, of_pool};
 
@@ -64,13 +64,13 @@ impl<T> Outcome<T, Moves<T>> for Puts {
 }
 
 /// The queue holds no more than the pool has put.
-impl Lesson<Job, Moves<Job>> for Puts {
+impl Lesson<Task, Moves<Task>> for Puts {
     ghost use Rattle.std.specs.Prelude.{◌≤◌, length};
 
     ghost fact = { λ v items. length items ≤ length v.put };
 }
 
-impl Lesson<Finished, Moves<Finished>> for Puts {
+impl Lesson<Done, Moves<Done>> for Puts {
     ghost use Rattle.std.specs.Prelude.{⊤};
 
     ghost fact = { λ v items. ⊤ };
@@ -79,7 +79,7 @@ impl Lesson<Finished, Moves<Finished>> for Puts {
 /// One taken.
 pub struct Takes;
 
-impl Outcome<Job, Moves<Job>> for Takes {
+impl Outcome<Task, Moves<Task>> for Takes {
     ghost use Rattle.std.specs.Prelude.{◌≡◌};
     ghost use Rattle.front_pool.specs.Moving.{with_taken};
 
@@ -97,7 +97,7 @@ pub struct TakesAnswered<L> {
     pool: PhantomData<L>,
 }
 
-impl<L: Pooling> Outcome<Finished, Moves<Finished>> for TakesAnswered<L> {
+impl<L: Pooling> Outcome<Done, Moves<Done>> for TakesAnswered<L> {
     ghost use Rattle.std.specs.Prelude.{◌≡◌};
     ghost use Rattle.front_pool.specs.Answering.{IsAnsweredByOne};
     ghost use Rattle.front_pool.specs.Moving.{with_taken};
@@ -105,16 +105,16 @@ impl<L: Pooling> Outcome<Finished, Moves<Finished>> for TakesAnswered<L> {
     ghost then = { λ v x w. IsAnsweredByOne L.site L.shared x × (w ≡ with_taken v x) };
 }
 
-impl<L: Pooling> Lesson<Finished, Moves<Finished>> for TakesAnswered<L> {
+impl<L: Pooling> Lesson<Done, Moves<Done>> for TakesAnswered<L> {
     ghost use Rattle.std.specs.Prelude.{⊤};
 
     ghost fact = { λ v items. ⊤ };
 }
 
-pub type JobQueue = RuledArrayQueue<Job, Moves<Job>, JobRule>;
+pub type JobQueue = RuledArrayQueue<Task, Moves<Task>, JobRule>;
 
-pub type JobPass = Pass<Job, Moves<Job>>;
+pub type JobPass = Pass<Task, Moves<Task>>;
 
-pub type FinishedQueue<L> = RuledArrayQueue<Finished, Moves<Finished>, FinishedRule<L>>;
+pub type FinishedQueue<L> = RuledArrayQueue<Done, Moves<Done>, FinishedRule<L>>;
 
-pub type FinishedPass = Pass<Finished, Moves<Finished>>;
+pub type FinishedPass = Pass<Done, Moves<Done>>;

@@ -11,9 +11,9 @@ ghost use Rattle.front_pool.specs.Working.{AsksAll, HandsIn, ReadsAll, TakesMore
 use crate::answering::{Reading, read, refuse, spell};
 use crate::desk::Desk;
 use crate::gate::Gate;
-use crate::job::{Finished, Job};
 use crate::queues::{FinishedPass, JobPass, Puts, Takes};
 use crate::site::Pooling;
+use crate::task::{Done, Task};
 use book_store::RowStore;
 use cc_shared::{Asked, Seat, Served, SharedBook};
 use dia_avp::Wire;
@@ -80,7 +80,7 @@ impl<L: Pooling, S: RowStore + Drop, G: Gate + Drop> Worker<L, S, G> {
     }
 
     /// A job that waits. None where none does.
-    fn take<R: Wait>(&mut self, rt: &R) -> Option<Job>
+    fn take<R: Wait>(&mut self, rt: &R) -> Option<Task>
         ensures some { IfSome result (λ job. self.new ≡ with_jobs_taken self.old (job ∷ [])) }
         ensures none { IfNone result (self.new ≡ self.old) }
     {
@@ -106,7 +106,7 @@ impl<L: Pooling, S: RowStore + Drop, G: Gate + Drop> Worker<L, S, G> {
     }
 
     /// Takes jobs that wait behind those that it has in hand, until it has so many, or none waits.
-    fn take_more<R: Wait>(&mut self, rt: &R, jobs: Vec<Job>, share: usize) -> Vec<Job>
+    fn take_more<R: Wait>(&mut self, rt: &R, jobs: Vec<Task>, share: usize) -> Vec<Task>
         requires one { vec_len jobs ≡ 1 }
         requires room { share ≤ vec_capacity jobs }
         ensures taken { TakesMore self.old jobs.items result.items self.new }
@@ -123,7 +123,7 @@ impl<L: Pooling, S: RowStore + Drop, G: Gate + Drop> Worker<L, S, G> {
     }
 
     /// Puts a finished job where it is collected. One for which there is no room comes back.
-    fn put<R: Wait>(&mut self, rt: &R, finished: Finished) -> Result<(), Finished>
+    fn put<R: Wait>(&mut self, rt: &R, finished: Done) -> Result<(), Done>
         requires { IsAnsweredByOne L.site L.shared finished }
         ensures ok { OnOk result (self.new ≡ with_jobs_finished self.old (finished ∷ [])) }
         ensures err { IfErr result (λ back. (back ≡ finished) × (self.new ≡ self.old)) }
@@ -134,7 +134,7 @@ impl<L: Pooling, S: RowStore + Drop, G: Gate + Drop> Worker<L, S, G> {
     }
 
     /// Puts a finished job where it is collected, and waits for room.
-    fn hand_in<R: Wait + Clock>(&mut self, rt: &R, finished: Finished)
+    fn hand_in<R: Wait + Clock>(&mut self, rt: &R, finished: Done)
         requires { IsAnsweredByOne L.site L.shared finished }
         ensures { self.new ≡ with_jobs_finished self.old (finished ∷ []) }
     {
@@ -150,7 +150,7 @@ impl<L: Pooling, S: RowStore + Drop, G: Gate + Drop> Worker<L, S, G> {
     }
 
     /// Reads the message of a job.
-    fn read<W: Wire, R: Wait + Clock>(&self, rt: &R, alloc: Global, job: Job) -> Reading
+    fn read<W: Wire, R: Wait + Clock>(&self, rt: &R, alloc: Global, job: Task) -> Reading
         ensures { Reads L.site L.shared self.now.front job result }
     {
         let Desk {
@@ -164,17 +164,17 @@ impl<L: Pooling, S: RowStore + Drop, G: Gate + Drop> Worker<L, S, G> {
     }
 
     /// Hands in a finished job. Its gate hears of it.
-    fn finish<R: Wait + Clock>(&mut self, rt: &R, finished: Finished)
+    fn finish<R: Wait + Clock>(&mut self, rt: &R, finished: Done)
         requires { IsAnsweredByOne L.site L.shared finished }
         ensures { self.new ≡ with_jobs_finished self.old (finished ∷ []) }
     {
-        let number = finished.job;
+        let number = finished.as_finished().job;
         self.hand_in(rt, finished);
         self.desk.gate.answered(rt, number);
     }
 
     /// Finishes a job. The batch has ended: where the book is asked, by the call that asks it.
-    fn serve<W: Wire, R: Wait + Clock>(&mut self, rt: &R, alloc: Global, job: Job)
+    fn serve<W: Wire, R: Wait + Clock>(&mut self, rt: &R, alloc: Global, job: Task)
         ensures { WorksOff L.site L.shared (job ∷ []) self.old self.new }
     {
         match self.read::<W, R>(rt, alloc, job) {
@@ -207,9 +207,9 @@ impl<L: Pooling, S: RowStore + Drop, G: Gate + Drop> Worker<L, S, G> {
         &mut self,
         rt: &R,
         alloc: Global,
-        jobs: Vec<Job>,
-        asked: Vec<Asked<Job>>,
-    ) -> Vec<Asked<Job>>
+        jobs: Vec<Task>,
+        asked: Vec<Asked<Task>>,
+    ) -> Vec<Asked<Task>>
         requires none { asked.items ≡ [] }
         requires room { vec_len jobs ≤ vec_capacity asked }
         ensures reads { ReadsAll L.site L.shared self.old.front jobs.items result.items self.old self.new }
@@ -229,8 +229,8 @@ impl<L: Pooling, S: RowStore + Drop, G: Gate + Drop> Worker<L, S, G> {
         &mut self,
         rt: &R,
         alloc: Global,
-        asked: Vec<Asked<Job>>,
-    ) -> Result<Vec<Served<Job>>, Vec<Asked<Job>>>
+        asked: Vec<Asked<Task>>,
+    ) -> Result<Vec<Served<Task>>, Vec<Asked<Task>>>
         requires { All (IsAskedOf (L.site self.old.front)) asked.items }
         ensures ok { IfOk result (λ served. AsksAll (L.site self.old.front) L.shared asked.items served.items self.old self.new) }
         ensures err { IfErr result (λ back. (back ≡ asked) × (self.new ≡ self.old)) }
@@ -243,7 +243,7 @@ impl<L: Pooling, S: RowStore + Drop, G: Gate + Drop> Worker<L, S, G> {
         &mut self,
         rt: &R,
         alloc: Global,
-        served: Vec<Served<Job>>,
+        served: Vec<Served<Task>>,
     )
         requires { All (IsServedAt (L.site self.old.front) L.shared) served.items }
         ensures { HandsIn L.site L.shared (map (λ one. one.job) served.items) (sum_by takes_served served.items) self.old self.new }
@@ -259,7 +259,7 @@ impl<L: Pooling, S: RowStore + Drop, G: Gate + Drop> Worker<L, S, G> {
         &mut self,
         rt: &R,
         alloc: Global,
-        asked: Vec<Asked<Job>>,
+        asked: Vec<Asked<Task>>,
     )
         ensures { HandsIn L.site L.shared (map (λ one. one.job) asked.items) 0 self.old self.new }
     {
@@ -279,8 +279,8 @@ impl<L: Pooling, S: RowStore + Drop, G: Gate + Drop> Worker<L, S, G> {
         &mut self,
         rt: &R,
         alloc: Global,
-        jobs: Vec<Job>,
-        asked: Vec<Asked<Job>>,
+        jobs: Vec<Task>,
+        asked: Vec<Asked<Task>>,
     )
         requires none { asked.items ≡ [] }
         requires room { vec_len jobs ≤ vec_capacity asked }
@@ -294,7 +294,7 @@ impl<L: Pooling, S: RowStore + Drop, G: Gate + Drop> Worker<L, S, G> {
     }
 
     /// Finishes a job, and with it its share of those that wait.
-    fn serve_share<W: Wire, R: Wait + Clock>(&mut self, rt: &R, alloc: Global, job: Job)
+    fn serve_share<W: Wire, R: Wait + Clock>(&mut self, rt: &R, alloc: Global, job: Task)
         ensures { TurnsOver L.site L.shared job self.old self.new }
     {
         let share = self.share(rt);
@@ -313,7 +313,7 @@ impl<L: Pooling, S: RowStore + Drop, G: Gate + Drop> Worker<L, S, G> {
     }
 
     /// One turn: it has jobs in hand, and finishes them.
-    fn turn<W: Wire, R: Wait + Clock>(&mut self, rt: &R, alloc: Global, job: Job)
+    fn turn<W: Wire, R: Wait + Clock>(&mut self, rt: &R, alloc: Global, job: Task)
         ensures { TurnsOver L.site L.shared job self.old self.new }
     {
         self.desk.control.begin_turn();

@@ -11,7 +11,7 @@ use dia_avp::Wire;
 use dia_base::{ConnId, NodeNo};
 use dia_message::{HEADER_LEN, Message, Out};
 use farm_node::NodeError;
-use front_pool::{Finished, Pool, PoolSite, Pooling, Stopped, SubmitError};
+use front_pool::{Done, Pool, PoolSite, Pooling, Stopped, SubmitError};
 use std::alloc::{AllocError, Global};
 use std::marker::Model;
 use std::rt::Clock;
@@ -148,7 +148,7 @@ impl<L: Pooling> PoolFront<L> {
     }
 
     /// A finished job. None where none that it waits for is there.
-    pub fn collect<R: Wait>(&mut self, rt: &R) -> Option<Finished>
+    pub fn collect<R: Wait>(&mut self, rt: &R) -> Option<Done>
         ensures some { IfSome result (λ finished. CollectsOne L.site L.shared finished self.old self.new) }
         ensures none { IfNone result (FindsNone self.old self.new) }
     {
@@ -178,7 +178,7 @@ impl<L: Pooling> PoolFront<L> {
     /// where it has none, for want of memory.
     pub fn post(
         &self,
-        finished: Finished,
+        finished: Done,
         sent: &mut Vec<(ConnId, Message)>,
     ) -> Result<usize, NodeError>
         requires { vec_len sent.old < vec_capacity sent.old }
@@ -186,18 +186,10 @@ impl<L: Pooling> PoolFront<L> {
         ensures outcome { told_of_one result ≡ outcome_for self.now finished }
         ensures octets { IfOk result (λ octets. octets ≡ octets_in (sent_for self.now finished)) }
     {
-        if !self.is_up(finished.conn) {
+        let (conn, answer) = finished.into_answer();
+        if !self.is_up(conn) {
             return Ok(0);
         }
-        let Finished {
-            job: _,
-            front: _,
-            conn,
-            request: _,
-            answer,
-            receipt: _,
-            moment: _,
-        } = finished;
         match answer {
             Some(answer) => {
                 let octets = octets_of(&answer);

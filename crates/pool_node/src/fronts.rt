@@ -227,7 +227,7 @@ impl<L: Pooling, S: RowStore + Drop, R: Wait> PoolFronts<L, S, R> {
         let Some(finished) = front.collect(&self.rt) else {
             return Ok(None);
         };
-        self.book.collected(&finished);
+        self.book.collected(finished.as_finished());
         let octets = front.post(finished, sent)?;
         Ok(Some(octets))
     }

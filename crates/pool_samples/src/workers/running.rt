@@ -153,7 +153,7 @@ impl<L: Pooling> Running<L> {
         let Some(next) = self.pool.collect(rt) else {
             return Ok(false);
         };
-        self.finished.push(next)?;
+        self.finished.push(next.into_finished())?;
         Ok(true)
     }
 
@@ -164,7 +164,7 @@ impl<L: Pooling> Running<L> {
                 break;
             }
             match self.pool.collect(rt) {
-                Some(next) => self.finished.push(next)?,
+                Some(next) => self.finished.push(next.into_finished())?,
                 None => thread::sleep(rt, Duration::from_micros(PAUSE)),
             }
         }

@@ -12,6 +12,6 @@ invariant_of-self-2 g c = (
   search rules,
   search rules,
   search rules,
-  numbered_more c.self.inside.unanswered.items c.push_reserved.new.self.items c.self.inside.last c.in-Some.number c.args.conn c.in-Ok.kept
+  numbered_more c.self.inside.unanswered.items c.push_reserved.new.self.items c.self.inside.last c.in-Some.number c.args.conn c.args.request
       (search rules) (search rules) c.self.invariant.8,
 )

@@ -1,4 +1,6 @@
-use Rattle.std.proofs.Common.{refl, rules}
+use Rattle.std.proofs.Common.{refl, rules, subst}
+use Rattle.front_pool.specs.declared.job.Finished.{Finished}
+use Rattle.pool_node.specs.Booked.{HasTakenIn}
 use Rattle.pool_node.specs.Fronts.{FrontsState}
 use Rattle.pool_node.proofs.Collecting.{collects_more, finds_no_more, no_room}
 use Rattle.pool_node.proofs.fronts.PoolFronts.collect_one.Goals as goal
@@ -8,8 +10,9 @@ returns-in_err-octets-clause-collects g c =
     let w = c.self.inside in
     let old : FrontsState = record { fronts = w.fronts.items; under_way = w.sweeper; next_sweep = w.book.next_sweep; figures = w.book.figures } in
     let front = c.index_mut-front.result.now in let next = c.collect.new.self in
+    let taken = subst (λ (f : Finished). HasTakenIn f w.book c.collected.new.self) c.as_finished.ensures c.collected.ensures in
     rw (← c.self.view_is) (collects_more _ _ old c.args.place front next c.in-Some.finished w.book c.collected.new.self c.args.sent.now.items c.reserve.new.self.items
-    c.post.new.sent.items _ (search rules) c.index_mut-front.ensures.value c.in-Some.ensures.some refl refl c.collected.ensures
+    c.post.new.sent.items _ (search rules) c.index_mut-front.ensures.value c.in-Some.ensures.some refl refl taken
     c.reserve.ensures.items c.post.ensures.sent (search rules))
 
 pub returns-clause-collects : goal.returns-clause-collects
@@ -17,8 +20,9 @@ returns-clause-collects g c =
     let w = c.self.inside in
     let old : FrontsState = record { fronts = w.fronts.items; under_way = w.sweeper; next_sweep = w.book.next_sweep; figures = w.book.figures } in
     let front = c.index_mut-front.result.now in let next = c.collect.new.self in
+    let taken = subst (λ (f : Finished). HasTakenIn f w.book c.collected.new.self) c.as_finished.ensures c.collected.ensures in
     rw (← c.self.view_is) (collects_more _ _ old c.args.place front next c.in-Some.finished w.book c.collected.new.self c.args.sent.now.items c.reserve.new.self.items
-    c.post.new.sent.items _ (search rules) c.index_mut-front.ensures.value c.in-Some.ensures.some refl refl c.collected.ensures
+    c.post.new.sent.items _ (search rules) c.index_mut-front.ensures.value c.in-Some.ensures.some refl refl taken
     c.reserve.ensures.items c.post.ensures.sent (search rules))
 
 pub returns-then-is_err-clause-collects : goal.returns-then-is_err-clause-collects
