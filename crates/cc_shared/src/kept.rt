@@ -35,7 +35,7 @@ pub struct KeptBook<L: Sharing, S: RowStore> {
     pub counted: ledger::Book<L>,
     pub rest: Share<L>,
     pub seen: Beginning<L>,
-    pub journal: Journal<S>,
+    pub journal: Box<Journal<S>>,
 }
 
 // By hand, so that each exit of an owner is proved with one call.
@@ -65,7 +65,7 @@ impl<L: Sharing, S: RowStore> Model for KeptBook<L, S> {
 
     ghost invariant = { λ b. (b.book ≡ book_at L.shared.opened b.seen) × (is_closed b.seen ≡ false) × (takes_in (entries_in b.seen) ≡ b.takes)
         × (b.counted.total ≡ b.takes) × (b.rest.parts ≡ 0) × (b.rest.amount ≡ 0)
-        × IsKeptBy S.is_clean S.is_ready S.rows S.beside b.journal b.book × IsSettled b.journal × (is_some b.journal.store ≡ L.shared.stored) };
+        × IsKeptBy S.is_clean S.is_ready S.rows S.beside b.journal.value b.book × IsSettled b.journal.value × (is_some b.journal.value.store ≡ L.shared.stored) };
 }
 
 impl<L: Sharing, S: RowStore + Drop> KeptBook<L, S> {
@@ -75,15 +75,15 @@ impl<L: Sharing, S: RowStore + Drop> KeptBook<L, S> {
         counted: ledger::Book<L>,
         rest: Share<L>,
         seen: Beginning<L>,
-        journal: Journal<S>,
+        journal: Box<Journal<S>>,
     ) -> Self
         requires book { book ≡ L.shared.opened }
         requires counted { counted.total ≡ 0 }
         requires rest { (rest.parts ≡ 0) × (rest.amount ≡ 0) }
         requires seen { seen ≡ [] }
-        requires kept { IsKeptBy S.is_clean S.is_ready S.rows S.beside journal book }
-        requires settled { IsSettled journal }
-        requires stored { is_some journal.store ≡ L.shared.stored }
+        requires kept { IsKeptBy S.is_clean S.is_ready S.rows S.beside journal.value book }
+        requires settled { IsSettled journal.value }
+        requires stored { is_some journal.value.store ≡ L.shared.stored }
         ensures { result ≡ [] }
     {
         KeptBook {

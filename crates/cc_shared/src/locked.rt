@@ -175,6 +175,9 @@ impl<L: Sharing, S: RowStore + Drop> LockedBook<L, S> {
         let batching = Batching::new(journal.store.is_some());
         let reserved = AtomicU64::new(reserved_in(&book));
         let lock = Mutex::new(Behind::Nothing);
+        let Ok(journal) = Box::new(alloc, journal) else {
+            return Err(book);
+        };
         let Ok(mut places) = Vec::with_capacity(alloc, seats as usize) else {
             return Err(book);
         };

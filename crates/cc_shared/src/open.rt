@@ -45,7 +45,8 @@ pub struct OpenBook<L: Sharing, S: RowStore> {
     pub rest: Share<L>,
     /// The whole history.
     pub seen: Beginning<L>,
-    pub journal: Journal<S>,
+    /// In memory of its own, so that who takes the book from behind the lock moves a pointer.
+    pub journal: Box<Journal<S>>,
 }
 
 impl<L: Sharing, S: RowStore> Model for OpenBook<L, S> {
@@ -61,7 +62,7 @@ impl<L: Sharing, S: RowStore> Model for OpenBook<L, S> {
 
     ghost invariant = { λ b. (b.book ≡ book_at L.shared.opened b.seen) × (is_closed b.seen ≡ false) × (takes_in (entries_in b.seen) ≡ b.takes)
         × (b.counted.total ≡ b.takes) × (b.rest.parts ≡ 0) × (b.rest.amount ≡ 0)
-        × IsKeptBy S.is_clean S.is_ready S.rows S.beside b.journal b.book × (is_some b.journal.store ≡ L.shared.stored) };
+        × IsKeptBy S.is_clean S.is_ready S.rows S.beside b.journal.value b.book × (is_some b.journal.value.store ≡ L.shared.stored) };
 }
 
 impl<L: Sharing, S: RowStore + Drop> OpenBook<L, S> {
@@ -174,7 +175,8 @@ impl<L: Sharing, S: RowStore + Drop> OpenBook<L, S> {
         ensures after { self.new ≡ (if is_fresh result then self.old ++ Entered (Take moment request.now) ∷ [] else self.old) }
         ensures count { seat.new ≡ (if is_fresh result then seat.old + 1 else seat.old) }
     {
-        let Ok(row) = self.journal.row_of_take(&self.book, moment, request, &plan) else {
+        let journal = &mut *self.journal;
+        let Ok(row) = journal.row_of_take(&self.book, moment, request, &plan) else {
             return Err(BookRefusal::OutOfMemory);
         };
         let mut seen = self.seen.again();
@@ -182,7 +184,7 @@ impl<L: Sharing, S: RowStore + Drop> OpenBook<L, S> {
             return Err(BookRefusal::OutOfMemory);
         }
         let answered = self.book.commit(plan);
-        self.journal.add(row);
+        journal.add(row);
         seat.add_one(&mut self.counted);
         self.takes += 1;
         self.seen = seen;
@@ -201,7 +203,8 @@ impl<L: Sharing, S: RowStore + Drop> OpenBook<L, S> {
         if ended == 0 {
             return Ok(0);
         }
-        let Ok(row) = self.journal.row_of_sweep(&self.book, moment) else {
+        let journal = &mut *self.journal;
+        let Ok(row) = journal.row_of_sweep(&self.book, moment) else {
             return Err(BookRefusal::OutOfMemory);
         };
         let mut seen = self.seen.again();
@@ -209,7 +212,7 @@ impl<L: Sharing, S: RowStore + Drop> OpenBook<L, S> {
             return Err(BookRefusal::OutOfMemory);
         }
         let swept = self.book.sweep(moment)?;
-        self.journal.add(row);
+        journal.add(row);
         self.seen = seen;
         Ok(swept)
     }
@@ -285,7 +288,7 @@ impl<L: Sharing, S: RowStore + Drop> OpenBook<L, S> {
     {
         let mut open = self;
         let before = open.history().again();
-        match change_kept(alloc, &mut open.journal, &mut open.book, moment, change) {
+        match change_kept(alloc, &mut *open.journal, &mut open.book, moment, change) {
             Ok((place, entered)) => {
                 let mut seen = before.again();
                 if !seen.add_change(word, moment, &entered) {

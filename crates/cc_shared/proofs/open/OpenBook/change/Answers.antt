@@ -34,5 +34,5 @@ invariant_of-open g c =
       c.open.invariant.4,
       c.open.invariant.5,
       c.change_kept.ensures.kept,
-      ap is_some c.change_kept.ensures.store ∙ c.open.invariant.7,
+      ap is_some (c.change_kept.ensures.store ∙ ap (λ j. j.store) c.deref_mut.ensures.value) ∙ c.open.invariant.7,
     )

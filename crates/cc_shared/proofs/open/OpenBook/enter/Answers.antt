@@ -39,8 +39,10 @@ invariant_of-self-2 g c =
     let good = subst (λ (l : Ledger). IsGoodFor l c.args.plan) (sym same) c.requires.good in
     let fresh = (answer_planned c.args.plan).fresh in
     let taken = subst (λ (l : Ledger). after_plan l c.args.plan ≡ cond fresh (with_take l c.args.moment c.args.request.now) l) (sym same) after in
-    let next = c.in-Ok.ensures.row good taken c.self.invariant.6 in
-    let longer = c.add.ensures.kept there (after_plan there c.args.plan) (c.row_of_take.ensures.kept there c.self.invariant.6) next in
+    let same_journal = c.deref_mut-journal.ensures.value in
+    let kept = subst (λ j. IsKeptBy g.S.RowStore.is_clean g.S.RowStore.is_ready g.S.RowStore.rows g.S.RowStore.beside j there) (sym same_journal) c.self.invariant.6 in
+    let next = c.in-Ok.ensures.row good taken kept in
+    let longer = c.add.ensures.kept there (after_plan there c.args.plan) (c.row_of_take.ensures.kept there kept) next in
     let end : after_plan there c.args.plan ≡ c.commit-answered.new.self = sym c.commit-answered.ensures.after in (
       is ∙ ap (λ (l : List Logged). book_at opened l) (sym added),
       ap is_closed added ∙ open_goes_on log (Take c.args.moment c.args.request.now) c.self.invariant.1,
@@ -49,5 +51,5 @@ invariant_of-self-2 g c =
       c.self.invariant.4,
       c.self.invariant.5,
       subst (λ (l : Ledger). IsKeptBy g.S.RowStore.is_clean g.S.RowStore.is_ready g.S.RowStore.rows g.S.RowStore.beside c.add.new.self l) end longer,
-      ap is_some (c.add.ensures.store ∙ c.row_of_take.ensures.store) ∙ c.self.invariant.7,
+      ap is_some (c.add.ensures.store ∙ c.row_of_take.ensures.store ∙ ap (λ j. j.store) same_journal) ∙ c.self.invariant.7,
     )

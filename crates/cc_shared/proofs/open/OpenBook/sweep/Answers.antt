@@ -24,8 +24,10 @@ invariant_of-self-2 g c =
     ∙ ap (λ (l : Ledger). with_sweep l moment) c.self.invariant.0
     ∙ book_at-sweep opened log moment in
     let before = c.self.inside.book in
-    let next = c.in-Ok.ensures.row c.self.invariant.6 in
-    let longer = c.add.ensures.kept before (with_sweep before moment) (c.row_of_sweep.ensures.kept before c.self.invariant.6) next in
+    let same_journal = c.deref_mut-journal.ensures.value in
+    let kept = subst (λ j. IsKeptBy g.S.RowStore.is_clean g.S.RowStore.is_ready g.S.RowStore.rows g.S.RowStore.beside j before) (sym same_journal) c.self.invariant.6 in
+    let next = c.in-Ok.ensures.row kept in
+    let longer = c.add.ensures.kept before (with_sweep before moment) (c.row_of_sweep.ensures.kept before kept) next in
     let end : with_sweep before moment ≡ c.sweep.new.self = sym (c.in_ok-swept.ensures.after ∙ swept_book before moment c.in_ok-swept.swept some) in (
       is ∙ ap (λ (l : List Logged). book_at opened l) (sym added),
       ap is_closed added ∙ open_goes_on log (Sweep moment) c.self.invariant.1,
@@ -34,7 +36,7 @@ invariant_of-self-2 g c =
       c.self.invariant.4,
       c.self.invariant.5,
       subst (λ (l : Ledger). IsKeptBy g.S.RowStore.is_clean g.S.RowStore.is_ready g.S.RowStore.rows g.S.RowStore.beside c.add.new.self l) end longer,
-      ap is_some (c.add.ensures.store ∙ c.row_of_sweep.ensures.store) ∙ c.self.invariant.7,
+      ap is_some (c.add.ensures.store ∙ c.row_of_sweep.ensures.store ∙ ap (λ j. j.store) same_journal) ∙ c.self.invariant.7,
     )
 
 pub returns-clause-open : goal.returns-clause-open
