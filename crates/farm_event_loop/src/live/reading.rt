@@ -1,6 +1,6 @@
 //! Which connections a turn reads, and in which order.
 
-ghost use Rattle.std.specs.Prelude.{◌≡◌, ◌||◌};
+ghost use Rattle.std.specs.Prelude.{◌≡◌, ◌++◌, ◌∷◌, ◌||◌, [], IfOk, true};
 
 use super::Live;
 use crate::fault::LoopFault;
@@ -71,6 +71,19 @@ impl<N: Node + Drop> Live<N> {
     ) -> Result<(), LoopFault> {
         self.outgoing.look(&self.serving, moment);
         let most = self.most_of(site, unread, moment);
+        self.read_at_most(os, unread, most, moment)
+    }
+
+    /// Reads so many messages at most on a connection. Where it has to wait, it is not forgotten, however often.
+    fn read_at_most<O: Clock>(
+        &mut self,
+        os: &O,
+        unread: Unread,
+        most: usize,
+        moment: Moment,
+    ) -> Result<(), LoopFault>
+        ensures { most ≡ 0 → IfOk result (λ _. self.new.later.items ≡ self.old.later.items ++ record unread { waits = true } ∷ []) }
+    {
         if most == 0 {
             self.later.push(Unread {
                 waits: true,
