@@ -1,6 +1,6 @@
 //! The lines of a record.
 
-ghost use Rattle.std.specs.Prelude.{◌<◌, ◌≤◌, length, IfSome, IfOk};
+ghost use Rattle.std.specs.Prelude.{◌≡◌, ◌<◌, ◌≤◌, ◌+◌, drop, length, nat_lt, IfSome, IfOk};
 
 use std::alloc::{AllocError, AllocFailed, Global};
 use std::io::{ErrorKind, Read};
@@ -69,7 +69,9 @@ impl<R: Read> RecordLines<R> {
     }
 
     /// The octets that are read and not given.
-    fn unread(&self) -> &[u8] {
+    fn unread(&self) -> &[u8]
+        ensures { result.now ≡ drop self.now.given self.now.rest.items }
+    {
         self.rest.get(self.given..).unwrap_or(&[])
     }
 
@@ -93,20 +95,35 @@ impl<R: Read> RecordLines<R> {
         Ok(())
     }
 
+    /// Whether what was read and not given is longer than any line.
+    fn is_too_long(&self) -> bool
+        ensures { result ≡ nat_lt 1048576 (length (drop self.now.given self.now.rest.items)) }
+    {
+        self.unread().len() > LINE_LIMIT
+    }
+
+    /// One call of the reader. How many octets it brought, which are all that is added; none where it was interrupted.
+    fn read_once(&mut self) -> Result<Option<usize>, LinesFault>
+        ensures { IfOk result (λ read. IfSome read (λ count. length self.new.rest.items ≡ length self.old.rest.items + count)) }
+    {
+        let mut piece = [0u8; PIECE];
+        match self.reader.read(&mut piece) {
+            Ok(count) => {
+                self.rest.extend_from_slice(&piece[..count])?;
+                Ok(Some(count))
+            }
+            Err(error) => match error.kind() {
+                ErrorKind::Interrupted => Ok(None),
+                _ => Err(LinesFault::Failed),
+            },
+        }
+    }
+
     /// One read. Whether it brought something.
     fn read_more(&mut self) -> Result<bool, LinesFault> {
-        let mut piece = [0u8; PIECE];
         for _ in 0..RETRY_LIMIT {
-            match self.reader.read(&mut piece) {
-                Ok(count) => {
-                    self.rest.extend_from_slice(&piece[..count])?;
-                    return Ok(count > 0);
-                }
-                Err(error) => {
-                    if error.kind() != ErrorKind::Interrupted {
-                        return Err(LinesFault::Failed);
-                    }
-                }
+            if let Some(count) = self.read_once()? {
+                return Ok(count > 0);
             }
         }
         Err(LinesFault::Failed)
@@ -119,7 +136,7 @@ impl<R: Read> RecordLines<R> {
             if let Some(line) = self.take_line(alloc)? {
                 return Ok(Some(line));
             }
-            if self.unread().len() > LINE_LIMIT {
+            if self.is_too_long() {
                 self.count = self.count.saturating_add(1);
                 return Err(LinesFault::TooLong);
             }
