@@ -1,6 +1,6 @@
 //! What a worker does with a message: it reads the request, has it served, and spells the answer.
 
-ghost use Rattle.std.specs.Prelude.{◌≡◌, IfSome, None, Ok, Some};
+ghost use Rattle.std.specs.Prelude.{◌≡◌, ◌≤◌, IfSome, None, Ok, Some};
 ghost use Rattle.cc_view.specs.Answer.{answer_to};
 ghost use Rattle.cc_view.specs.RequestView.{view_under};
 ghost use Rattle.front_pool.specs.Answering.{IsAnsweredByOne, IsServedAt, Reads, too_busy};
@@ -13,7 +13,7 @@ use crate::task::{Done, Task};
 use cc_shared::{Asked, Receipt, Served};
 use cc_view::{CcRequest, Refusal, ResultCode, answer_bytes, refusal_bytes};
 use dia_avp::Wire;
-use dia_base::NodeNo;
+use dia_base::{Moment, NodeNo};
 use dia_message::Message;
 use farm_clock::Timer;
 use front_core::{Prepared, prepare};
@@ -71,6 +71,13 @@ pub fn refuse<W: Wire, L: Pooling>(alloc: Global, front: NodeNo, site: &PoolSite
     job.finish(front, busy, None, None)
 }
 
+/// The moment at which a request is charged: not before that at which the timer was started. None where it cannot be read.
+fn charged_at<R: Clock>(rt: &R, timer: Timer) -> Option<Moment>
+    ensures { IfSome result (λ moment. timer.first ≤ moment.0) }
+{
+    timer.now(rt).ok()
+}
+
 /// Asks the book for a request that was read in a message. Where no moment can be read, the job is answered DIAMETER_TOO_BUSY.
 fn ask<W: Wire, L: Pooling, R: Clock>(
     rt: &R,
@@ -85,7 +92,7 @@ fn ask<W: Wire, L: Pooling, R: Clock>(
     requires view { view_under site.now.profile job.request ≡ Ok request }
     ensures { Reads L.site L.shared front job result }
 {
-    match timer.now(rt).ok() {
+    match charged_at(rt, timer) {
         Some(moment) => Reading::Asks {
             asked: Asked {
                 job,
