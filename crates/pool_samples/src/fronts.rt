@@ -23,5 +23,6 @@ where
     print_sample(rt, alloc, 100, Sample::Many)?;
     print_sample(rt, alloc, 100, Sample::Session)?;
     print_sample(rt, alloc, 1, Sample::Full)?;
-    print_sample(rt, alloc, 100, Sample::Record)
+    print_sample(rt, alloc, 100, Sample::Record)?;
+    print_sample(rt, alloc, 100, Sample::Lost)
 }

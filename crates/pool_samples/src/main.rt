@@ -6,8 +6,8 @@
 //!   same requests.
 //! - `workers`: two workers, one that wakes, no room, and a stop with jobs that wait; what a repeat, a request that is refused,
 //!   and a session are answered; and a stop while one of two workers holds a job.
-//! - `fronts`: answers of two fronts, many at a time, a session that is due, a full book, and a record. No other program runs
-//!   them so but the one that serves.
+//! - `fronts`: answers of two fronts, many at a time, a session that is due, a full book, a record, and one that is lost. No
+//!   other program runs them so but the one that serves.
 //! - `stored`: rows as octets, and stores of them over trees in memory: batches, crashes, damage.
 //! - `messages`: requests besides the first debit. `nowhere`: what their books are stored in, nothing. `told`: what stands in a book.
 //!

@@ -1,4 +1,4 @@
-//! Answers of two fronts, many at a time, a session that is due, a full book, and a record.
+//! Answers of two fronts, many at a time, a session that is due, a full book, a record, and one for which memory is missing.
 
 ghost use Rattle.std.specs.Prelude.{◌≡◌, ◌≤◌, ◌<◌, ◌^◌, false};
 ghost use Rattle.dia_base.specs.declared.number.NodeNo.{NodeNo};
@@ -35,6 +35,7 @@ pub enum Sample {
     Session,
     Full,
     Record,
+    Lost,
 }
 
 /// How many milliseconds after its last request a session is due: twice its validity.
@@ -144,6 +145,19 @@ fn record<L: Pooling, R: Threads + Wait + Clock + Print + Copy>(
     running.wait(rt, 5)
 }
 
+/// A record for which memory is missing: its last line says so, and the debit behind that is not told.
+fn lost<L: Pooling, R: Threads + Wait + Clock + Print + Copy>(
+    rt: &R,
+    alloc: Global,
+    running: &mut Running<'_, L, R>,
+) -> anyhow::Result<()> {
+    running.begin_record(alloc, names(alloc)?);
+    running.come_up(rt, alloc, FIRST, 1)?;
+    running.recorder.fail();
+    running.hear(rt, alloc, 1, debit(alloc, 5)?)?;
+    running.wait(rt, 1)
+}
+
 /// The fronts of the site, on this book. Their workers wake by this.
 fn start<L, R>(
     rt: &R,
@@ -195,6 +209,7 @@ fn perform<L: Pooling, R: Threads + Wait + Clock + Print + Copy>(
         Sample::Session => session(rt, alloc, running),
         Sample::Full => full(rt, alloc, running),
         Sample::Record => record(rt, alloc, running),
+        Sample::Lost => lost(rt, alloc, running),
     }
 }
 
