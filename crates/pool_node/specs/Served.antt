@@ -1,7 +1,7 @@
 -- What requests come to that workers answer by the book.
 use Rattle.std.specs.Prelude.{◌+◌, ℕ, min, Bool, true, false, if◌then◌else◌, Option, Some, None}
 use Rattle.cc_view.specs.declared.code.ResultCode.{ResultCode}
-use Rattle.cc_view.specs.declared.code.ResultCode.TheVariants.{Success, CreditLimitReached}
+use Rattle.cc_view.specs.declared.code.ResultCode.TheVariants.{Success, CreditLimitReached, UnableToComply}
 use Rattle.cc_view.specs.declared.request.RequestedAction.{RequestedAction}
 use Rattle.cc_view.specs.declared.request.RequestedAction.TheVariants.{CheckBalance, PriceEnquiry}
 use Rattle.cc_shared.specs.declared.receipt.Receipt.{Receipt}
@@ -21,9 +21,14 @@ fresh_came_to action Success = if asks_alone action then Enquiry else Charge
 fresh_came_to action CreditLimitReached = CreditRefusal
 fresh_came_to _ _ = Refusal
 
--- a repeat is no request more
+-- what a request came to that stands there already: a repeat is no request more, and what asks for something else under its
+-- Session-Id and CC-Request-Number is refused
+abbrev pub known_came_to : ResultCode → CameTo
+known_came_to UnableToComply = Refusal
+known_came_to _ = Repeat
+
 abbrev pub came_to : Receipt → CameTo
-came_to receipt = if receipt.fresh then fresh_came_to receipt.request.action receipt.reply.code else Repeat
+came_to receipt = if receipt.fresh then fresh_came_to receipt.request.action receipt.reply.code else known_came_to receipt.reply.code
 
 -- one more; a count stays at the greatest number
 abbrev pub one_more : ℕ → ℕ

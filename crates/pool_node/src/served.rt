@@ -1,7 +1,7 @@
 //! Requests that workers have answered by the book, by what they came to.
 
 ghost use Rattle.std.specs.Prelude.{◌≡◌};
-ghost use Rattle.pool_node.specs.Served.{asks_alone, came_to, counted, fresh_came_to, no_requests};
+ghost use Rattle.pool_node.specs.Served.{asks_alone, came_to, counted, fresh_came_to, known_came_to, no_requests};
 
 use cc_shared::Receipt;
 use cc_view::{RequestedAction, ResultCode};
@@ -15,7 +15,7 @@ pub enum CameTo {
     Enquiry,
     /// Refused for want of credit (section 9.1).
     CreditRefusal,
-    /// Refused for another reason.
+    /// Refused for another reason, or since another request has its Session-Id and CC-Request-Number.
     Refusal,
     /// It was sent again, and answered as before.
     Repeat,
@@ -53,6 +53,17 @@ fn fresh_came_to(action: Option<RequestedAction>, code: ResultCode) -> CameTo
     }
 }
 
+/// What a request came to whose Session-Id and CC-Request-Number stand in the book already, and that is answered so. Another request than
+/// the one that stands there is refused.
+fn known_came_to(code: ResultCode) -> CameTo
+    ensures { result ≡ known_came_to code }
+{
+    match code {
+        ResultCode::UnableToComply => CameTo::Refusal,
+        _ => CameTo::Repeat,
+    }
+}
+
 /// What the request of a receipt came to.
 pub fn came_to(receipt: &Receipt) -> CameTo
     ensures { result ≡ came_to receipt.now }
@@ -60,7 +71,7 @@ pub fn came_to(receipt: &Receipt) -> CameTo
     if receipt.fresh {
         fresh_came_to(receipt.request.action, receipt.reply.code)
     } else {
-        CameTo::Repeat
+        known_came_to(receipt.reply.code)
     }
 }
 
