@@ -182,7 +182,7 @@ fn text_of<S: Source>(alloc: Global, source: &S, reply: Reply) -> Result<String,
         Reply::Busy => text.push_str("another one is under way\n")?,
         Reply::Forbidden => text.push_str("the token of the node is missing\n")?,
         Reply::NotFound => text.push_str(
-            "there is /, /metrics, /status.json and /health to read, and /stop to post to\n",
+            "there is /, /metrics, /status.json and /health to read, and /stop to post to; at fronts /terms and /account too\n",
         )?,
         Reply::OnlyRead => text.push_str("this is there to be read\n")?,
         Reply::OnlyPost => text.push_str("this is there to be posted to\n")?,

@@ -112,7 +112,7 @@ fn push_site(out: &mut String, status: &Status<'_>) -> Result<(), AllocError> {
         write!(out, ", changed {span} ago")?;
         if age < status.uptime {
             out.push_str(
-                " <b>and so since this process has read it: what it says now does not hold yet</b>",
+                " <b>and so since this process has read it: what it says now does not hold yet, but for accounts and tariffs that were added or changed by their own commands</b>",
             )?;
         }
     }
