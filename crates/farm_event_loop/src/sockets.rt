@@ -20,6 +20,10 @@ const EVENT_LIMIT: usize = 1_024;
 /// How long a turn waits, in milliseconds, where nothing happens.
 const WAIT: u64 = 100;
 
+/// How often a process that has a waker looks for what is ready before it sleeps, which takes some ten microseconds. To sleep and be
+/// woken takes as long as a worker needs for an answer.
+const LOOKS: u32 = 24;
+
 /// A listening socket, for a node of this process.
 #[derive(Drop)]
 pub struct Listening {
@@ -107,6 +111,8 @@ pub struct Sockets {
     pub ready: Vec<Ready>,
     /// What is read.
     pub piece: Vec<u8>,
+    /// Whether what works in other threads ends a wait.
+    has_waker: bool,
 }
 
 // By hand, so that each exit of an owner is proved with one call.
@@ -118,6 +124,7 @@ impl Drop for Sockets {
             listeners: _,
             ready: _,
             piece: _,
+            has_waker: _,
         } = self;
     }
 }
@@ -164,12 +171,15 @@ impl Sockets {
             listeners: Vec::new(alloc),
             ready: Vec::with_capacity(alloc, EVENT_LIMIT)?,
             piece: Vec::from_elem(alloc, 0u8, PIECE)?,
+            has_waker: false,
         })
     }
 
     /// What ends a wait of the loop from another thread. One is made at most.
-    pub fn waker(&self) -> io::Result<Waker> {
-        Waker::new(self.poll.registry(), WAKER)
+    pub fn waker(&mut self) -> io::Result<Waker> {
+        let waker = Waker::new(self.poll.registry(), WAKER)?;
+        self.has_waker = true;
+        Ok(waker)
     }
 
     /// Where sources are registered.
@@ -192,11 +202,32 @@ impl Sockets {
         Ok(())
     }
 
-    /// Waits until something is ready, or 100 milliseconds, or not at all. What is ready stands in `ready` then.
-    pub fn wait(&mut self, at_once: bool) -> io::Result<()> {
-        let millis = if at_once { 0 } else { WAIT };
+    /// Asks the system what is ready, and waits so many milliseconds for it.
+    fn ask(&mut self, millis: u64) -> io::Result<()> {
         self.poll
-            .poll(&mut self.events, Some(Duration::from_millis(millis)))?;
+            .poll(&mut self.events, Some(Duration::from_millis(millis)))
+    }
+
+    /// Looks for what is ready without sleeping, for some microseconds. Whether something is.
+    fn look(&mut self) -> io::Result<bool> {
+        for _look in 0..LOOKS {
+            self.ask(0)?;
+            if !self.events.is_empty() {
+                return Ok(true);
+            }
+        }
+        Ok(false)
+    }
+
+    /// Waits until something is ready, or 100 milliseconds, or not at all. What is ready stands in `ready` then. If workers answer in other
+    /// threads, and something was ready for the turn before, it looks a while before it sleeps.
+    pub fn wait(&mut self, at_once: bool) -> io::Result<()> {
+        let was_busy = self.has_waker && !self.ready.is_empty();
+        if at_once {
+            self.ask(0)?;
+        } else if !(was_busy && self.look()?) {
+            self.ask(WAIT)?;
+        }
         self.ready.clear();
         let listeners = self.listeners.len();
         for event in &self.events {

@@ -201,7 +201,7 @@ fn sockets_of<O: Net>(
     requires { IsChecked setting.now.site.now }
 {
     let endpoints = endpoints_of(setting, nodes, state)?;
-    let sockets = Sockets::new(setting.os, setting.rt.alloc())?;
+    let mut sockets = Sockets::new(setting.os, setting.rt.alloc())?;
     let waker = LoopWaker(sockets.waker()?);
     Ok(FrontSockets {
         endpoints,
