@@ -120,6 +120,7 @@ pub record IsNothing (tally : Tally) : Type 0 where
   pub times : tally.times ≡ record { rows = new_rows; count = 0; sum = 0 }
   pub clocks : HasNoClocks tally.clocks
   pub peers : tally.peers.counts.items ≡ []
+  pub conns : tally.peers.conns.items ≡ []
 
 -- where its request was timed, the time of an answer is counted and its clock ends; where it was not, nothing changes
 abbrev pub IsTimed : Tally → ConnId → ℕ → Tally → Type 0

@@ -112,7 +112,8 @@ fn place_of(counts: &[PeerCount], local: NodeNo, peer: NodeNo) -> Option<usize>
 impl Peers {
     /// None yet.
     pub fn none(alloc: Global) -> Self
-        ensures { result.counts.items ≡ [] }
+        ensures counts { result.counts.items ≡ [] }
+        ensures conns { result.conns.items ≡ [] }
     {
         Peers {
             counts: Vec::new(alloc),

@@ -93,6 +93,7 @@ impl Tally {
     pub fn request_came(&mut self, conn: ConnId, hop: u32)
         ensures counted { self.new ≡ record self.old { requests = plus self.old.requests 1; clocks = self.new.clocks; peers = self.new.peers } }
         ensures by_peer { self.new.peers.counts.items ≡ changed with_request (place_on self.old.peers conn) self.old.peers.counts.items }
+        ensures conns { self.new.peers.conns ≡ self.old.peers.conns }
         ensures timed { IsBegun self.old.clocks conn hop self.old.clock self.new.clocks }
     {
         self.requests = self.requests.saturating_add(1);
@@ -114,6 +115,7 @@ impl Tally {
         ensures once { IsUntimed self.new.clocks conn hop }
         ensures others { self.new ≡ record self.old { answers = self.new.answers; times = self.new.times; clocks = self.new.clocks; peers = self.new.peers } }
         ensures by_peer { self.new.peers.counts.items ≡ changed (with_answer code) (place_on self.old.peers conn) self.old.peers.counts.items }
+        ensures conns { self.new.peers.conns ≡ self.old.peers.conns }
     {
         self.answers.add(code);
         self.peers.answer_sent(conn, code);
