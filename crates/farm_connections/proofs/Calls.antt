@@ -8,30 +8,32 @@ use Rattle.dia_message.specs.Traffic.{Traffic}
 use Rattle.farm_node.specs.Events.{NodeEvent}
 use Rattle.farm_node.specs.declared.error.NodeError.{NodeError}
 use Rattle.farm_connections.specs.declared.desk.Desk.{Desk}
+use Rattle.farm_connections.specs.declared.local.LocalNode.{LocalNode}
 use Rattle.farm_connections.specs.Calls.{HearsAll, hears_more}
 use Rattle.farm_connections.specs.Doing.{AtPlace, Hears}
 
 -- messages that were heard, and those that are left
-pub record HeardSo {N R W : Type 0} (On : N → NodeEvent → Traffic → Result (Unit {0}) NodeError → N → Type 0) (moment : Moment) (place : ℕ) (first : Desk N R W)
-    (all left : List Message) (now : Desk N R W) : Type 0 where
+pub record HeardSo {N R W : Type 0} (On : N → NodeEvent → Traffic → Result (Unit {0}) NodeError → N → Type 0) (locals : List LocalNode) (moment : Moment)
+    (place : ℕ) (first : Desk N R W) (all left : List Message) (now : Desk N R W) : Type 0 where
   pub done : List Message
   pub all_is : all ≡ done ++ left
-  pub hears : HearsAll On moment place first done now
+  pub hears : HearsAll On locals moment place first done now
 
-pub one_heard : {N R W : Type 0} {On : N → NodeEvent → Traffic → Result (Unit {0}) NodeError → N → Type 0} (moment : Moment) (place : ℕ)
-    (first mid new : Desk N R W) (all left rest : List Message) (m : Message) → HeardSo On moment place first all left mid → left ≡ m ∷ rest
-    → AtPlace mid place (λ link. Hears On moment m place link mid new) → HeardSo On moment place first all rest new
-one_heard moment place first mid new all left rest m before is hears = record {
+pub one_heard : {N R W : Type 0} {On : N → NodeEvent → Traffic → Result (Unit {0}) NodeError → N → Type 0} (locals : List LocalNode) (moment : Moment) (place : ℕ)
+    (first mid new : Desk N R W) (all left rest : List Message) (m : Message) → HeardSo On locals moment place first all left mid → left ≡ m ∷ rest
+    → AtPlace mid place (λ link. Hears On locals moment m place link mid new) → HeardSo On locals moment place first all rest new
+one_heard locals moment place first mid new all left rest m before is hears = record {
   done = before.done ++ m ∷ [];
   all_is = before.all_is ∙ ap (λ (messages : List Message). before.done ++ messages) is ∙ sym (append_assoc before.done (m ∷ []) rest);
   hears = hears_more before.done mid new m before.hears hears;
 }
 
-pub all_heard : {N R W : Type 0} {On : N → NodeEvent → Traffic → Result (Unit {0}) NodeError → N → Type 0} (moment : Moment) (place : ℕ)
-    (first now : Desk N R W) (all left : List Message) → HeardSo On moment place first all left now → length left ≡ 0 → HearsAll On moment place first all now
-all_heard {N} {R} {W} {On} moment place first now all [] before none =
-    subst (λ (messages : List Message). HearsAll On moment place first messages now) (sym (before.all_is ∙ append-nil before.done)) before.hears
-all_heard moment place first now all (m ∷ left) before none = absurd cc
+pub all_heard : {N R W : Type 0} {On : N → NodeEvent → Traffic → Result (Unit {0}) NodeError → N → Type 0} (locals : List LocalNode) (moment : Moment) (place : ℕ)
+    (first now : Desk N R W) (all left : List Message) → HeardSo On locals moment place first all left now → length left ≡ 0
+    → HearsAll On locals moment place first all now
+all_heard {N} {R} {W} {On} locals moment place first now all [] before none =
+    subst (λ (messages : List Message). HearsAll On locals moment place first messages now) (sym (before.all_is ∙ append-nil before.done)) before.hears
+all_heard locals moment place first now all (m ∷ left) before none = absurd cc
 
 -- what is said where a connection has ended, and where it has not
 pub where_over : {E : Type 0} (A B : Type 0) (end : Option E) → is_some end ≡ true → B → MatchOption end A (λ why. B)

@@ -6,3 +6,4 @@ pub mod Sending
 pub mod Doing
 pub mod Misnaming
 pub mod Calls
+pub mod Locals

@@ -89,6 +89,12 @@ pub none_is : (found all : Option ℕ) → found ≡ all → IfNone found (all �
 none_is None all e = sym e
 none_is (Some place) all e = tt
 
+-- one stands at a place among them
+pub there_is : {A : Type 0} (xs : List A) (place : ℕ) → place < length xs → (x : A) × (x ≡ get_or xs place x)
+there_is [] place within = absurd (omega (arith, within))
+there_is (x ∷ xs) zero within = (x, refl)
+there_is (x ∷ xs) (suc place) within = there_is xs place (omega (arith, within))
+
 -- what is read twice is the same
 pub same_read : {A : Type 0} (xs : List A) (place : ℕ) (x y : A) → place < length xs → x ≡ get_or xs place x → y ≡ get_or xs place y → x ≡ y
 same_read [] place x y within first second = absurd (omega (arith, within))

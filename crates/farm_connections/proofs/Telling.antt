@@ -118,10 +118,10 @@ pub made_way : {N R W : Type 0} {On : N → NodeEvent → Traffic → Result (Un
     → Way On (keeping node (marks_of links) made) (keeping node (marks_of (links ++ link ∷ [])) link.id.0)
 made_way {N} {R} {W} {On} node links link made next waits =
     let with : ℕ → Standing → Kept N =
-    λ n standing. keeping node (marks_of links ++ record { id = record { 0 = n }; local = link.local; standing = standing; barred = link.barred.items; names = link.names } ∷ [])
+    λ n standing. keeping node (marks_of links ++ record { id = record { 0 = n }; local = link.local; accepted = link.accepted; standing = standing; barred = link.barred.items; names = link.names } ∷ [])
     n in
     let first = keeping node (marks_of links) made in
-    let begun : Goes On first [] (with (made + 1) Waiting) = makes [] node (marks_of links) made link.local link.barred.items link.names rests in
+    let begun : Goes On first [] (with (made + 1) Waiting) = makes [] node (marks_of links) made link.local link.accepted link.barred.items link.names rests in
     let there : Goes On first [] (with link.id.0 link.standing) =
     subst (λ (standing : Standing). Goes On first [] (with link.id.0 standing)) (sym waits)
     (subst (λ (n : ℕ). Goes On first [] (with n Waiting)) (sym next) begun) in

@@ -163,7 +163,7 @@ stands node _ _ (ends told now next front back made mark peer sent outcome goes 
 stands node _ _ (wakes told now next marks made event sent outcome goes none does) =
     nothing_moves now next told _ marks made (λ conn. turn_more conn told event outcome ∙ of_none event outcome conn (turn_of conn told) none)
     (stands node told _ goes)
-stands node _ _ (makes told now marks made local barred names goes) =
+stands node _ _ (makes told now marks made local accepted barred names goes) =
     let s = stands node told _ goes in
     record {
       agree = made_more made told 0 marks _ (omega arith) refl (s.fresh (made + 1) (omega arith)) s.agree;
@@ -207,7 +207,7 @@ goes_then {N} {On} {first} {mid} {told} _ _ way (ends more node next front back 
     retell (append_assoc told more _) (ends _ node next front back made mark peer sent outcome (goes_then more _ way goes) is_up does)
 goes_then {N} {On} {first} {mid} {told} _ _ way (wakes more node next marks made event sent outcome goes none does) =
     retell (append_assoc told more _) (wakes _ node next marks made event sent outcome (goes_then more _ way goes) none does)
-goes_then {N} {On} {first} {mid} {told} _ _ way (makes more node marks made local barred names goes) =
-    makes _ node marks made local barred names (goes_then more _ way goes)
+goes_then {N} {On} {first} {mid} {told} _ _ way (makes more node marks made local accepted barred names goes) =
+    makes _ node marks made local accepted barred names (goes_then more _ way goes)
 goes_then {N} {On} {first} {mid} {told} _ _ way (lets_go more node front back made mark goes down) =
     lets_go _ node front back made mark (goes_then more _ way goes) down

@@ -9,6 +9,8 @@ use Rattle.std.specs.Prelude.{Result, Ok, Err}
 use Rattle.farm_node.specs.Events.{NodeEvent}
 use Rattle.farm_node.specs.declared.error.NodeError.{NodeError}
 use Rattle.farm_watch.specs.Table.{after_message}
+use Rattle.farm_watch.specs.declared.site.Side.{Side}
+use Rattle.farm_watch.specs.declared.site.Side.TheVariants.{Accepts, Connects}
 use Rattle.farm_watch.specs.declared.site.WatchSite.{WatchSite}
 use Rattle.farm_watch.specs.declared.watch.Waits.{Waits}
 use Rattle.farm_connections.specs.declared.desk.Desk.{Desk}
@@ -20,15 +22,20 @@ use Rattle.farm_connections.specs.declared.naming.NameRule.{NameRule}
 use Rattle.farm_connections.specs.Turns.{Goes, IsDown, Kept, Mark, Told, may_come_up}
 
 abbrev pub mark_of : {R W : Type 0} → Link R W → Mark
-mark_of link = record { id = link.id; local = link.local; standing = link.standing; barred = link.barred.items; names = link.names }
+mark_of link = record { id = link.id; local = link.local; accepted = link.accepted; standing = link.standing; barred = link.barred.items; names = link.names }
 
 abbrev pub marks_of : {R W : Type 0} → List (Link R W) → List Mark
 marks_of links = map mark_of links
 
--- There is one connection more, under this number, of this node: nobody is up on it, and these may come up.
-abbrev pub IsMade : {R W : Type 0} → ConnId → NodeNo → List NodeNo → NameRule → List (Link R W) → List (Link R W) → Type 0
-IsMade conn local barred names old new =
-    marks_of new ≡ marks_of old ++ record { id = conn; local = local; standing = Waiting; barred = barred; names = names } ∷ []
+-- the other end connects
+abbrev pub accepts : Side → Bool
+accepts Accepts = true
+accepts (Connects peer) = false
+
+-- There is one connection more, under this number, of this node, which the other end has made or it: nobody is up on it, and these may come up.
+abbrev pub IsMade : {R W : Type 0} → ConnId → NodeNo → Bool → List NodeNo → NameRule → List (Link R W) → List (Link R W) → Type 0
+IsMade conn local accepted barred names old new =
+    marks_of new ≡ marks_of old ++ record { id = conn; local = local; accepted = accepted; standing = Waiting; barred = barred; names = names } ∷ []
 
 abbrev pub kept_by : {N R W : Type 0} → Desk N R W → Kept N
 kept_by desk = record { node = desk.node; marks = marks_of desk.links.items; made = desk.made }

@@ -1,5 +1,5 @@
 -- What a process does with what its node says, and with what the life of a connection says.
-use Rattle.std.specs.Prelude.{◌≡◌, ◌<◌, ◌&&◌, ℕ, Bool, true, false, is_none, List, [], ◌∷◌, ◌++◌, get_or, slice_set, length, Option, Some, None, Result, Ok, Err, IsSome, MatchBool, MatchOption, OnErr, OnOk}
+use Rattle.std.specs.Prelude.{◌≡◌, ◌<◌, ◌&&◌, ℕ, Bool, true, false, is_none, List, [], ◌∷◌, ◌++◌, get_or, slice_set, length, Option, Some, None, Result, Ok, Err, IsSome, MatchBool, MatchOption, OnErr, OnOk, if◌then◌else◌}
 use Rattle.dia_base.specs.declared.number.ConnId.{ConnId}
 use Rattle.dia_base.specs.declared.number.Moment.{Moment}
 use Rattle.dia_base.specs.declared.number.NodeNo.{NodeNo}
@@ -16,10 +16,13 @@ use Rattle.farm_watch.specs.declared.cause.DisconnectCause.{DisconnectCause}
 use Rattle.farm_watch.specs.declared.acts.Act.TheVariants as life
 use Rattle.farm_connections.specs.declared.desk.Desk.{Desk}
 use Rattle.farm_connections.specs.declared.end.End.{End}
+use Rattle.farm_connections.specs.declared.end.End.TheVariants as ending
 use Rattle.farm_connections.specs.declared.link.Link.{Link}
 use Rattle.farm_connections.specs.declared.link.Standing.{Standing}
 use Rattle.farm_connections.specs.declared.link.Standing.TheVariants.{Waiting, Up, Over}
+use Rattle.farm_connections.specs.declared.local.LocalNode.{LocalNode}
 use Rattle.farm_connections.specs.Desks.{mark_of}
+use Rattle.farm_connections.specs.Locals.{site_at}
 use Rattle.farm_connections.specs.Naming.{IsKeptOut, misnamed}
 use Rattle.farm_connections.specs.Sending.{AllGoOut, AreInOrder, HasNone, IsSentOn}
 use Rattle.farm_connections.specs.Turns.{may_come_up}
@@ -46,6 +49,15 @@ pub record HasEnded {R W : Type 0} (old new : Link R W) : Type 0 where
   pub ended : IsSome new.end
   pub only : IsToldOnly old new
   pub stands : new.standing ≡ old.standing
+
+-- why it has ended, and when: the first reason stays
+abbrev pub end_after : End → Moment → Option (End × Moment) → Option (End × Moment)
+end_after why moment ended = if is_none ended then Some (why, moment) else ended
+
+-- it has ended for this reason at this moment, unless it had ended before
+pub record EndsFor {R W : Type 0} (why : End) (moment : Moment) (old new : Link R W) : Type 0 where
+  pub ends : HasEnded old new
+  pub why_is : new.end ≡ end_after why moment old.end
 
 -- ---- what a node says
 
@@ -168,30 +180,47 @@ pub record Lives {N R W : Type 0} (On : N → NodeEvent → Traffic → Result (
 
 -- ---- what happens to a connection
 
--- Time has passed: what the table says is done, its requests numbered as the process numbers them. Where memory is missing, nothing.
-pub data Ticks {N R W : Type 0} (On : N → NodeEvent → Traffic → Result (Unit {0}) NodeError → N → Type 0) (moment : Moment) (place : ℕ) (link : Link R W)
-    (old new : Desk N R W) : Type 0 where
-  lives : (site : WatchSite) → Lives On (numbered_effect old.numbering moment (after_tick site moment link.watch)) place link old new → Ticks On moment place link old new
-  rests : IsStill old new → Ticks On moment place link old new
-
--- It is to end: what the table says is done, its requests numbered as the process numbers them. Where memory is missing, it ends at once.
-pub data Closes {N R W : Type 0} (On : N → NodeEvent → Traffic → Result (Unit {0}) NodeError → N → Type 0) (moment : Moment) (place : ℕ) (link : Link R W)
-    (old new : Desk N R W) : Type 0 where
-  says : (site : WatchSite) → Lives On (numbered_effect old.numbering moment (after_close site moment link.watch)) place link old new → Closes On moment place link old new
-  is_over : IsStill old new → Closes On moment place link old new
-  breaks : (mid : Desk N R W) → IsStill old mid → Becomes (HasEnded link) place mid new → Closes On moment place link old new
-
--- What a message says to the life of a connection, where some nodes are not welcome: also the node that was connected to, where
--- the message is its answer and does not name it, and it comes up by its own name alone. Where memory is missing, nothing.
-abbrev pub Heard : {N R W : Type 0} → Moment → Message → ℕ → Link R W → Desk N R W → Desk N R W → Result (List Act) End → Type 0
-Heard moment m place link old new (Ok acts) =
-    (site : WatchSite) × (nodes : List NodeNo) × IsKeptOut (misnamed link site m) nodes × Lived (after_message site nodes moment m link.watch) acts place link old new
-Heard moment m place link old new (Err why) = IsStill old new
-
--- A message came: what the table says is done. Where memory is missing, the connection ends.
-pub data Hears {N R W : Type 0} (On : N → NodeEvent → Traffic → Result (Unit {0}) NodeError → N → Type 0) (moment : Moment) (m : Message) (place : ℕ)
+-- Time has passed: what the table says is done by what is known of the connection's own node, its requests numbered as the process numbers
+-- them. Where it has ended, or its node is not served here, nothing is; nor where memory is missing.
+pub data Ticks {N R W : Type 0} (On : N → NodeEvent → Traffic → Result (Unit {0}) NodeError → N → Type 0) (locals : List LocalNode) (moment : Moment) (place : ℕ)
     (link : Link R W) (old new : Desk N R W) : Type 0 where
-  hears : (site : WatchSite) (nodes : List NodeNo) → IsKeptOut (misnamed link site m) nodes
-      → Lives On (after_message site nodes moment m link.watch) place link old new → Hears On moment m place link old new
-  is_deaf : IsSome link.end → IsStill old new → Hears On moment m place link old new
-  breaks : (mid : Desk N R W) → IsStill old mid → Becomes (HasEnded link) place mid new → Hears On moment m place link old new
+  lives : (site : WatchSite) → site_at link.local locals ≡ Some site
+      → Lives On (numbered_effect old.numbering moment (after_tick site moment link.watch)) place link old new → Ticks On locals moment place link old new
+  is_gone : IsSome link.end → IsStill old new → Ticks On locals moment place link old new
+  is_nowhere : site_at link.local locals ≡ None → IsStill old new → Ticks On locals moment place link old new
+  rests : (site : WatchSite) → site_at link.local locals ≡ Some site → IsStill old new → Ticks On locals moment place link old new
+
+-- It is to end: what the table says is done by what is known of the connection's own node, its requests numbered as the process numbers
+-- them. Where it has ended, or its node is not served here, nothing is. Where memory is missing, it ends at once.
+pub data Closes {N R W : Type 0} (On : N → NodeEvent → Traffic → Result (Unit {0}) NodeError → N → Type 0) (locals : List LocalNode) (moment : Moment) (place : ℕ)
+    (link : Link R W) (old new : Desk N R W) : Type 0 where
+  says : (site : WatchSite) → site_at link.local locals ≡ Some site
+      → Lives On (numbered_effect old.numbering moment (after_close site moment link.watch)) place link old new → Closes On locals moment place link old new
+  is_over : IsSome link.end → IsStill old new → Closes On locals moment place link old new
+  is_nowhere : site_at link.local locals ≡ None → IsStill old new → Closes On locals moment place link old new
+  breaks : (site : WatchSite) → site_at link.local locals ≡ Some site → (mid : Desk N R W) → IsStill old mid → Becomes (EndsFor ending.Closed moment link) place mid new
+      → Closes On locals moment place link old new
+
+-- why a message is not heard: the connection's node is not served here, or memory is missing
+abbrev pub IsUnheard : Option WatchSite → End → Type 0
+IsUnheard None why = why ≡ ending.Closed
+IsUnheard (Some site) why = why ≡ ending.OutOfMemory
+
+-- What a message says to the life of a connection, by what is known of its own node, where some nodes are not welcome: also the node that
+-- was connected to, where the message is its answer and does not name it, and it comes up by its own name alone. Where its node is not
+-- served here, or memory is missing, nothing.
+abbrev pub Heard : {N R W : Type 0} → List LocalNode → Moment → Message → ℕ → Link R W → Desk N R W → Desk N R W → Result (List Act) End → Type 0
+Heard locals moment m place link old new (Ok acts) =
+    (site : WatchSite) × (site_at link.local locals ≡ Some site) × (nodes : List NodeNo) × IsKeptOut (misnamed link site m) nodes
+    × Lived (after_message site nodes moment m link.watch) acts place link old new
+Heard locals moment m place link old new (Err why) = IsUnheard (site_at link.local locals) why × IsStill old new
+
+-- A message came: what the table says is done by what is known of the connection's own node. Where that is not served here, or memory is
+-- missing, the connection ends.
+pub data Hears {N R W : Type 0} (On : N → NodeEvent → Traffic → Result (Unit {0}) NodeError → N → Type 0) (locals : List LocalNode) (moment : Moment) (m : Message)
+    (place : ℕ) (link : Link R W) (old new : Desk N R W) : Type 0 where
+  hears : (site : WatchSite) → site_at link.local locals ≡ Some site → (nodes : List NodeNo) → IsKeptOut (misnamed link site m) nodes
+      → Lives On (after_message site nodes moment m link.watch) place link old new → Hears On locals moment m place link old new
+  is_deaf : IsSome link.end → IsStill old new → Hears On locals moment m place link old new
+  breaks : (why : End) → IsUnheard (site_at link.local locals) why → (mid : Desk N R W) → IsStill old mid → Becomes (EndsFor why moment link) place mid new
+      → Hears On locals moment m place link old new

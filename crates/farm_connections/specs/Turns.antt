@@ -14,11 +14,12 @@ use Rattle.farm_connections.specs.declared.naming.NameRule.{NameRule}
 
 -- ---- what a process keeps
 
--- a connection: its number, the node of this process whose it is, what that was told of it, the nodes that may not come up on
--- it, and by which name one comes up that was connected to
+-- a connection: its number, the node of this process whose it is, whether the other end has connected, what the node was told of it,
+-- the nodes that may not come up on it, and by which name one comes up that was connected to
 pub record Mark : Type 0 where
   pub id : ConnId
   pub local : NodeNo
+  pub accepted : Bool
   pub standing : Standing
   pub barred : List NodeNo
   pub names : NameRule
@@ -107,12 +108,12 @@ pub data Goes {N : Type 0} (On : N → NodeEvent → Traffic → Result (Unit {0
       Goes On first told (record { node = node; marks = marks; made = made }) → IsOfNone event → On node event sent outcome next →
       Goes On first (told ++ told_of event outcome) (record { node = next; marks = marks; made = made })
   -- A connection is made, with a number that none had.
-  makes : (told : List Told) (node : N) (marks : List Mark) (made : ℕ) (local : NodeNo) (barred : List NodeNo) (names : NameRule) →
+  makes : (told : List Told) (node : N) (marks : List Mark) (made : ℕ) (local : NodeNo) (accepted : Bool) (barred : List NodeNo) (names : NameRule) →
       Goes On first told (record { node = node; marks = marks; made = made }) →
       Goes On first told
       (record {
         node = node;
-        marks = marks ++ record { id = record { 0 = made + 1 }; local = local; standing = Waiting; barred = barred; names = names } ∷ [];
+        marks = marks ++ record { id = record { 0 = made + 1 }; local = local; accepted = accepted; standing = Waiting; barred = barred; names = names } ∷ [];
         made = made + 1;
       })
   -- One that is not up is let go.

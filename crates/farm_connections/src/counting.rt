@@ -1,5 +1,11 @@
 //! What is counted of what a node is told and of what it sends.
 
+ghost use Rattle.std.specs.Prelude.{◌≡◌, MatchBool, OnErr, OnOk};
+ghost use Rattle.std.specs.List.{fold};
+ghost use Rattle.farm_connections.specs.Counting.{is_silence, let_go, with_resent};
+ghost use Rattle.farm_metrics.specs.Reading.{code_of};
+ghost use Rattle.farm_metrics.specs.Tallying.{AnswerSent, Came, ComesUp, IsLost, with_sent};
+
 use crate::end::End;
 use crate::link::Standing;
 use dia_base::{ConnId, NodeNo};
@@ -11,16 +17,22 @@ use farm_node::NodeError;
 pub fn count_up(
     tally: &mut Tally,
     conn: ConnId,
-    (local, peer): (NodeNo, NodeNo),
+    ends: (NodeNo, NodeNo),
     outcome: Result<(), NodeError>,
-) {
+)
+    ensures ok { OnOk outcome (ComesUp conn ends.0 ends.1 tally.old tally.new) }
+    ensures err { OnErr outcome (tally.new ≡ tally.old) }
+{
+    let (local, peer) = ends;
     if outcome.is_ok() {
         tally.peer_up(conn, local, peer);
     }
 }
 
 /// The node was told that a connection has ended, for this reason.
-pub fn count_lost(tally: &mut Tally, conn: ConnId, why: End) {
+pub fn count_lost(tally: &mut Tally, conn: ConnId, why: End)
+    ensures { IsLost conn (is_silence why) tally.old tally.new }
+{
     let is_silent = match why {
         End::Silent => true,
         End::Loss(_)
@@ -34,14 +46,18 @@ pub fn count_lost(tally: &mut Tally, conn: ConnId, why: End) {
 }
 
 /// A message was passed to the node.
-pub fn count_passed(tally: &mut Tally, conn: ConnId, message: &Message) {
+pub fn count_passed(tally: &mut Tally, conn: ConnId, message: &Message)
+    ensures { MatchBool message.now.header.request (Came conn message.now.header.hop tally.old tally.new) (tally.new ≡ tally.old) }
+{
     if message.header.request {
         tally.request_came(conn, message.header.hop);
     }
 }
 
 /// The node has sent a message on a connection.
-pub fn count_sent(tally: &mut Tally, conn: ConnId, message: &Message) {
+pub fn count_sent(tally: &mut Tally, conn: ConnId, message: &Message)
+    ensures { MatchBool message.now.header.request (tally.new ≡ with_sent tally.old) (AnswerSent conn message.now.header.hop (code_of message.now.body) tally.old tally.new) }
+{
     if message.header.request {
         tally.request_sent();
     } else {
@@ -51,7 +67,9 @@ pub fn count_sent(tally: &mut Tally, conn: ConnId, message: &Message) {
 }
 
 /// What the node has sent where a connection is lost: requests again, and answers to those that it gives up.
-pub fn count_failovers(tally: &mut Tally, out: &Out) {
+pub fn count_failovers(tally: &mut Tally, out: &Out)
+    ensures { tally.new ≡ fold with_resent tally.old out.now.items }
+{
     for (_, message) in out.items.as_slice() {
         if message.header.request {
             tally.failed_over();
@@ -62,7 +80,9 @@ pub fn count_failovers(tally: &mut Tally, out: &Out) {
 }
 
 /// A connection is let go, which somebody else has made or the node itself. It counts where nobody was ever up on it.
-pub fn count_let_go(tally: &mut Tally, accepted: bool, standing: Standing) {
+pub fn count_let_go(tally: &mut Tally, accepted: bool, standing: Standing)
+    ensures { tally.new ≡ let_go accepted standing tally.old }
+{
     match standing {
         Standing::Waiting if accepted => tally.conn_refused(),
         Standing::Waiting => tally.dial_failed(),

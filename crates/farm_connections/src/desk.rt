@@ -1,13 +1,14 @@
 //! A node with its connections: what it is told, and in which order, and what is sent.
 
 ghost use Rattle.std.specs.Prelude.{◌≡◌, ◌<◌, ◌≤◌, ◌+◌, ◌∷◌, ◌++◌, [], length, slice_index_or, vec_capacity, IfNone, IfOk, IfSome, OnErr, Err, Ok, true, false};
+ghost use Rattle.std.specs.List.{remove};
 ghost use Rattle.farm_node.specs.Events as event;
 ghost use Rattle.farm_watch.specs.declared.acts.Act.TheVariants as life;
 ghost use Rattle.farm_connections.specs.Calls.{BringsHere, BringsOn, HearsAll, Reads, Settles};
-ghost use Rattle.farm_connections.specs.Doing.{AtPlace, Becomes, DoesAct, EndsWhereRefused, FailsWhereRefused, Greets, HasEnded, Heard, Hears, Performs, Says, StandsUnlessRefused, left_for};
+ghost use Rattle.farm_connections.specs.Doing.{AtPlace, Becomes, DoesAct, EndsFor, EndsWhereRefused, FailsWhereRefused, Greets, HasEnded, Heard, Hears, Performs, Says, StandsUnlessRefused, left_for};
 ghost use Rattle.farm_connections.specs.Desks.{AreSettled, IsDownAt, IsPlaceOf, MayComeUpAt, NeverAsks, StandsAt, Tells, is_to_be_told, kept_by, mark_of, marks_of, ups};
 ghost use Rattle.farm_connections.specs.Naming.{IsKeptOut};
-ghost use Rattle.farm_connections.specs.Sending.{AllGoOut, AreInOrder, GoesOut, HasNone, IsNumberedAt, IsSentOn};
+ghost use Rattle.farm_connections.specs.Sending.{AllGoOut, AreInOrder, GoesOut, GreetsAll, HasFlushed, HasNone, IsNumberedAt, IsSentOn, WritesOn};
 
 use crate::counting::{count_failovers, count_lost, count_passed, count_sent, count_up};
 use crate::end::End;
@@ -220,6 +221,7 @@ pub fn flush_all<R: Read + Device, W: Write + Device>(links: &mut Vec<Link<R, W>
 /// What a new connection sends first.
 pub fn greet<R: Read + Device, W: Write + Device>(link: &mut Link<R, W>, acts: Acts, moment: Moment)
     ensures mark { mark_of link.new ≡ mark_of link.old }
+    ensures greets { GreetsAll link.old acts link.new }
 {
     let mut acts = acts;
     while let Some(act) = acts.take_first() {
@@ -234,6 +236,8 @@ impl<N: Node, R: Read + Device, W: Write + Device> Desk<N, R, W> {
         requires number { link.id.0 ≡ self.old.made + 1 }
         requires waits { link.standing ≡ Standing.Waiting }
         ensures made { marks_of self.new.links.items ≡ marks_of self.old.links.items ++ mark_of link ∷ [] }
+        ensures links { self.new.links.items ≡ self.old.links.items ++ link ∷ [] }
+        ensures only { self.new ≡ record self.old { links = self.new.links; made = link.id.0 } }
         ensures tells { Tells N.on_event self.old self.new }
         ensures settled { AreSettled self.old.links.items → AreSettled self.new.links.items }
     {
@@ -246,6 +250,8 @@ impl<N: Node, R: Read + Device, W: Write + Device> Desk<N, R, W> {
         requires within { place < length self.old.links.items }
         requires down { IsDownAt self.old.links.items place }
         ensures out { result ≡ slice_index_or self.old.links.items place result }
+        ensures left { self.new.links.items ≡ remove self.old.links.items place }
+        ensures only { self.new ≡ record self.old { links = self.new.links } }
         ensures tells { Tells N.on_event self.old self.new }
         ensures settled { AreSettled self.old.links.items → AreSettled self.new.links.items }
     {
@@ -280,6 +286,7 @@ impl<N: Node, R: Read + Device, W: Write + Device> Desk<N, R, W> {
     pub(crate) fn end_here(&mut self, place: usize, why: End, moment: Moment)
         requires { place < length self.old.links.items }
         ensures ended { AtPlace self.old place (λ link. Becomes (HasEnded link) place self.old self.new) }
+        ensures reason { AtPlace self.old place (λ link. Becomes (EndsFor why moment link) place self.old self.new) }
         ensures kept { kept_by self.new ≡ kept_by self.old }
         ensures places { length self.new.links.items ≡ length self.old.links.items }
     {
@@ -469,7 +476,7 @@ impl<N: Node, R: Read + Device, W: Write + Device> Desk<N, R, W> {
         requires { place < length self.old.links.items }
         ensures kept { kept_by self.new ≡ kept_by self.old }
         ensures places { length self.new.links.items ≡ length self.old.links.items }
-        ensures heard { AtPlace self.old place (λ link. Heard moment message place link self.old self.new result) }
+        ensures heard { AtPlace self.old place (λ link. Heard locals.now moment message place link self.old self.new result) }
     {
         let link = &self.links[place];
         let Some(site) = site_of(locals, link.local) else {
@@ -504,7 +511,7 @@ impl<N: Node, R: Read + Device, W: Write + Device> Desk<N, R, W> {
         requires { place < length self.old.links.items }
         ensures tells { Tells N.on_event self.old self.new }
         ensures places { length self.new.links.items ≡ length self.old.links.items }
-        ensures hears { AtPlace self.old place (λ link. Hears N.on_event moment message place link self.old self.new) }
+        ensures hears { AtPlace self.old place (λ link. Hears N.on_event locals.now moment message place link self.old self.new) }
     {
         let link = &self.links[place];
         if link.end.is_some() {
@@ -528,7 +535,7 @@ impl<N: Node, R: Read + Device, W: Write + Device> Desk<N, R, W> {
         requires { place < length self.old.links.items }
         ensures tells { Tells N.on_event self.old self.new }
         ensures places { length self.new.links.items ≡ length self.old.links.items }
-        ensures hears { HearsAll N.on_event moment place self.old messages.items self.new }
+        ensures hears { HearsAll N.on_event locals.now moment place self.old messages.items self.new }
     {
         for message in messages {
             self.hear::<P>(locals, place, message, moment);
@@ -558,7 +565,7 @@ impl<N: Node, R: Read + Device, W: Write + Device> Desk<N, R, W> {
     )
         requires { 0 < length piece.old }
         ensures tells { Tells N.on_event self.old self.new }
-        ensures brings { BringsOn N.on_event R.remaining most moment conn self.old self.new }
+        ensures brings { BringsOn N.on_event R.remaining locals.now most moment conn self.old self.new }
     {
         if let Some(place) = place_of(&self.links, conn) {
             self.receive::<P>(locals, place, piece, most, moment);
@@ -568,6 +575,7 @@ impl<N: Node, R: Read + Device, W: Write + Device> Desk<N, R, W> {
     /// A connection writes for one turn. A number that none has changes nothing.
     pub fn flush_on(&mut self, conn: ConnId, moment: Moment)
         ensures kept { kept_by self.new ≡ kept_by self.old }
+        ensures writes { WritesOn conn self.old.links.items self.new.links.items }
     {
         if let Some(place) = place_of(&self.links, conn) {
             self.flush_here(place, moment);
@@ -577,6 +585,7 @@ impl<N: Node, R: Read + Device, W: Write + Device> Desk<N, R, W> {
     fn flush_here(&mut self, place: usize, moment: Moment)
         requires { place < length self.old.links.items }
         ensures kept { kept_by self.new ≡ kept_by self.old }
+        ensures writes { AtPlace self.old place (λ link. Becomes (HasFlushed link) place self.old self.new) }
     {
         flush_at(&mut self.links[place], moment);
     }
@@ -594,7 +603,7 @@ impl<N: Node, R: Read + Device, W: Write + Device> Desk<N, R, W> {
         requires piece { 0 < length piece.old }
         ensures tells { Tells N.on_event self.old self.new }
         ensures places { length self.new.links.items ≡ length self.old.links.items }
-        ensures brings { AtPlace self.old place (λ link. BringsHere N.on_event R.remaining most moment place link self.old self.new) }
+        ensures brings { AtPlace self.old place (λ link. BringsHere N.on_event R.remaining locals.now most moment place link self.old self.new) }
     {
         if self.links[place].end.is_some() {
             return;

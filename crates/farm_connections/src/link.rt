@@ -1,11 +1,11 @@
 //! One connection of a process.
 
-ghost use Rattle.std.specs.Prelude.{◌≡◌, ◌==◌, ◌<◌, ◌≤◌, ◌+◌, ◌-◌, ◌^◌, if◌then◌else◌, min, IfNone, IfOk, IfSome, IsSome, OnOk, OnErr, length, false};
+ghost use Rattle.std.specs.Prelude.{◌≡◌, ◌==◌, ◌<◌, ◌≤◌, ◌+◌, ◌-◌, ◌^◌, if◌then◌else◌, min, IfErr, IfNone, IfOk, IfSome, IsSome, OnOk, OnErr, length, false};
 ghost use Rattle.std.specs.List.{list_any};
 ghost use Rattle.farm_connections.specs.Desks.{is_to_be_told, mark_of, peer_of, standing_after};
 ghost use Rattle.farm_connections.specs.Calls.{Reads};
-ghost use Rattle.farm_connections.specs.Doing.{HasEnded, IsToldOnly, awaits, left_for, open_peer};
-ghost use Rattle.farm_connections.specs.Sending.{IsSentOn};
+ghost use Rattle.farm_connections.specs.Doing.{HasEnded, IsToldOnly, awaits, end_after, left_for, open_peer};
+ghost use Rattle.farm_connections.specs.Sending.{GreetsOn, HasFlushed, IsSentOn};
 ghost use Rattle.farm_connections.specs.Turns.{may_come_up, standing_as};
 ghost use Rattle.farm_watch.specs.Table.{after_close, after_message, after_tick};
 
@@ -77,6 +77,7 @@ pub(crate) fn end_at<R: Read + Device, W: Write + Device>(
 )
     ensures mark { mark_of link.new ≡ mark_of link.old }
     ensures ended { HasEnded link.old link.new }
+    ensures reason { link.new.end ≡ end_after why moment link.old.end }
     ensures unanswered { link.new.«open» ≡ link.old.«open» }
 {
     if link.end.is_none() {
@@ -122,6 +123,7 @@ pub(crate) fn send_at<R: Read + Device, W: Write + Device>(
 /// The connection writes for one turn, and ends where that fails.
 pub(crate) fn flush_at<R: Read + Device, W: Write + Device>(link: &mut Link<R, W>, moment: Moment)
     ensures mark { mark_of link.new ≡ mark_of link.old }
+    ensures only { HasFlushed link.old link.new }
 {
     if let Err(loss) = link.conn.flush() {
         if link.end.is_none() {
@@ -249,6 +251,7 @@ pub(crate) fn greet_at<R: Read + Device, W: Write + Device>(
     moment: Moment,
 )
     ensures mark { mark_of link.new ≡ mark_of link.old }
+    ensures greets { GreetsOn act link.old link.new }
 {
     if let Act::Send(message) = act {
         send_at(link, &message, moment);
@@ -266,6 +269,7 @@ pub(crate) fn hear_at<P: Wire, R, W>(
 ) -> Result<Acts, End>
     ensures mark { mark_of link.new ≡ mark_of link.old }
     ensures acts { IfOk result (λ acts. acts ≡ (after_message site.now unwelcome.now moment message link.old.watch).acts) }
+    ensures memory { IfErr result (λ why. why ≡ End.OutOfMemory) }
     ensures next { OnOk result (link.new ≡ record link.old { watch = (after_message site.now unwelcome.now moment message link.old.watch).next }) }
     ensures err { OnErr result (link.new ≡ link.old) }
 {

@@ -1,5 +1,7 @@
 //! What an operator may want to read.
 
+ghost use Rattle.std.specs.Prelude.{◌≡◌, ◌++◌, [], option_to_list, IfNone};
+
 use crate::end::End;
 use crate::link::Standing;
 use dia_avp::{Octets, Wire};
@@ -76,7 +78,10 @@ pub struct Notes {
 }
 
 impl Notes {
-    pub(crate) fn new(alloc: Global) -> Self {
+    pub(crate) fn new(alloc: Global) -> Self
+        ensures waiting { result.waiting.items ≡ [] }
+        ensures dropped { result.dropped ≡ 0 }
+    {
         Notes {
             waiting: VecDeque::new(alloc),
             dropped: 0,
@@ -84,12 +89,18 @@ impl Notes {
     }
 
     /// Takes the oldest one.
-    pub(crate) fn take_first(&mut self) -> Option<Note> {
+    pub(crate) fn take_first(&mut self) -> Option<Note>
+        ensures taken { self.old.waiting.items ≡ option_to_list result ++ self.new.waiting.items }
+        ensures none { IfNone result (self.old.waiting.items ≡ []) }
+        ensures dropped { self.new.dropped ≡ self.old.dropped }
+    {
         self.waiting.pop_front()
     }
 
     /// How many had no place.
-    pub(crate) fn dropped(&self) -> u64 {
+    pub(crate) fn dropped(&self) -> u64
+        ensures { result ≡ self.now.dropped }
+    {
         self.dropped
     }
 

@@ -4,6 +4,11 @@
 //! What a node sends at a tick, or when it is woken, is not told here: those are answers of a front's workers, and who has
 //! the workers tells of each with its charge ([`farm_record::Recorded`]).
 
+ghost use Rattle.std.specs.Prelude.{◌≡◌, ◌++◌, codes, false, find, length, take, true, OnErr, OnOk};
+ghost use Rattle.farm_record.specs.Lines.{line_of};
+ghost use Rattle.farm_record.specs.Recording.{Tells, TellsAll, is_of, passed_line, sent_word, takes, turn_line, up_event, with_conns};
+ghost use Rattle.farm_record.specs.declared.event.Event.TheVariants as Event;
+
 use dia_base::{ConnId, NodeNo};
 use dia_message::{Message, Out};
 use farm_node::NodeError;
@@ -15,28 +20,42 @@ pub fn record_up(
     alloc: Global,
     recorder: &mut Recorder,
     conn: ConnId,
-    (local, peer): (NodeNo, NodeNo),
+    ends: (NodeNo, NodeNo),
     outcome: Result<(), NodeError>,
-) {
+)
+    ensures ok { OnOk outcome (Tells (line_of recorder.old.names.items (up_event conn ends.0 ends.1 (find (is_of conn) recorder.old.conns.items))) (with_conns recorder.old recorder.new) recorder.new) }
+    ensures err { OnErr outcome (recorder.new ≡ recorder.old) }
+{
+    let (local, peer) = ends;
     if outcome.is_ok() {
         recorder.up(alloc, conn, local, peer);
     }
 }
 
 /// The node is told of a message.
-pub fn record_message(alloc: Global, recorder: &mut Recorder, conn: ConnId, message: &Message) {
+pub fn record_message(alloc: Global, recorder: &mut Recorder, conn: ConnId, message: &Message)
+    ensures told { Tells (passed_line (codes "deliver") conn message.now) (record recorder.old { came_at = recorder.new.came_at }) recorder.new }
+    ensures begins { takes recorder.old ≡ true → recorder.new.is_broken ≡ false → recorder.new.came_at ≡ length (recorder.old.lines.items ++ turn_line recorder.old.names.items recorder.old.turn) }
+{
     recorder.came(alloc, conn, message);
 }
 
 /// The node was told of the message that came last. Where it did not take it, it is as it was, and nothing is told.
-pub fn record_refusal(recorder: &mut Recorder, outcome: Result<(), NodeError>) {
+pub fn record_refusal(recorder: &mut Recorder, outcome: Result<(), NodeError>)
+    ensures ok { OnOk outcome (recorder.new ≡ recorder.old) }
+    ensures err { OnErr outcome (takes recorder.old ≡ true → recorder.new.lines.items ≡ take recorder.old.came_at recorder.old.lines.items) }
+    ensures off { takes recorder.old ≡ false → recorder.new ≡ recorder.old }
+    ensures only { recorder.new ≡ record recorder.old { lines = recorder.new.lines } }
+{
     if outcome.is_err() {
         recorder.refused();
     }
 }
 
 /// What the node sends for what was told last.
-pub fn record_sent(alloc: Global, recorder: &mut Recorder, out: &Out) {
+pub fn record_sent(alloc: Global, recorder: &mut Recorder, out: &Out)
+    ensures { TellsAll (sent_word recorder.old.is_client) recorder.old out.now.items recorder.new }
+{
     recorder.sent(alloc, out.items.as_slice());
 }
 
@@ -46,7 +65,10 @@ pub fn record_lost(
     recorder: &mut Recorder,
     conn: ConnId,
     outcome: &Result<(), NodeError>,
-) {
+)
+    ensures ok { OnOk outcome.now (Tells (line_of recorder.old.names.items (Event.Drop conn)) (with_conns recorder.old recorder.new) recorder.new) }
+    ensures err { OnErr outcome.now (recorder.new ≡ recorder.old) }
+{
     if outcome.is_ok() {
         recorder.lost(alloc, conn);
     }

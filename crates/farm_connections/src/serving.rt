@@ -1,10 +1,17 @@
 //! A node with its connections, for those who have sockets.
 
-ghost use Rattle.std.specs.Prelude.{◌≡◌, ◌<◌, ◌+◌, [], length, true, IfOk, IfSome, IsNone};
+ghost use Rattle.std.specs.Prelude.{◌≡◌, ◌<◌, ◌+◌, ◌∷◌, ◌++◌, [], length, option_to_list, false, true, IfNone, IfOk, IfSome, IsNone, OnOk, Some};
+ghost use Rattle.farm_metrics.specs.Counting.{IsNothing};
+ghost use Rattle.farm_metrics.specs.Tallying.{at_clock, with_dial_failure, with_refused};
 ghost use Rattle.farm_node.specs.Events as event;
+ghost use Rattle.farm_record.specs.Lines.{line_of};
+ghost use Rattle.farm_record.specs.Recording as told;
 ghost use Rattle.farm_connections.specs.Calls.{AllClose, BringsOn, ThenSettles, TimePasses};
-ghost use Rattle.farm_connections.specs.Desks.{AreSettled, IsDownAt, IsEndOf, IsMade, IsRecordedOnly, Tells, kept_by};
+ghost use Rattle.farm_connections.specs.Desks.{AreSettled, IsDownAt, IsEndOf, IsMade, IsRecordedOnly, Tells, accepts, kept_by};
+ghost use Rattle.farm_connections.specs.Counting.{IsLetGo};
 ghost use Rattle.farm_connections.specs.Doing.{Reacts};
+ghost use Rattle.farm_connections.specs.Locals.{site_at};
+ghost use Rattle.farm_connections.specs.Sending.{AreInOrder, Begins, BeginsSo, HasNone, IsLinkOf, WritesOn};
 ghost use Rattle.farm_connections.specs.Turns.{IsDown, beginning};
 
 use crate::counting::count_let_go;
@@ -75,6 +82,9 @@ impl<N: Node, R: Read + Device, W: Write + Device> Serving<N, R, W> {
     pub fn new(alloc: Global, node: N, locals: Vec<LocalNode>) -> Self
         ensures begins { kept_by result.desk ≡ beginning node }
         ensures settled { AreSettled result.desk.links.items }
+        ensures locals { result.locals ≡ locals }
+        ensures fresh { (result.desk.failed ≡ false) × (result.desk.answers ≡ 0) × (result.desk.numbering ≡ Numbering.HopByHop) × IsNothing result.desk.tally }
+        ensures notes { (result.desk.notes.waiting.items ≡ []) × (result.desk.notes.dropped ≡ 0) }
     {
         Serving {
             desk: Desk {
@@ -103,9 +113,11 @@ impl<N: Node, R: Read + Device, W: Write + Device> Serving<N, R, W> {
         writer: W,
         moment: Moment,
     ) -> Result<ConnId, NotTaken<R, W>>
-        ensures made { IfOk result (λ conn. IsMade conn local barred.items NameRule.Any self.old.desk.links.items self.new.desk.links.items) }
+        ensures made { IfOk result (λ conn. IsMade conn local true barred.items NameRule.Any self.old.desk.links.items self.new.desk.links.items) }
         ensures tells { Tells N.on_event self.old.desk self.new.desk }
         ensures settled { AreSettled self.old.desk.links.items → AreSettled self.new.desk.links.items }
+        ensures begins { OnOk result (Begins self.old.locals.items self.old.desk.numbering local Side.Accepts moment self.old.desk.links.items self.new.desk.links.items) }
+        ensures locals { self.new.locals ≡ self.old.locals }
     {
         let unknown = self
             .desk
@@ -144,9 +156,11 @@ impl<N: Node, R: Read + Device, W: Write + Device> Serving<N, R, W> {
         writer: W,
         moment: Moment,
     ) -> Result<ConnId, NotTaken<R, W>>
-        ensures made { IfOk result (λ conn. IsMade conn local [] names self.old.desk.links.items self.new.desk.links.items) }
+        ensures made { IfOk result (λ conn. IsMade conn local false [] names self.old.desk.links.items self.new.desk.links.items) }
         ensures tells { Tells N.on_event self.old.desk self.new.desk }
         ensures settled { AreSettled self.old.desk.links.items → AreSettled self.new.desk.links.items }
+        ensures begins { OnOk result (Begins self.old.locals.items self.old.desk.numbering local (Side.Connects peer) moment self.old.desk.links.items self.new.desk.links.items) }
+        ensures locals { self.new.locals ≡ self.old.locals }
     {
         let barred = Vec::new(self.desk.alloc);
         self.add(
@@ -171,9 +185,11 @@ impl<N: Node, R: Read + Device, W: Write + Device> Serving<N, R, W> {
         writer: W,
         moment: Moment,
     ) -> Result<ConnId, NotTaken<R, W>>
-        ensures made { IfOk result (λ conn. IsMade conn local barred.items names self.old.desk.links.items self.new.desk.links.items) }
+        ensures made { IfOk result (λ conn. IsMade conn local (accepts side) barred.items names self.old.desk.links.items self.new.desk.links.items) }
         ensures tells { Tells N.on_event self.old.desk self.new.desk }
         ensures settled { AreSettled self.old.desk.links.items → AreSettled self.new.desk.links.items }
+        ensures begins { OnOk result (Begins self.old.locals.items self.old.desk.numbering local side moment self.old.desk.links.items self.new.desk.links.items) }
+        ensures locals { self.new.locals ≡ self.old.locals }
     {
         let (id, watch, acts) = match self.begin(local, side, moment) {
             Ok(begun) => begun,
@@ -217,7 +233,8 @@ impl<N: Node, R: Read + Device, W: Write + Device> Serving<N, R, W> {
         side: Side,
         moment: Moment,
     ) -> Result<(ConnId, Watch, Acts), Refusal>
-        ensures { IfOk result (λ begun. begun.0.0 ≡ self.now.desk.made + 1) }
+        ensures number { IfOk result (λ begun. begun.0.0 ≡ self.now.desk.made + 1) }
+        ensures life { IfOk result (λ begun. BeginsSo (site_at local self.now.locals.items) side moment begun.1 begun.2) }
     {
         let Some(site) = site_of(&self.locals, local) else {
             return Err(Refusal::UnknownLocal { local });
@@ -238,7 +255,8 @@ impl<N: Node, R: Read + Device, W: Write + Device> Serving<N, R, W> {
         requires { 0 < length piece.old }
         ensures settled { AreSettled self.new.desk.links.items }
         ensures tells { Tells N.on_event self.old.desk self.new.desk }
-        ensures brings { ThenSettles N.on_event (BringsOn N.on_event R.remaining most moment conn) self.old.desk self.new.desk }
+        ensures brings { ThenSettles N.on_event (BringsOn N.on_event R.remaining self.old.locals.items most moment conn) self.old.desk self.new.desk }
+        ensures locals { self.new.locals ≡ self.old.locals }
     {
         self.desk
             .receive_on::<P>(&self.locals, conn, piece, most, moment);
@@ -250,6 +268,8 @@ impl<N: Node, R: Read + Device, W: Write + Device> Serving<N, R, W> {
         ensures settled { AreSettled self.new.desk.links.items }
         ensures tells { Tells N.on_event self.old.desk self.new.desk }
         ensures writes { ThenSettles N.on_event (λ old mid. kept_by mid ≡ kept_by old) self.old.desk self.new.desk }
+        ensures writes_on { ThenSettles N.on_event (λ old mid. WritesOn conn old.links.items mid.links.items) self.old.desk self.new.desk }
+        ensures locals { self.new.locals ≡ self.old.locals }
     {
         self.desk.flush_on(conn, moment);
         self.desk.settle::<P>(moment);
@@ -260,6 +280,7 @@ impl<N: Node, R: Read + Device, W: Write + Device> Serving<N, R, W> {
         ensures settled { AreSettled self.new.desk.links.items }
         ensures tells { Tells N.on_event self.old.desk self.new.desk }
         ensures writes { ThenSettles N.on_event (λ old mid. kept_by mid ≡ kept_by old) self.old.desk self.new.desk }
+        ensures locals { self.new.locals ≡ self.old.locals }
     {
         flush_all(&mut self.desk.links, moment);
         self.desk.settle::<P>(moment);
@@ -269,7 +290,8 @@ impl<N: Node, R: Read + Device, W: Write + Device> Serving<N, R, W> {
     pub fn tick<P: Wire>(&mut self, moment: Moment)
         ensures settled { AreSettled self.new.desk.links.items }
         ensures tells { Tells N.on_event self.old.desk self.new.desk }
-        ensures passes { ThenSettles N.on_event (TimePasses N.on_event moment) self.old.desk self.new.desk }
+        ensures passes { ThenSettles N.on_event (TimePasses N.on_event self.old.locals.items moment) self.old.desk self.new.desk }
+        ensures locals { self.new.locals ≡ self.old.locals }
     {
         self.desk.tick_node::<P>(moment);
         self.desk.tick_all::<P>(&self.locals, moment);
@@ -281,6 +303,7 @@ impl<N: Node, R: Read + Device, W: Write + Device> Serving<N, R, W> {
         ensures settled { AreSettled self.new.desk.links.items }
         ensures tells { Tells N.on_event self.old.desk self.new.desk }
         ensures woken { ThenSettles N.on_event (Reacts N.on_event event.wake) self.old.desk self.new.desk }
+        ensures locals { self.new.locals ≡ self.old.locals }
     {
         self.desk.wake_node::<P>(moment);
         self.desk.settle::<P>(moment);
@@ -291,7 +314,8 @@ impl<N: Node, R: Read + Device, W: Write + Device> Serving<N, R, W> {
     pub fn close_all<P: Wire>(&mut self, moment: Moment)
         ensures settled { AreSettled self.new.desk.links.items }
         ensures tells { Tells N.on_event self.old.desk self.new.desk }
-        ensures closes { ThenSettles N.on_event (AllClose N.on_event moment) self.old.desk self.new.desk }
+        ensures closes { ThenSettles N.on_event (AllClose N.on_event self.old.locals.items moment) self.old.desk self.new.desk }
+        ensures locals { self.new.locals ≡ self.old.locals }
     {
         self.desk.close_all::<P>(&self.locals, moment);
         self.desk.settle::<P>(moment);
@@ -304,6 +328,8 @@ impl<N: Node, R: Read + Device, W: Write + Device> Serving<N, R, W> {
         ensures settled { AreSettled self.old.desk.links.items → AreSettled self.new.desk.links.items }
         ensures none { IsNone result → self.new ≡ self.old }
         ensures of_link { IfSome result (IsEndOf self.old.desk.links.items) }
+        ensures counts { IfSome result (IsLetGo self.old.desk.links.items self.old.desk.tally self.new.desk.tally) }
+        ensures locals { self.new.locals ≡ self.old.locals }
     {
         let place = place_of_over(&self.desk.links, moment)?;
         let (why, _) = self.desk.links[place].end?;
@@ -331,14 +357,16 @@ impl<N: Node, R: Read + Device, W: Write + Device> Serving<N, R, W> {
 
     /// From now on it is recorded what happens.
     pub fn begin_record(&mut self, recorder: Recorder)
-        ensures { IsRecordedOnly self.old.desk self.new.desk }
+        ensures only { IsRecordedOnly self.old.desk self.new.desk }
+        ensures begins { self.new ≡ record self.old { desk = record self.old.desk { recorder = recorder } } }
     {
         self.desk.recorder = recorder;
     }
 
     /// What is recorded from now on happens at this moment.
     pub fn begin_turn(&mut self, moment: Moment)
-        ensures { IsRecordedOnly self.old.desk self.new.desk }
+        ensures only { IsRecordedOnly self.old.desk self.new.desk }
+        ensures turn { self.new.desk.recorder ≡ record self.old.desk.recorder { turn = Some moment } }
     {
         self.desk.recorder.begin_turn(moment);
     }
@@ -347,6 +375,8 @@ impl<N: Node, R: Read + Device, W: Write + Device> Serving<N, R, W> {
     pub fn set_clock(&mut self, now: Micros)
         ensures kept { kept_by self.new.desk ≡ kept_by self.old.desk }
         ensures links { self.new.desk.links ≡ self.old.desk.links }
+        ensures counts { self.new.desk.tally ≡ at_clock now self.old.desk.tally }
+        ensures locals { self.new.locals ≡ self.old.locals }
     {
         self.desk.tally.set_clock(now);
     }
@@ -355,6 +385,8 @@ impl<N: Node, R: Read + Device, W: Write + Device> Serving<N, R, W> {
     pub fn count_refused(&mut self)
         ensures kept { kept_by self.new.desk ≡ kept_by self.old.desk }
         ensures links { self.new.desk.links ≡ self.old.desk.links }
+        ensures counts { self.new.desk.tally ≡ with_refused self.old.desk.tally }
+        ensures locals { self.new.locals ≡ self.old.locals }
     {
         self.desk.tally.conn_refused();
     }
@@ -363,13 +395,17 @@ impl<N: Node, R: Read + Device, W: Write + Device> Serving<N, R, W> {
     pub fn count_dial_failed(&mut self)
         ensures kept { kept_by self.new.desk ≡ kept_by self.old.desk }
         ensures links { self.new.desk.links ≡ self.old.desk.links }
+        ensures counts { self.new.desk.tally ≡ with_dial_failure self.old.desk.tally }
+        ensures locals { self.new.locals ≡ self.old.locals }
     {
         self.desk.tally.dial_failed();
     }
 
     /// Records a connection that the node `local` opens with the node `peer`, which both ends call so.
     pub fn record_dial(&mut self, conn: ConnId, local: NodeNo, peer: NodeNo, label: u64)
-        ensures { IsRecordedOnly self.old.desk self.new.desk }
+        ensures only { IsRecordedOnly self.old.desk self.new.desk }
+        ensures dials { told.Tells (line_of self.old.desk.recorder.names.items (Event.Dial conn local peer label)) (told.with_conns self.old.desk.recorder self.new.desk.recorder) self.new.desk.recorder }
+        ensures kept { told.takes self.old.desk.recorder ≡ true → self.new.desk.recorder.is_broken ≡ false → self.new.desk.recorder.conns.items ≡ self.old.desk.recorder.conns.items ++ record { conn = conn; label = label; opens = true; is_up = false } ∷ [] }
     {
         self.desk
             .recorder
@@ -378,65 +414,90 @@ impl<N: Node, R: Read + Device, W: Write + Device> Serving<N, R, W> {
 
     /// What both ends call a connection that somebody has opened. It is recorded once the node at the other end is known.
     pub fn record_taken(&mut self, conn: ConnId, label: u64)
-        ensures { IsRecordedOnly self.old.desk self.new.desk }
+        ensures only { IsRecordedOnly self.old.desk self.new.desk }
+        ensures off { told.takes self.old.desk.recorder ≡ false → self.new.desk.recorder ≡ self.old.desk.recorder }
+        ensures kept { told.takes self.old.desk.recorder ≡ true → self.new.desk.recorder.is_broken ≡ false → self.new.desk.recorder ≡ told.with_conns self.old.desk.recorder self.new.desk.recorder × (self.new.desk.recorder.conns.items ≡ self.old.desk.recorder.conns.items ++ record { conn = conn; label = label; opens = false; is_up = false } ∷ []) }
     {
         self.desk.recorder.takes(conn, label);
     }
 
     /// Records an event of the process.
     pub fn record_event(&mut self, event: &Event)
-        ensures { IsRecordedOnly self.old.desk self.new.desk }
+        ensures only { IsRecordedOnly self.old.desk self.new.desk }
+        ensures tells { told.Tells (line_of self.old.desk.recorder.names.items event.now) self.old.desk.recorder self.new.desk.recorder }
     {
         self.desk.recorder.tell(self.desk.alloc, event);
     }
 
     /// What is recorded and not written yet.
-    pub fn recorder(&self) -> &Recorder {
+    pub fn recorder(&self) -> &Recorder
+        ensures { result.now ≡ self.now.desk.recorder }
+    {
         &self.desk.recorder
     }
 
     /// What is recorded was written.
     pub fn record_written(&mut self)
-        ensures { IsRecordedOnly self.old.desk self.new.desk }
+        ensures only { IsRecordedOnly self.old.desk self.new.desk }
+        ensures lines { self.new.desk.recorder.lines.items ≡ [] }
+        ensures written { self.new.desk.recorder ≡ record self.old.desk.recorder { lines = self.new.desk.recorder.lines; came_at = 0 } }
     {
         self.desk.recorder.clear();
     }
 
     /// What is recorded cannot be written, and no more is recorded.
     pub fn record_failed(&mut self)
-        ensures { IsRecordedOnly self.old.desk self.new.desk }
+        ensures only { IsRecordedOnly self.old.desk self.new.desk }
+        ensures lines { self.new.desk.recorder.lines.items ≡ [] }
+        ensures written { self.new.desk.recorder ≡ record self.old.desk.recorder { lines = self.new.desk.recorder.lines; came_at = 0; is_on = false } }
     {
         self.desk.recorder.stop();
     }
 
     /// Takes out a note; the oldest first.
-    pub fn take_note(&mut self) -> Option<Note> {
+    pub fn take_note(&mut self) -> Option<Note>
+        ensures taken { self.old.desk.notes.waiting.items ≡ option_to_list result ++ self.new.desk.notes.waiting.items }
+        ensures none { IfNone result (self.old.desk.notes.waiting.items ≡ []) }
+        ensures dropped { self.new.desk.notes.dropped ≡ self.old.desk.notes.dropped }
+        ensures only { self.new ≡ record self.old { desk = record self.old.desk { notes = self.new.desk.notes } } }
+    {
         self.desk.notes.take_first()
     }
 
     /// How many notes had no place.
-    pub fn notes_dropped(&self) -> u64 {
+    pub fn notes_dropped(&self) -> u64
+        ensures { result ≡ self.now.desk.notes.dropped }
+    {
         self.desk.notes.dropped()
     }
 
     /// How many answers the node has sent: those of the node, and not those of the life of its connections.
-    pub fn answers(&self) -> u64 {
+    pub fn answers(&self) -> u64
+        ensures { result ≡ self.now.desk.answers }
+    {
         self.desk.answers
     }
 
     /// What the node has been told and has sent, counted.
-    pub fn tally(&self) -> &Tally {
+    pub fn tally(&self) -> &Tally
+        ensures { result.now ≡ self.now.desk.tally }
+    {
         &self.desk.tally
     }
 
     /// How many connections there are, with those that have ended and are not taken out.
-    pub fn count(&self) -> usize {
+    pub fn count(&self) -> usize
+        ensures { result ≡ length self.now.desk.links.items }
+    {
         self.desk.links.len()
     }
 
     /// A connection, to be looked at: its standing, whether it has ended, its reader and writer, and whether it wants to
     /// write. None where no connection has this number.
-    pub fn link(&self, conn: ConnId) -> Option<&Link<R, W>> {
+    pub fn link(&self, conn: ConnId) -> Option<&Link<R, W>>
+        ensures some { IfSome result (λ link. IsLinkOf self.now.desk.links.items conn link.now) }
+        ensures none { AreInOrder self.now.desk.links.items → IfNone result (HasNone self.now.desk.links.items conn) }
+    {
         let place = place_of(&self.desk.links, conn)?;
         self.desk.links.get(place)
     }
@@ -457,7 +518,9 @@ impl<N: Node, R: Read + Device, W: Write + Device> Serving<N, R, W> {
     }
 
     /// The node.
-    pub fn node(&self) -> &N {
+    pub fn node(&self) -> &N
+        ensures { result.now ≡ self.now.desk.node }
+    {
         &self.desk.node
     }
 }
@@ -465,7 +528,8 @@ impl<N: Node, R: Read + Device, W: Write + Device> Serving<N, R, W> {
 impl<N, R: Drop, W: Drop> Serving<N, R, W> {
     /// The node, and what is recorded and not written yet. The connections are let go.
     pub fn into_parts(self) -> (N, Recorder)
-        ensures { result.0 ≡ self.desk.node }
+        ensures node { result.0 ≡ self.desk.node }
+        ensures recorder { result.1 ≡ self.desk.recorder }
     {
         let Serving { desk, locals: _ } = self;
         let Desk {
@@ -489,6 +553,7 @@ impl<N: Node + Recorded, R: Read + Device, W: Write + Device> Serving<N, R, W> {
     pub fn record_node(&mut self)
         ensures tells { Tells N.on_event self.old.desk self.new.desk }
         ensures settled { AreSettled self.old.desk.links.items → AreSettled self.new.desk.links.items }
+        ensures locals { self.new.locals ≡ self.old.locals }
     {
         self.desk
             .node
@@ -501,6 +566,7 @@ impl<N: Node + Refuses, R: Read + Device, W: Write + Device> Serving<N, R, W> {
     pub fn note_refused(&mut self)
         ensures kept { kept_by self.new.desk ≡ kept_by self.old.desk }
         ensures links { self.new.desk.links ≡ self.old.desk.links }
+        ensures locals { self.new.locals ≡ self.old.locals }
     {
         for _ in 0..NOTE_LIMIT {
             if !self.note_one() {
@@ -513,6 +579,7 @@ impl<N: Node + Refuses, R: Read + Device, W: Write + Device> Serving<N, R, W> {
     fn note_one(&mut self) -> bool
         ensures kept { kept_by self.new.desk ≡ kept_by self.old.desk }
         ensures links { self.new.desk.links ≡ self.old.desk.links }
+        ensures locals { self.new.locals ≡ self.old.locals }
     {
         let Some(refused) = self.desk.node.take_refused() else {
             return false;

@@ -130,7 +130,7 @@ impl<N: Node, R: Read + Device, W: Write + Device> Desk<N, R, W> {
         requires { place < length self.old.links.items }
         ensures tells { Tells N.on_event self.old self.new }
         ensures places { length self.new.links.items ≡ length self.old.links.items }
-        ensures ticks { AtPlace self.old place (λ link. Ticks N.on_event moment place link self.old self.new) }
+        ensures ticks { AtPlace self.old place (λ link. Ticks N.on_event locals.now moment place link self.old self.new) }
     {
         let link = &self.links[place];
         if link.end.is_some() {
@@ -150,7 +150,7 @@ impl<N: Node, R: Read + Device, W: Write + Device> Desk<N, R, W> {
     pub fn tick_all<P: Wire>(&mut self, locals: &[LocalNode], moment: Moment)
         ensures tells { Tells N.on_event self.old self.new }
         ensures places { length self.new.links.items ≡ length self.old.links.items }
-        ensures each { AllTick N.on_event moment self.old self.new }
+        ensures each { AllTick N.on_event locals.now moment self.old self.new }
     {
         for place in 0..self.links.len() {
             self.tick_one::<P>(locals, place, moment);
@@ -162,7 +162,7 @@ impl<N: Node, R: Read + Device, W: Write + Device> Desk<N, R, W> {
         requires { place < length self.old.links.items }
         ensures tells { Tells N.on_event self.old self.new }
         ensures places { length self.new.links.items ≡ length self.old.links.items }
-        ensures closes { AtPlace self.old place (λ link. Closes N.on_event moment place link self.old self.new) }
+        ensures closes { AtPlace self.old place (λ link. Closes N.on_event locals.now moment place link self.old self.new) }
     {
         let link = &self.links[place];
         if link.end.is_some() {
@@ -181,7 +181,7 @@ impl<N: Node, R: Read + Device, W: Write + Device> Desk<N, R, W> {
     pub fn close_all<P: Wire>(&mut self, locals: &[LocalNode], moment: Moment)
         ensures tells { Tells N.on_event self.old self.new }
         ensures places { length self.new.links.items ≡ length self.old.links.items }
-        ensures each { AllClose N.on_event moment self.old self.new }
+        ensures each { AllClose N.on_event locals.now moment self.old self.new }
     {
         for place in 0..self.links.len() {
             self.close_one::<P>(locals, place, moment);

@@ -9,5 +9,5 @@ abbrev pub invariant-loop-place : goal.invariant-loop-place
 invariant-loop-place g l = record {
   tells : Way g.N.Node.on_event (kept_by l.fn.self) (kept_by l.self);
   places : length l.self.links.items ≡ length l.fn.self.links.items;
-  each : EachDoes (Closes g.N.Node.on_event l.fn.moment) l.fn.self l.place l.self;
+  each : EachDoes (Closes g.N.Node.on_event l.fn.locals l.fn.moment) l.fn.self l.place l.self;
 }

@@ -1,5 +1,5 @@
 use Rattle.std.proofs.Common.{List, ap, refl}
-use Rattle.farm_connections.specs.Doing.{HasEnded}
+use Rattle.farm_connections.specs.Doing.{EndsFor, HasEnded}
 use Rattle.farm_connections.specs.Turns.{Mark}
 use Rattle.farm_connections.proofs.Placing.{keeping, same_marks, same_read}
 use Rattle.farm_connections.proofs.Doing.{becomes_at}
@@ -15,3 +15,10 @@ returns-clause-ended g c = λ link read.
     let links = c.args.self.now.links.items in let here = c.index_mut.result.now in
     let same = same_read links c.args.place here link c.requires c.index_mut.ensures.value read in
     becomes_at HasEnded here link c.end_at.new.link c.args.place c.args.self.now _ same c.end_at.ensures.ended refl refl
+
+pub returns-clause-reason : goal.returns-clause-reason
+returns-clause-reason g c = λ link read.
+    let links = c.args.self.now.links.items in let here = c.index_mut.result.now in
+    let same = same_read links c.args.place here link c.requires c.index_mut.ensures.value read in
+    becomes_at (EndsFor c.args.why c.args.moment) here link c.end_at.new.link c.args.place c.args.self.now _ same
+    (record { ends = c.end_at.ensures.ended; why_is = c.end_at.ensures.reason }) refl refl

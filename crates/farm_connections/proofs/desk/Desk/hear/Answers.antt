@@ -20,9 +20,9 @@ returns-then-is_some-clause-hears g c = λ link read.
 pub returns-in-Ok-clause-hears : goal.returns-in-Ok-clause-hears
 returns-in-Ok-clause-hears g c = λ link read.
     let heard = c.in-Ok.ensures.heard link read in
-    hears heard.0 heard.1 heard.2 (lives_so _ _ _ _ _ _ _ heard.3 c.perform.ensures.performs)
+    hears heard.0 heard.1 heard.2 heard.3 (lives_so _ _ _ _ _ _ _ heard.4 c.perform.ensures.performs)
 
 pub returns-in-Err-clause-hears : goal.returns-in-Err-clause-hears
 returns-in-Err-clause-hears g c = λ link read.
-    let still = c.in-Err.ensures.heard link read in
-    breaks c.acts_at_message.new.self still (c.end_here.ensures.ended link (read ∙ sym (ap (λ (links : List (Link _ _)). get_or links c.args.place link) still.links_are)))
+    let heard = c.in-Err.ensures.heard link read in
+    breaks _ heard.0 c.acts_at_message.new.self heard.1 (c.end_here.ensures.reason link (read ∙ sym (ap (λ (links : List (Link _ _)). get_or links c.args.place link) heard.1.links_are)))

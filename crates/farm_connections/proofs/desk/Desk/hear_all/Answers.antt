@@ -21,11 +21,11 @@ loop-message-preserved g c =
       tells = way_then c.loop-message.invariant.tells c.hear.ensures.tells;
       places = places;
       count = omega (arith, counted);
-      heard = one_heard c.args.moment c.args.place c.args.self.now c.loop-message.self c.hear.new.self c.args.messages.items _ _ _ c.loop-message.invariant.heard c.in-Some.ensures.steps.0 c.hear.ensures.hears;
+      heard = one_heard c.args.locals.now c.args.moment c.args.place c.args.self.now c.loop-message.self c.hear.new.self c.args.messages.items _ _ _ c.loop-message.invariant.heard c.in-Some.ensures.steps.0 c.hear.ensures.hears;
     }
 
 pub returns-clause-hears : goal.returns-clause-hears
 returns-clause-hears g c =
     let rest = into_iter_items c.loop-message.message-iterator in
     let none : length rest ≡ 0 = c.loop-message.invariant.count ∙ c.in-None.ensures.steps.0 in
-    all_heard c.args.moment c.args.place c.args.self.now c.loop-message.self c.args.messages.items rest c.loop-message.invariant.heard none
+    all_heard c.args.locals.now c.args.moment c.args.place c.args.self.now c.loop-message.self c.args.messages.items rest c.loop-message.invariant.heard none

@@ -12,5 +12,5 @@ invariant-loop-message g l = record {
   tells : Way g.N.Node.on_event (kept_by l.fn.self) (kept_by l.self);
   places : length l.self.links.items ≡ length l.fn.self.links.items;
   count : length (into_iter_items l.message-iterator) ≡ into_iter_len l.message-iterator;
-  heard : HeardSo g.N.Node.on_event l.fn.moment l.fn.place l.fn.self l.fn.messages.items (into_iter_items l.message-iterator) l.self;
+  heard : HeardSo g.N.Node.on_event l.fn.locals l.fn.moment l.fn.place l.fn.self l.fn.messages.items (into_iter_items l.message-iterator) l.self;
 }

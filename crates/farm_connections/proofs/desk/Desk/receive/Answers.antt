@@ -33,7 +33,7 @@ returns-in-Err-clause-brings g c = λ link read.
       heard = c.hear_all.new.self;
       reads = c.received_here-received.ensures.reads link read;
       hears = c.hear_all.ensures.hears;
-      ends = subst (λ (outcome : Result (Unit {0}) Loss). EndsIfLost outcome c.args.place c.hear_all.new.self c.end_here.new.self) (sym c.in-Err.is) c.end_here.ensures.ended;
+      ends = subst (λ (outcome : Result (Unit {0}) Loss). EndsIfLost outcome c.args.moment c.args.place c.hear_all.new.self c.end_here.new.self) (sym c.in-Err.is) c.end_here.ensures.reason;
     })
 
 pub returns-in_default-clause-brings : goal.returns-in_default-clause-brings
@@ -48,5 +48,5 @@ returns-in_default-clause-brings g c = λ link read.
       heard = c.hear_all.new.self;
       reads = c.received_here-received.ensures.reads link read;
       hears = c.hear_all.ensures.hears;
-      ends = subst (λ (outcome : Result (Unit {0}) Loss). EndsIfLost outcome c.args.place c.hear_all.new.self c.hear_all.new.self) (sym c.in_default.is) refl;
+      ends = subst (λ (outcome : Result (Unit {0}) Loss). EndsIfLost outcome c.args.moment c.args.place c.hear_all.new.self c.hear_all.new.self) (sym c.in_default.is) refl;
     })

@@ -32,3 +32,11 @@ returns-clause-of_link g c =
       has_ended = ap (λ (link : Link _ _). link.end) (sym same) ∙ ended;
       is = search rules;
     }
+
+pub returns-clause-counts : goal.returns-clause-counts
+returns-clause-counts g c =
+    let links : List (Link g.row.R.Denot g.row.W.Denot) = c.args.self.now.desk.links.items in
+    let place = c.in_ok-place.place in
+    let there : place < length links = search rules in
+    let out : c.take_out-link.result ≡ slice_index_or links place c.take_out-link.result = search rules in
+    record { place = place; link = c.take_out-link.result; there = there; at = out; is_of = refl; counts = search rules }

@@ -6,3 +6,6 @@ returns-clause-tells g c = way_then (no_way _ _ c.flush_on.ensures.kept) c.settl
 
 pub returns-clause-writes : goal.returns-clause-writes
 returns-clause-writes g c = record { mid = c.flush_on.new.self; does = c.flush_on.ensures.kept; settles = c.settle.ensures.settles }
+
+pub returns-clause-writes_on : goal.returns-clause-writes_on
+returns-clause-writes_on g c = record { mid = c.flush_on.new.self; does = c.flush_on.ensures.writes; settles = c.settle.ensures.settles }
