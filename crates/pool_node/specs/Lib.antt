@@ -5,3 +5,4 @@ pub mod Fronts
 pub mod Measure
 pub mod Sweeping
 pub mod Served
+pub mod Refusing

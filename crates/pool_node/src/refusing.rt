@@ -1,5 +1,8 @@
 //! Requests that workers have refused, for a log.
 
+ghost use Rattle.std.specs.Prelude.{◌≡◌, ◌≤◌, ◌+◌, ◌++◌, [], length, option_to_list, true, IfNone};
+ghost use Rattle.pool_node.specs.Refusing.{no_refusals};
+
 use cc_shared::Receipt;
 use cc_view::{CcReply, ResultCode};
 use dia_avp::ViewWire;
@@ -7,6 +10,7 @@ use farm_node::{Refused, is_of_credit, result_code};
 use front_pool::Finished;
 use std::alloc::{AllocError, Global};
 use std::collections::VecDeque;
+use std::marker::Model;
 
 /// The most refused requests that wait to be logged. Further ones are not kept.
 pub const REFUSED_LIMIT: usize = 1_024;
@@ -18,6 +22,14 @@ pub struct Refusals {
     alloc: Global,
     waiting: VecDeque<Refused>,
     keeps_credit: bool,
+}
+
+impl Model for Refusals {
+    ghost use Rattle.pool_node.specs.Refusing.{RefusalsState};
+
+    ghost Value = { RefusalsState };
+
+    ghost view = { λ r. record { waiting = r.waiting.items; keeps_credit = r.keeps_credit } };
 }
 
 /// The first Result-Code of a reply that is not DIAMETER_SUCCESS: its own, or that of a service. DIAMETER_SUCCESS where there is none.
@@ -54,7 +66,9 @@ fn code_of_receipt(receipt: &Receipt) -> Option<u32> {
 
 impl Refusals {
     /// None yet.
-    pub fn new(alloc: Global) -> Self {
+    pub fn new(alloc: Global) -> Self
+        ensures { result ≡ no_refusals }
+    {
         Refusals {
             alloc,
             waiting: VecDeque::new(alloc),
@@ -63,12 +77,17 @@ impl Refusals {
     }
 
     /// From now on those that credit control itself refused are kept too.
-    pub fn keep_credit(&mut self) {
+    pub fn keep_credit(&mut self)
+        ensures { self.new ≡ record self.old { keeps_credit = true } }
+    {
         self.keeps_credit = true;
     }
 
     /// A job was collected. Nothing is kept of it where memory is missing.
-    pub fn collected(&mut self, finished: &Finished) {
+    pub fn collected(&mut self, finished: &Finished)
+        ensures few { length self.old.waiting ≤ 1024 → length self.new.waiting ≤ 1024 }
+        ensures credit { self.new.keeps_credit ≡ self.old.keeps_credit }
+    {
         let Some(code) = code_of(self.alloc, finished) else {
             return;
         };
@@ -79,7 +98,10 @@ impl Refusals {
     }
 
     /// Keeps what a log says of a job that was refused with this Result-Code.
-    fn keep(&mut self, finished: &Finished, code: u32) -> Result<(), AllocError> {
+    fn keep(&mut self, finished: &Finished, code: u32) -> Result<(), AllocError>
+        ensures more { length self.new.waiting ≤ length self.old.waiting + 1 }
+        ensures credit { self.new.keeps_credit ≡ self.old.keeps_credit }
+    {
         let (conn, body) = (finished.conn, &finished.request.body);
         let refused = Refused::of::<ViewWire>(self.alloc, conn, body, code)?;
         self.waiting.push_back(refused)?;
@@ -87,7 +109,11 @@ impl Refusals {
     }
 
     /// Takes the oldest one.
-    pub fn take_first(&mut self) -> Option<Refused> {
+    pub fn take_first(&mut self) -> Option<Refused>
+        ensures taken { self.old.waiting ≡ option_to_list result ++ self.new.waiting }
+        ensures none { IfNone result (self.old.waiting ≡ []) }
+        ensures credit { self.new.keeps_credit ≡ self.old.keeps_credit }
+    {
         self.waiting.pop_front()
     }
 }

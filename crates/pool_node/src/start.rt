@@ -1,8 +1,9 @@
 //! How the fronts of a process are started.
 
-ghost use Rattle.std.specs.Prelude.{◌≡◌, ◌<◌, ◌≤◌, ◌-◌, ◌*◌, length, IfOk, IfSome};
+ghost use Rattle.std.specs.Prelude.{◌≡◌, ◌<◌, ◌≤◌, ◌-◌, ◌*◌, length, IfNone, IfOk, IfSome};
 ghost use Rattle.dia_base.specs.declared.number.NodeNo.{NodeNo};
 ghost use Rattle.pool_node.specs.Fronts.{new_front, new_fronts, site_of, with_fronts};
+ghost use Rattle.pool_node.specs.declared.start.StartFault.TheVariants.{OutOfMemory};
 
 use crate::front::PoolFront;
 use crate::fronts::PoolFronts;
@@ -34,12 +35,16 @@ pub enum StartFault {
 }
 
 impl From<AllocError> for StartFault {
+    ghost from_gives = { λ _ e. e ≡ OutOfMemory };
+
     fn from(_e: AllocError) -> StartFault {
         StartFault::OutOfMemory
     }
 }
 
 impl<T: Drop> From<AllocFailed<T>> for StartFault {
+    ghost from_gives = { λ _ e. e ≡ OutOfMemory };
+
     fn from(_e: AllocFailed<T>) -> StartFault {
         StartFault::OutOfMemory
     }
@@ -128,7 +133,8 @@ where
 
 /// How many seats so many fronts take, with so many workers each. None where there are too many to count.
 pub fn seats_for(fronts: usize, workers: u32) -> Option<u64>
-    ensures { IfSome result (λ seats. seats ≡ fronts * workers) }
+    ensures some { IfSome result (λ seats. seats ≡ fronts * workers) }
+    ensures none { IfNone result (18446744073709551615 < fronts * workers) }
 {
     (fronts as u64).checked_mul(u64::from(workers))
 }
