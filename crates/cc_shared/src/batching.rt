@@ -1,5 +1,7 @@
 //! Who collects requests for a stored book.
 
+ghost use Rattle.std.specs.Prelude.{◌≡◌};
+
 use std::sync::Wait;
 use std::sync::atomic::{AtomicU64, Ordering};
 
@@ -22,14 +24,18 @@ pub struct Batching {
 }
 
 impl Batching {
-    pub fn new(is_stored: bool) -> Batching {
+    pub fn new(is_stored: bool) -> Batching
+        ensures { result.is_stored ≡ is_stored }
+    {
         Batching {
             is_stored,
             state: AtomicU64::new(FREE),
         }
     }
 
-    pub fn is_stored(&self) -> bool {
+    pub fn is_stored(&self) -> bool
+        ensures { result ≡ self.now.is_stored }
+    {
         self.is_stored
     }
 

@@ -1,7 +1,7 @@
 //! The one history of a shared book. It exists in the proofs: what threads share of it is its length, and what each knows of it
 //! is a beginning that was seen.
 
-ghost use Rattle.std.specs.Prelude.{◌≡◌, ◌<◌, ◌^◌, ◌++◌, ◌∷◌, ◌⊎◌, [], IfSome, None, MatchBool, length, true};
+ghost use Rattle.std.specs.Prelude.{◌≡◌, ◌<◌, ◌-◌, ◌^◌, ◌++◌, ◌∷◌, ◌⊎◌, [], IfErr, IfOk, None, MatchBool, length, true};
 ghost use mathlib.Core.List.{IsPrefix};
 ghost use Rattle.cc_book.specs.declared.entry.Entry.TheVariants.{ChangeTerms, Sweep, Take};
 ghost use Rattle.logbook.specs.Pages.{Book as LogName};
@@ -217,9 +217,9 @@ impl<L: Sharing> Beginning<L> {
     }
 
     /// Adds a take to all that was seen, and says whether it did. It did not if the history is longer, as it never is for who has
-    /// the book's lock.
+    /// the book's lock, or if it has no room for a record more.
     pub fn add_take(&mut self, word: &Length<L>, moment: Moment, request: &CcRequest) -> bool
-        ensures { MatchBool result (self.new ≡ self.old ++ Entered (Take moment request.now) ∷ []) (Unit {0}) }
+        ensures { MatchBool result (self.new ≡ self.old ++ Entered (Take moment request.now) ∷ []) ((length self.old < length self.new) ⊎ (length self.old ≡ 2 ^ 64 - 1)) }
     {
         let mut offer = self
             .seen
@@ -229,7 +229,7 @@ impl<L: Sharing> Beginning<L> {
 
     /// Adds a sweep, likewise.
     pub fn add_sweep(&mut self, word: &Length<L>, moment: Moment) -> bool
-        ensures { MatchBool result (self.new ≡ self.old ++ Entered (Sweep moment) ∷ []) (Unit {0}) }
+        ensures { MatchBool result (self.new ≡ self.old ++ Entered (Sweep moment) ∷ []) ((length self.old < length self.new) ⊎ (length self.old ≡ 2 ^ 64 - 1)) }
     {
         let mut offer = self
             .seen
@@ -239,7 +239,7 @@ impl<L: Sharing> Beginning<L> {
 
     /// Adds a change of the terms, likewise.
     pub fn add_change(&mut self, word: &Length<L>, moment: Moment, change: &TermsChange) -> bool
-        ensures { MatchBool result (self.new ≡ self.old ++ Entered (ChangeTerms moment change.now) ∷ []) (Unit {0}) }
+        ensures { MatchBool result (self.new ≡ self.old ++ Entered (ChangeTerms moment change.now) ∷ []) ((length self.old < length self.new) ⊎ (length self.old ≡ 2 ^ 64 - 1)) }
     {
         let mut offer = self
             .seen
@@ -247,23 +247,25 @@ impl<L: Sharing> Beginning<L> {
         self.add(word, &mut offer)
     }
 
-    /// Adds that the book was closed. None if the history is longer.
-    pub fn ended(&self, word: &Length<L>) -> Option<ClosedHistory<L>>
-        ensures { IfSome result (λ closed. closed ≡ self.now ++ Closed ∷ []) }
+    /// Adds that the book was closed. If the history is longer, it hands back what it has seen of it; if it has no room for a record
+    /// more, all of it.
+    pub fn ended(&self, word: &Length<L>) -> Result<ClosedHistory<L>, Beginning<L>>
+        ensures closed { IfOk result (λ closed. closed ≡ self.now ++ Closed ∷ []) }
+        ensures longer { IfErr result (λ longer. (length self.now < length longer) ⊎ (length self.now ≡ 2 ^ 64 - 1)) }
     {
         let mut all = self.again();
         let mut offer = self.seen.plain::<Nothing, Closing, Add>(&Closing);
         if !all.add(word, &mut offer) {
-            return None;
+            return Err(all);
         }
-        Some(ClosedHistory { all })
+        Ok(ClosedHistory { all })
     }
 
     /// Adds what is offered.
     fn add(&mut self, word: &Length<L>, offer: &mut Offer<Logged, u64, OneHistory, Nothing>) -> bool
         requires names { offer.old.names ≡ [] }
         requires state { offer.old.state ≡ None }
-        ensures { MatchBool result (self.new ≡ self.old ++ offer.old.ask ∷ []) (Unit {0}) }
+        ensures { MatchBool result (self.new ≡ self.old ++ offer.old.ask ∷ []) ((length self.old < length self.new) ⊎ (length self.old ≡ 2 ^ 64 - 1)) }
     {
         let count = self.count;
         if count == u64::MAX {

@@ -59,6 +59,7 @@ pub struct LockedBook<L: Sharing, S: RowStore> {
     commits: CommitCounts,
     /// What open sessions have reserved. No clause knows anything of it.
     reserved: AtomicU64,
+    ghost stored_is: { batching.is_stored ≡ L.shared.stored },
 }
 
 /// What the open sessions of a book have reserved, in minor units: 2^64 - 1 where it is more.
@@ -211,7 +212,9 @@ impl<L: Sharing, S: RowStore + Drop> LockedBook<L, S> {
     }
 
     /// Whether the book is stored, and by whom requests for it are collected.
-    pub fn batching(&self) -> &Batching {
+    pub fn batching(&self) -> &Batching
+        ensures { result.now.is_stored ≡ L.shared.stored }
+    {
         &self.batching
     }
 
@@ -255,7 +258,7 @@ impl<L: Sharing, S: RowStore + Drop> LockedBook<L, S> {
 
     /// The book is gone, with this history: from now on it is closed, and the process is to end.
     fn fail(&self, seen: Beginning<L>, behind: &mut Behind<L, S>) {
-        if let Some(closed) = seen.ended(&self.length) {
+        if let Ok(closed) = seen.ended(&self.length) {
             *behind = Behind::Failed(closed);
         }
         self.failed.store(1, Ordering::SeqCst);
@@ -486,7 +489,7 @@ impl<L: Sharing, S: RowStore + Drop> LockedBook<L, S> {
         let mut guard = self.lock.lock(rt);
         match replace(&mut *guard, Behind::Nothing) {
             Behind::Open(open) => {
-                let Some(closed) = open.history().ended(&self.length) else {
+                let Ok(closed) = open.history().ended(&self.length) else {
                     *guard = Behind::Open(open);
                     return None;
                 };

@@ -97,7 +97,9 @@ impl<L: Sharing, S: RowStore + Drop> SharedBook<L, S> {
     }
 
     /// Whether the book is stored.
-    pub fn is_stored(&self) -> bool {
+    pub fn is_stored(&self) -> bool
+        ensures { result ≡ L.shared.stored }
+    {
         self.locked.batching().is_stored()
     }
 
