@@ -60,11 +60,11 @@ pub refused_reads :
     (finished : Finished) → site ≡ sites front → prepared ≡ Refused refusal
     → prepared ≡ preparation_of site.name site.realm job.request (view_under site.profile job.request)
     → finished ≡ answered front job (Some refusal) None None
-    → (job_of finished ≡ job) × IsAnsweredByOne sites shared finished × (finished.receipt ≡ None)
+    → (job_of finished ≡ job) × IsAnsweredByOne sites shared finished × (finished.receipt ≡ None) × (finished.moment ≡ None)
 refused_reads sites shared front site job refusal prepared finished same refused_is prepares is =
     let answers = refused site shared job.request refusal prepared refused_is prepares in
     let answered_so = subst (λ (s : PoolSite). Answers s shared job.request (Some refusal) None) same answers in
-    (ap job_of is, subst (IsAnsweredByOne sites shared) (sym is) answered_so, ap (λ (f : Finished). f.receipt) is)
+    (ap job_of is, subst (IsAnsweredByOne sites shared) (sym is) answered_so, ap (λ (f : Finished). f.receipt) is, ap (λ (f : Finished). f.moment) is)
 
 -- a job without a receipt tells of no take
 pub tells_no_take : (finished : Finished) → finished.receipt ≡ None → takes_of finished ≡ 0

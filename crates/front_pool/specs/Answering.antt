@@ -73,9 +73,11 @@ IsAskedOf site asked = view_under site.profile asked.job.request ≡ Ok asked.re
 abbrev pub IsServedAt : PoolSite → SharedLedger → Served Job → Type 0
 IsServedAt site shared served = IfOk served.result (λ receipt. (view_under site.profile served.job.request ≡ Ok receipt.request) × IsReceiptOf shared receipt)
 
--- The message of a job of this front was read: it is answered without the book, or the book is asked.
+-- The message of a job of this front was read: it is answered without the book, and tells of no receipt and of no moment, or the book is
+-- asked.
 abbrev pub Reads : (NodeNo → PoolSite) → SharedLedger → NodeNo → Job → Reading → Type 0
-Reads sites shared front job (Answered finished) = (job_of finished ≡ job) × IsAnsweredByOne sites shared finished × (finished.receipt ≡ None)
+Reads sites shared front job (Answered finished) =
+    (job_of finished ≡ job) × IsAnsweredByOne sites shared finished × (finished.receipt ≡ None) × (finished.moment ≡ None)
 Reads sites shared front job (Asks asked) = (asked.job ≡ job) × IsAskedOf (sites front) asked
 
 -- These jobs were finished as these, each once, by one answer: however jobs are weighed, both sides weigh the same.

@@ -1,5 +1,5 @@
 -- What a pool does with the jobs that it was handed.
-use Rattle.std.specs.Prelude.{◌≡◌, ◌⊎◌, ℕ, ◌+◌, ◌-◌, ◌^◌, ◌≤◌, ◌<◌, List, [], ◌∷◌, ◌++◌, length, slice_index_or, All, Option, Some, None, Result, Ok, Err}
+use Rattle.std.specs.Prelude.{◌≡◌, ◌⊎◌, ℕ, ◌+◌, ◌-◌, ◌^◌, ◌≤◌, ◌<◌, List, [], ◌∷◌, ◌++◌, length, min, slice_index_or, All, Option, Some, None, Result, Ok, Err}
 use Rattle.std.specs.List.Sorted.{IsPermutation}
 use Rattle.dia_base.specs.declared.number.ConnId.{ConnId}
 use Rattle.dia_base.specs.declared.number.NodeNo.{NodeNo}
@@ -12,7 +12,8 @@ use Rattle.front_pool.specs.Jobs.{job_of, jobs_of}
 
 -- A pool, as contracts see it: the front in whose name it answers, how many workers it has, how many jobs may wait for them, the last
 -- number that it has given, and the jobs that were handed over and not yet collected, the first to come first. Then all that it has put
--- into the queue of its workers' jobs, and all that it has taken out of the queue of those that they have finished.
+-- into the queue of its workers' jobs, all that it has taken out of the queue of those that they have finished, and how many of these it
+-- has dropped, since it waited for none of them.
 pub record PoolState : Type 0 where
   pub front : NodeNo
   pub workers : ℕ
@@ -21,6 +22,7 @@ pub record PoolState : Type 0 where
   pub unanswered : List Job
   pub put : List Job
   pub taken : List Finished
+  pub strangers : ℕ
 
 -- each job's number is greater than those of the jobs before it
 abbrev pub IsRising : ℕ → List Job → Type 0
@@ -29,7 +31,7 @@ IsRising above (job ∷ jobs) = (above < job.number) × IsRising job.number jobs
 
 -- a pool before its first job
 abbrev pub new_pool : NodeNo → ℕ → ℕ → PoolState
-new_pool front workers room = record { front = front; workers = workers; room = room; last = 0; unanswered = []; put = []; taken = [] }
+new_pool front workers room = record { front = front; workers = workers; room = room; last = 0; unanswered = []; put = []; taken = []; strangers = 0 }
 
 -- the job that a request becomes: it has the next number
 abbrev pub next_job : PoolState → ConnId → Message → Job
@@ -75,19 +77,27 @@ pub record IsTakenOff (job : Job) (old new : List Job) : Type 0 where
 abbrev pub IsStranger : PoolState → Finished → Type 0
 IsStranger pool finished = finished.front ≡ pool.front → (rest : List Job) → IsTakenOff (job_of finished) pool.unanswered rest → ⊥
 
--- A finished job that the pool waits for is taken out of the queue, and those before it that are strangers are dropped. From then on it
--- is collected, and nothing else has changed.
+-- so many more of what is counted, up to the greatest number
+abbrev pub more_by : ℕ → ℕ → ℕ
+more_by count more = count + min more (18446744073709551615 - count)
+
+-- A finished job that the pool waits for is taken out of the queue, and those before it that are strangers are dropped, and counted. From
+-- then on it is collected, and nothing else has changed.
 pub record Collected (old : PoolState) (finished : Finished) (new : PoolState) : Type 0 where
   pub strangers : List Finished
   pub are_strangers : All (IsStranger old) strangers
   pub off : IsTakenOff (job_of finished) old.unanswered new.unanswered
-  pub is : new ≡ record old { unanswered = new.unanswered; taken = old.taken ++ (strangers ++ finished ∷ []) }
+  pub is : new ≡ record old {
+    unanswered = new.unanswered;
+    taken = old.taken ++ (strangers ++ finished ∷ []);
+    strangers = more_by old.strangers (length strangers);
+  }
 
--- No finished job that the pool waits for was in the queue; what was there were strangers, which are dropped.
+-- No finished job that the pool waits for was in the queue; what was there were strangers, which are dropped, and counted.
 pub record FoundNone (old new : PoolState) : Type 0 where
   pub strangers : List Finished
   pub are_strangers : All (IsStranger old) strangers
-  pub is : new ≡ record old { taken = old.taken ++ strangers }
+  pub is : new ≡ record old { taken = old.taken ++ strangers; strangers = more_by old.strangers (length strangers) }
 
 -- what a pool does that looks for a finished job
 abbrev pub Collects : PoolState → Option Finished → PoolState → Type 0

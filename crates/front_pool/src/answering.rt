@@ -66,6 +66,7 @@ pub fn refuse<W: Wire, L: Pooling>(alloc: Global, front: NodeNo, site: &PoolSite
     ensures job { job_of result ≡ job }
     ensures answered { IsAnsweredByOne L.site L.shared result }
     ensures receipt { result.receipt ≡ None }
+    ensures moment { result.moment ≡ None }
 {
     let busy = too_busy::<W>(alloc, site, job.request());
     job.finish(front, busy, None, None)

@@ -7,7 +7,7 @@ ghost use Rattle.crossbeam_queue.specs.Passes.{IsPassOf, ruled_capacity, view};
 ghost use Rattle.front_pool.specs.Answering.{IsAnsweredBy, IsAnsweredByOne};
 ghost use Rattle.front_pool.specs.declared.job.Job.{Job};
 ghost use Rattle.front_pool.specs.Jobs.{job_of, jobs_of};
-ghost use Rattle.front_pool.specs.Keeping.{Balances, Collects, HandsBack, IsAt, IsStranger, IsTakenOff, new_pool};
+ghost use Rattle.front_pool.specs.Keeping.{Balances, Collects, HandsBack, IsAt, IsStranger, IsTakenOff, more_by, new_pool};
 ghost use Rattle.front_pool.specs.Moving.{of_pool, with_put, with_taken};
 
 use crate::control::Control;
@@ -32,8 +32,8 @@ use std::time::Duration;
 const NOT_YET: u64 = 1;
 
 /// Worker threads on one shared book. Contracts see how many there are, how many jobs may wait for them, the last number given,
-/// the jobs that were handed over and not collected, and all that it has put into its queue of jobs and taken out of that of
-/// finished ones.
+/// the jobs that were handed over and not collected, all that it has put into its queue of jobs and taken out of that of
+/// finished ones, and how many of these it has dropped.
 pub struct Pool<L: Pooling> {
     /// Of it comes the memory for tasks.
     alloc: Global,
@@ -90,6 +90,7 @@ impl<L: Pooling> Model for Pool<L> {
       unanswered = p.unanswered.items;
       put = (known_to p.job_pass).put;
       taken = (known_to p.finished_pass).taken;
+      strangers = p.strangers;
     } };
 
     ghost invariant = { λ p. IsPassOf (arc_value p.jobs) p.job_pass × IsPassOf (arc_value p.finished) p.finished_pass
@@ -201,7 +202,7 @@ impl<L: Pooling> Pool<L> {
     fn own(&mut self, finished: Done) -> Option<Done>
         ensures some { IfSome result (λ own. (own ≡ finished) × (own.front ≡ self.old.front)
             × IsTakenOff (job_of own) self.old.unanswered self.new.unanswered × (self.new ≡ record self.old { unanswered = self.new.unanswered })) }
-        ensures none { IfNone result (IsStranger self.old finished × (self.new ≡ self.old)) }
+        ensures none { IfNone result (IsStranger self.old finished × (self.new ≡ record self.old { strangers = more_by self.old.strangers 1 })) }
     {
         if take_off(self.front, &mut self.unanswered, finished.as_finished()) {
             return Some(finished);
@@ -227,7 +228,9 @@ impl<L: Pooling> Pool<L> {
     }
 
     /// How many finished jobs it has dropped that it did not wait for. There is none as long as its workers finish what they take.
-    pub fn strangers(&self) -> u64 {
+    pub fn strangers(&self) -> u64
+        ensures { result ≡ self.now.strangers }
+    {
         self.strangers
     }
 

@@ -17,4 +17,4 @@ returns-in-Ok-Refused g c =
     c.requires c.in-Ok-Refused.field-0-is is c.finish.ensures
 
 pub returns-in-Err : goal.returns-in-Err
-returns-in-Err g c = (c.refuse.ensures.job, c.refuse.ensures.answered, c.refuse.ensures.receipt)
+returns-in-Err g c = (c.refuse.ensures.job, c.refuse.ensures.answered, c.refuse.ensures.receipt, c.refuse.ensures.moment)

@@ -1,5 +1,8 @@
-use Rattle.front_pool.proofs.Passing.{passes_over}
+use Rattle.front_pool.proofs.Passing.{passes_none, passes_over}
 use Rattle.front_pool.proofs.pool.Pool.collect.Goals as goal
+
+pub loop-init : goal.loop-init
+loop-init g c = record { next = tt; finite = tt; found = passes_none c.args.self.now }
 
 pub loop-preserved : goal.loop-preserved
 loop-preserved g c = record {
