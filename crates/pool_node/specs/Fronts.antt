@@ -1,5 +1,5 @@
 -- The fronts of a process, each with its workers, and what they do at each event of a node.
-use Rattle.std.specs.Prelude.{◌≡◌, ◌==◌, ◌<◌, ℕ, Bool, true, MatchBool, not, List, [], ◌∷◌, ◌++◌, filter, length, map, position, Option, Some, None, Result, Ok, Err, MatchOption, get_or, slice_get, slice_set, if◌then◌else◌}
+use Rattle.std.specs.Prelude.{◌≡◌, ◌==◌, ◌<◌, ℕ, min, sum_by, Bool, true, MatchBool, not, List, [], ◌∷◌, ◌++◌, filter, length, map, position, Option, Some, None, Result, Ok, Err, MatchOption, get_or, slice_get, slice_set, if◌then◌else◌}
 use Rattle.dia_base.specs.declared.number.ConnId.{ConnId}
 use Rattle.dia_base.specs.declared.number.Moment.{Moment}
 use Rattle.dia_base.specs.declared.number.NodeNo.{NodeNo}
@@ -64,6 +64,10 @@ with_fronts timing fronts = record { fronts = fronts; under_way = None; next_swe
 -- these fronts, each with so many workers, before anything has happened to them
 abbrev pub new_fronts : List NodeNo → ℕ → ℕ → List FrontState
 new_fronts nodes workers room = map (λ node. new_front node workers room) nodes
+
+-- how many finished jobs these fronts have dropped, since they waited for none of them: at most the greatest number
+abbrev pub strangers_of : List FrontState → ℕ
+strangers_of fronts = min (sum_by (λ front. front.pool.strangers) fronts) 18446744073709551615
 
 abbrev pub with_connection : FrontState → ConnId → FrontState
 with_connection front conn = if is_among front.connections conn then front else record front { connections = front.connections ++ conn ∷ [] }

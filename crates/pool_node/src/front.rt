@@ -156,7 +156,9 @@ impl<L: Pooling> PoolFront<L> {
     }
 
     /// How many finished jobs it has dropped that it did not wait for.
-    pub fn strangers(&self) -> u64 {
+    pub fn strangers(&self) -> u64
+        ensures { result ≡ self.now.pool.strangers }
+    {
         self.pool.strangers()
     }
 

@@ -3,7 +3,7 @@
 ghost use Rattle.std.specs.Prelude.{◌≡◌, ◌<◌, length, position, IfSome, None};
 ghost use Rattle.cc_book.specs.History.{IsLegal};
 ghost use Rattle.cc_shared.specs.Closing.{IsWhole};
-ghost use Rattle.pool_node.specs.Fronts.{CollectsMore, CollectsSweep, OnFrontsEvent, TakesIn, after_asking, is_node, is_up, told_of_all, told_of_one, told_of_sweep, with_fronts};
+ghost use Rattle.pool_node.specs.Fronts.{CollectsMore, CollectsSweep, OnFrontsEvent, TakesIn, after_asking, is_node, is_up, strangers_of, told_of_all, told_of_one, told_of_sweep, with_fronts};
 ghost use Rattle.pool_node.specs.Measure.{AddsFew, AddsOne};
 
 use crate::booked::Booked;
@@ -199,7 +199,9 @@ impl<L: Pooling, S: RowStore + Drop, R: Wait> PoolFronts<L, S, R> {
     }
 
     /// How many finished jobs were dropped that no front waited for. There is none as long as workers finish what they take.
-    pub fn strangers(&self) -> u64 {
+    pub fn strangers(&self) -> u64
+        ensures { result ≡ strangers_of self.now.fronts }
+    {
         let mut count: u64 = 0;
         for front in &self.fronts {
             count = count.saturating_add(front.strangers());
