@@ -1,5 +1,5 @@
 -- The fronts of a process, each with its workers, and what they do at each event of a node.
-use Rattle.std.specs.Prelude.{◌≡◌, ◌==◌, ◌<◌, ℕ, min, sum_by, Bool, true, MatchBool, not, List, [], ◌∷◌, ◌++◌, filter, length, map, position, Option, Some, None, Result, Ok, Err, MatchOption, get_or, slice_get, slice_set, if◌then◌else◌}
+use Rattle.std.specs.Prelude.{◌≡◌, ◌==◌, ◌<◌, ℕ, min, sum_by, Bool, true, false, MatchBool, not, List, [], ◌∷◌, ◌++◌, filter, length, map, position, Option, Some, None, Result, Ok, Err, MatchOption, get_or, slice_get, slice_set, if◌then◌else◌}
 use Rattle.dia_base.specs.declared.number.ConnId.{ConnId}
 use Rattle.dia_base.specs.declared.number.Moment.{Moment}
 use Rattle.dia_base.specs.declared.number.NodeNo.{NodeNo}
@@ -49,17 +49,18 @@ pub record FrontState : Type 0 where
 abbrev pub new_front : NodeNo → ℕ → ℕ → FrontState
 new_front node workers room = record { connections = []; pool = new_pool node workers room }
 
--- All fronts of a process, on one book: at which moment a sweep is under way, if one is, when the next one is due, and what the book's
--- figures are as far as answers and sweeps were collected.
+-- All fronts of a process, on one book: at which moment a sweep is under way, if one is, when the next one is due, what the book's
+-- figures are as far as answers and sweeps were collected, and whether what is collected is to be told.
 pub record FrontsState : Type 0 where
   pub fronts : List FrontState
   pub under_way : Option Moment
   pub next_sweep : NextSweep
   pub figures : BookFigures
+  pub is_recorded : Bool
 
 -- fronts of which nothing was collected since the book was opened
 abbrev pub with_fronts : Timing → List FrontState → FrontsState
-with_fronts timing fronts = record { fronts = fronts; under_way = None; next_sweep = From timing.first_sweep; figures = timing.figures }
+with_fronts timing fronts = record { fronts = fronts; under_way = None; next_sweep = From timing.first_sweep; figures = timing.figures; is_recorded = false }
 
 -- these fronts, each with so many workers, before anything has happened to them
 abbrev pub new_fronts : List NodeNo → ℕ → ℕ → List FrontState
@@ -134,6 +135,7 @@ pub record CollectsAt (sites : NodeNo → PoolSite) (shared : SharedLedger) (pla
   pub counted : HasCollected finished.receipt old.figures new.figures
   pub under_way_is : new.under_way ≡ old.under_way
   pub sweep_is : new.next_sweep ≡ old.next_sweep
+  pub recorded_is : new.is_recorded ≡ old.is_recorded
 
 -- Finished jobs are collected, one after the other, at any of these fronts, and what goes out for each goes behind what went out
 -- for those before it. It ends where memory is missing, for a job more or for the answer of one that is collected, and says so.
@@ -203,6 +205,7 @@ pub record HasSwept (done : SweepDone) (old new : FrontsState) : Type 0 where
   pub under_way_is : new.under_way ≡ None
   pub next_is : new.next_sweep ≡ next_sweep done.moment done.swept
   pub figures_are : new.figures ≡ figures_after done.swept old.figures
+  pub recorded_is : new.is_recorded ≡ old.is_recorded
 
 -- The sweep that is under way is collected, where it is done: what it came to is what the book answered at the moment that was asked
 -- for. Else nothing has changed.

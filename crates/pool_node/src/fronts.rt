@@ -1,6 +1,6 @@
 //! All fronts of a site as one node.
 
-ghost use Rattle.std.specs.Prelude.{◌≡◌, ◌<◌, length, position, IfSome, None};
+ghost use Rattle.std.specs.Prelude.{◌≡◌, ◌<◌, length, position, true, IfSome, None};
 ghost use Rattle.cc_book.specs.History.{IsLegal};
 ghost use Rattle.cc_shared.specs.Closing.{IsWhole};
 ghost use Rattle.pool_node.specs.Fronts.{CollectsMore, CollectsSweep, OnFrontsEvent, TakesIn, after_asking, is_node, is_up, strangers_of, told_of_all, told_of_one, told_of_sweep, with_fronts};
@@ -61,7 +61,7 @@ impl<L: Pooling, S: RowStore, R> Model for PoolFronts<L, S, R> {
 
     ghost Value = { FrontsState };
 
-    ghost view = { λ p. record { fronts = p.fronts.items; under_way = p.sweeper; next_sweep = p.book.next_sweep; figures = p.book.figures } };
+    ghost view = { λ p. record { fronts = p.fronts.items; under_way = p.sweeper; next_sweep = p.book.next_sweep; figures = p.book.figures; is_recorded = p.book.events.is_on } };
 }
 
 /// The place of the front that is this node.
@@ -139,6 +139,7 @@ impl<L: Pooling, S: RowStore + Drop, R: Wait> PoolFronts<L, S, R> {
     }
 
     /// Takes in what the sweep has come to that is under way, if it is done.
+    #[tactic(auto, using(crate::proofs::Collecting::tells_sweep_on))]
     fn collect_sweep(&mut self) -> Option<SweepDone>
         ensures { CollectsSweep L.shared self.old result self.new }
     {
@@ -159,7 +160,7 @@ impl<L: Pooling, S: RowStore + Drop, R: Wait> PoolFronts<L, S, R> {
 
     /// From now on it keeps what its workers do until it is told ([`Recorded`]).
     pub fn begin_record(&mut self)
-        ensures { self.new ≡ self.old }
+        ensures { self.new ≡ record self.old { is_recorded = true } }
     {
         self.book.begin_record();
     }
