@@ -1,1 +1,3 @@
+mod Awaiting
 mod Playing
+mod Reconciling

@@ -9,6 +9,7 @@ use Rattle.farm_model.specs.Run.{Transition, start}
 use Rattle.farm_model.specs.World.{WorldState, relay_at}
 use Rattle.farm_world.specs.RelayEvents.{with_start_of_relay}
 use Rattle.farm_player.specs.Counting.{steps_after, lines_after}
+use Rattle.farm_player.specs.Passing.{Passage, passed_by}
 use Rattle.farm_player.specs.StepLines.{step_line}
 
 -- A step is tried, or a relay draws the start of its identifiers, as one does when its process begins.
@@ -39,15 +40,23 @@ lines_of site [] = []
 lines_of site (Try t ∷ turns) = if t.applied then lines_of site turns ++ step_line site t.step else lines_of site turns
 lines_of site (Draw node from before ∷ turns) = lines_of site turns
 
+-- the messages that have passed, in the order of the run
+abbrev pub passages_in : List Turn → List Passage
+passages_in [] = []
+passages_in (Try t ∷ turns) = passages_in turns ++ passed_by t.before t.step t.applied
+passages_in (Draw node from before ∷ turns) = passages_in turns
+
 -- The lines that were not handed out yet are the last of them all; where nobody asks for lines there are none.
 abbrev pub AreLastLines : Bool → List ℕ → List ℕ → Type 0
 AreLastLines true all lines = (before : List ℕ) × (before ++ lines ≡ all)
 AreLastLines false all lines = lines ≡ []
 
--- The farm stands at the end of a run from its beginning, of which so many steps applied, and these lines are the last.
-pub record IsPlayed (site : Site) (world : WorldState) (steps : ℕ) (prints : Bool) (lines : List ℕ) : Type 0 where
+-- The farm stands at the end of a run from its beginning, in which these messages have passed; so many steps applied, and these lines are
+-- the last.
+pub record IsPlayed (site : Site) (world : WorldState) (passed : List Passage) (steps : ℕ) (prints : Bool) (lines : List ℕ) : Type 0 where
   pub turns : List Turn
   pub run : PlayedRun site (start site) turns world
+  pub passes : passed ≡ passages_in turns
   -- the count stops at its largest number
   pub counted : steps < 2 ^ 64 - 1 → steps ≡ applied_in turns
   pub printed : AreLastLines prints (lines_of site turns) lines
@@ -57,6 +66,7 @@ pub record IsPlayed (site : Site) (world : WorldState) (steps : ℕ) (prints : B
 pub record PlayedState : Type 0 where
   pub site : Site
   pub world : WorldState
+  pub passed : List Passage
   pub steps : ℕ
   pub prints : Bool
   -- those that were not handed out yet
@@ -66,12 +76,13 @@ pub record PlayedState : Type 0 where
 
 -- before the first step
 abbrev pub beginning : Site → Bool → PlayedState
-beginning site prints = record { site = site; world = start site; steps = 0; prints = prints; lines = []; is_whole = true }
+beginning site prints = record { site = site; world = start site; passed = []; steps = 0; prints = prints; lines = []; is_whole = true }
 
 -- what is seen behind a step that applied, or did not, where the farm is this
 abbrev pub after_step : PlayedState → Step → Bool → WorldState → PlayedState
 after_step old step applied world = record old {
   world = world;
+  passed = old.passed ++ passed_by old.world step applied;
   steps = steps_after applied old.steps;
   lines = lines_after old.prints applied old.site step old.lines;
 }

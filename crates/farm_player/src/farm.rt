@@ -1,9 +1,11 @@
 //! The farm that is played.
 
-ghost use Rattle.std.specs.Prelude.{◌≡◌, ◌%◌, ◌^◌, [], false, length, IfOk, OnOk, OnErr, string_bytes};
+ghost use Rattle.std.specs.Prelude.{◌≡◌, ◌%◌, ◌^◌, [], ◌∷◌, false, length, IfNone, IfOk, IfSome, IsTrue, OnOk, OnErr, string_bytes};
 ghost use Rattle.farm_base.specs.CheckedSite.{IsChecked};
 ghost use Rattle.farm_player.specs.Counting.{steps_after, lines_after};
+ghost use Rattle.farm_player.specs.Passing.{passage_of};
 
+use crate::passing::{Passages, Passed, keep_if, passage_of, with_passage};
 use crate::steps::push_step;
 use cc_book::Book;
 use dia_avp::ViewWire;
@@ -11,6 +13,7 @@ use dia_base::NodeNo;
 use dia_message::Message;
 use farm_report::report;
 use farm_world::{Direction, Site, Step, World};
+use http_server::Log;
 use std::alloc::{AllocError, Global};
 use std::marker::Model;
 use std::mem::replace;
@@ -49,6 +52,8 @@ pub struct PlayedFarm<'s> {
     alloc: Global,
     site: &'s Site,
     world: World,
+    /// The messages that have passed.
+    passed: Passages,
     /// How many steps applied.
     steps: u64,
     prints: bool,
@@ -65,6 +70,7 @@ impl<'s> Drop for PlayedFarm<'s> {
             alloc: _,
             site: _,
             world: _,
+            passed: _,
             steps: _,
             prints: _,
             lines: _,
@@ -82,13 +88,14 @@ impl<'s> Model for PlayedFarm<'s> {
     ghost view = { λ f. record {
       site = f.site.now;
       world = f.world;
+      passed = f.passed.items;
       steps = f.steps;
       prints = f.prints;
       lines = f.lines.items;
       is_whole = f.is_whole;
     } };
 
-    ghost invariant = { λ f. f.is_whole ≡ true → IsPlayed f.site.now f.world f.steps f.prints f.lines.items };
+    ghost invariant = { λ f. f.is_whole ≡ true → IsPlayed f.site.now f.world f.passed.items f.steps f.prints f.lines.items };
 }
 
 impl<'s> PlayedFarm<'s> {
@@ -104,6 +111,7 @@ impl<'s> PlayedFarm<'s> {
             alloc,
             site,
             world: World::open(alloc, site)?,
+            passed: Log::new(),
             steps: 0,
             prints,
             lines: Vec::new(alloc),
@@ -122,9 +130,12 @@ impl<'s> PlayedFarm<'s> {
     pub fn play(&mut self, step: &Step) -> Result<bool, AllocError>
         ensures ok { IfOk result (λ applied. PlaysStep self.old step.now applied self.new) }
         ensures err { OnErr result (self.new.is_whole ≡ false) }
+        ensures site { self.new.site ≡ self.old.site }
     {
         let is_whole = replace(&mut self.is_whole, false);
+        let passed = with_passage(&self.passed, &self.world, step);
         let applied = self.world.step::<ViewWire>(self.alloc, self.site, step)?;
+        keep_if(applied, &mut self.passed, passed);
         self.steps = steps_after(applied, self.steps);
         push_if(
             self.alloc,
@@ -174,10 +185,18 @@ impl<'s> PlayedFarm<'s> {
         replace(&mut self.lines, Vec::new(self.alloc))
     }
 
+    /// Whether no memory was missing in the middle of a step.
+    pub fn is_whole(&self) -> bool
+        ensures is { result ≡ self.now.is_whole }
+        ensures played { IsTrue result → IsPlayed self.now.site self.now.world self.now.passed self.now.steps self.now.prints self.now.lines }
+    {
+        self.is_whole
+    }
+
     /// The report of the book that the run has come to.
     pub fn report(&self) -> Result<String, AllocError>
         ensures { IfOk result (λ text.
-            IsPlayed self.now.site self.now.world self.now.steps self.now.prints self.now.lines × (string_bytes text ≡ report_of self.now.world.book)) }
+            IsPlayed self.now.site self.now.world self.now.passed self.now.steps self.now.prints self.now.lines × (string_bytes text ≡ report_of self.now.world.book)) }
     {
         if !self.is_whole {
             return Err(AllocError);
@@ -189,6 +208,14 @@ impl<'s> PlayedFarm<'s> {
         ensures { result.now ≡ self.now.world.book }
     {
         self.world.book()
+    }
+
+    /// The message that a step has a node receive, or a client send, if it applies.
+    pub fn passage_of<'a>(&'a self, step: &'a Step) -> Option<(Passed, &'a Message)>
+        ensures some { IfSome result (λ passage. passage_of self.now.world step.now ≡ (passage.0, passage.1.now) ∷ []) }
+        ensures none { IfNone result (passage_of self.now.world step.now ≡ []) }
+    {
+        passage_of(&self.world, step)
     }
 
     /// The first direction from one node to another.
