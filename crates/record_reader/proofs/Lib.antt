@@ -8,3 +8,5 @@ mod NumbersBack
 pub mod RecordBack
 mod SpacedWords
 pub mod WordLists
+mod Pieces
+mod NextEvent

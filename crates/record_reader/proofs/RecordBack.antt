@@ -13,7 +13,7 @@ use Rattle.farm_record.specs.Lines.{line_of, words_of as line_words}
 use Rattle.farm_script.specs.declared.fault.LineFault.{LineFault}
 use Rattle.farm_script.specs.Words.{words_of, ◌>>=◌}
 use Rattle.record_reader.specs.Reading.{Said, Nothing, Reports, is_comment, is_of_report, is_unfinished, said_in, said_of, word_at}
-use Rattle.record_reader.specs.Telling.{CanTell, IsReport, and_said, but_last, names_of, said_by_lines, said_in_record, whole_lines}
+use Rattle.record_reader.specs.Telling.{CanTell, IsReport, and_said, but_last, followed, names_of, said_by_lines, said_in_record, whole_lines}
 use Rattle.record_reader.proofs.SpacedWords.{and_first, and_second}
 use Rattle.record_reader.proofs.NamesBack.{not_true}
 use Rattle.record_reader.proofs.EventsBack.{Says, time_says, dial_says, accept_says, opened_says, deliver_says, send_says, out_says, drop_says, charge_says, refuse_says, sweep_says, end_says, lost_says}
@@ -25,17 +25,12 @@ but_last-more : (part : List ℕ) (parts : List (List ℕ)) → 0 < length parts
 but_last-more part [] some = absurd (omega arith)
 but_last-more part (next ∷ parts) some = refl
 
-whole_lines-more : (line rest : List ℕ) → All (λ octet. (octet == 10) ≡ false) line → whole_lines (line ++ 10 ∷ rest) ≡ line ∷ whole_lines rest
+pub whole_lines-more : (line rest : List ℕ) → All (λ octet. (octet == 10) ≡ false) line → whole_lines (line ++ 10 ∷ rest) ≡ line ∷ whole_lines rest
 whole_lines-more line rest one =
     let some : 0 < length (slice_split (λ octet. octet == 10) rest) = omega (arith, length-slice_split (λ octet. octet == 10) rest) in
     ap but_last (slice_split_at (λ octet. octet == 10) line 10 rest one refl) ∙ but_last-more line (slice_split (λ octet. octet == 10) rest) some
 
--- what is said by the lines behind one that says this
-abbrev followed : Said → Result (List Said) LineFault → Result (List Said) LineFault
-followed said (Ok more) = Ok (and_said said more)
-followed said (Err fault) = Err fault
-
-follows : (said : Said) (more : Result (List Said) LineFault) → (more >>= (λ others. Ok (and_said said others))) ≡ followed said more
+pub follows : (said : Said) (more : Result (List Said) LineFault) → (more >>= (λ others. Ok (and_said said others))) ≡ followed said more
 follows said (Ok more) = refl
 follows said (Err fault) = refl
 
@@ -89,7 +84,7 @@ cut_says site = record {
   one = All-cons (λ octet. (octet == 10) ≡ false) 32 (126 ∷ []) refl (All-cons (λ octet. (octet == 10) ≡ false) 126 [] refl (All-nil (λ octet. (octet == 10) ≡ false)));
 }
 
-followed_nothing : (more : Result (List Said) LineFault) → followed Nothing more ≡ more
+pub followed_nothing : (more : Result (List Said) LineFault) → followed Nothing more ≡ more
 followed_nothing (Ok more) = refl
 followed_nothing (Err fault) = refl
 

@@ -1,2 +1,4 @@
+pub mod NextEvent
 pub mod Reading
 pub mod Telling
+pub mod WholeLines

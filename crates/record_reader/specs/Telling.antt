@@ -1,5 +1,5 @@
 -- What a process of a site tells, and what its record is read as.
-use Rattle.std.specs.Prelude.{◌≡◌, ◌<◌, ◌^◌, ℕ, List, [], ◌∷◌, length, map, not, ◌==◌, true, false, Option, Some, None, Result, Ok}
+use Rattle.std.specs.Prelude.{◌≡◌, ◌<◌, ◌^◌, ℕ, List, [], ◌∷◌, length, map, not, ◌==◌, true, false, Option, Some, None, Result, Ok, Err}
 use Rattle.std.specs.List.{AllByRecursion, list_all, slice_split}
 use Rattle.dia_avp.specs.AvpList.{AreOctets}
 use Rattle.dia_base.specs.declared.number.ConnId.{ConnId}
@@ -108,6 +108,11 @@ and_said Nothing more = more
 and_said (Begins nodes moment) more = Begins nodes moment ∷ more
 and_said (Reports line) more = Reports line ∷ more
 and_said (Tells event) more = Tells event ∷ more
+
+-- the same in front of what a reading of others gave, or its fault
+abbrev pub followed : Said → Result (List Said) LineFault → Result (List Said) LineFault
+followed said (Ok more) = Ok (and_said said more)
+followed said (Err fault) = Err fault
 
 -- what lines say, one after the other, or the first fault
 abbrev pub said_by_lines : Site → List (List ℕ) → Result (List Said) LineFault

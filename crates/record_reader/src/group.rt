@@ -1,5 +1,9 @@
 //! The events of a record, each with what was sent for it.
 
+ghost use Rattle.std.specs.Prelude.{drop};
+ghost use Rattle.std.specs.Io.KnownBytes.{prepend_known};
+ghost use Rattle.record_reader.specs.NextEvent.{GivesNext};
+
 use crate::lines::{LinesFault, RecordLines};
 use crate::reading::event_of;
 use dia_base::ConnId;
@@ -83,17 +87,23 @@ impl<R: Read> Groups<R> {
     }
 
     /// The next line that tells an event.
-    fn next_event(&mut self, alloc: Global, site: &Site) -> Result<Option<Event>, GroupFault> {
+    #[tactic(auto, using(crate::proofs::NextEvent::fault_given, crate::proofs::NextEvent::skipped, crate::proofs::NextEvent::said_behind, crate::proofs::NextEvent::none_behind))]
+    fn next_event(&mut self, alloc: Global, site: &Site) -> Result<Option<Event>, GroupFault>
+        ensures { GivesNext site.now (prepend_known (drop self.old.lines.given self.old.lines.rest.items) (R.remaining self.old.lines.reader)) (prepend_known (drop self.new.lines.given self.new.lines.rest.items) (R.remaining self.new.lines.reader)) result }
+    {
         for _ in 0..u64::MAX {
-            let Some(line) = self.lines.next_line(alloc).map_err(GroupFault::Lines)? else {
-                return Ok(None);
+            let line = match self.lines.next_line(alloc) {
+                Ok(Some(line)) => line,
+                Ok(None) => return Ok(None),
+                Err(fault) => return Err(GroupFault::Lines(fault)),
             };
-            let event = event_of(alloc, &line, site).map_err(GroupFault::Words)?;
-            if event.is_some() {
-                return Ok(event);
+            match event_of(alloc, &line, site) {
+                Ok(Some(event)) => return Ok(Some(event)),
+                Ok(None) => {}
+                Err(fault) => return Err(GroupFault::Words(fault)),
             }
         }
-        Ok(None)
+        Err(GroupFault::OutOfMemory)
     }
 
     /// A message was sent for the event before.

@@ -1,6 +1,8 @@
 //! The lines of a record.
 
-ghost use Rattle.std.specs.Prelude.{◌≡◌, ◌<◌, ◌≤◌, ◌+◌, drop, length, nat_lt, IfSome, IfOk};
+ghost use Rattle.std.specs.Prelude.{◌≡◌, ◌==◌, ◌<◌, ◌++◌, ℕ, List, [], false, drop, length, nat_lt, position, IfOk, IfSome, OnOk};
+ghost use Rattle.std.specs.Io.KnownBytes.{prepend_known};
+ghost use Rattle.record_reader.specs.WholeLines.{GivesLine, HasRead, Reads, TakesLine};
 
 use std::alloc::{AllocError, AllocFailed, Global};
 use std::io::{ErrorKind, Read};
@@ -52,7 +54,7 @@ pub struct RecordLines<R> {
 
 /// Where the first line feed stands.
 fn line_feed_in(octets: &[u8]) -> Option<usize>
-    ensures { IfSome result (λ at. at < length octets.now) }
+    ensures { result ≡ position (λ octet. octet == 10) octets.now }
 {
     octets.iter().position(|octet| *octet == b'\n')
 }
@@ -76,7 +78,10 @@ impl<R: Read> RecordLines<R> {
     }
 
     /// A copy of the next line, where it was read to its end.
-    fn take_line(&mut self, alloc: Global) -> Result<Option<Vec<u8>>, LinesFault> {
+    fn take_line(&mut self, alloc: Global) -> Result<Option<Vec<u8>>, LinesFault>
+        ensures reader { self.new.reader ≡ self.old.reader }
+        ensures taken { IfOk result (λ taken. TakesLine (drop self.old.given self.old.rest.items) (drop self.new.given self.new.rest.items) taken) }
+    {
         let unread = self.unread();
         let Some(at) = line_feed_in(unread) else {
             return Ok(None);
@@ -88,7 +93,11 @@ impl<R: Read> RecordLines<R> {
     }
 
     /// What was given is let go.
-    fn let_go(&mut self, alloc: Global) -> Result<(), LinesFault> {
+    fn let_go(&mut self, alloc: Global) -> Result<(), LinesFault>
+        ensures reader { self.new.reader ≡ self.old.reader }
+        ensures rest { OnOk result (self.new.rest.items ≡ drop self.old.given self.old.rest.items) }
+        ensures given { OnOk result (self.new.given ≡ 0) }
+    {
         let rest = Vec::from_slice(alloc, self.unread())?;
         self.rest = rest;
         self.given = 0;
@@ -104,7 +113,8 @@ impl<R: Read> RecordLines<R> {
 
     /// One call of the reader. How many octets it brought, which are all that is added; none where it was interrupted.
     fn read_once(&mut self) -> Result<Option<usize>, LinesFault>
-        ensures { IfOk result (λ read. IfSome read (λ count. length self.new.rest.items ≡ length self.old.rest.items + count)) }
+        ensures given { self.new.given ≡ self.old.given }
+        ensures read { IfOk result (λ read. HasRead (R.remaining self.old.reader) (R.remaining self.new.reader) self.old.rest.items self.new.rest.items read) }
     {
         let mut piece = [0u8; PIECE];
         match self.reader.read(&mut piece) {
@@ -120,7 +130,10 @@ impl<R: Read> RecordLines<R> {
     }
 
     /// One read. Whether it brought something.
-    fn read_more(&mut self) -> Result<bool, LinesFault> {
+    fn read_more(&mut self) -> Result<bool, LinesFault>
+        ensures given { self.new.given ≡ self.old.given }
+        ensures more { IfOk result (λ more. Reads (R.remaining self.old.reader) (R.remaining self.new.reader) self.old.rest.items self.new.rest.items more) }
+    {
         for _ in 0..RETRY_LIMIT {
             if let Some(count) = self.read_once()? {
                 return Ok(count > 0);
@@ -131,7 +144,9 @@ impl<R: Read> RecordLines<R> {
 
     /// The next line without its line feed; none at the end. What stands behind the last line feed was not finished, and is
     /// no line.
-    pub fn next_line(&mut self, alloc: Global) -> Result<Option<Vec<u8>>, LinesFault> {
+    pub fn next_line(&mut self, alloc: Global) -> Result<Option<Vec<u8>>, LinesFault>
+        ensures { GivesLine (prepend_known (drop self.old.given self.old.rest.items) (R.remaining self.old.reader)) (prepend_known (drop self.new.given self.new.rest.items) (R.remaining self.new.reader)) result }
+    {
         for _ in 0..LINE_LIMIT {
             if let Some(line) = self.take_line(alloc)? {
                 return Ok(Some(line));
