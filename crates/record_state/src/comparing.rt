@@ -1,7 +1,8 @@
 //! What a record tells of messages that a node sent, beside those that the farm sent.
 
-ghost use Rattle.std.specs.Prelude.{◌≡◌, ◌∷◌, ◌++◌, [], IsTrue, IfSome};
+ghost use Rattle.std.specs.Prelude.{◌≡◌, ◌∷◌, ◌++◌, [], List, IsTrue, IfSome};
 ghost use Rattle.std.specs.Bool.{Decides};
+ghost use Rattle.dia_message.specs.declared.message.Message.{Message};
 ghost use Rattle.record_state.specs.Comparing.{told_to, IsAsTold};
 
 use dia_base::NodeNo;
@@ -21,6 +22,13 @@ fn behind<'a>(sent: &'a [Message], message: &Message) -> Option<&'a [Message]>
         Some((first, rest)) if is_same(first, message) => Some(rest),
         _ => None,
     }
+}
+
+/// Whether the first of messages that were sent is this one.
+pub fn is_first(sent: &[Message], told: &Message) -> bool
+    ensures { IsTrue result → (rest : List Message) × (sent.now ≡ told.now ∷ rest) }
+{
+    behind(sent, told).is_some()
 }
 
 /// What is left of messages that were sent to a node behind this one, if it is told to have been sent to that node.

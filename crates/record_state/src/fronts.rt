@@ -2,6 +2,9 @@
 //!
 //! - `wanted`: whether a request may go on, and what is wanted otherwise.
 
+ghost use Rattle.std.specs.Prelude.{◌≡◌, is_some, IfSome, IsTrue};
+ghost use Rattle.record_state.specs.UnderWay.{IsUnderWay};
+
 mod wanted;
 
 use dia_base::{NodeKind, NodeNo};
@@ -53,8 +56,17 @@ pub struct Request {
 
 impl Request {
     /// Whether a line was read that tells what became of it.
-    fn is_finished(&self) -> bool {
+    fn is_finished(&self) -> bool
+        ensures { result ≡ is_some self.now.outcome }
+    {
         self.outcome.is_some()
+    }
+
+    /// Whether it has arrived, and no line was read that tells what became of it.
+    fn is_under_way(&self) -> bool
+        ensures { IsTrue result → IsUnderWay self.now }
+    {
+        !self.is_finished() && self.state != RequestState::NotSent
     }
 
     /// Whether such a line stands above the one that tells of this end of a connection.
@@ -250,15 +262,15 @@ impl Fronts {
     }
 
     /// The first request with this key that has arrived, and of which no line tells what became of it.
-    pub fn untold(&self, key: RequestKey) -> Option<Request> {
-        self.requests
-            .iter()
-            .find(|request| {
-                request.key == Some(key)
-                    && !request.is_finished()
-                    && request.state != RequestState::NotSent
-            })
-            .copied()
+    pub fn untold(&self, key: RequestKey) -> Option<Request>
+        ensures { IfSome result IsUnderWay }
+    {
+        for request in &self.requests {
+            if request.key == Some(key) && request.is_under_way() {
+                return Some(*request);
+            }
+        }
+        None
     }
 
     /// The worker of a front that has a request of which no line tells what became of it, told before this one and with none of these

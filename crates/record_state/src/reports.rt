@@ -1,5 +1,8 @@
 //! What the records tell of the book at the ends of processes.
 
+ghost use Rattle.std.specs.Prelude.{◌≡◌};
+ghost use Rattle.std.specs.Bool.{Decides};
+
 use record_reader::{Position, Source};
 use std::alloc::{AllocError, Global};
 
@@ -51,7 +54,13 @@ impl Reports {
 /// Whether a report has this line at this place.
 fn is_line(report: &[&[u8]], place: usize, line: &[u8]) -> bool {
     match report.get(place) {
-        Some(reported) => *reported == line,
+        Some(reported) => is_same(reported, line),
         None => false,
     }
+}
+
+fn is_same(one: &[u8], other: &[u8]) -> bool
+    ensures { Decides result (one.now ≡ other.now) }
+{
+    one == other
 }
