@@ -1,5 +1,7 @@
 //! Why records are not put in order, or come to something else.
 
+ghost use Rattle.std.specs.Prelude.{IsErr};
+
 use record_reader::{Position, RecordFault};
 use std::alloc::{AllocError, AllocFailed};
 use thiserror::Error;
@@ -44,6 +46,9 @@ pub enum PlayFault {
     Record(RecordFault),
     #[error("line {}: {why}", position.line)]
     Found { position: Position, why: Difference },
+    /// What relays and clients have received in the end is not what their records tell.
+    #[error("the run that was played is not what the records tell")]
+    OtherRun,
     #[error("out of memory")]
     OutOfMemory,
 }
@@ -52,7 +57,9 @@ pub enum PlayFault {
 pub type PlayResult<T> = Result<T, PlayFault>;
 
 /// Something is wrong there.
-pub fn found<T>(position: Position, why: Difference) -> PlayResult<T> {
+pub fn found<T>(position: Position, why: Difference) -> PlayResult<T>
+    ensures { IsErr result }
+{
     Err(PlayFault::Found { position, why })
 }
 

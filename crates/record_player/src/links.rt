@@ -5,6 +5,9 @@
 mod dials;
 mod messages;
 
+ghost use Rattle.std.specs.Prelude.{◌≡◌};
+ghost use Rattle.farm_player.specs.Reconciling.{Stays};
+
 use crate::fault::PlayResult;
 use crate::played::Played;
 use dia_base::NodeNo;
@@ -22,7 +25,9 @@ pub struct LinkPlayer<'s> {
 
 impl<'s> LinkPlayer<'s> {
     /// A farm of which no connection was told yet.
-    pub fn new(alloc: Global, played: Played<'s>) -> Self {
+    pub fn new(alloc: Global, played: Played<'s>) -> Self
+        ensures { result.played ≡ played.entry }
+    {
         LinkPlayer {
             alloc,
             played,
@@ -31,7 +36,9 @@ impl<'s> LinkPlayer<'s> {
     }
 
     /// The process of a relay or a client begins again: a relay crashes, and a client drops all its connections.
-    pub fn begin_again(&mut self, position: Position, node: NodeNo) -> PlayResult<()> {
+    pub fn begin_again(&mut self, position: Position, node: NodeNo) -> PlayResult<()>
+        ensures stays { Stays self.old.played self.new.played }
+    {
         self.connections.lose_dials_of(node);
         if self.played.is_relay(node) {
             self.played.crash(position, node)
@@ -41,7 +48,9 @@ impl<'s> LinkPlayer<'s> {
     }
 
     /// A relay or a client learns that its connection has ended.
-    pub fn drop_end(&mut self, event: &NodeEvent) -> PlayResult<()> {
+    pub fn drop_end(&mut self, event: &NodeEvent) -> PlayResult<()>
+        ensures stays { Stays self.old.played self.new.played }
+    {
         let (position, node, peer) = (event.position, event.end.node, event.end.peer);
         let before = self.flights_from(node)?;
         self.played.drop_end(position, node, peer)?;

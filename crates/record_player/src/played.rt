@@ -1,15 +1,20 @@
 //! The farm that plays, and the steps that the records ask of it.
 
+ghost use Rattle.std.specs.Prelude.{◌≡◌, [], IfOk, IsTrue, OnOk};
 ghost use Rattle.farm_base.specs.CheckedSite.{IsChecked};
+ghost use Rattle.farm_base.specs.Nodes.{is_front, kind_at};
+ghost use Rattle.farm_player.specs.Reconciling.{Agrees, Stays};
+ghost use Rattle.record_player.specs.Telling.{told_with};
 
 use crate::fault::{Difference, PlayResult, found};
 use dia_base::{Moment, NodeKind, NodeNo};
 use dia_message::Message;
-use farm_player::PlayedFarm;
+use farm_player::{Passed, PlayedFarm, Reconciled};
 use farm_world::{Site, Step};
 use record_reader::{NodeEvent, Position};
 use record_state::{Worker, linked_with};
 use std::alloc::{AllocError, Global};
+use std::marker::Model;
 
 /// The farm that plays, which changes by the steps below alone, and what is known of its nodes beside it.
 ///
@@ -17,55 +22,101 @@ use std::alloc::{AllocError, Global};
 /// fault [`Difference::CannotHappen`] there, and the farm is as it was. After want of memory it should not be played any further.
 #[derive(Drop)]
 pub struct Played<'s> {
-    farm: PlayedFarm<'s>,
+    farm: Reconciled<'s>,
     /// The nodes that have a record.
     recorded: Vec<NodeNo>,
     /// The relays of which the start of their identifiers is known since they began.
     numbered: Vec<NodeNo>,
 }
 
+impl<'s> Model for Played<'s> {
+    ghost use Rattle.farm_player.specs.Reconciling.{Reconciling};
+
+    ghost Value = { Reconciling };
+
+    ghost view = { λ p. p.farm };
+}
+
 impl<'s> Played<'s> {
+    ghost use Rattle.std.specs.Prelude.{true};
+    ghost use Rattle.farm_base.specs.declared.step.Step.TheVariants.{Accept, Opened, Send, Deliver, Drop};
+    ghost use Rattle.farm_base.specs.declared.step.Step.TheVariants.{Pick, Charge, Refuse, Emit, Sweep};
+    ghost use Rattle.farm_player.specs.PlayedRun.{PlaysStep};
+
     /// The farm of a site before its first event. `prints`: whether the lines of its steps are asked for.
     pub fn open(alloc: Global, site: &'s Site, prints: bool) -> Result<Self, AllocError>
         requires { IsChecked site.now }
+        ensures told { IfOk result (λ played. played.told ≡ []) }
+        ensures site { IfOk result (λ played. played.farm.site ≡ site.now) }
     {
         Ok(Played {
-            farm: PlayedFarm::open(alloc, site, prints)?,
+            farm: Reconciled::open(alloc, site, prints)?,
             recorded: Vec::new(alloc),
             numbered: Vec::new(alloc),
         })
     }
 
-    pub fn farm(&self) -> &PlayedFarm<'s> {
-        &self.farm
+    pub fn farm(&self) -> &PlayedFarm<'s>
+        ensures { result.now ≡ self.now.farm }
+    {
+        self.farm.farm()
+    }
+
+    /// Whether each relay and each client that has a record has received all that it tells.
+    pub fn agrees(&self) -> bool
+        ensures { IsTrue result → Agrees self.now }
+    {
+        self.farm.agrees()
     }
 
     /// Hands out the lines of the steps since the last time.
-    pub fn take_lines(&mut self) -> Vec<u8> {
+    pub fn take_lines(&mut self) -> Vec<u8>
+        ensures stays { Stays self.old self.new }
+    {
         self.farm.take_lines()
     }
 
     // ---- nodes
 
-    /// A node has a record.
-    pub fn add_node(&mut self, node: NodeNo) -> Result<(), AllocError> {
+    /// A node has a record, which begins at this position.
+    pub fn add_node(&mut self, position: Position, node: NodeNo) -> PlayResult<()>
+        ensures stays { Stays self.old self.new }
+    {
         self.recorded.push(node)?;
-        Ok(())
-    }
-
-    fn kind_of(&self, node: NodeNo) -> NodeKind {
-        match self.farm.site().nodes.as_slice().get(node.0 as usize) {
-            Some(node) => node.kind,
-            None => NodeKind::Client,
+        if self.is_front(node) || self.farm.watch(node) {
+            Ok(())
+        } else {
+            found(position, Difference::CannotHappen)
         }
     }
 
-    pub fn is_front(&self, node: NodeNo) -> bool {
-        self.kind_of(node) == NodeKind::Front
+    /// A record tells that a message passes at a node. At relays and clients that alone does.
+    pub fn tell(&mut self, position: Position, passed: Passed, message: &Message) -> PlayResult<()>
+        ensures told { OnOk result (self.new.told ≡ told_with self.old.farm.site passed message.now self.old.told) }
+        ensures site { self.new.farm.site ≡ self.old.farm.site }
+    {
+        if self.is_front(passed.node) || self.farm.tell(passed, message)? {
+            Ok(())
+        } else {
+            found(position, Difference::CannotHappen)
+        }
+    }
+
+    fn kind_at(&self, node: NodeNo) -> Option<NodeKind>
+        ensures { result ≡ kind_at self.now.farm.site node }
+    {
+        let node = self.farm().site().nodes.as_slice().get(node.0 as usize)?;
+        Some(node.kind)
+    }
+
+    pub fn is_front(&self, node: NodeNo) -> bool
+        ensures { result ≡ is_front self.now.farm.site node }
+    {
+        matches!(self.kind_at(node), Some(NodeKind::Front))
     }
 
     pub fn is_relay(&self, node: NodeNo) -> bool {
-        self.kind_of(node) == NodeKind::Relay
+        matches!(self.kind_at(node), Some(NodeKind::Relay))
     }
 
     /// Whether this is a client without a record. It is a fault if a relay or a front has none.
@@ -73,14 +124,16 @@ impl<'s> Played<'s> {
         if self.recorded.contains(&node) {
             return Ok(false);
         }
-        match self.kind_of(node) {
-            NodeKind::Client => Ok(true),
-            NodeKind::Relay | NodeKind::Front => found(position, Difference::NoRecord),
+        match self.kind_at(node) {
+            Some(NodeKind::Relay | NodeKind::Front) => found(position, Difference::NoRecord),
+            Some(NodeKind::Client) | None => Ok(true),
         }
     }
 
     /// The first identifier that a relay gives since it began is its start, which it drew by itself. It is no step.
-    pub fn learn_start(&mut self, event: &NodeEvent) -> Result<(), AllocError> {
+    pub fn learn_start(&mut self, event: &NodeEvent) -> Result<(), AllocError>
+        ensures stays { Stays self.old self.new }
+    {
         let node = event.end.node;
         if !self.is_relay(node) || self.numbered.contains(&node) {
             return Ok(());
@@ -97,7 +150,10 @@ impl<'s> Played<'s> {
 
     // ---- steps
 
-    fn play(&mut self, position: Position, step: &Step) -> PlayResult<()> {
+    fn play(&mut self, position: Position, step: &Step) -> PlayResult<()>
+        ensures stays { Stays self.old self.new }
+        ensures played { OnOk result (PlaysStep self.old.farm step.now true self.new.farm) }
+    {
         if self.farm.play(step)? {
             Ok(())
         } else {
@@ -106,12 +162,18 @@ impl<'s> Played<'s> {
     }
 
     /// A node accepts a connection of another one.
-    pub fn accept(&mut self, position: Position, at: NodeNo, from: NodeNo) -> PlayResult<()> {
+    pub fn accept(&mut self, position: Position, at: NodeNo, from: NodeNo) -> PlayResult<()>
+        ensures stays { Stays self.old self.new }
+        ensures played { OnOk result (PlaysStep self.old.farm (Accept at from) true self.new.farm) }
+    {
         self.play(position, &Step::Accept { at, from })
     }
 
     /// The first node learns that its connection with the second is made.
-    pub fn opened(&mut self, position: Position, a: NodeNo, b: NodeNo) -> PlayResult<()> {
+    pub fn opened(&mut self, position: Position, a: NodeNo, b: NodeNo) -> PlayResult<()>
+        ensures stays { Stays self.old self.new }
+        ensures played { OnOk result (PlaysStep self.old.farm (Opened a b) true self.new.farm) }
+    {
         self.play(position, &Step::Opened { a, b })
     }
 
@@ -122,7 +184,10 @@ impl<'s> Played<'s> {
         client: NodeNo,
         to: NodeNo,
         message: &Message,
-    ) -> PlayResult<()> {
+    ) -> PlayResult<()>
+        ensures stays { Stays self.old self.new }
+        ensures played { OnOk result (PlaysStep self.old.farm (Send client to message.now) true self.new.farm) }
+    {
         let message = message.clone()?;
         let step = Step::Send {
             client,
@@ -139,24 +204,36 @@ impl<'s> Played<'s> {
         from: NodeNo,
         to: NodeNo,
         place: usize,
-    ) -> PlayResult<()> {
+    ) -> PlayResult<()>
+        ensures stays { Stays self.old self.new }
+        ensures played { OnOk result (PlaysStep self.old.farm (Deliver from to place) true self.new.farm) }
+    {
         let place = place as u64;
         self.play(position, &Step::Deliver { from, to, place })
     }
 
     /// The first node drops its end of its connection with the second.
-    pub fn drop_end(&mut self, position: Position, a: NodeNo, b: NodeNo) -> PlayResult<()> {
+    pub fn drop_end(&mut self, position: Position, a: NodeNo, b: NodeNo) -> PlayResult<()>
+        ensures stays { Stays self.old self.new }
+        ensures played { OnOk result (PlaysStep self.old.farm (Drop a b) true self.new.farm) }
+    {
         self.play(position, &Step::Drop { a, b })
     }
 
     /// A worker, which is idle, picks the first request of the queue.
-    pub fn pick(&mut self, position: Position, worker: Worker) -> PlayResult<()> {
+    pub fn pick(&mut self, position: Position, worker: Worker) -> PlayResult<()>
+        ensures stays { Stays self.old self.new }
+        ensures played { OnOk result (PlaysStep self.old.farm (Pick worker.front worker.worker) true self.new.farm) }
+    {
         let Worker { front, worker } = worker;
         self.play(position, &Step::Pick { front, worker })
     }
 
     /// A worker has the request that it holds charged at this moment.
-    pub fn charge(&mut self, position: Position, worker: Worker, moment: Moment) -> PlayResult<()> {
+    pub fn charge(&mut self, position: Position, worker: Worker, moment: Moment) -> PlayResult<()>
+        ensures stays { Stays self.old self.new }
+        ensures played { OnOk result (PlaysStep self.old.farm (Charge worker.front worker.worker moment) true self.new.farm) }
+    {
         let Worker { front, worker } = worker;
         let step = Step::Charge {
             front,
@@ -167,38 +244,52 @@ impl<'s> Played<'s> {
     }
 
     /// A worker answers the request that it holds without the book.
-    pub fn refuse(&mut self, position: Position, worker: Worker) -> PlayResult<()> {
+    pub fn refuse(&mut self, position: Position, worker: Worker) -> PlayResult<()>
+        ensures stays { Stays self.old self.new }
+        ensures played { OnOk result (PlaysStep self.old.farm (Refuse worker.front worker.worker) true self.new.farm) }
+    {
         let Worker { front, worker } = worker;
         self.play(position, &Step::Refuse { front, worker })
     }
 
     /// A worker sends its answer, and is idle.
-    pub fn emit(&mut self, position: Position, worker: Worker) -> PlayResult<()> {
+    pub fn emit(&mut self, position: Position, worker: Worker) -> PlayResult<()>
+        ensures stays { Stays self.old self.new }
+        ensures played { OnOk result (PlaysStep self.old.farm (Emit worker.front worker.worker) true self.new.farm) }
+    {
         let Worker { front, worker } = worker;
         self.play(position, &Step::Emit { front, worker })
     }
 
     /// The book is swept at this moment.
-    pub fn sweep(&mut self, position: Position, moment: Moment) -> PlayResult<()> {
+    pub fn sweep(&mut self, position: Position, moment: Moment) -> PlayResult<()>
+        ensures stays { Stays self.old self.new }
+        ensures played { OnOk result (PlaysStep self.old.farm (Sweep moment) true self.new.farm) }
+    {
         self.play(position, &Step::Sweep { moment })
     }
 
     /// The terms change by a step that was read.
-    pub fn change_terms(&mut self, position: Position, step: &Step) -> PlayResult<()> {
+    pub fn change_terms(&mut self, position: Position, step: &Step) -> PlayResult<()>
+        ensures stays { Stays self.old self.new }
+        ensures played { OnOk result (PlaysStep self.old.farm step.now true self.new.farm) }
+    {
         self.play(position, step)
     }
 
     // ---- with those of clients without a record
 
     /// A relay or a front crashes, and the clients without a record drop their connections with it.
-    pub fn crash(&mut self, position: Position, node: NodeNo) -> PlayResult<()> {
+    pub fn crash(&mut self, position: Position, node: NodeNo) -> PlayResult<()>
+        ensures stays { Stays self.old self.new }
+    {
         self.numbered.retain(|known| *known != node);
         self.play(position, &Step::Crash { node })?;
-        for link in self.farm.site().links.as_slice() {
+        for link in self.farm().site().links.as_slice() {
             let Some(client) = linked_with(link, node) else {
                 continue;
             };
-            if self.farm.has_end(client, node) {
+            if self.farm().has_end(client, node) {
                 self.drop_silent(position, node, client)?;
             }
         }
@@ -206,9 +297,11 @@ impl<'s> Played<'s> {
     }
 
     /// A node drops all its connections.
-    pub fn drop_all_of(&mut self, position: Position, node: NodeNo) -> PlayResult<()> {
-        for _ in 0..self.farm.site().links.as_slice().len() {
-            let Some(peer) = self.farm.some_peer(node) else {
+    pub fn drop_all_of(&mut self, position: Position, node: NodeNo) -> PlayResult<()>
+        ensures stays { Stays self.old self.new }
+    {
+        for _ in 0..self.farm().site().links.as_slice().len() {
+            let Some(peer) = self.farm().some_peer(node) else {
                 return Ok(());
             };
             self.drop_end(position, node, peer)?;
@@ -217,12 +310,9 @@ impl<'s> Played<'s> {
     }
 
     /// A client without a record drops its connection when the other node does.
-    pub fn drop_silent(
-        &mut self,
-        position: Position,
-        node: NodeNo,
-        peer: NodeNo,
-    ) -> PlayResult<()> {
+    pub fn drop_silent(&mut self, position: Position, node: NodeNo, peer: NodeNo) -> PlayResult<()>
+        ensures stays { Stays self.old self.new }
+    {
         if self.is_silent(position, peer)? {
             self.drop_end(position, peer, node)?;
         }
@@ -236,8 +326,10 @@ impl<'s> Played<'s> {
         node: NodeNo,
         peer: NodeNo,
         since: usize,
-    ) -> PlayResult<()> {
-        let count = self.farm.flight(node, peer).len().saturating_sub(since);
+    ) -> PlayResult<()>
+        ensures stays { Stays self.old self.new }
+    {
+        let count = self.farm().flight(node, peer).len().saturating_sub(since);
         if count == 0 || !self.is_silent(position, peer)? {
             return Ok(());
         }

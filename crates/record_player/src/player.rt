@@ -9,7 +9,11 @@ mod handing;
 mod reading;
 mod untold;
 
+ghost use Rattle.std.specs.Prelude.{◌≡◌, [], IfOk, IsTrue};
 ghost use Rattle.farm_base.specs.CheckedSite.{IsChecked};
+ghost use Rattle.farm_base.specs.Nodes.{is_front};
+ghost use Rattle.farm_player.specs.Reconciling.{Agrees, Stays};
+ghost use Rattle.record_player.specs.Playing.{run_of};
 
 use crate::fault::PlayResult;
 use crate::links::LinkPlayer;
@@ -47,6 +51,8 @@ impl<'s> Player<'s> {
     /// The farm of a site before its first event. `prints`: whether the lines of its steps are asked for.
     pub fn new(alloc: Global, site: &'s Site, prints: bool) -> Result<Self, AllocError>
         requires { IsChecked site.now }
+        ensures told { IfOk result (λ player. player.links.played.told ≡ []) }
+        ensures site { IfOk result (λ player. player.links.played.farm.site ≡ site.now) }
     {
         Ok(Player {
             alloc,
@@ -56,8 +62,17 @@ impl<'s> Player<'s> {
         })
     }
 
-    pub fn farm(&self) -> &PlayedFarm<'s> {
+    pub fn farm(&self) -> &PlayedFarm<'s>
+        ensures { result.now ≡ self.now.links.played.farm }
+    {
         self.links.played.farm()
+    }
+
+    /// Whether each relay and each client that has a record has received all that it tells.
+    pub fn agrees(&self) -> bool
+        ensures { IsTrue result → Agrees (run_of self.now) }
+    {
+        self.links.played.agrees()
     }
 
     /// What was told of the book.
@@ -66,23 +81,31 @@ impl<'s> Player<'s> {
     }
 
     /// Hands out the lines of the steps since the last time.
-    pub fn take_lines(&mut self) -> Vec<u8> {
+    pub fn take_lines(&mut self) -> Vec<u8>
+        ensures stays { Stays self.old.links.played self.new.links.played }
+    {
         self.links.played.take_lines()
     }
 
-    fn is_front(&self, node: NodeNo) -> bool {
+    fn is_front(&self, node: NodeNo) -> bool
+        ensures { result ≡ is_front self.now.links.played.farm.site node }
+    {
         self.links.played.is_front(node)
     }
 
     /// Plays the next entry of a node if it may happen. Whether it did.
-    pub fn try_entry(&mut self, entry: &NodeEntry) -> PlayResult<bool> {
+    pub fn try_entry(&mut self, entry: &NodeEntry) -> PlayResult<bool>
+        ensures stays { Stays self.old.links.played self.new.links.played }
+    {
         match entry {
             NodeEntry::Begin(beginning) => self.begin(beginning),
             NodeEntry::Event(event) => self.try_event(event),
         }
     }
 
-    fn try_event(&mut self, event: &NodeEvent) -> PlayResult<bool> {
+    fn try_event(&mut self, event: &NodeEvent) -> PlayResult<bool>
+        ensures stays { Stays self.old.links.played self.new.links.played }
+    {
         let (position, end) = (event.position, event.end);
         match &event.action {
             Action::Dial => self.links.connections.dial(end.conn),
@@ -101,7 +124,9 @@ impl<'s> Player<'s> {
 
     /// The process of a node begins. Where it does again, that of a front does once all that it has charged before is played: it has
     /// forgotten all but the book. Whether it did.
-    fn begin(&mut self, beginning: &Beginning) -> PlayResult<bool> {
+    fn begin(&mut self, beginning: &Beginning) -> PlayResult<bool>
+        ensures stays { Stays self.old.links.played self.new.links.played }
+    {
         let (position, node) = (beginning.position, beginning.node);
         let requests_before = beginning.requests_before;
         if beginning.is_first {
@@ -122,7 +147,9 @@ impl<'s> Player<'s> {
     }
 
     /// A connection is accepted once the other node has dialled it, and both have no other one any more. Whether it is.
-    fn accept(&mut self, position: Position, end: End) -> PlayResult<bool> {
+    fn accept(&mut self, position: Position, end: End) -> PlayResult<bool>
+        ensures stays { Stays self.old.links.played self.new.links.played }
+    {
         let dials = self.links.connections.open_dials(end);
         if dials.is_none() && !self.links.played.is_silent(position, end.peer)? {
             return Ok(false);
@@ -136,7 +163,9 @@ impl<'s> Player<'s> {
 
     /// A node learns that its connection is made. If a client without a record is to accept it, both have no other one any more. Whether
     /// it does.
-    fn open(&mut self, position: Position, end: End) -> PlayResult<bool> {
+    fn open(&mut self, position: Position, end: End) -> PlayResult<bool>
+        ensures stays { Stays self.old.links.played self.new.links.played }
+    {
         let is_silent = self.links.played.is_silent(position, end.peer)?;
         if is_silent && !self.make_free(position, end, end.conn)? {
             return Ok(false);
@@ -145,7 +174,9 @@ impl<'s> Player<'s> {
     }
 
     /// A message arrives, once it was sent. A request that a front hands to its workers stays in flight. Whether it did.
-    fn receive(&mut self, event: &NodeEvent, message: &Message) -> PlayResult<bool> {
+    fn receive(&mut self, event: &NodeEvent, message: &Message) -> PlayResult<bool>
+        ensures stays { Stays self.old.links.played self.new.links.played }
+    {
         let End { conn, node, peer } = event.end;
         let arrived = self.fronts.arrived_on(conn);
         let Some(place) = self.links.next_place(event, message, arrived)? else {
@@ -166,7 +197,9 @@ impl<'s> Player<'s> {
     }
 
     /// A node learns that its connection has ended, or gives up one that it does not know.
-    fn lose(&mut self, event: &NodeEvent, was_up: bool) -> PlayResult<()> {
+    fn lose(&mut self, event: &NodeEvent, was_up: bool) -> PlayResult<()>
+        ensures stays { Stays self.old.links.played self.new.links.played }
+    {
         let (position, end) = (event.position, event.end);
         self.links.connections.lose(end.conn);
         if !was_up {
@@ -187,13 +220,17 @@ impl<'s> Player<'s> {
     }
 
     /// A connection is accepted that may be of this dial, which was given up.
-    pub fn accept_late(&mut self, event: &NodeEvent, dial: usize) -> PlayResult<()> {
+    pub fn accept_late(&mut self, event: &NodeEvent, dial: usize) -> PlayResult<()>
+        ensures stays { Stays self.old.links.played self.new.links.played }
+    {
         self.links.accept_late(event, dial)
     }
 
     /// A node learns that its connection is made, though a dial before it may be the one that was accepted. Whether the entry
     /// tells that, and it did.
-    pub fn open_late(&mut self, entry: &NodeEntry) -> PlayResult<bool> {
+    pub fn open_late(&mut self, entry: &NodeEntry) -> PlayResult<bool>
+        ensures stays { Stays self.old.links.played self.new.links.played }
+    {
         self.links.open_late(entry)
     }
 }

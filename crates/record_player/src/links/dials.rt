@@ -7,6 +7,8 @@
 //! - either it learns that the last one is made, once nothing else may happen: then that was accepted, and none before it;
 //! - or the other node drops it, and accepts one more: then the first one was.
 
+ghost use Rattle.farm_player.specs.Reconciling.{Stays};
+
 use crate::fault::PlayResult;
 use crate::links::LinkPlayer;
 use record_reader::{Action, End, NodeEvent, Position};
@@ -20,7 +22,9 @@ impl<'s> LinkPlayer<'s> {
         position: Position,
         end: End,
         dials: Option<OpenDials>,
-    ) -> PlayResult<bool> {
+    ) -> PlayResult<bool>
+        ensures stays { Stays self.old.played self.new.played }
+    {
         let Some(dials) = dials else {
             self.establish(position, end, None)?;
             self.played.opened(position, end.peer, end.node)?;
@@ -33,7 +37,9 @@ impl<'s> LinkPlayer<'s> {
     }
 
     /// A connection is accepted, of this dial as far as is known.
-    fn establish(&mut self, position: Position, end: End, dial: Option<usize>) -> PlayResult<()> {
+    fn establish(&mut self, position: Position, end: End, dial: Option<usize>) -> PlayResult<()>
+        ensures stays { Stays self.old.played self.new.played }
+    {
         let End { conn, node, peer } = end;
         self.played.accept(position, node, peer)?;
         self.connections.establish(peer, node, Some(conn), dial)?;
@@ -42,7 +48,9 @@ impl<'s> LinkPlayer<'s> {
 
     /// A node learns that its connection is made, once the other one has accepted it; a client without a record does so then. Whether
     /// it has.
-    pub fn opened(&mut self, position: Position, end: End, is_silent: bool) -> PlayResult<bool> {
+    pub fn opened(&mut self, position: Position, end: End, is_silent: bool) -> PlayResult<bool>
+        ensures stays { Stays self.old.played self.new.played }
+    {
         let End { conn, node, peer } = end;
         if is_silent {
             self.played.accept(position, peer, node)?;
@@ -60,7 +68,9 @@ impl<'s> LinkPlayer<'s> {
     }
 
     /// A node learns that its connection is made, if the other one has accepted one under its label. Whether it has.
-    fn come_up(&mut self, position: Position, end: End) -> PlayResult<bool> {
+    fn come_up(&mut self, position: Position, end: End) -> PlayResult<bool>
+        ensures stays { Stays self.old.played self.new.played }
+    {
         if !self.is_awaited(end) {
             return Ok(false);
         }
@@ -70,7 +80,9 @@ impl<'s> LinkPlayer<'s> {
     }
 
     /// A node gives up a connection that it has dialled and does not know, whether or not the other one has accepted it.
-    pub fn give_up(&mut self, position: Position, end: End) -> PlayResult<()> {
+    pub fn give_up(&mut self, position: Position, end: End) -> PlayResult<()>
+        ensures stays { Stays self.old.played self.new.played }
+    {
         if self.is_awaited(end) {
             self.played.drop_end(position, end.node, end.peer)?;
         }
@@ -101,7 +113,9 @@ impl<'s> LinkPlayer<'s> {
     }
 
     /// A connection is accepted that may be of this dial, which was given up. The one before it was, where that still waits.
-    pub fn accept_late(&mut self, event: &NodeEvent, dial: usize) -> PlayResult<()> {
+    pub fn accept_late(&mut self, event: &NodeEvent, dial: usize) -> PlayResult<()>
+        ensures stays { Stays self.old.played self.new.played }
+    {
         let (position, end) = (event.position, event.end);
         if !self.played.farm().is_free(end.peer, end.node) {
             self.played.drop_end(position, end.peer, end.node)?;
@@ -117,7 +131,9 @@ impl<'s> LinkPlayer<'s> {
 
     /// A node learns that its connection is made, though a dial before it may be the one that was accepted. Whether the entry
     /// tells that, and it did.
-    pub fn open_late(&mut self, entry: &NodeEntry) -> PlayResult<bool> {
+    pub fn open_late(&mut self, entry: &NodeEntry) -> PlayResult<bool>
+        ensures stays { Stays self.old.played self.new.played }
+    {
         match entry {
             NodeEntry::Event(event) if matches!(&event.action, Action::Opened) => {
                 self.come_up(event.position, event.end)

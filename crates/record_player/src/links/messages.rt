@@ -1,5 +1,7 @@
 //! Messages that arrive, and what nodes send then.
 
+ghost use Rattle.farm_player.specs.Reconciling.{Stays};
+
 use crate::fault::{Difference, PlayResult, found};
 use crate::links::LinkPlayer;
 use dia_base::NodeNo;
@@ -16,7 +18,9 @@ impl<'s> LinkPlayer<'s> {
         event: &NodeEvent,
         message: &Message,
         arrived: usize,
-    ) -> PlayResult<Option<usize>> {
+    ) -> PlayResult<Option<usize>>
+        ensures stays { Stays self.old.played self.new.played }
+    {
         let (position, end) = (event.position, event.end);
         if !self.connections.was_sent(end.conn) && self.played.is_silent(position, end.peer)? {
             self.played.send(position, end.peer, end.node, message)?;
@@ -33,7 +37,9 @@ impl<'s> LinkPlayer<'s> {
     }
 
     /// The same of what a front has sent, which stands in flight in the book's order.
-    fn next_of_front(&mut self, event: &NodeEvent, message: &Message) -> PlayResult<Option<usize>> {
+    fn next_of_front(&mut self, event: &NodeEvent, message: &Message) -> PlayResult<Option<usize>>
+        ensures stays { Stays self.old.played self.new.played }
+    {
         let (node, front) = (event.end.node, event.end.peer);
         let Some(sender) = self.connections.end_between(front, node) else {
             return Ok(None);
@@ -52,7 +58,9 @@ impl<'s> LinkPlayer<'s> {
     }
 
     /// The message at this place of those in flight arrives at a relay or a client. What that sends is what its record tells.
-    pub fn arrive(&mut self, event: &NodeEvent, message: &Message, place: usize) -> PlayResult<()> {
+    pub fn arrive(&mut self, event: &NodeEvent, message: &Message, place: usize) -> PlayResult<()>
+        ensures stays { Stays self.old.played self.new.played }
+    {
         let (node, peer) = (event.end.node, event.end.peer);
         if message.header.request {
             self.played.learn_start(event)?;
@@ -78,7 +86,9 @@ impl<'s> LinkPlayer<'s> {
         &mut self,
         event: &NodeEvent,
         before: &[(NodeNo, usize)],
-    ) -> PlayResult<()> {
+    ) -> PlayResult<()>
+        ensures stays { Stays self.old.played self.new.played }
+    {
         for (peer, since) in before {
             self.compare(event, *peer, *since)?;
         }
@@ -87,7 +97,9 @@ impl<'s> LinkPlayer<'s> {
 
     /// What the node of an event has sent to another one beyond so many messages is what its record tells. A client without a record
     /// receives it.
-    pub fn compare(&mut self, event: &NodeEvent, peer: NodeNo, since: usize) -> PlayResult<()> {
+    pub fn compare(&mut self, event: &NodeEvent, peer: NodeNo, since: usize) -> PlayResult<()>
+        ensures stays { Stays self.old.played self.new.played }
+    {
         let (position, node) = (event.position, event.end.node);
         if !self.has_sent_as_told(event, peer, since) {
             return found(position, Difference::SentOtherwise);

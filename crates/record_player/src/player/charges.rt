@@ -1,10 +1,12 @@
 //! The book: what is charged has its place there, and comes in this order.
 
+ghost use Rattle.farm_player.specs.Reconciling.{Stays};
+
 use crate::fault::{Difference, PlayResult, found};
 use crate::player::Player;
 use dia_base::Moment;
 use record_reader::{End, Finished, Position};
-use record_state::{Request, Worker, is_refused};
+use record_state::{Request, Worker, is_first, is_refused};
 
 impl<'s> Player<'s> {
     /// How many entries the book has.
@@ -22,7 +24,9 @@ impl<'s> Player<'s> {
     }
 
     /// What has the next place in the book happens, if it may: a charge, or a sweep where it can be no charge. Whether it did.
-    pub fn charge_next(&mut self, are_all_read: bool) -> PlayResult<bool> {
+    pub fn charge_next(&mut self, are_all_read: bool) -> PlayResult<bool>
+        ensures stays { Stays self.old.links.played self.new.links.played }
+    {
         if let Some(charge) = self.book.next_charge() {
             let number = charge.request;
             return self.charge_new(number);
@@ -43,7 +47,9 @@ impl<'s> Player<'s> {
         position: Position,
         moment: Moment,
         sessions: Option<u64>,
-    ) -> PlayResult<()> {
+    ) -> PlayResult<()>
+        ensures stays { Stays self.old.links.played self.new.links.played }
+    {
         let open = self.farm().book().open_sessions();
         self.links.played.sweep(position, moment)?;
         let ended = open.saturating_sub(self.farm().book().open_sessions());
@@ -54,7 +60,9 @@ impl<'s> Player<'s> {
     }
 
     /// The request that has the next place in the book is charged, if it has arrived and a worker may have it. Whether it was.
-    fn charge_new(&mut self, number: u64) -> PlayResult<bool> {
+    fn charge_new(&mut self, number: u64) -> PlayResult<bool>
+        ensures stays { Stays self.old.links.played self.new.links.played }
+    {
         let Some(request) = self.fronts.due(number)? else {
             return Ok(false);
         };
@@ -71,13 +79,17 @@ impl<'s> Player<'s> {
     }
 
     /// A request is charged that the book has already, or is answered without it. Whether there was one.
-    pub fn charge_repeat(&mut self) -> PlayResult<bool> {
+    pub fn charge_repeat(&mut self) -> PlayResult<bool>
+        ensures stays { Stays self.old.links.played self.new.links.played }
+    {
         self.charge_repeat_of(None)
     }
 
     /// The same; if a connection and an end of one are given, of a request that came on the connection, of which a line tells above that of
     /// the end.
-    pub(super) fn charge_repeat_of(&mut self, above: Option<(usize, usize)>) -> PlayResult<bool> {
+    pub(super) fn charge_repeat_of(&mut self, above: Option<(usize, usize)>) -> PlayResult<bool>
+        ensures stays { Stays self.old.links.played self.new.links.played }
+    {
         for at in 0..self.book.repeats() {
             let Some(repeat) = self.book.due_repeat(at) else {
                 continue;
@@ -95,7 +107,9 @@ impl<'s> Player<'s> {
     }
 
     /// The repeat at this place of them, of this request, is charged, if it may be. Whether it was.
-    fn charge_repeat_at(&mut self, at: usize, number: u64) -> PlayResult<bool> {
+    fn charge_repeat_at(&mut self, at: usize, number: u64) -> PlayResult<bool>
+        ensures stays { Stays self.old.links.played self.new.links.played }
+    {
         let Some(request) = self.fronts.due(number)? else {
             return Ok(false);
         };
@@ -113,7 +127,9 @@ impl<'s> Player<'s> {
         position: Position,
         moment: Moment,
         told: Option<&Finished>,
-    ) -> PlayResult<()> {
+    ) -> PlayResult<()>
+        ensures stays { Stays self.old.links.played self.new.links.played }
+    {
         let worker = self.picked(position, request)?;
         match told {
             Some(finished) => self.finish(worker, request.end, finished)?,
@@ -129,14 +145,18 @@ impl<'s> Player<'s> {
         position: Position,
         worker: Worker,
         moment: Moment,
-    ) -> PlayResult<()> {
+    ) -> PlayResult<()>
+        ensures stays { Stays self.old.links.played self.new.links.played }
+    {
         self.links.played.charge(position, worker, moment)?;
         self.emit(position, worker)?;
         self.has_one_more(position, Difference::NotNew)
     }
 
     /// A worker charges or refuses the request that it holds, which came on this connection, as a line tells.
-    fn finish(&mut self, worker: Worker, end: End, finished: &Finished) -> PlayResult<()> {
+    fn finish(&mut self, worker: Worker, end: End, finished: &Finished) -> PlayResult<()>
+        ensures stays { Stays self.old.links.played self.new.links.played }
+    {
         let position = finished.position;
         let entries = self.entries();
         let since = self.farm().flight(end.node, end.peer).len();
@@ -153,7 +173,9 @@ impl<'s> Player<'s> {
     }
 
     /// What the front has sent on a connection beyond so many messages is the answer that a line tells, unless an end of it has gone.
-    fn compare_answer(&mut self, end: End, finished: &Finished, since: usize) -> PlayResult<()> {
+    fn compare_answer(&mut self, end: End, finished: &Finished, since: usize) -> PlayResult<()>
+        ensures stays { Stays self.old.links.played self.new.links.played }
+    {
         let (position, node, peer) = (finished.position, end.node, end.peer);
         let Some(answer) = &finished.answer else {
             return Ok(());
@@ -162,9 +184,9 @@ impl<'s> Player<'s> {
         if !is_there || !self.farm().has_end(peer, node) {
             return Ok(());
         }
-        match self.farm().flight(node, peer).get(since) {
-            Some(sent) if sent == answer => {}
-            _ => return found(position, Difference::AnsweredOtherwise),
+        let sent = self.farm().flight(node, peer).get(since..).unwrap_or(&[]);
+        if !is_first(sent, answer) {
+            return found(position, Difference::AnsweredOtherwise);
         }
         if finished.was_posted {
             self.links

@@ -1,5 +1,7 @@
 //! Connections that fronts have lost. A front drops one once all requests are charged that came on it, or before its nodes connect again.
 
+ghost use Rattle.farm_player.specs.Reconciling.{Stays};
+
 use crate::fault::PlayResult;
 use crate::player::Player;
 use dia_base::NodeNo;
@@ -7,7 +9,9 @@ use record_reader::{End, Position};
 
 impl<'s> Player<'s> {
     /// A front drops a connection that it has lost once all requests are charged that came on it.
-    pub(super) fn drop_if_done(&mut self, position: Position, end: End) -> PlayResult<()> {
+    pub(super) fn drop_if_done(&mut self, position: Position, end: End) -> PlayResult<()>
+        ensures stays { Stays self.old.links.played self.new.links.played }
+    {
         if self.links.connections.is_closing(end.conn) && !self.fronts.has_requests_on(end.conn) {
             self.drop_here(position, end)?;
         }
@@ -15,7 +19,9 @@ impl<'s> Player<'s> {
     }
 
     /// A front drops a connection that it has lost.
-    fn drop_here(&mut self, position: Position, end: End) -> PlayResult<()> {
+    fn drop_here(&mut self, position: Position, end: End) -> PlayResult<()>
+        ensures stays { Stays self.old.links.played self.new.links.played }
+    {
         let End { conn, node, peer } = end;
         self.links.connections.set_closing(conn, false);
         self.links.played.drop_end(position, node, peer)?;
@@ -29,7 +35,9 @@ impl<'s> Player<'s> {
         position: Position,
         end: End,
         other: usize,
-    ) -> PlayResult<bool> {
+    ) -> PlayResult<bool>
+        ensures stays { Stays self.old.links.played self.new.links.played }
+    {
         self.close(position, end.peer, end.node, other)?;
         self.close(position, end.node, end.peer, end.conn)?;
         Ok(self.farm().is_free(end.peer, end.node))
@@ -43,7 +51,9 @@ impl<'s> Player<'s> {
         node: NodeNo,
         peer: NodeNo,
         next: usize,
-    ) -> PlayResult<()> {
+    ) -> PlayResult<()>
+        ensures stays { Stays self.old.links.played self.new.links.played }
+    {
         let Some(conn) = self.links.connections.end_between(node, peer) else {
             return Ok(());
         };
@@ -65,7 +75,9 @@ impl<'s> Player<'s> {
 
     /// Whether requests wait that came on a lost connection, and of which lines tell above that of the next one, with this end; or the
     /// last is charged, and the connection dropped. Those are charged now that the book has already, or that are answered without it.
-    fn waits_for_told(&mut self, conn: usize, next: usize) -> PlayResult<bool> {
+    fn waits_for_told(&mut self, conn: usize, next: usize) -> PlayResult<bool>
+        ensures stays { Stays self.old.links.played self.new.links.played }
+    {
         for _ in 0..self.book.repeats() {
             if !self.charge_repeat_of(Some((conn, next)))? {
                 break;

@@ -1,6 +1,8 @@
 //! Entries of a book on disk of which no line tells: the process of its fronts has ended before it has written down what it has charged.
 //! Such an entry is that of a request that was under way.
 
+ghost use Rattle.farm_player.specs.Reconciling.{Stays};
+
 use crate::fault::{Difference, PlayResult};
 use crate::player::Player;
 use dia_base::NodeNo;
@@ -26,7 +28,9 @@ struct InFlight {
 
 impl<'s> Player<'s> {
     /// The next entry of the book on disk is played, if no line tells of it. Whether it was, or a worker is idle for it.
-    pub fn play_untold(&mut self, are_all_read: bool) -> PlayResult<bool> {
+    pub fn play_untold(&mut self, are_all_read: bool) -> PlayResult<bool>
+        ensures stays { Stays self.old.links.played self.new.links.played }
+    {
         let Some(entry) = self.book.untold_next(are_all_read) else {
             return Ok(false);
         };
@@ -45,7 +49,9 @@ impl<'s> Player<'s> {
     }
 
     /// The terms change so, as this entry tells.
-    pub fn change_terms(&mut self, entry: &BookEntry, step: &Step) -> PlayResult<()> {
+    pub fn change_terms(&mut self, entry: &BookEntry, step: &Step) -> PlayResult<()>
+        ensures stays { Stays self.old.links.played self.new.links.played }
+    {
         self.links.played.change_terms(entry.position, step)?;
         self.has_one_more(entry.position, Difference::OtherTerms)?;
         self.book.advance();
@@ -58,7 +64,9 @@ impl<'s> Player<'s> {
         entry: &BookEntry,
         key: RequestKey,
         are_all_read: bool,
-    ) -> PlayResult<Untold> {
+    ) -> PlayResult<Untold>
+        ensures stays { Stays self.old.links.played self.new.links.played }
+    {
         let BookEntry {
             position,
             moment,
@@ -91,7 +99,9 @@ impl<'s> Player<'s> {
         position: Position,
         front: NodeNo,
         are_all_read: bool,
-    ) -> PlayResult<Untold> {
+    ) -> PlayResult<Untold>
+        ensures stays { Stays self.old.links.played self.new.links.played }
+    {
         let before = self.book.under_way_before(are_all_read);
         let needed = self.book.needed();
         let held = self.fronts.untold_in_hand(front, before, needed);
