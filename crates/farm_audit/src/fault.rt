@@ -52,7 +52,11 @@ impl AuditFault {
                 PlayFault::Found { position, .. }
                 | PlayFault::Record(RecordFault::Found { position, .. }),
             ) => Some(position.source),
-            AuditFault::Play(PlayFault::OutOfMemory | PlayFault::Record(RecordFault::OutOfMemory))
+            AuditFault::Play(
+                PlayFault::OtherRun
+                | PlayFault::OutOfMemory
+                | PlayFault::Record(RecordFault::OutOfMemory),
+            )
             | AuditFault::SiteFile
             | AuditFault::BookFile
             | AuditFault::Site(_)
@@ -66,7 +70,9 @@ fn status_of(fault: &PlayFault) -> Status {
     match fault {
         PlayFault::Record(RecordFault::Unreadable { .. }) => Status::Failed,
         PlayFault::OutOfMemory | PlayFault::Record(RecordFault::OutOfMemory) => Status::OutOfMemory,
-        PlayFault::Found { .. } | PlayFault::Record(RecordFault::Found { .. }) => Status::Refused,
+        PlayFault::Found { .. }
+        | PlayFault::OtherRun
+        | PlayFault::Record(RecordFault::Found { .. }) => Status::Refused,
     }
 }
 

@@ -1,11 +1,14 @@
 //! All entries of all records, in an order in which they may happen.
 
+ghost use Rattle.std.specs.Prelude.{IsOk};
 ghost use Rattle.farm_base.specs.CheckedSite.{IsChecked};
+ghost use Rattle.farm_player.specs.Reconciling.{Agrees};
+ghost use Rattle.record_player.specs.Playing.{run_of};
 
 use crate::fault::AuditFault;
 use farm_text::write_text;
 use farm_world::Site;
-use record_player::{Difference, PlayResult, Player, found};
+use record_player::{Difference, PlayFault, PlayResult, Player, found};
 use record_reader::{BookEntries, Entry, NodeEvent, Position, Records};
 use record_state::{Beginning, NodeEntry, Queues, Reports};
 use std::alloc::{AllocError, Global};
@@ -79,8 +82,14 @@ impl<'s, R: Read + Drop> Audit<'s, R> {
         self.write_lines(writer, 1)
     }
 
-    /// How many records, entries and steps there were, and the report of the book.
-    pub fn summary(&self) -> PlayResult<String> {
+    /// How many records, entries and steps there were, and the report of the book. It is given only where the proved farm has a run in
+    /// which what a record tells has passed at each relay and each client that has one, in its order, and nothing else.
+    pub fn summary(&self) -> PlayResult<String>
+        ensures { IsOk result → Agrees (run_of self.now.player) }
+    {
+        if !self.player.agrees() {
+            return Err(PlayFault::OtherRun);
+        }
         let (records, events) = (self.records.len(), self.records.entries());
         let steps = self.player.farm().steps();
         let mut text = format!(in self.alloc; "records {records} events {events} steps {steps}\n")?;
@@ -234,16 +243,17 @@ impl<'s, R: Read + Drop> Audit<'s, R> {
     }
 
     /// The process of a node begins: that is its next entry. What the process told of the book before was not the last.
-    fn keep_begin(&mut self, beginning: Beginning) -> Result<(), AllocError> {
+    fn keep_begin(&mut self, beginning: Beginning) -> PlayResult<()> {
         let (source, node) = (beginning.position.source, beginning.node);
         if beginning.is_first {
             self.queues.add(source, node)?;
-            self.player.add_node(node)?;
+            self.player.add_node(beginning.position, node)?;
         } else {
             self.reports.forget(source);
             self.player.add_beginning(&beginning);
         }
-        self.queues.push(node, NodeEntry::Begin(beginning))
+        self.queues.push(node, NodeEntry::Begin(beginning))?;
+        Ok(())
     }
 
     fn keep_event(&mut self, event: NodeEvent) -> Result<(), AllocError> {
