@@ -4,7 +4,7 @@ ghost use Rattle.std.specs.Prelude.{◌≡◌, Ok};
 ghost use Rattle.std.specs.Option.{option_copied};
 ghost use Rattle.relay_peers.specs.PeerTable.{conn_in};
 ghost use Rattle.relay_core.specs.RelayState.{links_but, node_but};
-ghost use Rattle.relay_core.specs.NextHop.{candidates_for, conn_for, deliverable, first_conn, hop_by_host, hop_by_realm, hop_to_host, next_hop, outgoing, peer_for};
+ghost use Rattle.relay_core.specs.NextHop.{candidates_for, conn_for, deliverable, first_conn, hop_by_realm, hop_to_host, next_hop, outgoing};
 ghost use Rattle.relay_core.specs.Outgoing.{drawn};
 ghost use Rattle.relay_core.specs.Reading.{IsReadingOf, avps_in_octets};
 ghost use Rattle.relay_core.specs.Verdict.{is_for_itself, verdict, with_no_avp};
@@ -17,7 +17,7 @@ use cc_view::ResultCode;
 use dia_base::{ConnId, Identity, NodeKind, NodeNo};
 use dia_message::Message;
 use relay_hops::Pending;
-use relay_peers::{LinkedPeer, Peers};
+use relay_peers::Peers;
 use relay_routes::RouteFault;
 
 /// What becomes of a request of this sender in which this was read: the connection that it is forwarded on, or
@@ -81,40 +81,15 @@ pub(crate) fn next_hop(
         records: reading.records,
         sender,
     };
-    let host = host_of(node, reading.host);
-    hop_by_host(
-        node,
-        ended,
-        going,
-        host,
-        reading.realm,
-        request.header.application,
-    )
-}
-
-/// The linked peer that a request names as its host.
-fn host_of<'a>(node: &'a RelayNode, host: Option<&[u8]>) -> Option<&'a LinkedPeer>
-    ensures { option_copied result ≡ peer_for node.now (option_copied host.entry) }
-{
-    match host {
-        Some(host) => node.peers.named(host),
-        None => None,
-    }
-}
-
-fn hop_by_host(
-    node: &RelayNode,
-    ended: Option<ConnId>,
-    going: Outgoing,
-    host: Option<&LinkedPeer>,
-    realm: Option<&[u8]>,
-    app: u32,
-) -> Result<ConnId, ResultCode>
-    ensures { result ≡ hop_by_host (node_but ended node.now) (drawn going.entry) (option_copied host.entry) (option_copied realm.entry) app }
-{
-    match host {
+    match reading.host.and_then(|host| node.peers.named(host)) {
         Some(peer) => hop_to_host(node, ended, going, peer.peer, peer.kind),
-        None => hop_by_realm(node, ended, going, realm, app),
+        None => hop_by_realm(
+            node,
+            ended,
+            going,
+            reading.realm,
+            request.header.application,
+        ),
     }
 }
 
