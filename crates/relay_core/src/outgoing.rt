@@ -3,13 +3,12 @@
 ghost use Rattle.std.specs.Prelude.{◌≡◌};
 ghost use Rattle.relay_peers.specs.PeerTable.{peer_numbered};
 ghost use Rattle.relay_core.specs.NextHop.{names_peer};
-ghost use Rattle.relay_routes.specs.Routing.{names_node};
 ghost use Rattle.std.specs.Option.{option_copied};
 ghost use Rattle.relay_core.specs.Outgoing.{drawn, is_from};
 
 use crate::reading::names_in;
 use dia_base::{Identity, NodeNo};
-use relay_peers::{LinkedPeer, Peers};
+use relay_peers::Peers;
 
 /// The body of a request from its first Route-Record on, and the peer that it has just come from, whose
 /// Route-Record goes out behind it. Of a request that goes out again there is none: its Route-Record is in the body.
@@ -26,15 +25,9 @@ impl Outgoing<'_> {
         ensures { result ≡ names_peer (drawn self.entry) (peer_numbered peers.now.linked peer) }
     {
         match peers.numbered(peer) {
-            Some(peer) => self.names(peer),
+            Some(peer) => is_sender(self.sender, &peer.name) || names_in(self.records, &peer.name),
             None => false,
         }
-    }
-
-    fn names(self, peer: &LinkedPeer) -> bool
-        ensures { result ≡ names_node peer.now.name (drawn self.entry) }
-    {
-        is_sender(self.sender, &peer.name) || names_in(self.records, &peer.name)
     }
 }
 
