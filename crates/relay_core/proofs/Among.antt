@@ -1,5 +1,5 @@
 -- Those that stay are among those that are up, and a relay that nobody leaves is every relay.
-use Rattle.std.proofs.Common.{◌≡◌, ℕ, ◌==◌, not, Bool, true, false, cond, MatchBool, MatchOption, List, [], ◌∷◌, Option, Some, None, option_map, refl, ap, sym, ◌∙◌}
+use Rattle.std.proofs.Common.{◌≡◌, ℕ, ◌==◌, not, Bool, true, false, cond, MatchBool, MatchOption, List, [], ◌∷◌, Option, Some, None, option_map, refl, ap, sym, subst, ◌∙◌}
 use Rattle.std.specs.List.{filter, find}
 use Rattle.dia_base.specs.declared.number.ConnId.{ConnId}
 use Rattle.dia_base.specs.declared.number.NodeNo.{NodeNo}
@@ -43,6 +43,26 @@ message-among : (relay after : RelayState) (conn : ConnId) (sender : List ℕ) (
     → MatchBool flag (OnRequestAmong relay.node.peers.links relay conn sender message items after) (OnAnswer relay conn message items after)
 message-among relay after conn sender message items true step = request-among relay step
 message-among relay after conn sender message items false step = step
+
+alone-request : (relay after : RelayState) (conn : ConnId) (sender : List ℕ) (request : Message) (items : Traffic)
+    → OnRequestAmong relay.node.peers.links relay conn sender request items after → OnRequest relay conn sender request items after
+alone-request relay after conn sender request items step =
+    let same : node_among relay.node.peers.links after.node ≡ after.node = ap (node_among relay.node.peers.links) step.up ∙ sym step.up in
+    subst (λ (node : RelayNode). OnRequest relay conn sender request items (record { node = node; pending = after.pending })) same step.does
+
+alone-by : (relay after : RelayState) (conn : ConnId) (sender : List ℕ) (message : Message) (items : Traffic) (flag : Bool)
+    → MatchBool flag (OnRequestAmong relay.node.peers.links relay conn sender message items after) (OnAnswer relay conn message items after)
+    → MatchBool flag (OnRequest relay conn sender message items after) (OnAnswer relay conn message items after)
+alone-by relay after conn sender message items true step = alone-request relay after conn sender message items step
+alone-by relay after conn sender message items false step = step
+
+pub message-alone : (relay after : RelayState) (conn : ConnId) (sender : List ℕ) (message : Message) (items : Traffic)
+    → OnMessageAmong relay.node.peers.links relay conn sender message items after → OnMessage relay conn sender message items after
+message-alone relay after conn sender message items step = alone-by relay after conn sender message items message.header.request step
+
+pub lost-alone : (relay after : RelayState) (conn : ConnId) (items : Traffic)
+    → OnConnLostAmong relay.node.peers.links relay conn items after → OnConnLost relay conn items after
+lost-alone relay after conn items step = record { rows = step.rows; failover = step.failover; after = step.after }
 
 received-among : (relay after : RelayState) (conn : ConnId) (message : Message) (items : Traffic) (peer : Option LinkedPeer)
     → MatchOption peer (IsIdle relay items after) (λ sender. OnMessage relay conn sender.name message items after)

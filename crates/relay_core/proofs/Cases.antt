@@ -27,6 +27,14 @@ pub to_some : {X : Type 0} (o : Option X) (x : X) (P : X → Type 0) → o ≡ S
 to_some None x P e p = absurd cc
 to_some (Some y) x P e p = let same : x ≡ y = cc in subst P same p
 
+pub if_some : {X : Type 0} (o : Option X) (P Q : X → Type 0) → ((x : X) → P x → Q x) → IfSome o P → IfSome o Q
+if_some None P Q f p = p
+if_some (Some x) P Q f p = f x p
+
+pub at_true : (b : Bool) (P Q : Type 0) → b ≡ true → P → MatchBool b P Q
+at_true true P Q e p = p
+at_true false P Q e p = absurd cc
+
 pub at_false : (b : Bool) (P Q : Type 0) → b ≡ false → Q → MatchBool b P Q
 at_false true P Q e q = absurd cc
 at_false false P Q e q = q

@@ -11,6 +11,7 @@ pub mod OnlySteps
 pub mod Planning
 pub mod Promising
 pub mod Reaching
+pub mod Routed
 pub mod Rules
 pub mod Lengths
 pub mod Running

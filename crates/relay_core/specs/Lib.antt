@@ -1,4 +1,5 @@
 pub mod RelayState
+pub mod Routing
 pub mod Forwarding
 pub mod NextHop
 pub mod Outgoing

@@ -2,38 +2,36 @@
 
 ghost use Rattle.std.specs.Prelude.{◌≡◌, Ok};
 ghost use Rattle.std.specs.Option.{option_copied};
-ghost use Rattle.relay_peers.specs.PeerTable.{conn_in};
-ghost use Rattle.relay_core.specs.RelayState.{links_but, node_but};
 ghost use Rattle.relay_core.specs.NextHop.{candidates_for, conn_for, deliverable, first_conn, hop_by_realm, hop_to_host, next_hop, outgoing};
 ghost use Rattle.relay_core.specs.Outgoing.{drawn};
 ghost use Rattle.relay_core.specs.Reading.{IsReadingOf, avps_in_octets};
+ghost use Rattle.relay_core.specs.Routing.{node_for};
 ghost use Rattle.relay_core.specs.Verdict.{is_for_itself, verdict, with_no_avp};
 
-use crate::node::RelayNode;
 use crate::outgoing::Outgoing;
 use crate::reading::{Reading, names_in};
 use crate::recording::is_too_long;
+use crate::routing::Routing;
 use cc_view::ResultCode;
 use dia_base::{ConnId, Identity, NodeKind, NodeNo};
 use dia_message::Message;
 use relay_hops::Pending;
-use relay_peers::Peers;
 use relay_routes::RouteFault;
 
 /// What becomes of a request of this sender in which this was read: the connection that it is forwarded on, or
 /// the code that it is refused with. The rules stand in the order in which they decide. It takes no
 /// memory.
 pub(crate) fn verdict(
-    node: &RelayNode,
+    routing: Routing,
     pending: &Pending,
     sender: &Identity,
     request: &Message,
     reading: Reading,
 ) -> Result<ConnId, ResultCode>
     requires { IsReadingOf request.now.body reading }
-    ensures { with_no_avp result ≡ verdict (record { node = node.now; pending = pending.now }) sender.now request.now (Ok (avps_in_octets request.now.body)) }
+    ensures { with_no_avp result ≡ verdict (record { node = node_for routing.entry; pending = pending.now }) sender.now request.now (Ok (avps_in_octets request.now.body)) }
 {
-    if names_in(reading.records, &node.name) {
+    if names_in(reading.records, &routing.node.name) {
         return Err(ResultCode::LoopDetected);
     }
     if !request.header.proxiable {
@@ -42,13 +40,13 @@ pub(crate) fn verdict(
     if reading.host.is_some() && reading.realm.is_none() {
         return Err(ResultCode::UnableToDeliver);
     }
-    if is_for_itself(&node.name, reading.host, reading.realm) {
+    if is_for_itself(&routing.node.name, reading.host, reading.realm) {
         return Err(ResultCode::ApplicationUnsupported);
     }
     if is_too_long(sender, &request.body) {
         return Err(ResultCode::UnableToDeliver);
     }
-    let conn = next_hop(node, None, request, reading, Some(sender))?;
+    let conn = next_hop(routing, request, reading, Some(sender))?;
     if pending.is_full() {
         return Err(ResultCode::TooBusy);
     }
@@ -65,67 +63,58 @@ fn is_for_itself(name: &Identity, host: Option<&[u8]>, realm: Option<&[u8]>) -> 
     }
 }
 
-/// The connection that a request in which this was read goes out on, by the peers that are up, but for one on a
-/// connection that ends. A peer that one of its Route-Records names is passed over. It takes no memory.
+/// The connection that a request in which this was read goes out on. A peer that one of its Route-Records names is
+/// passed over. It takes no memory.
 pub(crate) fn next_hop(
-    node: &RelayNode,
-    ended: Option<ConnId>,
+    routing: Routing,
     request: &Message,
     reading: Reading,
     sender: Option<&Identity>,
 ) -> Result<ConnId, ResultCode>
     requires { IsReadingOf request.now.body reading }
-    ensures { result ≡ next_hop (node_but ended node.now) (outgoing (option_copied sender.entry) (avps_in_octets request.now.body)) request.now.header.application }
+    ensures { result ≡ next_hop (node_for routing.entry) (outgoing (option_copied sender.entry) (avps_in_octets request.now.body)) request.now.header.application }
 {
     let going = Outgoing {
         records: reading.records,
         sender,
     };
-    match reading.host.and_then(|host| node.peers.named(host)) {
-        Some(peer) => hop_to_host(node, ended, going, peer.peer, peer.kind),
-        None => hop_by_realm(
-            node,
-            ended,
-            going,
-            reading.realm,
-            request.header.application,
-        ),
+    match reading.host.and_then(|host| routing.node.peers.named(host)) {
+        Some(peer) => hop_to_host(routing, going, peer.peer, peer.kind),
+        None => hop_by_realm(routing, going, reading.realm, request.header.application),
     }
 }
 
 /// A linked peer is named as the host: no request goes to a client.
 fn hop_to_host(
-    node: &RelayNode,
-    ended: Option<ConnId>,
+    routing: Routing,
     going: Outgoing,
     peer: NodeNo,
     kind: NodeKind,
 ) -> Result<ConnId, ResultCode>
-    ensures { result ≡ hop_to_host (node_but ended node.now) (drawn going.entry) peer kind }
+    ensures { result ≡ hop_to_host (node_for routing.entry) (drawn going.entry) peer kind }
 {
     match kind {
         NodeKind::Client => Err(ResultCode::UnableToDeliver),
-        NodeKind::Relay | NodeKind::Front => deliverable(conn_for(node, ended, going, peer)),
+        NodeKind::Relay | NodeKind::Front => deliverable(conn_for(routing, going, peer)),
     }
 }
 
 /// The candidates are those of the realm and the application.
 fn hop_by_realm(
-    node: &RelayNode,
-    ended: Option<ConnId>,
+    routing: Routing,
     going: Outgoing,
     realm: Option<&[u8]>,
     app: u32,
 ) -> Result<ConnId, ResultCode>
-    ensures { result ≡ hop_by_realm (node_but ended node.now) (drawn going.entry) (candidates_for node.now (option_copied realm.entry) app) }
+    ensures { result ≡ hop_by_realm (node_for routing.entry) (drawn going.entry) (candidates_for (node_for routing.entry) (option_copied realm.entry) app) }
 {
     let Some(realm) = realm else {
         return Err(ResultCode::RealmNotServed);
     };
-    match node.routes.candidates(realm, app) {
+    match routing.node.routes.candidates(realm, app) {
         Err(RouteFault::RealmUnknown) => Err(ResultCode::RealmNotServed),
         Err(RouteFault::NoApplication) => Err(ResultCode::UnableToDeliver),
-        Ok(peers) => deliverable(first_conn(node, ended, going, peers)),
+        Ok(peers) => deliverable(first_conn(routing, going, peers)),
     }
 }
 
@@ -139,16 +128,11 @@ fn deliverable(conn: Option<ConnId>) -> Result<ConnId, ResultCode>
 }
 
 /// The connection of the first of these peers that is up and not passed over.
-fn first_conn(
-    node: &RelayNode,
-    ended: Option<ConnId>,
-    going: Outgoing,
-    candidates: &[NodeNo],
-) -> Option<ConnId>
-    ensures { result ≡ first_conn (node_but ended node.now) (drawn going.entry) candidates.now }
+fn first_conn(routing: Routing, going: Outgoing, candidates: &[NodeNo]) -> Option<ConnId>
+    ensures { result ≡ first_conn (node_for routing.entry) (drawn going.entry) candidates.now }
 {
     for peer in candidates {
-        if let Some(conn) = conn_for(node, ended, going, *peer) {
+        if let Some(conn) = conn_for(routing, going, *peer) {
             return Some(conn);
         }
     }
@@ -156,27 +140,13 @@ fn first_conn(
 }
 
 /// The connection of a peer, if it is up and not passed over.
-fn conn_for(
-    node: &RelayNode,
-    ended: Option<ConnId>,
-    going: Outgoing,
-    peer: NodeNo,
-) -> Option<ConnId>
-    ensures { result ≡ conn_for (node_but ended node.now) (drawn going.entry) peer }
+fn conn_for(routing: Routing, going: Outgoing, peer: NodeNo) -> Option<ConnId>
+    ensures { result ≡ conn_for (node_for routing.entry) (drawn going.entry) peer }
 {
-    let conn = conn_to(&node.peers, ended, peer)?;
-    if going.passes_over(&node.peers, peer) {
+    let conn = routing.conn_of(peer)?;
+    if going.passes_over(&routing.node.peers, peer) {
         None
     } else {
         Some(conn)
-    }
-}
-
-fn conn_to(peers: &Peers, ended: Option<ConnId>, peer: NodeNo) -> Option<ConnId>
-    ensures { result ≡ conn_in (links_but ended peers.now.links) peer }
-{
-    match ended {
-        Some(ended) => peers.conn_after(peer, ended),
-        None => peers.conn_of(peer),
     }
 }

@@ -6,13 +6,14 @@ ghost use Rattle.relay_peers.specs.PeerTable.{peer_in};
 ghost use Rattle.relay_hops.specs.declared.row.Held.{Held as HeldRequest};
 ghost use Rattle.relay_hops.specs.PendingTable.{but_from, held_at, without_origin};
 ghost use Rattle.relay_core.specs.declared.node.RelayNode.{RelayNode as Node};
-ghost use Rattle.relay_core.specs.Failover.{Failover, RequestFailover, after_end, next_hop_again, without_origins};
+ghost use Rattle.relay_core.specs.Failover.{Failover, RequestFailover, next_hop_again, without_origins};
 ghost use Rattle.relay_core.specs.Giving.{SendsAgain};
 ghost use Rattle.relay_core.specs.FailoverPlan.{IsFailoverPlan, choice_of};
+ghost use Rattle.relay_core.specs.Routing.{node_for};
 
 use crate::deciding::next_hop;
-use crate::node::RelayNode;
 use crate::reading::read_again;
+use crate::routing::Routing;
 use cc_view::{Refusal, ResultCode, refusal_bytes};
 use dia_avp::Wire;
 use dia_base::{ConnId, Listing};
@@ -39,20 +40,20 @@ pub struct PlannedFailover {
 }
 
 /// What is to be sent for each request that is pending on the connection, by rising identifier, when that
-/// connection ends.
+/// connection ends, which the routing has to leave out.
 pub(crate) fn failover_plan<W: Wire>(
     alloc: Global,
-    node: &RelayNode,
+    routing: Routing,
     pending: &Pending,
     lost: ConnId,
 ) -> Result<Vec<PlannedFailover>, AllocError>
-    ensures { IfOk result (λ plan. IsFailoverPlan (after_end lost node.now) lost (without_origins lost pending.now.rows) plan.items) }
+    ensures { IfOk result (λ plan. IsFailoverPlan (node_for routing.entry) lost (without_origins lost pending.now.rows) plan.items) }
 {
     let hops = pending.sent_to(alloc, lost)?;
     let mut plan = Vec::new(alloc);
     for hop in hops.as_slice() {
         let choice = match pending.held(lost, *hop) {
-            Some(held) => choice_of::<W>(alloc, node, held, lost)?,
+            Some(held) => choice_of::<W>(alloc, routing, held, lost)?,
             None => FailoverChoice::Forget,
         };
         plan.push(PlannedFailover { hop: *hop, choice })?;
@@ -63,16 +64,16 @@ pub(crate) fn failover_plan<W: Wire>(
 /// What is to be sent for one of them.
 fn choice_of<W: Wire>(
     alloc: Global,
-    node: &RelayNode,
+    routing: Routing,
     held: &Held,
     lost: ConnId,
 ) -> Result<FailoverChoice, AllocError>
-    ensures { IfOk result (λ choice. choice ≡ choice_of (after_end lost node.now) (without_origin lost held.now)) }
+    ensures { IfOk result (λ choice. choice ≡ choice_of (node_for routing.entry) (without_origin lost held.now)) }
 {
     let Some(origin) = origin_elsewhere(held.origin, lost) else {
         return Ok(FailoverChoice::Forget);
     };
-    match next_hop_again(node, &held.request, lost) {
+    match next_hop_again(routing, &held.request) {
         Ok(to) => {
             let mut request = held.request.clone()?;
             request.header.resent = true;
@@ -82,8 +83,8 @@ fn choice_of<W: Wire>(
             let refusal = Refusal { code, failed: None };
             let mut answer = refusal_bytes::<W>(
                 alloc,
-                &node.name,
-                &node.realm,
+                &routing.node.name,
+                &routing.node.realm,
                 &held.request,
                 &refusal,
             )?;
@@ -113,11 +114,11 @@ fn origin_elsewhere(origin: Option<Origin>, ended: ConnId) -> Option<Origin>
 }
 
 /// Where a request that was sent goes once the connection has ended. It takes no memory.
-fn next_hop_again(node: &RelayNode, request: &Message, lost: ConnId) -> Result<ConnId, ResultCode>
-    ensures { result ≡ next_hop_again (after_end lost node.now) request.now }
+fn next_hop_again(routing: Routing, request: &Message) -> Result<ConnId, ResultCode>
+    ensures { result ≡ next_hop_again (node_for routing.entry) request.now }
 {
     let reading = read_again(request.body.as_slice());
-    next_hop(node, Some(lost), request, reading, None)
+    next_hop(routing, request, reading, None)
 }
 
 /// The plan is carried out, one request after the other; nothing is pending on the lost connection then. It takes no

@@ -6,6 +6,7 @@ ghost use Rattle.cc_view.specs.Refusal.{avps_of};
 ghost use Rattle.cc_view.specs.declared.refusal.Refusal.{Refusal as BodyRefusal};
 ghost use Rattle.relay_core.specs.Giving.{GivesOne};
 ghost use Rattle.relay_core.specs.RelayStep.{OnRequest, refusal_to};
+ghost use Rattle.relay_core.specs.Routing.{node_for};
 ghost use Rattle.relay_core.specs.Verdict.{decision};
 
 use crate::deciding::verdict;
@@ -13,6 +14,7 @@ use crate::error::RelayError;
 use crate::node::RelayNode;
 use crate::reading::read_body;
 use crate::recording::recorded;
+use crate::routing::Routing;
 use cc_view::{Refusal, ViewError, avps_of, refusal_bytes};
 use dia_avp::Wire;
 use dia_base::{ConnId, Identity, Listing};
@@ -24,23 +26,29 @@ use std::alloc::Global;
 /// the relay, and is pending until its answer comes. After an error nothing has changed.
 pub(crate) fn on_request<W: Wire>(
     alloc: Global,
-    node: &RelayNode,
+    routing: Routing,
     pending: &mut Pending,
     conn: ConnId,
     sender: &Identity,
     request: Message,
 ) -> Result<Out, RelayError>
-    ensures ok { IfOk result (λ out. OnRequest (record { node = node.now; pending = pending.old }) conn sender.now request out.items (record { node = node.now; pending = pending.new })) }
+    ensures ok { IfOk result (λ out. OnRequest (record { node = node_for routing.entry; pending = pending.old }) conn sender.now request out.items (record { node = node_for routing.entry; pending = pending.new })) }
     ensures given { request.header.request ≡ true → IfOk result (λ out. GivesOne pending.old out.items pending.new) }
     ensures err { OnErr result (pending.new ≡ pending.old) }
     ensures memory { IsOkUnless result RelayError.OutOfMemory }
 {
     let Ok(reading) = read_body(request.body.as_slice()) else {
-        return refuse_broken::<W>(alloc, node, conn, &request);
+        return refuse_broken::<W>(alloc, routing.node, conn, &request);
     };
-    match verdict(node, pending, sender, &request, reading) {
-        Ok(to) => forward(alloc, node, pending, conn, sender, request, to),
-        Err(code) => refuse::<W>(alloc, node, conn, &request, &Refusal { code, failed: None }),
+    match verdict(routing, pending, sender, &request, reading) {
+        Ok(to) => forward(alloc, routing, pending, conn, sender, request, to),
+        Err(code) => refuse::<W>(
+            alloc,
+            routing.node,
+            conn,
+            &request,
+            &Refusal { code, failed: None },
+        ),
     }
 }
 
@@ -48,15 +56,15 @@ pub(crate) fn on_request<W: Wire>(
 /// there: what was sent is kept, with where the request came from.
 fn forward(
     alloc: Global,
-    node: &RelayNode,
+    routing: Routing,
     pending: &mut Pending,
     conn: ConnId,
     sender: &Identity,
     request: Message,
     to: ConnId,
 ) -> Result<Out, RelayError>
-    requires { decision (record { node = node.now; pending = pending.old }) sender.now request ≡ Ok to }
-    ensures ok { IfOk result (λ out. OnRequest (record { node = node.now; pending = pending.old }) conn sender.now request out.items (record { node = node.now; pending = pending.new })) }
+    requires { decision (record { node = node_for routing; pending = pending.old }) sender.now request ≡ Ok to }
+    ensures ok { IfOk result (λ out. OnRequest (record { node = node_for routing.entry; pending = pending.old }) conn sender.now request out.items (record { node = node_for routing.entry; pending = pending.new })) }
     ensures given { request.header.request ≡ true → IfOk result (λ out. GivesOne pending.old out.items pending.new) }
     ensures err { OnErr result (pending.new ≡ pending.old) }
     ensures memory { IsOkUnless result RelayError.OutOfMemory }

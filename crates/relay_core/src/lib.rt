@@ -51,6 +51,7 @@ mod parting;
 mod reading;
 mod recording;
 mod relay;
+mod routing;
 mod rule_examples;
 mod run;
 mod step_examples;

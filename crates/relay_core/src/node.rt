@@ -2,11 +2,10 @@
 
 ghost use Rattle.std.specs.Prelude.{◌≡◌, IfOk};
 ghost use Rattle.std.specs.Option.{option_copied};
-ghost use Rattle.relay_peers.specs.PeerTable.{peer_numbered};
 ghost use Rattle.relay_core.specs.RelayState.{peer_on};
 ghost use Rattle.relay_core.specs.Connecting.{new_node};
 
-use dia_base::{ConnId, Identity, Listing, NodeNo};
+use dia_base::{ConnId, Identity, Listing};
 use relay_peers::{LinkedPeer, Peers};
 use relay_routes::{Route, Routes};
 use std::alloc::{AllocError, Global};
@@ -81,13 +80,6 @@ impl RelayNode {
             peers: Peers::new(alloc, site.peers.into_vec()),
             routes: Routes::new(site.routes.into_vec()),
         }
-    }
-
-    /// The linked peer of this number.
-    pub(crate) fn linked(&self, peer: NodeNo) -> Option<&LinkedPeer>
-        ensures { option_copied result ≡ peer_numbered self.now.peers.linked peer }
-    {
-        self.peers.numbered(peer)
     }
 
     /// The peer at the other end of a connection.

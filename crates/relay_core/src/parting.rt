@@ -82,7 +82,7 @@ impl PartingRelay {
         }
         self.matched
             .relay
-            .on_message_among::<W>(alloc, &mut self.staying, conn, message)
+            .on_message_among::<W>(alloc, Some(&self.staying), conn, message)
     }
 
     /// A peer says goodbye on its connection: it stays no more. Nothing is sent, and what is pending there stays. A connection
@@ -108,9 +108,12 @@ impl PartingRelay {
         ensures left { OnOk result (self.new ≡ record { matched = record self.old.matched { relay = self.new.matched.relay }; staying = without_conn self.old.staying conn }) }
         ensures err { OnErr result (self.new ≡ self.old) }
     {
-        self.matched
+        let out = self
+            .matched
             .relay
-            .conn_lost_among::<W>(alloc, &mut self.staying, conn)
+            .conn_lost_among::<W>(alloc, Some(&self.staying), conn)?;
+        self.staying.leave(conn);
+        Ok(out)
     }
 
     /// Everything is forgotten, as in [`Relay::restart`](crate::Relay::restart). It takes no memory.

@@ -1,21 +1,22 @@
 //! A relay and its events.
 
-ghost use Rattle.std.specs.Prelude.{◌≡◌, ◌%◌, ◌^◌, IsSome, IsNone, is_some, true, IsOk, IfOk, IfSome, None, OnOk, OnErr, IsOkUnless, MatchOption, false, length};
-ghost use Rattle.relay_peers.specs.PeerTable.{peer_in, peer_numbered, without_conn};
+ghost use Rattle.std.specs.Prelude.{◌≡◌, ◌%◌, ◌^◌, IsSome, IsNone, is_some, IsOk, IfOk, IfSome, None, OnOk, OnErr, IsOkUnless, MatchOption, false, length};
+ghost use Rattle.std.specs.Option.{option_copied};
+ghost use Rattle.relay_peers.specs.PeerTable.{links_among, peer_in};
 ghost use Rattle.relay_core.specs.Connecting.{new_relay, relay_at, up_fault, after_up, after_restart};
 ghost use Rattle.relay_core.specs.Giving.{GivesOne, SendsAgain};
 ghost use Rattle.relay_core.specs.AnswerMatching.{is_mismatched};
 ghost use Rattle.relay_core.specs.RelayState.{peer_on, with_next};
-ghost use Rattle.relay_core.specs.RelayStep.{OnMessage, OnRequest, asker_of};
-ghost use Rattle.relay_core.specs.Failover.{OnConnLost, after_end, without_origins};
-ghost use Rattle.relay_core.specs.FailoverPlan.{IsFailoverPlan};
-ghost use Rattle.relay_core.specs.Staying.{OnConnLostAmong, OnMessageAmong, OnRequestAmong, node_among};
+ghost use Rattle.relay_core.specs.RelayStep.{OnMessage, asker_of};
+ghost use Rattle.relay_core.specs.Failover.{OnConnLost};
+ghost use Rattle.relay_core.specs.Staying.{OnConnLostAmong, OnMessageAmong};
 
 use crate::answering::on_answer;
 use crate::error::RelayError;
-use crate::failover::{PlannedFailover, fail_over, failover_plan};
+use crate::failover::{fail_over, failover_plan};
 use crate::forwarding::on_request;
 use crate::node::{RelayNode, RelaySite};
+use crate::routing::Routing;
 use dia_avp::Wire;
 use dia_base::{ConnId, NodeNo, PENDING_LIMIT};
 use dia_message::{Message, Out};
@@ -107,21 +108,7 @@ impl Relay {
         ensures dropped { IsSome (peer_on self.old.node conn) → message.header.request ≡ false → asker_of self.old.pending.rows conn message.header.hop ≡ None → IsOk result }
         ensures err { OnErr result (self.new ≡ self.old) }
     {
-        let Some(sender) = self.node.peer_on(conn) else {
-            return Err(RelayError::UnknownConn { conn });
-        };
-        if message.header.request {
-            on_request::<W>(
-                alloc,
-                &self.node,
-                &mut self.pending,
-                conn,
-                &sender.name,
-                message,
-            )
-        } else {
-            on_answer(alloc, &mut self.pending, conn, message)
-        }
+        self.on_message_among::<W>(alloc, None, conn, message)
     }
 
     /// A connection has ended: its peer is down, what came on it has nowhere to be answered to, and what
@@ -134,133 +121,75 @@ impl Relay {
         ensures again { IfOk result (λ out. SendsAgain self.old.pending out.items self.new.pending) }
         ensures err { OnErr result (self.new ≡ self.old) }
     {
-        if self.node.peers.peer_of(conn).is_none() {
-            return Err(RelayError::UnknownConn { conn });
-        }
-        let plan = failover_plan::<W>(alloc, &self.node, &self.pending, conn)?;
-        let room = Vec::with_capacity(alloc, plan.len())?;
-        self.node.peers.down(conn);
-        self.pending.orphan(conn);
-        Ok(fail_over(&mut self.pending, conn, plan, room))
+        self.conn_lost_among::<W>(alloc, None, conn)
     }
 
-    /// A message came on a connection, where new requests go to those peers alone that stay. All else is as in
-    /// [`Relay::on_message`]: the answers of those who leave go where they went.
+    /// A message came on a connection, where new requests go to those peers alone that stay, if some leave. All else is
+    /// as in [`Relay::on_message`]: the answers of those who leave go where they went.
     pub(crate) fn on_message_among<W: Wire>(
         &mut self,
         alloc: Global,
-        staying: &mut Staying,
+        staying: Option<&Staying>,
         conn: ConnId,
         message: Message,
     ) -> Result<Out, RelayError>
         ensures known { MatchOption (peer_on self.old.node conn) (result ≡ Err (RelayError.UnknownConn conn)) (λ sender. IsOkUnless result RelayError.OutOfMemory) }
-        ensures ok { IfSome (peer_on self.old.node conn) (λ sender. IfOk result (λ out. OnMessageAmong staying.old self.old conn sender.name message out.items self.new)) }
+        ensures ok { IfSome (peer_on self.old.node conn) (λ sender. IfOk result (λ out. OnMessageAmong (links_among (option_copied staying.entry) self.old.node.peers.links) self.old conn sender.name message out.items self.new)) }
         ensures given { IfOk result (λ out. GivesOne self.old.pending out.items self.new.pending) }
         ensures dropped { IsSome (peer_on self.old.node conn) → message.header.request ≡ false → asker_of self.old.pending.rows conn message.header.hop ≡ None → IsOk result }
         ensures err { OnErr result (self.new ≡ self.old) }
-        ensures staying { staying.new ≡ staying.old }
     {
+        let node = &self.node;
+        let Some(sender) = node.peer_on(conn) else {
+            return Err(RelayError::UnknownConn { conn });
+        };
         if message.header.request {
-            self.on_request_among::<W>(alloc, staying, conn, message)
+            let routing = Routing {
+                node,
+                links: node.peers.links_among(staying),
+                ended: None,
+            };
+            on_request::<W>(
+                alloc,
+                routing,
+                &mut self.pending,
+                conn,
+                &sender.name,
+                message,
+            )
         } else {
-            self.on_message::<W>(alloc, conn, message)
+            on_answer(alloc, &mut self.pending, conn, message)
         }
     }
 
-    /// The same of a request: it is routed as if only those were up that stay.
-    fn on_request_among<W: Wire>(
-        &mut self,
-        alloc: Global,
-        staying: &mut Staying,
-        conn: ConnId,
-        request: Message,
-    ) -> Result<Out, RelayError>
-        requires { request.header.request ≡ true }
-        ensures known { MatchOption (peer_on self.old.node conn) (result ≡ Err (RelayError.UnknownConn conn)) (λ sender. IsOkUnless result RelayError.OutOfMemory) }
-        ensures ok { IfSome (peer_on self.old.node conn) (λ sender. IfOk result (λ out. OnRequestAmong staying.old self.old conn sender.name request out.items self.new)) }
-        ensures given { IfOk result (λ out. GivesOne self.old.pending out.items self.new.pending) }
-        ensures err { OnErr result (self.new ≡ self.old) }
-        ensures staying { staying.new ≡ staying.old }
-    {
-        let Some(peer) = self.node.peers.peer_of(conn) else {
-            return Err(RelayError::UnknownConn { conn });
-        };
-        self.node.peers.exchange(staying);
-        let answer = self.on_request_of::<W>(alloc, conn, peer, request);
-        self.node.peers.exchange(staying);
-        answer
-    }
-
-    /// A request came on a connection, of the linked peer with this number.
-    fn on_request_of<W: Wire>(
-        &mut self,
-        alloc: Global,
-        conn: ConnId,
-        peer: NodeNo,
-        request: Message,
-    ) -> Result<Out, RelayError>
-        requires { request.header.request ≡ true }
-        ensures known { MatchOption (peer_numbered self.old.node.peers.linked peer) (result ≡ Err (RelayError.UnknownConn conn)) (λ sender. IsOkUnless result RelayError.OutOfMemory) }
-        ensures ok { IfSome (peer_numbered self.old.node.peers.linked peer) (λ sender. IfOk result (λ out. OnRequest self.old conn sender.name request out.items self.new)) }
-        ensures given { IfOk result (λ out. GivesOne self.old.pending out.items self.new.pending) }
-        ensures err { OnErr result (self.new ≡ self.old) }
-        ensures node { self.new.node ≡ self.old.node }
-    {
-        let Some(sender) = self.node.linked(peer) else {
-            return Err(RelayError::UnknownConn { conn });
-        };
-        on_request::<W>(
-            alloc,
-            &self.node,
-            &mut self.pending,
-            conn,
-            &sender.name,
-            request,
-        )
-    }
-
-    /// A connection has ended, where requests go again to those peers alone that stay. All else is as in
-    /// [`Relay::conn_lost`]. After an error those that stay are as they were too.
+    /// A connection has ended, where requests go again to those peers alone that stay, if some leave. All else is as in
+    /// [`Relay::conn_lost`].
     pub(crate) fn conn_lost_among<W: Wire>(
         &mut self,
         alloc: Global,
-        staying: &mut Staying,
+        staying: Option<&Staying>,
         lost: ConnId,
     ) -> Result<Out, RelayError>
         ensures unknown { IsNone (peer_in self.old.node.peers.links lost) → result ≡ Err (RelayError.UnknownConn lost) }
         ensures known { IsSome (peer_in self.old.node.peers.links lost) → IsOkUnless result RelayError.OutOfMemory }
-        ensures ok { IfOk result (λ out. OnConnLostAmong staying.old self.old lost out.items self.new) }
+        ensures ok { IfOk result (λ out. OnConnLostAmong (links_among (option_copied staying.entry) self.old.node.peers.links) self.old lost out.items self.new) }
         ensures again { IfOk result (λ out. SendsAgain self.old.pending out.items self.new.pending) }
         ensures err { OnErr result (self.new ≡ self.old) }
-        ensures left { OnOk result (staying.new ≡ without_conn staying.old lost) }
-        ensures stay { OnErr result (staying.new ≡ staying.old) }
     {
         if self.node.peers.peer_of(lost).is_none() {
             return Err(RelayError::UnknownConn { conn: lost });
         }
-        let plan = self.plan_among::<W>(alloc, staying, lost)?;
+        let node = &self.node;
+        let routing = Routing {
+            node,
+            links: node.peers.links_among(staying),
+            ended: Some(lost),
+        };
+        let plan = failover_plan::<W>(alloc, routing, &self.pending, lost)?;
         let room = Vec::with_capacity(alloc, plan.len())?;
         self.node.peers.down(lost);
-        staying.leave(lost);
         self.pending.orphan(lost);
         Ok(fail_over(&mut self.pending, lost, plan, room))
-    }
-
-    /// What is to be sent when a connection ends, where requests go again to those peers alone that stay.
-    fn plan_among<W: Wire>(
-        &mut self,
-        alloc: Global,
-        staying: &mut Staying,
-        lost: ConnId,
-    ) -> Result<Vec<PlannedFailover>, AllocError>
-        ensures plan { IfOk result (λ plan. IsFailoverPlan (after_end lost (node_among staying.old self.old.node)) lost (without_origins lost self.old.pending.rows) plan.items) }
-        ensures same { self.new ≡ self.old }
-        ensures staying { staying.new ≡ staying.old }
-    {
-        self.node.peers.exchange(staying);
-        let plan = failover_plan::<W>(alloc, &self.node, &self.pending, lost);
-        self.node.peers.exchange(staying);
-        plan
     }
 
     /// Why a peer does not come up on a connection, but for want of memory.

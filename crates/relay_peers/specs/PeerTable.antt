@@ -52,6 +52,11 @@ is_other peer conn link = not (is_of peer link) && not (is_on conn link)
 abbrev pub with_staying : List Link → NodeNo → ConnId → List Link
 with_staying staying peer conn = with_link (filter (is_other peer conn) staying) peer conn
 
+-- the links of those that stay, where some leave, else of all that are up
+abbrev pub links_among : Option (List Link) → List Link → List Link
+links_among (Some staying) links = staying
+links_among None links = links
+
 -- a peer's connection, but for one that has ended
 abbrev pub but_for : ConnId → Option ConnId → Option ConnId
 but_for ended None = None

@@ -2,13 +2,12 @@
 
 ghost use Rattle.std.specs.Prelude.{◌≡◌, [], IsSome, IsNone, OnOk, OnErr, IsOkUnless};
 ghost use Rattle.std.specs.Option.{option_copied};
-ghost use Rattle.relay_peers.specs.PeerTable.{IsOneToOne, conn_in, peer_in, peer_numbered, peer_named, kind_in, with_link, without_conn};
+ghost use Rattle.relay_peers.specs.PeerTable.{IsOneToOne, conn_in, peer_in, peer_numbered, peer_named, kind_in, links_among, with_link, without_conn};
 
 use crate::staying::Staying;
 use dia_base::{ConnId, Identity, NodeKind, NodeNo};
 use std::alloc::Global;
 use std::marker::Model;
-use std::mem::swap;
 use thiserror::Error;
 
 /// A node that the site links with the relay: its number, the identity under which it sends, and what
@@ -104,13 +103,14 @@ impl Peers {
         self.links.clear();
     }
 
-    /// The connections of the peers that are up are those that stood in the other place, and the other way round. It takes no
-    /// memory.
-    pub fn exchange(&mut self, staying: &mut Staying)
-        ensures links { self.new ≡ record { linked = self.old.linked; links = staying.old } }
-        ensures staying { staying.new ≡ self.old.links }
+    /// The peers that are up with their connections, or those alone of them that stay, if some leave. It takes no memory.
+    pub fn links_among<'a>(&'a self, staying: Option<&'a Staying>) -> &'a [Link]
+        ensures { result.now ≡ links_among (option_copied staying.entry) self.now.links }
     {
-        swap(&mut self.links, &mut staying.links);
+        match staying {
+            Some(staying) => &staying.links,
+            None => &self.links,
+        }
     }
 
     /// The connection of a peer, if it is up. It takes no memory.
@@ -133,15 +133,6 @@ impl Peers {
             .iter()
             .find(|link| link.conn == conn)
             .map(|link| link.peer)
-    }
-
-    /// The connection that a peer has once another connection has ended: none where that one was its
-    /// own. It takes no memory.
-    pub fn conn_after(&self, peer: NodeNo, ended: ConnId) -> Option<ConnId>
-        ensures { result ≡ conn_in (without_conn self.now.links ended) peer }
-    {
-        let conn = self.conn_of(peer)?;
-        if conn == ended { None } else { Some(conn) }
     }
 
     /// The linked peer of this number. It takes no memory.

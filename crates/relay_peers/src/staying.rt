@@ -9,7 +9,7 @@ use std::alloc::{AllocError, Global};
 use std::marker::Model;
 
 /// The connections of the peers that are up and stay: all but those that have said goodbye (RFC 6733, section 5.4). Contracts
-/// see them as links, as those of [`Peers`](crate::Peers), with which they can be exchanged.
+/// see them as links, as those of [`Peers`](crate::Peers).
 #[derive(Drop)]
 pub struct Staying {
     pub(crate) links: Vec<Link>,
