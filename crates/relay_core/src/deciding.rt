@@ -9,7 +9,7 @@ ghost use Rattle.relay_core.specs.Routing.{node_for};
 ghost use Rattle.relay_core.specs.Verdict.{is_for_itself, verdict, with_no_avp};
 
 use crate::outgoing::Outgoing;
-use crate::reading::{Reading, names_in};
+use crate::reading::Reading;
 use crate::recording::is_too_long;
 use crate::routing::Routing;
 use cc_view::ResultCode;
@@ -17,6 +17,7 @@ use dia_base::{ConnId, Identity, NodeKind, NodeNo};
 use dia_message::Message;
 use relay_hops::Pending;
 use relay_routes::RouteFault;
+use relay_routes::loop_check::loops;
 
 /// What becomes of a request of this sender in which this was read: the connection that it is forwarded on, or
 /// the code that it is refused with. The rules stand in the order in which they decide. It takes no
@@ -31,7 +32,8 @@ pub(crate) fn verdict(
     requires { IsReadingOf request.now.body reading }
     ensures { with_no_avp result ≡ verdict (record { node = node_for routing.entry; pending = pending.now }) sender.now request.now (Ok (avps_in_octets request.now.body)) }
 {
-    if names_in(reading.records, &routing.node.name) {
+    let name = &routing.node.name;
+    if reading.records.is_some_and(|octets| loops(name, octets)) {
         return Err(ResultCode::LoopDetected);
     }
     if !request.header.proxiable {
@@ -40,7 +42,7 @@ pub(crate) fn verdict(
     if reading.host.is_some() && reading.realm.is_none() {
         return Err(ResultCode::UnableToDeliver);
     }
-    if is_for_itself(&routing.node.name, reading.host, reading.realm) {
+    if is_for_itself(name, reading.host, reading.realm) {
         return Err(ResultCode::ApplicationUnsupported);
     }
     if is_too_long(sender, &request.body) {

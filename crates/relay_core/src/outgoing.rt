@@ -6,9 +6,9 @@ ghost use Rattle.relay_core.specs.NextHop.{names_peer};
 ghost use Rattle.std.specs.Option.{option_copied};
 ghost use Rattle.relay_core.specs.Outgoing.{drawn, is_from};
 
-use crate::reading::names_in;
 use dia_base::{Identity, NodeNo};
 use relay_peers::Peers;
+use relay_routes::loop_check::loops;
 
 /// The body of a request from its first Route-Record on, and the peer that it has just come from, whose
 /// Route-Record goes out behind it. Of a request that goes out again there is none: its Route-Record is in the body.
@@ -25,7 +25,10 @@ impl Outgoing<'_> {
         ensures { result ≡ names_peer (drawn self.entry) (peer_numbered peers.now.linked peer) }
     {
         match peers.numbered(peer) {
-            Some(peer) => is_sender(self.sender, &peer.name) || names_in(self.records, &peer.name),
+            Some(peer) => {
+                is_sender(self.sender, &peer.name)
+                    || self.records.is_some_and(|octets| loops(&peer.name, octets))
+            }
             None => false,
         }
     }

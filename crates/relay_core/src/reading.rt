@@ -6,13 +6,10 @@ ghost use Rattle.dia_avp.specs.AvpReading.{split_of};
 ghost use Rattle.dia_avp.specs.LentAvp.{avp_of};
 ghost use Rattle.dia_base.specs.Codes.{destination_host, destination_realm, route_record};
 ghost use Rattle.dia_grammar.specs.Grammar.{is_of as is_of_code};
-ghost use Rattle.relay_routes.specs.Routing.{names_node};
-ghost use Rattle.relay_core.specs.Reading.{IsReadingOf, avps_in_octets, avps_in_part, first_or};
+ghost use Rattle.relay_core.specs.Reading.{IsReadingOf, avps_in_octets, first_or};
 
 use dia_avp::{AvpFault, LentAvp, front_of};
-use dia_base::Identity;
 use dia_base::codes::{DESTINATION_HOST, DESTINATION_REALM, ROUTE_RECORD};
-use relay_routes::loop_check::loops;
 
 /// What was read in the body of a request, which lends it.
 #[derive(Clone, Copy)]
@@ -92,15 +89,5 @@ pub(crate) fn read_again(body: &[u8]) -> Reading<'_>
     match read_body(body) {
         Ok(reading) => reading,
         Err(_) => Reading::nothing(),
-    }
-}
-
-/// Whether a Route-Record of this part of a body is the identity.
-pub(crate) fn names_in(records: Option<&[u8]>, name: &Identity) -> bool
-    ensures { result ≡ names_node name.now (avps_in_part (option_copied records.entry)) }
-{
-    match records {
-        Some(octets) => loops(name, octets),
-        None => false,
     }
 }

@@ -1,11 +1,12 @@
 use Rattle.std.proofs.Common.{rules, sym, ◌∙◌, ◌≡◌, ◌&&◌, not, false, is_some, is_none, Ok, Err}
+use Rattle.std.specs.Option.{option_copied}
 use Rattle.cc_view.specs.Refusal.{refusal_with}
 use Rattle.cc_view.specs.declared.code.ResultCode.TheVariants.{TooBusy}
 use Rattle.relay_routes.specs.Routing.{names_node}
 use Rattle.relay_hops.specs.PendingTable.{is_full}
 use Rattle.relay_core.specs.Forwarding.{recorded, is_too_long}
 use Rattle.relay_core.specs.NextHop.{host_in, realm_in}
-use Rattle.relay_core.specs.Reading.{avps_in_octets}
+use Rattle.relay_core.specs.Reading.{avps_in_octets, avps_in_part}
 use Rattle.relay_core.specs.Routing.{node_for}
 use Rattle.relay_core.specs.Verdict.{is_for_itself, with_no_avp}
 use Rattle.relay_core.proofs.Cases.{state}
@@ -15,7 +16,8 @@ use Rattle.relay_core.proofs.deciding.verdict.Goals as goal
 pub returns-in_err-conn : goal.returns-in_err-conn
 returns-in_err-conn c =
     let avps = avps_in_octets c.args.request.now.body in
-    let second : names_node c.args.routing.node.now.name avps ≡ false = sym (c.requires.records c.args.routing.node.now.name) ∙ sym c.names_in.ensures ∙ c.if-names_in.false in
+    let passed : names_node c.args.routing.node.now.name (avps_in_part (option_copied c.args.reading.records)) ≡ false = search rules in
+    let second : names_node c.args.routing.node.now.name avps ≡ false = sym (c.requires.records c.args.routing.node.now.name) ∙ passed in
     let third : not c.args.request.now.header.proxiable ≡ false = search rules in
     let fourth : (is_some (host_in avps) && is_none (realm_in avps)) ≡ false = search rules in
     let fifth : is_for_itself c.args.routing.node.now.name (host_in avps) (realm_in avps) ≡ false = search rules in
@@ -27,7 +29,8 @@ returns-in_err-conn c =
 pub returns-then-is_full : goal.returns-then-is_full
 returns-then-is_full c =
     let avps = avps_in_octets c.args.request.now.body in
-    let second : names_node c.args.routing.node.now.name avps ≡ false = sym (c.requires.records c.args.routing.node.now.name) ∙ sym c.names_in.ensures ∙ c.if-names_in.false in
+    let passed : names_node c.args.routing.node.now.name (avps_in_part (option_copied c.args.reading.records)) ≡ false = search rules in
+    let second : names_node c.args.routing.node.now.name avps ≡ false = sym (c.requires.records c.args.routing.node.now.name) ∙ passed in
     let third : not c.args.request.now.header.proxiable ≡ false = search rules in
     let fourth : (is_some (host_in avps) && is_none (realm_in avps)) ≡ false = search rules in
     let fifth : is_for_itself c.args.routing.node.now.name (host_in avps) (realm_in avps) ≡ false = search rules in
@@ -39,7 +42,8 @@ returns-then-is_full c =
 pub returns : goal.returns
 returns c =
     let avps = avps_in_octets c.args.request.now.body in
-    let second : names_node c.args.routing.node.now.name avps ≡ false = sym (c.requires.records c.args.routing.node.now.name) ∙ sym c.names_in.ensures ∙ c.if-names_in.false in
+    let passed : names_node c.args.routing.node.now.name (avps_in_part (option_copied c.args.reading.records)) ≡ false = search rules in
+    let second : names_node c.args.routing.node.now.name avps ≡ false = sym (c.requires.records c.args.routing.node.now.name) ∙ passed in
     let third : not c.args.request.now.header.proxiable ≡ false = search rules in
     let fourth : (is_some (host_in avps) && is_none (realm_in avps)) ≡ false = search rules in
     let fifth : is_for_itself c.args.routing.node.now.name (host_in avps) (realm_in avps) ≡ false = search rules in
