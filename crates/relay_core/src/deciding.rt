@@ -2,7 +2,7 @@
 
 ghost use Rattle.std.specs.Prelude.{◌≡◌, Ok};
 ghost use Rattle.std.specs.Option.{option_copied};
-ghost use Rattle.relay_core.specs.NextHop.{candidates_for, conn_for, deliverable, first_conn, hop_by_realm, hop_to_host, next_hop, outgoing};
+ghost use Rattle.relay_core.specs.NextHop.{conn_for, deliverable, first_conn, hop_to_host, next_hop, outgoing};
 ghost use Rattle.relay_core.specs.Outgoing.{drawn};
 ghost use Rattle.relay_core.specs.Reading.{IsReadingOf, avps_in_octets};
 ghost use Rattle.relay_core.specs.Routing.{node_for};
@@ -65,7 +65,8 @@ fn is_for_itself(name: &Identity, host: Option<&[u8]>, realm: Option<&[u8]>) -> 
     }
 }
 
-/// The connection that a request in which this was read goes out on. A peer that one of its Route-Records names is
+/// The connection that a request in which this was read goes out on: to a linked peer that it names as its host, else
+/// to the first candidate of its realm and its application that is up. A peer that one of its Route-Records names is
 /// passed over. It takes no memory.
 pub(crate) fn next_hop(
     routing: Routing,
@@ -80,9 +81,20 @@ pub(crate) fn next_hop(
         records: reading.records,
         sender,
     };
-    match reading.host.and_then(|host| routing.node.peers.named(host)) {
-        Some(peer) => hop_to_host(routing, going, peer.peer, peer.kind),
-        None => hop_by_realm(routing, going, reading.realm, request.header.application),
+    if let Some(peer) = reading.host.and_then(|host| routing.node.peers.named(host)) {
+        return hop_to_host(routing, going, peer.peer, peer.kind);
+    }
+    let Some(realm) = reading.realm else {
+        return Err(ResultCode::RealmNotServed);
+    };
+    match routing
+        .node
+        .routes
+        .candidates(realm, request.header.application)
+    {
+        Err(RouteFault::RealmUnknown) => Err(ResultCode::RealmNotServed),
+        Err(RouteFault::NoApplication) => Err(ResultCode::UnableToDeliver),
+        Ok(peers) => deliverable(first_conn(routing, going, peers)),
     }
 }
 
@@ -98,25 +110,6 @@ fn hop_to_host(
     match kind {
         NodeKind::Client => Err(ResultCode::UnableToDeliver),
         NodeKind::Relay | NodeKind::Front => deliverable(conn_for(routing, going, peer)),
-    }
-}
-
-/// The candidates are those of the realm and the application.
-fn hop_by_realm(
-    routing: Routing,
-    going: Outgoing,
-    realm: Option<&[u8]>,
-    app: u32,
-) -> Result<ConnId, ResultCode>
-    ensures { result ≡ hop_by_realm (node_for routing.entry) (drawn going.entry) (candidates_for (node_for routing.entry) (option_copied realm.entry) app) }
-{
-    let Some(realm) = realm else {
-        return Err(ResultCode::RealmNotServed);
-    };
-    match routing.node.routes.candidates(realm, app) {
-        Err(RouteFault::RealmUnknown) => Err(ResultCode::RealmNotServed),
-        Err(RouteFault::NoApplication) => Err(ResultCode::UnableToDeliver),
-        Ok(peers) => deliverable(first_conn(routing, going, peers)),
     }
 }
 
