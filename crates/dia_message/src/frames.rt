@@ -1,6 +1,7 @@
 //! The messages of a stream of octets, in whatever pieces it comes.
 
-ghost use Rattle.std.specs.Prelude.{◌≡◌, ℕ, ◌≤◌, ◌<◌, List, [], ◌++◌, length, take, drop, is_some, IfOk, OnOk, OnErr, IfSome};
+ghost use Rattle.std.specs.Prelude.{◌≡◌, ℕ, ◌≤◌, ◌<◌, List, [], ◌++◌, length, take, drop, is_some, IfOk, OnOk, OnErr, IfSome, None};
+ghost use Rattle.std.specs.Result.{result_err, result_unwrap_or};
 ghost use Rattle.dia_message.specs.declared.frames.FrameFault.TheVariants.{OutOfMemory};
 ghost use Rattle.dia_message.specs.Header.{length_in};
 ghost use Rattle.dia_message.specs.Stream.{fault_at, is_whole, message_in, stream_of, unread};
@@ -99,7 +100,7 @@ impl Frames {
         // No whole message is left unread.
         ensures unread { stream_of self.now ≡ unread self.now }
     {
-        fault_of(&self.rest)
+        first_of(&self.rest).err()
     }
 }
 
@@ -110,7 +111,7 @@ pub fn whole_message(alloc: Global, octets: &[u8]) -> Result<Option<Message>, Al
     // Octets that are no message take no memory.
     ensures none { only_message octets.now ≡ None → result ≡ Ok None }
 {
-    let Some((first, behind)) = first_of(octets) else {
+    let Ok(Some((first, behind))) = first_of(octets) else {
         return Ok(None);
     };
     if !behind.is_empty() {
@@ -130,7 +131,11 @@ fn take_piece(alloc: Global, rest: &mut Vec<u8>, piece: &[u8]) -> Result<Vec<Mes
     rest.extend_from_slice(piece)?;
     match messages_of(alloc, rest) {
         Ok((messages, read)) => {
-            drop_front(rest, read);
+            if read > 0 {
+                let left = rest.len() - read;
+                rest.copy_within(read.., 0);
+                rest.truncate(left);
+            }
             Ok(messages)
         }
         Err(AllocError) => {
@@ -138,16 +143,6 @@ fn take_piece(alloc: Global, rest: &mut Vec<u8>, piece: &[u8]) -> Result<Vec<Mes
             Err(AllocError)
         }
     }
-}
-
-/// Takes so many octets away from the front.
-fn drop_front(octets: &mut Vec<u8>, count: usize)
-    requires { count ≤ length octets.now.items }
-    ensures { octets.new.items ≡ drop count octets.old.items }
-{
-    let kept = octets.len() - count;
-    octets.copy_within(count.., 0);
-    octets.truncate(kept);
 }
 
 /// The whole messages at the front, and how many octets they take.
@@ -158,61 +153,44 @@ fn messages_of(alloc: Global, octets: &[u8]) -> Result<(Vec<Message>, usize), Al
 {
     let mut messages = Vec::new(alloc);
     let mut rest = octets;
-    while let Some((first, behind)) = first_of(rest) {
+    while let Ok(Some((first, behind))) = first_of(rest) {
         messages.push(message_of(alloc, first)?)?;
         rest = behind;
     }
     Ok((messages, octets.len() - rest.len()))
 }
 
-/// The octets of the whole message at the front, and those behind it.
-fn first_of(octets: &[u8]) -> Option<(&[u8], &[u8])>
-    ensures found { is_some result ≡ is_whole octets.now }
-    ensures first { IfSome result (λ parts. parts.0.now ≡ take (length_in octets.now) octets.now) }
-    ensures behind { IfSome result (λ parts. parts.1.now ≡ drop (length_in octets.now) octets.now) }
-    ensures least { IfSome result (λ parts. 20 ≤ length parts.0.now) }
-{
-    if octets.len() < LENGTH_END || fault_of(octets).is_some() {
-        return None;
-    }
-    let length = length_of(octets);
-    if length <= octets.len() {
-        Some(octets.split_at(length))
-    } else {
-        None
-    }
-}
-
-/// Why no message can begin with these octets, where they show it.
-fn fault_of(octets: &[u8]) -> Option<FrameFault>
-    ensures { result ≡ fault_at octets.now }
+/// The octets of the message at the front and those behind it, if it is whole; or why no message can begin with these
+/// octets, where they show it.
+fn first_of(octets: &[u8]) -> Result<Option<(&[u8], &[u8])>, FrameFault>
+    ensures fault { result_err result ≡ fault_at octets.now }
+    ensures found { is_some (result_unwrap_or result None) ≡ is_whole octets.now }
+    ensures first { IfSome (result_unwrap_or result None) (λ parts. parts.0.now ≡ take (length_in octets.now) octets.now) }
+    ensures behind { IfSome (result_unwrap_or result None) (λ parts. parts.1.now ≡ drop (length_in octets.now) octets.now) }
+    ensures least { IfSome (result_unwrap_or result None) (λ parts. 20 ≤ length parts.0.now) }
 {
     if octets.is_empty() {
-        return None;
+        return Ok(None);
     }
     if octets[0] != VERSION {
-        return Some(FrameFault::Version);
+        return Err(FrameFault::Version);
     }
     if octets.len() < LENGTH_END {
-        return None;
+        return Ok(None);
     }
-    let length = length_of(octets);
-    if length < HEADER_LEN || length % 4 != 0 {
-        Some(FrameFault::Length)
-    } else if length > MESSAGE_LIMIT {
-        Some(FrameFault::TooLong)
-    } else {
-        None
-    }
-}
-
-/// The Message Length that stands behind the version.
-fn length_of(octets: &[u8]) -> usize
-    requires { 4 ≤ length octets.now }
-    ensures { result ≡ length_in octets.now }
-{
     let (_, behind) = octets.split_at(1);
-    BigEndian::read_u24(behind) as usize
+    let length = BigEndian::read_u24(behind) as usize;
+    if length < HEADER_LEN || length % 4 != 0 {
+        return Err(FrameFault::Length);
+    }
+    if length > MESSAGE_LIMIT {
+        return Err(FrameFault::TooLong);
+    }
+    if length <= octets.len() {
+        Ok(Some(octets.split_at(length)))
+    } else {
+        Ok(None)
+    }
 }
 
 /// The message of octets that are one whole message. Its body is a buffer of its own, which the values

@@ -8,4 +8,4 @@ returns-clause-unread c = ap stream_of (sym c.self.view_is) ∙ stream_of-own c.
 
 pub returns-clause-value : goal.returns-clause-value
 returns-clause-value c =
-    c.fault_of.ensures ∙ ap fault_at (c.deref.ensures.value ∙ c.self.view_is) ∙ sym (ap (λ (s : Stream). s.fault) (returns-clause-unread c))
+    c.err.ensures.value ∙ c.first_of.ensures.fault ∙ ap fault_at (c.deref.ensures.value ∙ c.self.view_is) ∙ sym (ap (λ (s : Stream). s.fault) (returns-clause-unread c))
