@@ -366,12 +366,7 @@ impl Recorder {
     pub fn sent(&mut self, alloc: Global, messages: &[(ConnId, Message)])
         ensures { TellsAll (sent_word self.old.is_client) self.old messages.now self.new }
     {
-        self.tell_messages(alloc, sent_word(self.is_client), messages);
-    }
-
-    fn tell_messages(&mut self, alloc: Global, word: &str, messages: &[(ConnId, Message)])
-        ensures { TellsAll word.now self.old messages.now self.new }
-    {
+        let word = sent_word(self.is_client);
         for (conn, message) in messages {
             self.tell_message(alloc, word, *conn, message);
         }
