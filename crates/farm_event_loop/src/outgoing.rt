@@ -66,14 +66,6 @@ fn makes_wait<R: Read + Device, W: Write + Device>(link: &Link<R, W>) -> bool
     link.end.is_none() && is_behind(link.conn.unsent())
 }
 
-/// Whether a connection is behind, if it is still there.
-fn is_behind_on<N: Node, R: Read + Device, W: Write + Device>(
-    serving: &Serving<N, R, W>,
-    conn: ConnId,
-) -> bool {
-    serving.link(conn).is_some_and(|link| makes_wait(link))
-}
-
 impl Outgoing {
     /// None at this moment. The interval is that of the watchdog, in milliseconds.
     pub fn new(alloc: Global, interval: u32, moment: Moment) -> Self {
@@ -127,7 +119,7 @@ impl Outgoing {
     ) {
         let mut behind: usize = 0;
         for conn in &self.conns {
-            if is_behind_on(serving, *conn) {
+            if serving.link(*conn).is_some_and(|link| makes_wait(link)) {
                 behind = behind.saturating_add(1);
             }
         }

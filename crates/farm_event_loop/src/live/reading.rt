@@ -39,7 +39,10 @@ impl<N: Node + Drop> Live<N> {
     /// listener like that.
     pub(super) fn may_not_wait(&self, site: &Site, moment: Moment) -> bool {
         for unread in &self.later {
-            if self.most_of(site, *unread, moment) > 0 {
+            let most = self
+                .outgoing
+                .most_on(site, &self.serving, unread.conn, unread.since, moment);
+            if most > 0 {
                 return true;
             }
         }
@@ -54,12 +57,6 @@ impl<N: Node + Drop> Live<N> {
             .any(|listening| listening.callers.may_wait(moment))
     }
 
-    /// How many messages are read at most of a connection at this moment.
-    fn most_of(&self, site: &Site, unread: Unread, moment: Moment) -> usize {
-        self.outgoing
-            .most_on(site, &self.serving, unread.conn, unread.since, moment)
-    }
-
     /// Reads on a connection for one turn, unless it has to wait for others, or for its own answers. Where more may be there, it is
     /// read again at the next one.
     fn read_one<O: Clock>(
@@ -70,7 +67,9 @@ impl<N: Node + Drop> Live<N> {
         moment: Moment,
     ) -> Result<(), LoopFault> {
         self.outgoing.look(&self.serving, moment);
-        let most = self.most_of(site, unread, moment);
+        let most = self
+            .outgoing
+            .most_on(site, &self.serving, unread.conn, unread.since, moment);
         self.read_at_most(os, unread, most, moment)
     }
 
