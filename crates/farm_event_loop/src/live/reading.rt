@@ -158,6 +158,7 @@ impl<N: Node + Drop> Live<N> {
         Ok(())
     }
 
+    /// Serves one thing that was reported. A connection that was read for this turn is read again at the next one.
     fn serve_one<O: Clock>(
         &mut self,
         os: &O,
@@ -175,36 +176,22 @@ impl<N: Node + Drop> Live<N> {
                     listening.callers = Callers::MayWait;
                 }
             }
-            Source::Conn { conn } => {
-                if ready.reads {
-                    self.read_reported(os, site, conn, ready.closes, moment)?;
+            Source::Conn { conn } if ready.reads => {
+                let known = self.later.iter_mut().find(|unread| unread.conn == conn);
+                if let Some(unread) = known {
+                    *unread = reported(*unread, ready.closes);
+                    return Ok(());
                 }
+                let unread = Unread {
+                    conn,
+                    closes: ready.closes,
+                    waits: false,
+                    since: moment,
+                };
+                self.read_one(os, site, unread, moment)?;
             }
+            Source::Conn { .. } => {}
         }
         Ok(())
-    }
-
-    /// Reads on a connection that was reported, unless it was read for this turn and is read again at the next one.
-    fn read_reported<O: Clock>(
-        &mut self,
-        os: &O,
-        site: &Site,
-        conn: ConnId,
-        closes: bool,
-        moment: Moment,
-    ) -> Result<(), LoopFault> {
-        for unread in self.later.iter_mut() {
-            if unread.conn.0 == conn.0 {
-                *unread = reported(*unread, closes);
-                return Ok(());
-            }
-        }
-        let unread = Unread {
-            conn,
-            closes,
-            waits: false,
-            since: moment,
-        };
-        self.read_one(os, site, unread, moment)
     }
 }
