@@ -263,7 +263,12 @@ impl<N: Node + Drop> Live<N> {
         let moment = self.begin_turn(os)?;
         self.outgoing.find(site, &self.serving)?;
         self.read_again(os, site, moment)?;
-        self.serve_ready(os, site, moment)?;
+        for at in 0..self.sockets.ready.len() {
+            if let Some(ready) = self.sockets.ready.get(at) {
+                let ready = *ready;
+                self.serve_one(os, site, ready, moment)?;
+            }
+        }
         if !self.outgoing.drains() {
             self.accept_all(log, site, access, moment);
         }

@@ -142,24 +142,8 @@ impl<N: Node + Drop> Live<N> {
         Ok(())
     }
 
-    /// Serves what was reported.
-    pub(super) fn serve_ready<O: Clock>(
-        &mut self,
-        os: &O,
-        site: &Site,
-        moment: Moment,
-    ) -> Result<(), LoopFault> {
-        for at in 0..self.sockets.ready.len() {
-            if let Some(ready) = self.sockets.ready.get(at) {
-                let ready = *ready;
-                self.serve_one(os, site, ready, moment)?;
-            }
-        }
-        Ok(())
-    }
-
     /// Serves one thing that was reported. A connection that was read for this turn is read again at the next one.
-    fn serve_one<O: Clock>(
+    pub(super) fn serve_one<O: Clock>(
         &mut self,
         os: &O,
         site: &Site,
