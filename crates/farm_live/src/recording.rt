@@ -120,14 +120,15 @@ impl Record {
         })
     }
 
-    /// Writes lines; whether they are written. Where that fails it is told once, and nothing is written any more.
+    /// Writes lines; whether there is a file, and they are written. Where that fails it is told once, and nothing is written
+    /// any more.
     fn put(&mut self, log: &Logger, lines: &[u8]) -> bool {
-        if lines.is_empty() {
-            return true;
-        }
         let Some(file) = &mut self.file else {
             return false;
         };
+        if lines.is_empty() {
+            return true;
+        }
         let Err(error) = file.write_all(lines) else {
             return true;
         };
@@ -176,11 +177,8 @@ impl Record {
         }
     }
 
-    /// Writes what was recorded and is not written yet.
+    /// Writes what was recorded and is not written yet. Where that fails, or there is no file any more, no more is recorded.
     pub fn write<N: Node + Drop>(&mut self, log: &Logger, live: &mut Live<N>) {
-        if self.file.is_none() {
-            return;
-        }
         if self.put(log, live.serving.recorder().lines()) {
             live.serving.record_written();
         } else {

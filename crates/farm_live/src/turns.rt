@@ -23,8 +23,10 @@ pub fn turn<O: Net + Clock, N: Booked>(
 ) -> Result<(), Fault> {
     let moment = live.hear(setting.os, setting.log, setting.site, setting.access)?;
     N::tell(live);
-    recording.follow(setting, moment);
-    recording.write(setting.log, live);
+    if recording.is_on() {
+        recording.follow(setting, moment);
+        recording.write(setting.log, live);
+    }
     live.answer(
         setting.os,
         setting.log,
