@@ -1,30 +1,21 @@
 -- What is said and done at one connection.
-use Rattle.std.proofs.Common.{◌≡◌, ℕ, Bool, true, List, [], ◌∷◌, ◌++◌, Some, Result, Ok, Err, IfErr, IfOk, OnOk, OnErr, MatchResult, get_or, sym, subst, ap, ◌∙◌}
+use Rattle.std.proofs.Common.{◌≡◌, ℕ, Bool, true, List, [], ◌∷◌, ◌++◌, Result, Ok, Err, IfOk, OnOk, OnErr, MatchResult, get_or, sym, subst, ap, ◌∙◌}
 use Rattle.std.specs.Prelude.{slice_set}
 use Rattle.std.proofs.lemmas.List.{append-nil, append_assoc, set-get_or}
 use Rattle.dia_base.specs.declared.number.Moment.{Moment}
-use Rattle.dia_base.specs.declared.number.NodeNo.{NodeNo}
-use Rattle.dia_message.specs.declared.message.Message.{Message}
 use Rattle.dia_message.specs.Traffic.{Traffic}
 use Rattle.farm_node.specs.Events.{NodeEvent}
 use Rattle.farm_node.specs.declared.error.NodeError.{NodeError}
 use Rattle.farm_watch.specs.Numbering.{numbered, numbered_effect}
-use Rattle.farm_watch.specs.Table.{Connection, Effect, after_message}
-use Rattle.farm_watch.specs.declared.site.WatchSite.{WatchSite}
+use Rattle.farm_watch.specs.Table.{Connection, Effect}
 use Rattle.farm_watch.specs.declared.acts.Act.{Act}
 use Rattle.farm_watch.specs.declared.numbering.Numbering.{Numbering}
 use Rattle.farm_connections.specs.declared.desk.Desk.{Desk}
-use Rattle.farm_connections.specs.declared.end.End.{End}
-use Rattle.farm_connections.specs.declared.end.End.TheVariants.{OutOfMemory}
 use Rattle.farm_connections.specs.declared.link.Link.{Link}
-use Rattle.farm_connections.specs.declared.local.LocalNode.{LocalNode}
 use Rattle.farm_connections.specs.Desks.{kept_by}
-use Rattle.farm_connections.specs.Doing.{AtPlace, Becomes, DoesAct, Heard, IsStill, IsToldOnly, Lived, Lives, Performs, Says, goes_on}
-use Rattle.farm_connections.specs.Locals.{site_at}
-use Rattle.farm_connections.specs.Naming.{IsKeptOut, misnamed}
+use Rattle.farm_connections.specs.Doing.{AtPlace, Becomes, DoesAct, IsStill, IsToldOnly, Lived, Lives, Performs, Says, goes_on}
 use Rattle.farm_connections.specs.Sending.{AllGoOut}
 use Rattle.farm_connections.specs.Turns.{Kept, Mark}
-use Rattle.farm_connections.proofs.Locals.{unheard_here}
 use Rattle.farm_connections.proofs.Placing.{keeping}
 
 -- what a node says that is told of the connection at a place
@@ -119,16 +110,18 @@ lived_at {N} {R} {W} result effect_of here link next place old new same read is 
     subst (λ (l : Link R W). MatchResult result (λ acts. Lived (effect_of l.watch) acts place l old new) (λ e. IsStill old new)) same
     (lived result (effect_of here.watch) here next place old new read is on still node links)
 
--- what it says to a message
-pub heard_at : {N R W : Type 0} (result : Result (List Act) End) (locals : List LocalNode) (site : WatchSite) (nodes : List NodeNo) (moment : Moment) (m : Message)
-    (here link next : Link R W) (place : ℕ) (old new : Desk N R W) → here ≡ link → here ≡ get_or old.links.items place here
-    → site_at link.local locals ≡ Some site → IfErr result (λ why. why ≡ OutOfMemory) → IsKeptOut (misnamed here site m) nodes → IfOk result (λ acts. acts ≡ (after_message site nodes moment m here.watch).acts)
-    → OnOk result (next ≡ record here { watch = (after_message site nodes moment m here.watch).next }) → OnErr result (next ≡ here) → new.node ≡ old.node
-    → new.links.items ≡ slice_set old.links.items place next → Heard locals moment m place link old new result
-heard_at {N} {R} {W} (Ok acts) locals site nodes moment m here link next place old new same read at memory out is on still node links =
-    (site, at, nodes, subst (λ (l : Link R W). IsKeptOut (misnamed l site m) nodes) same out, lived_at {E = End} (Ok acts) (λ (conn : Connection). after_message site nodes moment m conn) here link next place old new same read is on still node links)
-heard_at (Err why) locals site nodes moment m here link next place old new same read at memory out is on still node links =
-    (unheard_here (site_at link.local locals) site why at memory, lived_at {E = End} (Err why) (λ (conn : Connection). after_message site nodes moment m conn) here link next place old new same read is on still node links)
+-- the connection at a place as it lives on
+pub lives_on : {R W : Type 0} (effect_of : Connection → Effect) (links : List (Link R W)) (place : ℕ) (here link : Link R W) (watch : Connection) → here ≡ link
+    → watch ≡ (effect_of here.watch).next
+    → slice_set links place (record here { watch = watch }) ≡ slice_set links place (record link { watch = (effect_of link.watch).next })
+lives_on {R} {W} effect_of links place here link watch same next =
+    ap (λ (w : Connection). slice_set links place (record here { watch = w })) next
+    ∙ ap (λ (l : Link R W). slice_set links place (record l { watch = (effect_of l.watch).next })) same
+
+-- and where it is as it was
+pub stays_here : {R W : Type 0} (links : List (Link R W)) (place : ℕ) (here next : Link R W) → next ≡ here → here ≡ get_or links place here
+    → slice_set links place next ≡ links
+stays_here {R} {W} links place here next still read = ap (λ (l : Link R W). slice_set links place l) (still ∙ read) ∙ set-get_or links place here
 
 -- and that it is done
 pub lives_so : {N R W : Type 0} {On : N → NodeEvent → Traffic → Result (Unit {0}) NodeError → N → Type 0} (effect : Effect) (acts : List Act) (place : ℕ)

@@ -7,3 +7,4 @@ pub mod Doing
 pub mod Misnaming
 pub mod Calls
 pub mod Locals
+pub mod Untold

@@ -6,6 +6,7 @@ use Rattle.dia_base.specs.declared.number.Moment.{Moment}
 use Rattle.dia_base.specs.declared.number.NodeNo.{NodeNo}
 use Rattle.dia_message.specs.declared.message.Message.{Message}
 use Rattle.dia_message.specs.Traffic.{Traffic}
+use Rattle.farm_connections.specs.declared.desk.Desk.{Desk}
 use Rattle.farm_connections.specs.declared.link.Link.{Link}
 use Rattle.farm_net.specs.Connection.{Connection as Streams, connection}
 use Rattle.farm_watch.specs.Numbering.{numbered}
@@ -15,6 +16,7 @@ use Rattle.farm_watch.specs.declared.numbering.Numbering.{Numbering}
 use Rattle.farm_watch.specs.declared.site.Side.{Side}
 use Rattle.farm_watch.specs.declared.site.WatchSite.{WatchSite}
 use Rattle.farm_connections.specs.declared.local.LocalNode.{LocalNode}
+use Rattle.farm_connections.specs.Desks.{marks_of}
 use Rattle.farm_connections.specs.Locals.{site_at}
 use Rattle.farm_connections.specs.Sending.{AllGoOut, Begins, BeginsSo, GoesOut, GreetsAll, GreetsOn, greets_more, one_more_goes}
 
@@ -29,6 +31,29 @@ one_more first links next out index item within read before goes =
 pub all_gone : {R W : Type 0} (first links : List (Link R W)) (out : Traffic) (index : ℕ) → length out ≤ index → AllGoOut first (take index out) links
     → AllGoOut first out links
 all_gone first links out index past goes = subst (λ (sent : Traffic). AllGoOut first sent links) (take_all index out past) goes
+
+-- The messages up to this index have gone out, and the process has not changed in anything else that its node knows.
+pub record GoneOut {N R W : Type 0} (old : Desk N R W) (out : Traffic) (index : ℕ) (now : Desk N R W) : Type 0 where
+  pub node : now.node ≡ old.node
+  pub marks : marks_of now.links.items ≡ marks_of old.links.items
+  pub made : now.made ≡ old.made
+  pub failed : now.failed ≡ old.failed
+  pub places : length now.links.items ≡ length old.links.items
+  pub sent : AllGoOut old.links.items (take index out) now.links.items
+
+-- and one more
+pub one_gone : {N R W : Type 0} (old mid new : Desk N R W) (out : Traffic) (index : ℕ) (item : ConnId × Message) → index < length out
+    → item ≡ get_or out index item → GoneOut old out index mid → new.node ≡ mid.node → new.made ≡ mid.made → new.failed ≡ mid.failed
+    → marks_of new.links.items ≡ marks_of mid.links.items → length new.links.items ≡ length mid.links.items
+    → GoesOut item.0 item.1 mid.links.items new.links.items → GoneOut old out (index + 1) new
+one_gone old mid new out index item within read before node made failed marks places goes = record {
+  node = node ∙ before.node;
+  marks = marks ∙ before.marks;
+  made = made ∙ before.made;
+  failed = failed ∙ before.failed;
+  places = places ∙ before.places;
+  sent = one_more old.links.items mid.links.items new.links.items out index item within read before.sent goes;
+}
 
 -- ---- what a new connection sends first
 

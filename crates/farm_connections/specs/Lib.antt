@@ -6,3 +6,4 @@ pub mod Naming
 pub mod Locals
 pub mod Calls
 pub mod Counting
+pub mod Recording

@@ -1,33 +1,33 @@
 //! A node with its connections: what it is told, and in which order, and what is sent.
 
-ghost use Rattle.std.specs.Prelude.{◌≡◌, ◌<◌, ◌≤◌, ◌+◌, ◌∷◌, ◌++◌, [], length, slice_index_or, vec_capacity, IfNone, IfOk, IfSome, OnErr, Err, Ok, true, false};
+ghost use Rattle.std.specs.Prelude.{◌≡◌, ◌<◌, ◌+◌, ◌∷◌, ◌++◌, [], length, slice_index_or, vec_capacity, IfNone, IfOk, IfSome, OnErr, None, true, false};
 ghost use Rattle.std.specs.List.{remove};
 ghost use Rattle.farm_node.specs.Events as event;
 ghost use Rattle.farm_watch.specs.declared.acts.Act.TheVariants as life;
-ghost use Rattle.farm_connections.specs.Calls.{BringsHere, BringsOn, HearsAll, Reads, Settles};
+ghost use Rattle.farm_connections.specs.Calls.{BringsOn, Settles};
 ghost use Rattle.farm_connections.specs.Doing.{AtPlace, Becomes, DoesAct, EndsFor, EndsWhereRefused, FailsWhereRefused, Greets, HasEnded, Heard, Hears, Performs, Says, StandsUnlessRefused, left_for};
 ghost use Rattle.farm_connections.specs.Desks.{AreSettled, IsDownAt, IsPlaceOf, MayComeUpAt, NeverAsks, StandsAt, Tells, is_to_be_told, kept_by, mark_of, marks_of, ups};
-ghost use Rattle.farm_connections.specs.Naming.{IsKeptOut};
-ghost use Rattle.farm_connections.specs.Sending.{AllGoOut, AreInOrder, GoesOut, GreetsAll, HasFlushed, HasNone, IsNumberedAt, IsSentOn, WritesOn};
+ghost use Rattle.farm_connections.specs.Naming.{IsKeptOut, awaited, misnamed};
+ghost use Rattle.farm_connections.specs.Sending.{AllGoOut, AreInOrder, GreetsAll, HasFlushed, HasNone, IsNumberedAt, IsSentOn, WritesOn};
 
 use crate::counting::{count_failovers, count_lost, count_passed, count_sent, count_up};
 use crate::end::End;
 use crate::link::{
-    Link, Standing, be_over, come_up, end_at, end_unless_told, flush_at, greet_at, hear_at,
-    is_waiting, loss_of, may_come_up, open_peer, part_at, post_at, receive_at, send_at,
+    Link, Standing, be_over, come_up, end_at, end_unless_told, flush_at, greet_at, is_waiting,
+    loss_of, may_come_up, open_peer, part_at, post_at, send_at,
 };
 use crate::local::{LocalNode, site_of};
 use crate::naming::misnamed;
 use crate::note::{Notes, kept_body};
-use crate::recording::{record_lost, record_message, record_refusal, record_sent, record_up};
+use crate::recording::{record_lost, record_message, record_reaction, record_sent, record_up};
 use dia_avp::Wire;
 use dia_base::{ConnId, Moment, NodeNo};
 use dia_message::{Message, Out};
 use farm_metrics::Tally;
-use farm_net::{Device, Received};
+use farm_net::Device;
 use farm_node::{Node, NodeError};
 use farm_record::Recorder;
-use farm_watch::{Act, Acts, DisconnectCause, Numbering, Waits};
+use farm_watch::{Act, Acts, DisconnectCause, Numbering, Waits, WatchSite};
 use std::alloc::{AllocError, Global};
 use std::io::{Read, Write};
 
@@ -101,7 +101,8 @@ fn peers_of<R, W>(
 
 /// Whether the life of a connection asks which nodes are up, by what it waits for: only while capabilities are exchanged.
 fn asks_who_is_up(waits: Waits) -> bool
-    ensures { result ≡ false → NeverAsks waits }
+    ensures never { result ≡ false → NeverAsks waits }
+    ensures nobody { result ≡ false → awaited waits ≡ None }
 {
     match waits {
         Waits::ForCer { .. } | Waits::ForCea { .. } => true,
@@ -113,33 +114,27 @@ fn asks_who_is_up(waits: Waits) -> bool
     }
 }
 
-/// The nodes that are not welcome on a connection: those that are up on others of its node, and those that may not come from
-/// where its other end is. None where its life does not ask, which takes no memory.
-fn unwelcome_on<R, W>(
+/// The nodes that are not welcome on a connection, by a message that comes on it while its life asks: those that are up on
+/// others of its node, those that may not come from where its other end is, and the node that was connected to, where the
+/// message is its answer and does not name it ([`misnamed`]). That one is noted.
+fn unwelcome_on<P: Wire, R, W>(
     alloc: Global,
     links: &[Link<R, W>],
     link: &Link<R, W>,
-) -> Result<Vec<NodeNo>, AllocError> {
-    if !asks_who_is_up(link.watch.waits()) {
-        return Ok(Vec::new(alloc));
-    }
+    site: &WatchSite,
+    message: &Message,
+    notes: &mut Notes,
+) -> Result<Vec<NodeNo>, AllocError>
+    ensures { IfOk result (λ nodes. IsKeptOut (misnamed link.now site.now message.now) nodes.items) }
+{
     let mut nodes = peers_of(alloc, links, link.local)?;
     nodes.extend_from_slice(&link.barred)?;
-    Ok(nodes)
-}
-
-/// The same with the node that was connected to and does not come up, if there is one.
-fn unwelcome_with<R, W>(
-    alloc: Global,
-    links: &[Link<R, W>],
-    link: &Link<R, W>,
-    misnamed: Option<NodeNo>,
-) -> Result<Vec<NodeNo>, AllocError>
-    ensures { IfOk result (λ nodes. IsKeptOut misnamed nodes.items) }
-{
-    let nodes = unwelcome_on(alloc, links, link)?;
+    let misnamed = misnamed::<P, R, W>(alloc, link, site, message)?;
     match misnamed {
-        Some(node) => with_node(nodes, node),
+        Some(node) => {
+            notes.misnamed::<P>(alloc, link.id, node, message);
+            with_node(nodes, node)
+        }
         None => Ok(nodes),
     }
 }
@@ -192,32 +187,6 @@ fn has_failed(failed: bool, outcome: &Result<(), NodeError>) -> bool
     }
 }
 
-/// A message of the node goes out on its connection, or nowhere where there is none.
-fn send_one<R: Read + Device, W: Write + Device>(
-    links: &mut Vec<Link<R, W>>,
-    conn: ConnId,
-    message: &Message,
-    moment: Moment,
-)
-    ensures marks { marks_of links.new.items ≡ marks_of links.old.items }
-    ensures places { length links.new.items ≡ length links.old.items }
-    ensures sent { GoesOut conn message.now links.old.items links.new.items }
-{
-    if let Some(place) = place_of(links, conn) {
-        post_at(&mut links[place], message, moment);
-    }
-}
-
-/// Each connection writes for one turn.
-pub fn flush_all<R: Read + Device, W: Write + Device>(links: &mut Vec<Link<R, W>>, moment: Moment)
-    ensures marks { marks_of links.new.items ≡ marks_of links.old.items }
-    ensures places { length links.new.items ≡ length links.old.items }
-{
-    for place in 0..links.len() {
-        flush_at(&mut links[place], moment);
-    }
-}
-
 /// What a new connection sends first.
 pub fn greet<R: Read + Device, W: Write + Device>(link: &mut Link<R, W>, acts: Acts, moment: Moment)
     ensures mark { mark_of link.new ≡ mark_of link.old }
@@ -258,7 +227,7 @@ impl<N: Node, R: Read + Device, W: Write + Device> Desk<N, R, W> {
         self.links.remove(place)
     }
 
-    /// What the node sends goes out, each message on its own connection.
+    /// What the node sends goes out, each message on its own connection, or nowhere where there is none.
     pub fn send_all(&mut self, out: &Out, moment: Moment)
         ensures places { length self.new.links.items ≡ length self.old.links.items }
         ensures kept { kept_by self.new ≡ kept_by self.old }
@@ -268,7 +237,9 @@ impl<N: Node, R: Read + Device, W: Write + Device> Desk<N, R, W> {
         for (conn, message) in out.items.as_slice() {
             self.answers = count_after(self.answers, message);
             count_sent(&mut self.tally, *conn, message);
-            send_one(&mut self.links, *conn, message, moment);
+            if let Some(place) = place_of(&self.links, *conn) {
+                post_at(&mut self.links[place], message, moment);
+            }
         }
     }
 
@@ -342,8 +313,7 @@ impl<N: Node, R: Read + Device, W: Write + Device> Desk<N, R, W> {
         end_unless_told(&mut self.links[place], asks, reaction.outcome, moment);
         self.notes
             .answers::<P>(self.alloc, conn, body.as_ref(), &reaction.out);
-        record_refusal(&mut self.recorder, reaction.outcome);
-        record_sent(self.alloc, &mut self.recorder, &reaction.out);
+        record_reaction(self.alloc, &mut self.recorder, &reaction);
         self.send_all(&reaction.out, moment);
     }
 
@@ -400,43 +370,8 @@ impl<N: Node, R: Read + Device, W: Write + Device> Desk<N, R, W> {
         }
     }
 
-    /// The node is told that its neighbour is up, unless the connection has ended.
-    fn greet_peer(&mut self, place: usize, peer: NodeNo, moment: Moment)
-        requires { place < length self.old.links.items }
-        ensures tells { Tells N.on_event self.old self.new }
-        ensures places { length self.new.links.items ≡ length self.old.links.items }
-        ensures does { AtPlace self.old place (λ link. DoesAct N.on_event place (life.PeerUp peer) link self.old self.new) }
-    {
-        if is_waiting(&self.links[place]) {
-            self.greet_waiting(place, peer, moment);
-        }
-    }
-
-    /// The node is told of a message, unless the connection has ended or no node is up on it.
-    fn pass<P: Wire>(&mut self, place: usize, message: Message, moment: Moment)
-        requires { place < length self.old.links.items }
-        ensures tells { Tells N.on_event self.old self.new }
-        ensures places { length self.new.links.items ≡ length self.old.links.items }
-        ensures does { AtPlace self.old place (λ link. DoesAct N.on_event place (life.Pass message) link self.old self.new) }
-    {
-        if let Some(peer) = open_peer(&self.links[place]) {
-            self.tell_message::<P>(place, peer, message, moment);
-        }
-    }
-
-    /// The node is told that its neighbour leaves, unless the connection has ended or no node is up on it.
-    fn let_leave(&mut self, place: usize, cause: DisconnectCause, moment: Moment)
-        requires { place < length self.old.links.items }
-        ensures tells { Tells N.on_event self.old self.new }
-        ensures places { length self.new.links.items ≡ length self.old.links.items }
-        ensures does { AtPlace self.old place (λ link. DoesAct N.on_event place (life.PeerLeaves cause) link self.old self.new) }
-    {
-        if let Some(peer) = open_peer(&self.links[place]) {
-            self.tell_leaving(place, peer, cause, moment);
-        }
-    }
-
-    /// An act of the life of a connection.
+    /// An act of the life of a connection. The node is told that its neighbour is up unless the connection has ended, and of a
+    /// message, or that its neighbour leaves, where a node is up on one that has not ended.
     fn act<P: Wire>(&mut self, place: usize, act: Act, why: End, moment: Moment)
         requires { place < length self.old.links.items }
         ensures tells { Tells N.on_event self.old self.new }
@@ -445,9 +380,21 @@ impl<N: Node, R: Read + Device, W: Write + Device> Desk<N, R, W> {
     {
         match act {
             Act::Send(message) => self.send_here(place, &message, moment),
-            Act::PeerUp(peer) => self.greet_peer(place, peer, moment),
-            Act::PeerLeaves(cause) => self.let_leave(place, cause, moment),
-            Act::Pass(message) => self.pass::<P>(place, message, moment),
+            Act::PeerUp(peer) => {
+                if is_waiting(&self.links[place]) {
+                    self.greet_waiting(place, peer, moment);
+                }
+            }
+            Act::PeerLeaves(cause) => {
+                if let Some(peer) = open_peer(&self.links[place]) {
+                    self.tell_leaving(place, peer, cause, moment);
+                }
+            }
+            Act::Pass(message) => {
+                if let Some(peer) = open_peer(&self.links[place]) {
+                    self.tell_message::<P>(place, peer, message, moment);
+                }
+            }
             Act::Drop => self.end_here(place, why, moment),
         }
     }
@@ -482,22 +429,22 @@ impl<N: Node, R: Read + Device, W: Write + Device> Desk<N, R, W> {
         let Some(site) = site_of(locals, link.local) else {
             return Err(End::Closed);
         };
-        let Ok(misnamed) = misnamed::<P, R, W>(self.alloc, link, site, &message) else {
+        let alloc = self.alloc;
+        let unwelcome = if asks_who_is_up(link.watch.waits()) {
+            unwelcome_on::<P, R, W>(alloc, &self.links, link, site, &message, &mut self.notes)
+        } else {
+            Ok(Vec::new(alloc))
+        };
+        let Ok(unwelcome) = unwelcome else {
             return Err(End::OutOfMemory);
         };
-        let Ok(unwelcome) = unwelcome_with(self.alloc, &self.links, link, misnamed) else {
-            return Err(End::OutOfMemory);
-        };
-        let (alloc, conn) = (self.alloc, link.id);
-        self.notes.misnamed::<P>(alloc, conn, misnamed, &message);
-        hear_at::<P, R, W>(
-            alloc,
-            &mut self.links[place],
-            site,
-            &unwelcome,
-            message,
-            moment,
-        )
+        match self.links[place]
+            .watch
+            .on_message::<P>(alloc, site, &unwelcome, moment, message)
+        {
+            Ok(acts) => Ok(acts),
+            Err(AllocError) => Err(End::OutOfMemory),
+        }
     }
 
     /// A message came on a connection.
@@ -524,37 +471,8 @@ impl<N: Node, R: Read + Device, W: Write + Device> Desk<N, R, W> {
         }
     }
 
-    /// Messages came on a connection.
-    fn hear_all<P: Wire>(
-        &mut self,
-        locals: &[LocalNode],
-        place: usize,
-        messages: Vec<Message>,
-        moment: Moment,
-    )
-        requires { place < length self.old.links.items }
-        ensures tells { Tells N.on_event self.old self.new }
-        ensures places { length self.new.links.items ≡ length self.old.links.items }
-        ensures hears { HearsAll N.on_event locals.now moment place self.old messages.items self.new }
-    {
-        for message in messages {
-            self.hear::<P>(locals, place, message, moment);
-        }
-    }
-
-    /// What a connection brings in one turn, so many messages at most.
-    fn received_here(&mut self, place: usize, piece: &mut [u8], most: usize) -> Received
-        requires within { place < length self.old.links.items }
-        requires piece { 0 < length piece.old }
-        ensures few { length result.messages.items ≤ most }
-        ensures kept { kept_by self.new ≡ kept_by self.old }
-        ensures places { length self.new.links.items ≡ length self.old.links.items }
-        ensures reads { AtPlace self.old place (λ link. Becomes (Reads R.remaining result.messages.items result.outcome link) place self.old self.new) }
-    {
-        receive_at(&mut self.links[place], piece, most)
-    }
-
-    /// A connection reads for one turn, so many messages at most. A number that none has changes nothing.
+    /// A connection reads for one turn, so many messages at most, and each of them is heard. A number that none has changes
+    /// nothing, and neither does a connection that has ended.
     pub fn receive_on<P: Wire>(
         &mut self,
         locals: &[LocalNode],
@@ -567,8 +485,18 @@ impl<N: Node, R: Read + Device, W: Write + Device> Desk<N, R, W> {
         ensures tells { Tells N.on_event self.old self.new }
         ensures brings { BringsOn N.on_event R.remaining locals.now most moment conn self.old self.new }
     {
-        if let Some(place) = place_of(&self.links, conn) {
-            self.receive::<P>(locals, place, piece, most, moment);
+        let Some(place) = place_of(&self.links, conn) else {
+            return;
+        };
+        if self.links[place].end.is_some() {
+            return;
+        }
+        let received = self.links[place].conn.receive(piece, most);
+        for message in received.messages {
+            self.hear::<P>(locals, place, message, moment);
+        }
+        if let Err(loss) = received.outcome {
+            self.end_here(place, End::Loss(loss), moment);
         }
     }
 
@@ -588,31 +516,6 @@ impl<N: Node, R: Read + Device, W: Write + Device> Desk<N, R, W> {
         ensures writes { AtPlace self.old place (λ link. Becomes (HasFlushed link) place self.old self.new) }
     {
         flush_at(&mut self.links[place], moment);
-    }
-
-    /// A connection reads for one turn, so many messages at most.
-    fn receive<P: Wire>(
-        &mut self,
-        locals: &[LocalNode],
-        place: usize,
-        piece: &mut [u8],
-        most: usize,
-        moment: Moment,
-    )
-        requires within { place < length self.old.links.items }
-        requires piece { 0 < length piece.old }
-        ensures tells { Tells N.on_event self.old self.new }
-        ensures places { length self.new.links.items ≡ length self.old.links.items }
-        ensures brings { AtPlace self.old place (λ link. BringsHere N.on_event R.remaining locals.now most moment place link self.old self.new) }
-    {
-        if self.links[place].end.is_some() {
-            return;
-        }
-        let received = self.received_here(place, piece, most);
-        self.hear_all::<P>(locals, place, received.messages, moment);
-        if let Err(loss) = received.outcome {
-            self.end_here(place, End::Loss(loss), moment);
-        }
     }
 
     /// The node is told of each end that it has not been told of.

@@ -1,20 +1,18 @@
 //! One connection of a process.
 
-ghost use Rattle.std.specs.Prelude.{◌≡◌, ◌==◌, ◌<◌, ◌≤◌, ◌+◌, ◌-◌, ◌^◌, if◌then◌else◌, min, IfErr, IfNone, IfOk, IfSome, IsSome, OnOk, OnErr, length, false};
+ghost use Rattle.std.specs.Prelude.{◌≡◌, ◌==◌, ◌+◌, ◌-◌, ◌^◌, if◌then◌else◌, min, IfNone, IfOk, IfSome, IsSome, OnOk, OnErr, false};
 ghost use Rattle.std.specs.List.{list_any};
 ghost use Rattle.farm_connections.specs.Desks.{is_to_be_told, mark_of, peer_of, standing_after};
-ghost use Rattle.farm_connections.specs.Calls.{Reads};
 ghost use Rattle.farm_connections.specs.Doing.{HasEnded, IsToldOnly, awaits, end_after, left_for, open_peer};
 ghost use Rattle.farm_connections.specs.Sending.{GreetsOn, HasFlushed, IsSentOn};
 ghost use Rattle.farm_connections.specs.Turns.{may_come_up, standing_as};
-ghost use Rattle.farm_watch.specs.Table.{after_close, after_message, after_tick};
+ghost use Rattle.farm_watch.specs.Table.{after_close, after_tick};
 
 use crate::end::End;
 use crate::naming::NameRule;
-use dia_avp::Wire;
 use dia_base::{ConnId, Moment, NodeNo};
 use dia_message::Message;
-use farm_net::{Conn, Device, Received};
+use farm_net::{Conn, Device};
 use farm_node::NodeError;
 use farm_watch::{Act, Acts, DisconnectCause, Watch, WatchSite};
 use std::alloc::{AllocError, Global};
@@ -258,30 +256,6 @@ pub(crate) fn greet_at<R: Read + Device, W: Write + Device>(
     }
 }
 
-/// What the life of a connection says to a message, where these nodes are not welcome on it: as if they were up elsewhere.
-pub(crate) fn hear_at<P: Wire, R, W>(
-    alloc: Global,
-    link: &mut Link<R, W>,
-    site: &WatchSite,
-    unwelcome: &[NodeNo],
-    message: Message,
-    moment: Moment,
-) -> Result<Acts, End>
-    ensures mark { mark_of link.new ≡ mark_of link.old }
-    ensures acts { IfOk result (λ acts. acts ≡ (after_message site.now unwelcome.now moment message link.old.watch).acts) }
-    ensures memory { IfErr result (λ why. why ≡ End.OutOfMemory) }
-    ensures next { OnOk result (link.new ≡ record link.old { watch = (after_message site.now unwelcome.now moment message link.old.watch).next }) }
-    ensures err { OnErr result (link.new ≡ link.old) }
-{
-    match link
-        .watch
-        .on_message::<P>(alloc, site, unwelcome, moment, message)
-    {
-        Ok(acts) => Ok(acts),
-        Err(AllocError) => Err(End::OutOfMemory),
-    }
-}
-
 /// What the life of a connection says where time has passed.
 pub(crate) fn tick_at<R, W>(
     alloc: Global,
@@ -310,20 +284,6 @@ pub(crate) fn close_at<R, W>(
     ensures err { OnErr result (link.new ≡ link.old) }
 {
     link.watch.close(alloc, site, moment)
-}
-
-/// The connection reads for one turn, so many messages at most.
-pub(crate) fn receive_at<R: Read + Device, W: Write + Device>(
-    link: &mut Link<R, W>,
-    piece: &mut [u8],
-    most: usize,
-) -> Received
-    requires { 0 < length piece.old }
-    ensures few { length result.messages.items ≤ most }
-    ensures mark { mark_of link.new ≡ mark_of link.old }
-    ensures reads { Reads R.remaining result.messages.items result.outcome link.old link.new }
-{
-    link.conn.receive(piece, most)
 }
 
 /// Whether octets of an ended connection have waited too long.

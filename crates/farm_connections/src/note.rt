@@ -122,18 +122,16 @@ impl Notes {
         }
     }
 
-    /// A node that was connected to is not welcome, where there is one: this answer does not name it.
+    /// The node that was connected to is not welcome: this answer does not name it.
     pub(crate) fn misnamed<P: Wire>(
         &mut self,
         alloc: Global,
         conn: ConnId,
-        node: Option<NodeNo>,
+        peer: NodeNo,
         answer: &Message,
     ) {
-        if let Some(peer) = node {
-            let name = name_in::<P>(alloc, &answer.body);
-            self.add(Note::Misnamed { conn, peer, name });
-        }
+        let name = name_in::<P>(alloc, &answer.body);
+        self.add(Note::Misnamed { conn, peer, name });
     }
 
     pub(crate) fn leaves(&mut self, conn: ConnId, peer: NodeNo, cause: DisconnectCause) {

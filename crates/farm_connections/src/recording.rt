@@ -1,17 +1,17 @@
-//! What is recorded of what a node is told and of what it sends. Each of these changes the recorder alone, and does nothing
-//! where that is off.
+//! What is recorded of what a node is told and of what it sends. Where the recorder is off, each of these does nothing.
 //!
 //! What a node sends at a tick, or when it is woken, is not told here: those are answers of a front's workers, and who has
 //! the workers tells of each with its charge ([`farm_record::Recorded`]).
 
-ghost use Rattle.std.specs.Prelude.{◌≡◌, ◌++◌, codes, false, find, length, take, true, OnErr, OnOk};
+ghost use Rattle.std.specs.Prelude.{◌≡◌, ◌++◌, codes, false, find, length, true, OnErr, OnOk};
 ghost use Rattle.farm_record.specs.Lines.{line_of};
 ghost use Rattle.farm_record.specs.Recording.{Tells, TellsAll, is_of, passed_line, sent_word, takes, turn_line, up_event, with_conns};
 ghost use Rattle.farm_record.specs.declared.event.Event.TheVariants as Event;
+ghost use Rattle.farm_connections.specs.Recording.{RecordsReaction};
 
 use dia_base::{ConnId, NodeNo};
 use dia_message::{Message, Out};
-use farm_node::NodeError;
+use farm_node::{NodeError, Reaction};
 use farm_record::Recorder;
 use std::alloc::Global;
 
@@ -37,19 +37,23 @@ pub fn record_message(alloc: Global, recorder: &mut Recorder, conn: ConnId, mess
     ensures told { Tells (passed_line (codes "deliver") conn message.now) (record recorder.old { came_at = recorder.new.came_at }) recorder.new }
     ensures begins { takes recorder.old ≡ true → recorder.new.is_broken ≡ false → recorder.new.came_at ≡ length (recorder.old.lines.items ++ turn_line recorder.old.names.items recorder.old.turn) }
 {
-    recorder.came(alloc, conn, message);
+    if recorder.is_on() {
+        recorder.came(alloc, conn, message);
+    }
 }
 
-/// The node was told of the message that came last. Where it did not take it, it is as it was, and nothing is told.
-pub fn record_refusal(recorder: &mut Recorder, outcome: Result<(), NodeError>)
-    ensures ok { OnOk outcome (recorder.new ≡ recorder.old) }
-    ensures err { OnErr outcome (takes recorder.old ≡ true → recorder.new.lines.items ≡ take recorder.old.came_at recorder.old.lines.items) }
-    ensures off { takes recorder.old ≡ false → recorder.new ≡ recorder.old }
-    ensures only { recorder.new ≡ record recorder.old { lines = recorder.new.lines } }
+/// The node was told of the message that came last: where it did not take it, it is as it was, and nothing is told of it. Then
+/// what it sends for it.
+pub fn record_reaction(alloc: Global, recorder: &mut Recorder, reaction: &Reaction)
+    ensures { RecordsReaction reaction.now.outcome reaction.now.out.items recorder.old recorder.new }
 {
-    if outcome.is_err() {
+    if !recorder.is_on() {
+        return;
+    }
+    if reaction.outcome.is_err() {
         recorder.refused();
     }
+    recorder.sent(alloc, reaction.out.items.as_slice());
 }
 
 /// What the node sends for what was told last.

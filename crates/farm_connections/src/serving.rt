@@ -15,9 +15,9 @@ ghost use Rattle.farm_connections.specs.Sending.{AreInOrder, Begins, BeginsSo, H
 ghost use Rattle.farm_connections.specs.Turns.{IsDown, beginning};
 
 use crate::counting::count_let_go;
-use crate::desk::{Desk, flush_all, greet, place_of};
+use crate::desk::{Desk, greet, place_of};
 use crate::end::{End, Ended, NotTaken, Refusal};
-use crate::link::{Link, Standing, is_overdue};
+use crate::link::{Link, Standing, flush_at, is_overdue};
 use crate::local::{LocalNode, site_of};
 use crate::naming::NameRule;
 use crate::note::{NOTE_LIMIT, Note, Notes};
@@ -282,7 +282,9 @@ impl<N: Node, R: Read + Device, W: Write + Device> Serving<N, R, W> {
         ensures writes { ThenSettles N.on_event (λ old mid. kept_by mid ≡ kept_by old) self.old.desk self.new.desk }
         ensures locals { self.new.locals ≡ self.old.locals }
     {
-        flush_all(&mut self.desk.links, moment);
+        for place in 0..self.desk.links.len() {
+            flush_at(&mut self.desk.links[place], moment);
+        }
         self.desk.settle::<P>(moment);
     }
 
@@ -368,7 +370,7 @@ impl<N: Node, R: Read + Device, W: Write + Device> Serving<N, R, W> {
         ensures only { IsRecordedOnly self.old.desk self.new.desk }
         ensures turn { self.new.desk.recorder ≡ record self.old.desk.recorder { turn = Some moment } }
     {
-        self.desk.recorder.begin_turn(moment);
+        self.desk.recorder.turn = Some(moment);
     }
 
     /// What is counted from now on happens when the clock says this.

@@ -165,13 +165,6 @@ impl Recorder {
         self.is_on = false;
     }
 
-    /// What is told from now on happens at this moment.
-    pub fn begin_turn(&mut self, moment: Moment)
-        ensures { self.new ≡ record self.old { turn = Some moment } }
-    {
-        self.turn = Some(moment);
-    }
-
     /// Tells the moment of the turn, before its first line.
     fn tell_turn(&mut self, alloc: Global)
         ensures { Tells [] self.old self.new }

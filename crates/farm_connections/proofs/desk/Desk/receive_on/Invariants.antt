@@ -3,7 +3,7 @@ use Rattle.std.specs.Vec.Iter.{into_iter_items, into_iter_len}
 use Rattle.farm_connections.specs.Desks.{kept_by}
 use Rattle.farm_connections.proofs.Calls.{HeardSo}
 use Rattle.farm_connections.proofs.Telling.{Way}
-use Rattle.farm_connections.proofs.desk.Desk.hear_all.Given as goal
+use Rattle.farm_connections.proofs.desk.Desk.receive_on.Given as goal
 
 abbrev pub invariant-loop-message : goal.invariant-loop-message
 invariant-loop-message g l = record {
@@ -12,5 +12,5 @@ invariant-loop-message g l = record {
   tells : Way g.N.Node.on_event (kept_by l.fn.self) (kept_by l.self);
   places : length l.self.links.items ≡ length l.fn.self.links.items;
   count : length (into_iter_items l.message-iterator) ≡ into_iter_len l.message-iterator;
-  heard : HeardSo g.N.Node.on_event l.fn.locals l.fn.moment l.fn.place l.fn.self l.fn.messages.items (into_iter_items l.message-iterator) l.self;
+  heard : HeardSo g.N.Node.on_event l.fn.locals l.fn.moment l.place l.initial.self (into_iter_items l.initial.message-iterator) (into_iter_items l.message-iterator) l.self;
 }
