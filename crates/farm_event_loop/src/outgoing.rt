@@ -1,6 +1,6 @@
 //! The connections of a process on which requests go out, and which others are read meanwhile.
 
-ghost use Rattle.std.specs.Prelude.{◌≡◌, ◌||◌, not};
+ghost use Rattle.std.specs.Prelude.{◌≡◌, ◌<◌, ◌||◌, not};
 ghost use Rattle.farm_event_loop.specs.Pausing.{makes_wait, sends_requests};
 
 use crate::pause::{Pause, Traffic, is_behind, traffic_on};
@@ -111,19 +111,28 @@ impl Outgoing {
         Ok(())
     }
 
-    /// Looks how many of them are behind at this moment: to be called before it is asked whether one is read.
+    /// Looks how many of them are behind at this moment, and keeps when none was for the last time: to be called before it is asked
+    /// whether one is read.
     pub fn look<N: Node, R: Read + Device, W: Write + Device>(
         &mut self,
         serving: &Serving<N, R, W>,
         moment: Moment,
-    ) {
+    )
+        ensures none { self.new.pause.behind ≡ 0 → self.new.pause.since ≡ moment }
+        ensures some { 0 < self.new.pause.behind → self.new.pause.since ≡ self.old.pause.since }
+        ensures patience { self.new.pause.patience ≡ self.old.pause.patience }
+        ensures only { self.new ≡ record self.old { pause = self.new.pause } }
+    {
         let mut behind: usize = 0;
         for conn in &self.conns {
             if serving.link(*conn).is_some_and(|link| makes_wait(link)) {
                 behind = behind.saturating_add(1);
             }
         }
-        self.pause.look(behind, moment);
+        self.pause.behind = behind;
+        if behind == 0 {
+            self.pause.since = moment;
+        }
     }
 
     /// How many messages are read at most of a connection at this moment, which was not read since another: none where it has to

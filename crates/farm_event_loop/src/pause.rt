@@ -1,7 +1,7 @@
 //! Which connections are read, by what waits to be written on all of them: what one client sends at once is not to end a
 //! connection between two nodes of the farm, on which no more than so many octets may be unsent.
 
-ghost use Rattle.std.specs.Prelude.{◌≡◌, ◌<◌, ◌-◌, ◌/◌, ◌⊎◌, ◌↔◌, IsTrue, min, nat_le};
+ghost use Rattle.std.specs.Prelude.{◌≡◌, ◌-◌, ◌/◌, ◌⊎◌, ◌↔◌, IsTrue, min, nat_le};
 ghost use Rattle.farm_event_loop.specs.Pausing.{IsOver, MayRead, is_behind, others_behind, traffic_on};
 
 use dia_base::{MESSAGE_LIMIT, Moment, NodeKind};
@@ -82,19 +82,6 @@ impl Pause {
             behind: 0,
             since: moment,
             patience: u64::from(interval / 2).min(PATIENCE),
-        }
-    }
-
-    /// So many are behind at this moment.
-    pub fn look(&mut self, behind: usize, moment: Moment)
-        ensures behind { self.new.behind ≡ behind }
-        ensures none { behind ≡ 0 → self.new.since ≡ moment }
-        ensures some { 0 < behind → self.new.since ≡ self.old.since }
-        ensures patience { self.new.patience ≡ self.old.patience }
-    {
-        self.behind = behind;
-        if behind == 0 {
-            self.since = moment;
         }
     }
 
