@@ -12,6 +12,7 @@ use Rattle.farm_connections.specs.declared.desk.Desk.{Desk}
 use Rattle.farm_connections.specs.declared.link.Link.{Link}
 use Rattle.farm_connections.specs.declared.local.LocalNode.{LocalNode}
 use Rattle.farm_connections.specs.Calls.{Brings, BringsHere, EndsIfLost, HearsAll, Reads, hears_more}
+use Rattle.farm_connections.specs.Desks.{account_of}
 use Rattle.farm_connections.specs.Doing.{AtPlace, Hears, IsStill}
 use Rattle.farm_connections.proofs.Doing.{becomes_at}
 
@@ -52,9 +53,9 @@ pub brings_here : {N R W : Type 0} {On : N → NodeEvent → Traffic → Result 
     (locals : List LocalNode) (most : ℕ) (moment : Moment) (place : ℕ) (seen here link next : Link R W) (old mid heard new : Desk N R W)
     (all left messages : List Message) (outcome : Result (Unit {0}) Loss) → HeardSo On locals moment place mid all left heard → length left ≡ 0
     → all ≡ messages → seen ≡ link → here ≡ link → is_some seen.end ≡ false → length messages ≤ most
-    → Reads remaining messages outcome here next → mid.node ≡ old.node → mid.links.items ≡ slice_set old.links.items place next
+    → Reads remaining messages outcome here next → account_of mid ≡ account_of old → mid.links.items ≡ slice_set old.links.items place next
     → EndsIfLost outcome moment place heard new → BringsHere On remaining locals most moment place link old new
-brings_here {N} {R} {W} {On} {remaining} locals most moment place seen here link next old mid heard new all left messages outcome hears none is same also stands few reads node links ends =
+brings_here {N} {R} {W} {On} {remaining} locals most moment place seen here link next old mid heard new all left messages outcome hears none is same also stands few reads account links ends =
     where_open (Brings On remaining locals most moment place link old new) (IsStill old new) link.end
     (subst (λ (l : Link R W). is_some l.end ≡ false) same stands)
     (record {
@@ -63,7 +64,7 @@ brings_here {N} {R} {W} {On} {remaining} locals most moment place seen here link
       outcome = outcome;
       mid = mid;
       heard = heard;
-      reads = becomes_at (Reads remaining messages outcome) here link next place old mid also reads node links;
+      reads = becomes_at (Reads remaining messages outcome) here link next place old mid also reads account links;
       hears = subst (λ (ms : List Message). HearsAll On locals moment place mid ms heard) is (all_heard locals moment place mid heard all left hears none);
       ends = ends;
     })

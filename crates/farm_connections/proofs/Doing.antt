@@ -1,8 +1,9 @@
 -- What is said and done at one connection.
-use Rattle.std.proofs.Common.{◌≡◌, ℕ, Bool, true, List, [], ◌∷◌, ◌++◌, Result, Ok, Err, IfOk, OnOk, OnErr, MatchResult, get_or, sym, subst, ap, ◌∙◌}
-use Rattle.std.specs.Prelude.{slice_set}
+use Rattle.std.proofs.Common.{◌≡◌, ℕ, Bool, true, false, List, [], ◌∷◌, ◌++◌, Option, Some, None, Result, Ok, Err, IfOk, OnOk, OnErr, MatchResult, get_or, is_some, refl, sym, subst, ap, ◌∙◌}
+use Rattle.std.specs.Prelude.{MatchBool, slice_set}
 use Rattle.std.proofs.lemmas.List.{append-nil, append_assoc, set-get_or}
 use Rattle.dia_base.specs.declared.number.Moment.{Moment}
+use Rattle.dia_base.specs.declared.number.NodeNo.{NodeNo}
 use Rattle.dia_message.specs.Traffic.{Traffic}
 use Rattle.farm_node.specs.Events.{NodeEvent}
 use Rattle.farm_node.specs.declared.error.NodeError.{NodeError}
@@ -11,9 +12,14 @@ use Rattle.farm_watch.specs.Table.{Connection, Effect}
 use Rattle.farm_watch.specs.declared.acts.Act.{Act}
 use Rattle.farm_watch.specs.declared.numbering.Numbering.{Numbering}
 use Rattle.farm_connections.specs.declared.desk.Desk.{Desk}
+use Rattle.farm_connections.specs.declared.end.End.{End}
 use Rattle.farm_connections.specs.declared.link.Link.{Link}
-use Rattle.farm_connections.specs.Desks.{kept_by}
-use Rattle.farm_connections.specs.Doing.{AtPlace, Becomes, DoesAct, IsStill, IsToldOnly, Lived, Lives, Performs, Says, goes_on}
+use Rattle.farm_connections.specs.declared.link.Standing.{Standing}
+use Rattle.farm_connections.specs.declared.link.Standing.TheVariants.{Waiting, Up, Over}
+use Rattle.farm_connections.specs.Counting.{Counts}
+use Rattle.farm_connections.specs.Desks.{account_of, kept_by}
+use Rattle.farm_connections.specs.Recording.{Records}
+use Rattle.farm_connections.specs.Doing.{AtPlace, Becomes, DoesAct, IsStill, IsToldOnly, Lived, Lives, Performs, Says, goes_on, open_peer_of}
 use Rattle.farm_connections.specs.Sending.{AllGoOut}
 use Rattle.farm_connections.specs.Turns.{Kept, Mark}
 use Rattle.farm_connections.proofs.Placing.{keeping}
@@ -23,8 +29,9 @@ pub said_at : {N R W : Type 0} {On : N → NodeEvent → Traffic → Result (Uni
     {Then : Result (Unit {0}) NodeError → Link R W → Desk N R W → Type 0} (seen here link told : Link R W) (ev : Link R W → NodeEvent) (place : ℕ)
     (old new : Desk N R W) (next : N) (marks : List Mark) (made : ℕ) (sent : Traffic) (outcome : Result (Unit {0}) NodeError)
     → seen ≡ link → here ≡ link → On old.node (ev seen) sent outcome next → kept_by new ≡ keeping next marks made → IsToldOnly here told → Then outcome told new
-    → AllGoOut (slice_set old.links.items place told) sent new.links.items → Says On Then (ev link) place link old new
-said_at {N} {R} {W} {On} seen here link told ev place old new next marks made sent outcome same also does kept only follows goes = record {
+    → AllGoOut (slice_set old.links.items place told) sent new.links.items → Records (ev seen) outcome sent old.recorder new.recorder
+    → Counts (ev seen) outcome sent old.tally new.tally → Says On Then (ev link) place link old new
+said_at {N} {R} {W} {On} seen here link told ev place old new next marks made sent outcome same also does kept only follows goes records counts = record {
   sent = sent;
   outcome = outcome;
   does =
@@ -34,17 +41,46 @@ said_at {N} {R} {W} {On} seen here link told ev place old new next marks made se
   only = subst (λ (l : Link R W). IsToldOnly l told) also only;
   follows = follows;
   goes = goes;
+  records = subst (λ (l : Link R W). Records (ev l) outcome sent old.recorder new.recorder) same records;
+  counts = subst (λ (l : Link R W). Counts (ev l) outcome sent old.tally new.tally) same counts;
 }
 
 -- what the connection at a place becomes
 pub becomes_at : {N R W : Type 0} (Is : Link R W → Link R W → Type 0) (here link next : Link R W) (place : ℕ) (old new : Desk N R W) → here ≡ link
-    → Is here next → new.node ≡ old.node → new.links.items ≡ slice_set old.links.items place next → Becomes (Is link) place old new
-becomes_at {N} {R} {W} Is here link next place old new same is node links = record {
+    → Is here next → account_of new ≡ account_of old → new.links.items ≡ slice_set old.links.items place next → Becomes (Is link) place old new
+becomes_at {N} {R} {W} Is here link next place old new same is account links = record {
   next = next;
   holds = subst (λ (l : Link R W). Is l next) same is;
-  node_is = node;
+  account_is = account;
   links_are = links;
 }
+
+-- ---- on which connections a node is told of something
+
+-- one that is open has a node that is up
+pub peer_up : (standing : Standing) (end : Option (End × Moment)) (peer : NodeNo) → Some peer ≡ open_peer_of standing end → standing ≡ Up peer
+peer_up Waiting None peer is = absurd cc
+peer_up Waiting (Some ended) peer is = absurd cc
+peer_up (Up other) None peer is = cc
+peer_up (Up other) (Some ended) peer is = absurd cc
+peer_up (Over other) None peer is = absurd cc
+peer_up (Over other) (Some ended) peer is = absurd cc
+
+pub open_up : (standing : Standing) (end : Option (End × Moment)) → is_some (open_peer_of standing end) ≡ true → (peer : NodeNo) × (standing ≡ Up peer)
+open_up Waiting None is = absurd cc
+open_up Waiting (Some ended) is = absurd cc
+open_up (Up peer) None is = (peer, refl)
+open_up (Up peer) (Some ended) is = absurd cc
+open_up (Over peer) None is = absurd cc
+open_up (Over peer) (Some ended) is = absurd cc
+
+pub where_true : (A B : Type 0) (b : Bool) → b ≡ true → A → MatchBool b A B
+where_true A B true is a = a
+where_true A B false is a = absurd cc
+
+pub where_false : (A B : Type 0) (b : Bool) → b ≡ false → B → MatchBool b A B
+where_false A B true is b = absurd cc
+where_false A B false is b = b
 
 -- ---- acts
 
@@ -64,6 +100,10 @@ one_done place first mid new all left rest act before is does = record {
   performs = goes_on before.done mid new act before.performs does;
 }
 
+-- the first of them is this one
+pub acts_left : (left rest : List Act) (act is_act : Act) → left ≡ act ∷ rest → act ≡ is_act → left ≡ is_act ∷ rest
+acts_left left rest act is_act taken is = taken ∙ ap (λ (a : Act). a ∷ rest) is
+
 pub all_done : {N R W : Type 0} {On : N → NodeEvent → Traffic → Result (Unit {0}) NodeError → N → Type 0} (place : ℕ) (first now : Desk N R W)
     (all left : List Act) → Done On place first all left now → left ≡ [] → Performs On place first all now
 all_done {N} {R} {W} {On} place first now all left before none =
@@ -79,15 +119,15 @@ also_failed (Err e) b c told same = same ∙ told
 
 lived : {N R W E : Type 0} (result : Result (List Act) E) (effect : Effect) (here next : Link R W) (place : ℕ) (old new : Desk N R W)
     → here ≡ get_or old.links.items place here → IfOk result (λ acts. acts ≡ effect.acts) → OnOk result (next ≡ record here { watch = effect.next })
-    → OnErr result (next ≡ here) → new.node ≡ old.node → new.links.items ≡ slice_set old.links.items place next
+    → OnErr result (next ≡ here) → account_of new ≡ account_of old → new.links.items ≡ slice_set old.links.items place next
     → MatchResult result (λ acts. Lived effect acts place here old new) (λ e. IsStill old new)
-lived {N} {R} {W} (Ok acts) effect here next place old new read is on still node links = record {
+lived {N} {R} {W} (Ok acts) effect here next place old new read is on still account links = record {
   acts_are = is;
-  node_is = node;
+  account_is = account;
   links_are = links ∙ ap (λ (l : Link R W). slice_set old.links.items place l) on;
 }
-lived {N} {R} {W} (Err e) effect here next place old new read is on still node links = record {
-  node_is = node;
+lived {N} {R} {W} (Err e) effect here next place old new read is on still account links = record {
+  account_is = account;
   links_are = links ∙ ap (λ (l : Link R W). slice_set old.links.items place l) (still ∙ read) ∙ set-get_or old.links.items place here;
 }
 
@@ -103,12 +143,12 @@ numbered_said (Err error) result numbering moment effect IsNext IsSame gives is 
 -- what the life of the connection at a place says
 pub lived_at : {N R W E : Type 0} (result : Result (List Act) E) (effect_of : Connection → Effect) (here link next : Link R W) (place : ℕ) (old new : Desk N R W)
     → here ≡ link → here ≡ get_or old.links.items place here → IfOk result (λ acts. acts ≡ (effect_of here.watch).acts)
-    → OnOk result (next ≡ record here { watch = (effect_of here.watch).next }) → OnErr result (next ≡ here) → new.node ≡ old.node
+    → OnOk result (next ≡ record here { watch = (effect_of here.watch).next }) → OnErr result (next ≡ here) → account_of new ≡ account_of old
     → new.links.items ≡ slice_set old.links.items place next
     → MatchResult result (λ acts. Lived (effect_of link.watch) acts place link old new) (λ e. IsStill old new)
-lived_at {N} {R} {W} result effect_of here link next place old new same read is on still node links =
+lived_at {N} {R} {W} result effect_of here link next place old new same read is on still account links =
     subst (λ (l : Link R W). MatchResult result (λ acts. Lived (effect_of l.watch) acts place l old new) (λ e. IsStill old new)) same
-    (lived result (effect_of here.watch) here next place old new read is on still node links)
+    (lived result (effect_of here.watch) here next place old new read is on still account links)
 
 -- the connection at a place as it lives on
 pub lives_on : {R W : Type 0} (effect_of : Connection → Effect) (links : List (Link R W)) (place : ℕ) (here link : Link R W) (watch : Connection) → here ≡ link
@@ -128,7 +168,7 @@ pub lives_so : {N R W : Type 0} {On : N → NodeEvent → Traffic → Result (Un
     (link : Link R W) (old mid new : Desk N R W) → Lived effect acts place link old mid → Performs On place mid acts new → Lives On effect place link old new
 lives_so {N} {R} {W} {On} effect acts place link old mid new says does = record {
   mid = mid;
-  node_is = says.node_is;
+  account_is = says.account_is;
   links_are = says.links_are;
   performs = subst (λ (all : List Act). Performs On place mid all new) says.acts_are does;
 }

@@ -6,5 +6,6 @@ pub mod Sending
 pub mod Doing
 pub mod Misnaming
 pub mod Calls
+pub mod Coming
 pub mod Locals
 pub mod Untold

@@ -15,10 +15,20 @@ use Rattle.farm_watch.specs.declared.acts.Act.{Act}
 use Rattle.farm_watch.specs.declared.numbering.Numbering.{Numbering}
 use Rattle.farm_watch.specs.declared.site.Side.{Side}
 use Rattle.farm_watch.specs.declared.site.WatchSite.{WatchSite}
+use Rattle.farm_metrics.specs.declared.tally.Tally.{Tally}
 use Rattle.farm_connections.specs.declared.local.LocalNode.{LocalNode}
+use Rattle.farm_connections.specs.Counting.{CountsAll, CountsSent, counts_more}
 use Rattle.farm_connections.specs.Desks.{marks_of}
 use Rattle.farm_connections.specs.Locals.{site_at}
-use Rattle.farm_connections.specs.Sending.{AllGoOut, Begins, BeginsSo, GoesOut, GreetsAll, GreetsOn, greets_more, one_more_goes}
+use Rattle.farm_connections.specs.Sending.{AllGoOut, Begins, BeginsSo, GoesOut, GreetsAll, GreetsOn, IsPostedOn, IsSentOn, greets_more, one_more_goes, open_after}
+
+-- a message is sent once its connection has one request fewer to answer, or as many
+pub posted_on : {R W : Type 0} (message : Message) (here : Link R W) (unanswered : ℕ) (next : Link R W) → unanswered ≡ open_after here.«open» message
+    → IsSentOn message (record here { «open» = unanswered }) next → next.«open» ≡ unanswered → IsPostedOn message here next
+posted_on message here unanswered next is sent same = record {
+  sent = record { goes = sent.goes; is_over = sent.is_over; only = sent.only };
+  unanswered = same ∙ is;
+}
 
 pub one_more : {R W : Type 0} (first links next : List (Link R W)) (out : Traffic) (index : ℕ) (item : ConnId × Message) → index < length out
     → item ≡ get_or out index item → AllGoOut first (take index out) links → GoesOut item.0 item.1 links next → AllGoOut first (take (index + 1) out) next
@@ -32,6 +42,17 @@ pub all_gone : {R W : Type 0} (first links : List (Link R W)) (out : Traffic) (i
     → AllGoOut first out links
 all_gone first links out index past goes = subst (λ (sent : Traffic). AllGoOut first sent links) (take_all index out past) goes
 
+-- the same of how they are counted
+pub one_counted : (first mid new : Tally) (out : Traffic) (index : ℕ) (item : ConnId × Message) → index < length out → item ≡ get_or out index item
+    → CountsAll first (take index out) mid → CountsSent item.0 item.1 mid new → CountsAll first (take (index + 1) out) new
+one_counted first mid new out index item within read before counts =
+    subst (λ (sent : Traffic). CountsAll first sent new)
+    (sym (take_more out index item within ∙ ap (λ (i : ConnId × Message). take index out ++ i ∷ []) (sym read)))
+    (counts_more (take index out) mid new item.0 item.1 before counts)
+
+pub all_counted : (first now : Tally) (out : Traffic) (index : ℕ) → length out ≤ index → CountsAll first (take index out) now → CountsAll first out now
+all_counted first now out index past counts = subst (λ (sent : Traffic). CountsAll first sent now) (take_all index out past) counts
+
 -- The messages up to this index have gone out, and the process has not changed in anything else that its node knows.
 pub record GoneOut {N R W : Type 0} (old : Desk N R W) (out : Traffic) (index : ℕ) (now : Desk N R W) : Type 0 where
   pub node : now.node ≡ old.node
@@ -40,19 +61,23 @@ pub record GoneOut {N R W : Type 0} (old : Desk N R W) (out : Traffic) (index : 
   pub failed : now.failed ≡ old.failed
   pub places : length now.links.items ≡ length old.links.items
   pub sent : AllGoOut old.links.items (take index out) now.links.items
+  pub counts : CountsAll old.tally (take index out) now.tally
+  pub recorder : now.recorder ≡ old.recorder
 
 -- and one more
 pub one_gone : {N R W : Type 0} (old mid new : Desk N R W) (out : Traffic) (index : ℕ) (item : ConnId × Message) → index < length out
     → item ≡ get_or out index item → GoneOut old out index mid → new.node ≡ mid.node → new.made ≡ mid.made → new.failed ≡ mid.failed
-    → marks_of new.links.items ≡ marks_of mid.links.items → length new.links.items ≡ length mid.links.items
-    → GoesOut item.0 item.1 mid.links.items new.links.items → GoneOut old out (index + 1) new
-one_gone old mid new out index item within read before node made failed marks places goes = record {
+    → new.recorder ≡ mid.recorder → marks_of new.links.items ≡ marks_of mid.links.items → length new.links.items ≡ length mid.links.items
+    → CountsSent item.0 item.1 mid.tally new.tally → GoesOut item.0 item.1 mid.links.items new.links.items → GoneOut old out (index + 1) new
+one_gone old mid new out index item within read before node made failed recorder marks places counts goes = record {
   node = node ∙ before.node;
   marks = marks ∙ before.marks;
   made = made ∙ before.made;
   failed = failed ∙ before.failed;
   places = places ∙ before.places;
   sent = one_more old.links.items mid.links.items new.links.items out index item within read before.sent goes;
+  counts = one_counted old.tally mid.tally new.tally out index item within read before.counts counts;
+  recorder = recorder ∙ before.recorder;
 }
 
 -- ---- what a new connection sends first

@@ -1,12 +1,14 @@
--- Of a recorder that is off.
-use Rattle.std.proofs.Common.{◌≡◌, Bool, true, false, List, ℕ, [], ◌∷◌, ◌++◌, Result, Ok, Err, is_err, refl, sym, subst}
+-- Of a recorder that is off, and of one that has told what was sent.
+use Rattle.std.proofs.Common.{◌≡◌, Bool, true, false, List, ℕ, [], ◌∷◌, ◌++◌, Result, Ok, Err, codes, is_err, refl, sym, subst}
 use Rattle.std.specs.Prelude.{MatchBool}
 use Rattle.std.proofs.lemmas.List.{append-nil, append_assoc}
+use Rattle.dia_base.specs.declared.number.ConnId.{ConnId}
+use Rattle.dia_message.specs.declared.message.Message.{Message}
 use Rattle.dia_message.specs.Traffic.{Traffic}
 use Rattle.farm_node.specs.declared.error.NodeError.{NodeError}
-use Rattle.farm_record.specs.Recording.{HasTold, Tells, TellsAll, passed_line, takes, tells_more, tells_none}
+use Rattle.farm_record.specs.Recording.{HasTold, Tells, TellsAll, passed_line, sent_word, takes, tells_more, tells_none}
 use Rattle.farm_record.specs.declared.recorder.Recorder.{Recorder}
-use Rattle.farm_connections.specs.Recording.{IsTakenBack, StaysTold}
+use Rattle.farm_connections.specs.Recording.{IsTakenBack, RecordsCome, RecordsReaction, StaysTold}
 
 one_untold : (lines : List ℕ) (off : Recorder) → takes off ≡ false → Tells lines off off
 one_untold lines off is = subst (λ (b : Bool). MatchBool b (HasTold lines off off) (off ≡ off)) (sym is) refl
@@ -27,6 +29,14 @@ pub stays_off : (outcome : Result (Unit {0}) NodeError) (off : Recorder) → tak
 stays_off (Ok done) off is = refl
 stays_off (Err error) off is = record { lines = λ on. absurd cc; off = λ none. refl; only = refl }
 
+-- nothing is told of a message that comes
+pub none_come : (conn : ConnId) (m : Message) (off : Recorder) → takes off ≡ false → RecordsCome conn m off off
+none_come conn m off is = record { told = one_untold (passed_line (codes "deliver") conn m) off is; begins = λ on whole. absurd cc }
+
+-- nor of what the node says to it
+pub none_said : (outcome : Result (Unit {0}) NodeError) (sent : Traffic) (off : Recorder) → takes off ≡ false → RecordsReaction outcome sent off off
+none_said outcome sent off is = record { mid = off; stays = stays_off outcome off is; sends = all_untold (sent_word off.is_client) off sent is }
+
 -- ---- where it may be on
 
 -- what was not taken is taken back
@@ -37,3 +47,7 @@ taken_back (Err error) old new is back = back
 pub stays_told : (outcome : Result (Unit {0}) NodeError) (old new : Recorder) → is_err outcome ≡ false → new ≡ old → StaysTold outcome old new
 stays_told (Ok done) old new is same = same
 stays_told (Err error) old new is same = absurd cc
+
+-- what was told as sent, by the recorder that stands where all of it has gone out
+pub sent_on : (old told new : Recorder) (sent : Traffic) → TellsAll (sent_word old.is_client) old sent told → new ≡ told → TellsAll (sent_word old.is_client) old sent new
+sent_on old told new sent tells same = subst (λ (r : Recorder). TellsAll (sent_word old.is_client) old sent r) (sym same) tells

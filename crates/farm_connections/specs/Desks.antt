@@ -8,6 +8,8 @@ use Rattle.dia_message.specs.Traffic.{Traffic}
 use Rattle.std.specs.Prelude.{Result, Ok, Err}
 use Rattle.farm_node.specs.Events.{NodeEvent}
 use Rattle.farm_node.specs.declared.error.NodeError.{NodeError}
+use Rattle.farm_metrics.specs.declared.tally.Tally.{Tally}
+use Rattle.farm_record.specs.declared.recorder.Recorder.{Recorder}
 use Rattle.farm_watch.specs.Table.{after_message}
 use Rattle.farm_watch.specs.declared.site.Side.{Side}
 use Rattle.farm_watch.specs.declared.site.Side.TheVariants.{Accepts, Connects}
@@ -36,6 +38,15 @@ accepts (Connects peer) = false
 abbrev pub IsMade : {R W : Type 0} → ConnId → NodeNo → Bool → List NodeNo → NameRule → List (Link R W) → List (Link R W) → Type 0
 IsMade conn local accepted barred names old new =
     marks_of new ≡ marks_of old ++ record { id = conn; local = local; accepted = accepted; standing = Waiting; barred = barred; names = names } ∷ []
+
+-- the node of a process, and what is recorded and counted of what it is told and sends
+pub record Account (N : Type 0) : Type 0 where
+  pub node : N
+  pub recorder : Recorder
+  pub tally : Tally
+
+abbrev pub account_of : {N R W : Type 0} → Desk N R W → Account N
+account_of desk = record { node = desk.node; recorder = desk.recorder; tally = desk.tally }
 
 abbrev pub kept_by : {N R W : Type 0} → Desk N R W → Kept N
 kept_by desk = record { node = desk.node; marks = marks_of desk.links.items; made = desk.made }

@@ -21,9 +21,11 @@ use Rattle.farm_connections.specs.declared.link.Link.{Link}
 use Rattle.farm_connections.specs.declared.link.Standing.{Standing}
 use Rattle.farm_connections.specs.declared.link.Standing.TheVariants.{Waiting, Up, Over}
 use Rattle.farm_connections.specs.declared.local.LocalNode.{LocalNode}
-use Rattle.farm_connections.specs.Desks.{mark_of}
+use Rattle.farm_connections.specs.Counting.{Counts, CountsAll}
+use Rattle.farm_connections.specs.Desks.{account_of, mark_of}
 use Rattle.farm_connections.specs.Locals.{site_at}
 use Rattle.farm_connections.specs.Naming.{IsKeptOut, misnamed}
+use Rattle.farm_connections.specs.Recording.{Records}
 use Rattle.farm_connections.specs.Sending.{AllGoOut, AreInOrder, HasNone, IsSentOn}
 use Rattle.farm_connections.specs.Turns.{may_come_up}
 
@@ -37,11 +39,11 @@ AtPlace {N} {R} {W} desk place Holds = (link : Link R W) → link ≡ get_or des
 abbrev pub IsToldOnly : {R W : Type 0} → Link R W → Link R W → Type 0
 IsToldOnly old new = new ≡ record old { standing = new.standing; «open» = new.«open»; end = new.end; conn = record old.conn { stage = new.conn.stage } }
 
--- The connection at this place has become another one. No other has changed, and the node has not.
+-- The connection at this place has become another one. No other has changed, and the node has not: nothing is recorded or counted.
 pub record Becomes {N R W : Type 0} (Is : Link R W → Type 0) (place : ℕ) (old new : Desk N R W) : Type 0 where
   pub next : Link R W
   pub holds : Is next
-  pub node_is : new.node ≡ old.node
+  pub account_is : account_of new ≡ account_of old
   pub links_are : new.links.items ≡ slice_set old.links.items place next
 
 -- it has ended, with what waits to be written
@@ -78,7 +80,7 @@ abbrev pub FailsWhereRefused : {N R W : Type 0} → Result (Unit {0}) NodeError 
 FailsWhereRefused outcome told new = OnErr outcome (new.failed ≡ true)
 
 -- The node was told of the connection at this place and did what such a node does, and all that it says goes out, each message
--- once, in order, on the connection of its number.
+-- once, in order, on the connection of its number. What it was told is recorded and counted once, then what it says, and nothing else.
 pub record Says {N R W : Type 0} (On : N → NodeEvent → Traffic → Result (Unit {0}) NodeError → N → Type 0)
     (Then : Result (Unit {0}) NodeError → Link R W → Desk N R W → Type 0) (event : NodeEvent) (place : ℕ) (link : Link R W) (old new : Desk N R W) : Type 0 where
   pub sent : Traffic
@@ -88,6 +90,8 @@ pub record Says {N R W : Type 0} (On : N → NodeEvent → Traffic → Result (U
   pub only : IsToldOnly link told
   pub follows : Then outcome told new
   pub goes : AllGoOut (slice_set old.links.items place told) sent new.links.items
+  pub records : Records event outcome sent old.recorder new.recorder
+  pub counts : Counts event outcome sent old.tally new.tally
 
 -- the connection of this number has ended, and each other one is as it was
 pub data EndsOne {R W : Type 0} (conn : ConnId) (old new : List (Link R W)) : Type 0 where
@@ -111,12 +115,14 @@ pub record GoesAndEnds {R W : Type 0} (sent : Traffic) (outcome : Result (Unit {
   pub goes : AllGoOut old sent links
   pub ends : EndsUnanswered outcome links new
 
--- The node was told this, which is of no connection, and did what such a node does.
+-- The node was told this, which is of no connection, and did what such a node does. What it sends is counted, and not recorded here.
 pub record Reacts {N R W : Type 0} (On : N → NodeEvent → Traffic → Result (Unit {0}) NodeError → N → Type 0) (event : NodeEvent) (old new : Desk N R W) : Type 0 where
   pub sent : Traffic
   pub outcome : Result (Unit {0}) NodeError
   pub does : On old.node event sent outcome new.node
   pub goes : GoesAndEnds sent outcome old.links.items new.links.items
+  pub records : new.recorder ≡ old.recorder
+  pub counts : CountsAll old.tally sent new.tally
 
 -- ---- what the life of a connection says
 
@@ -159,22 +165,22 @@ pub data Performs {N R W : Type 0} (On : N → NodeEvent → Traffic → Result 
   goes_on : (done : List Act) (mid new : Desk N R W) (act : Act) → Performs On place first done mid → AtPlace mid place (λ link. DoesAct On place act link mid new)
       → Performs On place first (done ++ act ∷ []) new
 
--- nothing has happened to the node or to a connection
+-- nothing has happened to the node or to a connection, and nothing is recorded or counted
 pub record IsStill {N R W : Type 0} (old new : Desk N R W) : Type 0 where
-  pub node_is : new.node ≡ old.node
+  pub account_is : account_of new ≡ account_of old
   pub links_are : new.links.items ≡ old.links.items
 
 -- The life of a connection says this, and is the next one.
 pub record Lived {N R W : Type 0} (effect : Effect) (acts : List Act) (place : ℕ) (link : Link R W) (old new : Desk N R W) : Type 0 where
   pub acts_are : acts ≡ effect.acts
-  pub node_is : new.node ≡ old.node
+  pub account_is : account_of new ≡ account_of old
   pub links_are : new.links.items ≡ slice_set old.links.items place (record link { watch = effect.next })
 
 -- Its life says this: it lives on as the table says, and the acts are done.
 pub record Lives {N R W : Type 0} (On : N → NodeEvent → Traffic → Result (Unit {0}) NodeError → N → Type 0) (effect : Effect) (place : ℕ) (link : Link R W)
     (old new : Desk N R W) : Type 0 where
   pub mid : Desk N R W
-  pub node_is : mid.node ≡ old.node
+  pub account_is : account_of mid ≡ account_of old
   pub links_are : mid.links.items ≡ slice_set old.links.items place (record link { watch = effect.next })
   pub performs : Performs On place mid effect.acts new
 

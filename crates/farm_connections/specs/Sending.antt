@@ -1,5 +1,5 @@
 -- What the messages of a node do to the connections of its process: each goes out on the connection of its number.
-use Rattle.std.specs.Prelude.{◌≡◌, ◌<◌, ◌⊎◌, ℕ, ◌++◌, List, [], ◌∷◌, length, get_or, slice_set, Option, None, Some, IsSome}
+use Rattle.std.specs.Prelude.{◌≡◌, ◌<◌, ◌-◌, ◌⊎◌, ℕ, ◌++◌, List, [], ◌∷◌, length, get_or, slice_set, Option, None, Some, IsSome, if◌then◌else◌}
 use Rattle.dia_base.specs.declared.number.ConnId.{ConnId}
 use Rattle.dia_base.specs.declared.number.Moment.{Moment}
 use Rattle.dia_base.specs.declared.number.NodeNo.{NodeNo}
@@ -47,9 +47,18 @@ pub record IsSentOn {R W : Type 0} (message : Message) (old new : Link R W) : Ty
   pub is_over : IsSome old.end → new.conn ≡ old.conn
   pub only : new ≡ record old { «open» = new.«open»; end = new.end; conn = new.conn }
 
+-- how many requests of a connection are not answered once this message goes out on it: an answer answers one
+abbrev pub open_after : ℕ → Message → ℕ
+open_after unanswered message = if message.header.request then unanswered else unanswered - 1
+
+-- A message of the node goes out on a connection: it may answer a request that came on it.
+pub record IsPostedOn {R W : Type 0} (message : Message) (old new : Link R W) : Type 0 where
+  pub sent : IsSentOn message old new
+  pub unanswered : new.«open» ≡ open_after old.«open» message
+
 -- A message goes out on the connection of this number, and each other one is as it was. Where none has the number, all are.
 pub data GoesOut {R W : Type 0} (conn : ConnId) (message : Message) (old new : List (Link R W)) : Type 0 where
-  on_one : (place : ℕ) (link next : Link R W) → place < length old → link ≡ get_or old place link → link.id ≡ conn → IsSentOn message link next
+  on_one : (place : ℕ) (link next : Link R W) → place < length old → link ≡ get_or old place link → link.id ≡ conn → IsPostedOn message link next
       → new ≡ slice_set old place next → GoesOut conn message old new
   on_none : (AreInOrder old → HasNone old conn) → new ≡ old → GoesOut conn message old new
 

@@ -1,10 +1,9 @@
 //! What is counted of what a node is told and of what it sends.
 
-ghost use Rattle.std.specs.Prelude.{◌≡◌, MatchBool, OnErr, OnOk};
+ghost use Rattle.std.specs.Prelude.{◌≡◌, OnErr, OnOk};
 ghost use Rattle.std.specs.List.{fold};
-ghost use Rattle.farm_connections.specs.Counting.{is_silence, let_go, with_resent};
-ghost use Rattle.farm_metrics.specs.Reading.{code_of};
-ghost use Rattle.farm_metrics.specs.Tallying.{AnswerSent, Came, ComesUp, IsLost, with_sent};
+ghost use Rattle.farm_connections.specs.Counting.{CountsSent, is_silence, let_go, with_resent};
+ghost use Rattle.farm_metrics.specs.Tallying.{ComesUp, IsLost};
 
 use crate::end::End;
 use crate::link::Standing;
@@ -45,18 +44,9 @@ pub fn count_lost(tally: &mut Tally, conn: ConnId, why: End)
     tally.peer_lost(conn, is_silent);
 }
 
-/// A message was passed to the node.
-pub fn count_passed(tally: &mut Tally, conn: ConnId, message: &Message)
-    ensures { MatchBool message.now.header.request (Came conn message.now.header.hop tally.old tally.new) (tally.new ≡ tally.old) }
-{
-    if message.header.request {
-        tally.request_came(conn, message.header.hop);
-    }
-}
-
 /// The node has sent a message on a connection.
 pub fn count_sent(tally: &mut Tally, conn: ConnId, message: &Message)
-    ensures { MatchBool message.now.header.request (tally.new ≡ with_sent tally.old) (AnswerSent conn message.now.header.hop (code_of message.now.body) tally.old tally.new) }
+    ensures { CountsSent conn message.now tally.old tally.new }
 {
     if message.header.request {
         tally.request_sent();

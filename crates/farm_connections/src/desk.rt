@@ -5,21 +5,22 @@ ghost use Rattle.std.specs.List.{remove};
 ghost use Rattle.farm_node.specs.Events as event;
 ghost use Rattle.farm_watch.specs.declared.acts.Act.TheVariants as life;
 ghost use Rattle.farm_connections.specs.Calls.{BringsOn, Settles};
-ghost use Rattle.farm_connections.specs.Doing.{AtPlace, Becomes, DoesAct, EndsFor, EndsWhereRefused, FailsWhereRefused, Greets, HasEnded, Heard, Hears, Performs, Says, StandsUnlessRefused, left_for};
+ghost use Rattle.farm_connections.specs.Counting.{CountsAll};
+ghost use Rattle.farm_connections.specs.Doing.{AtPlace, Becomes, DoesAct, EndsFor, EndsWhereRefused, FailsWhereRefused, HasEnded, Heard, Hears, Performs, Says};
 ghost use Rattle.farm_connections.specs.Desks.{AreSettled, IsDownAt, IsPlaceOf, MayComeUpAt, NeverAsks, StandsAt, Tells, is_to_be_told, kept_by, mark_of, marks_of, ups};
 ghost use Rattle.farm_connections.specs.Naming.{IsKeptOut, awaited, misnamed};
 ghost use Rattle.farm_connections.specs.Sending.{AllGoOut, AreInOrder, GreetsAll, HasFlushed, HasNone, IsNumberedAt, IsSentOn, WritesOn};
 
-use crate::counting::{count_failovers, count_lost, count_passed, count_sent, count_up};
+use crate::counting::{count_failovers, count_lost, count_sent, count_up};
 use crate::end::End;
 use crate::link::{
     Link, Standing, be_over, come_up, end_at, end_unless_told, flush_at, greet_at, is_waiting,
-    loss_of, may_come_up, open_peer, part_at, post_at, send_at,
+    loss_of, may_come_up, open_after, open_peer, part_at, send_at,
 };
 use crate::local::{LocalNode, site_of};
 use crate::naming::misnamed;
 use crate::note::{Notes, kept_body};
-use crate::recording::{record_lost, record_message, record_reaction, record_sent, record_up};
+use crate::recording::{record_lost, record_reaction, record_sent, record_up};
 use dia_avp::Wire;
 use dia_base::{ConnId, Moment, NodeNo};
 use dia_message::{Message, Out};
@@ -232,13 +233,17 @@ impl<N: Node, R: Read + Device, W: Write + Device> Desk<N, R, W> {
         ensures places { length self.new.links.items ≡ length self.old.links.items }
         ensures kept { kept_by self.new ≡ kept_by self.old }
         ensures sent { AllGoOut self.old.links.items out.now.items self.new.links.items }
+        ensures counts { CountsAll self.old.tally out.now.items self.new.tally }
+        ensures records { self.new.recorder ≡ self.old.recorder }
         ensures failed { self.new.failed ≡ self.old.failed }
     {
         for (conn, message) in out.items.as_slice() {
             self.answers = count_after(self.answers, message);
             count_sent(&mut self.tally, *conn, message);
             if let Some(place) = place_of(&self.links, *conn) {
-                post_at(&mut self.links[place], message, moment);
+                let link = &mut self.links[place];
+                link.open = open_after(link.open, message);
+                send_at(link, message, moment);
             }
         }
     }
@@ -290,42 +295,50 @@ impl<N: Node, R: Read + Device, W: Write + Device> Desk<N, R, W> {
         self.send_all(&reaction.out, moment);
     }
 
-    /// The node is told of a message. Where it refuses that, the connection ends.
-    fn tell_message<P: Wire>(
-        &mut self,
-        place: usize,
-        peer: NodeNo,
-        message: Message,
-        moment: Moment,
-    )
-        requires within { place < length self.old.links.items }
-        requires up { StandsAt self.old.links.items place (Standing.Up peer) }
+    /// The node is told of a message, where a node is up on the connection and that has not ended. Where it refuses the message, the
+    /// connection ends.
+    fn tell_message<P: Wire>(&mut self, place: usize, message: Message, moment: Moment)
+        requires { place < length self.old.links.items }
         ensures tells { Tells N.on_event self.old self.new }
-        ensures says { AtPlace self.old place (λ link. Says N.on_event EndsWhereRefused (event.message link.id message) place link self.old self.new) }
         ensures places { length self.new.links.items ≡ length self.old.links.items }
+        ensures does { AtPlace self.old place (λ link. DoesAct N.on_event place (life.Pass message) link self.old self.new) }
     {
-        let conn = self.links[place].id;
+        let link = &self.links[place];
+        if open_peer(link).is_none() {
+            return;
+        }
+        let conn = link.id;
         let asks = message.header.request;
         let body = kept_body(&message);
-        count_passed(&mut self.tally, conn, &message);
-        record_message(self.alloc, &mut self.recorder, conn, &message);
+        if asks {
+            self.tally.request_came(conn, message.header.hop);
+        }
+        if self.recorder.is_on() {
+            self.recorder.came(self.alloc, conn, &message);
+        }
         let reaction = self.node.on_message::<P>(self.alloc, conn, message);
         end_unless_told(&mut self.links[place], asks, reaction.outcome, moment);
         self.notes
             .answers::<P>(self.alloc, conn, body.as_ref(), &reaction.out);
-        record_reaction(self.alloc, &mut self.recorder, &reaction);
+        if self.recorder.is_on() {
+            record_reaction(self.alloc, &mut self.recorder, &reaction);
+        }
         self.send_all(&reaction.out, moment);
     }
 
-    /// The node is told that its neighbour leaves, for this cause. Where it refuses that, the connection ends.
-    fn tell_leaving(&mut self, place: usize, peer: NodeNo, cause: DisconnectCause, moment: Moment)
-        requires within { place < length self.old.links.items }
-        requires up { StandsAt self.old.links.items place (Standing.Up peer) }
+    /// The node is told that its neighbour leaves, for this cause, where that is up on the connection and the connection has not ended.
+    /// Where it refuses that, the connection ends.
+    fn tell_leaving(&mut self, place: usize, cause: DisconnectCause, moment: Moment)
+        requires { place < length self.old.links.items }
         ensures tells { Tells N.on_event self.old self.new }
-        ensures says { AtPlace self.old place (λ link. Says N.on_event (StandsUnlessRefused link) (event.leaving link.id) place (left_for cause link) self.old self.new) }
         ensures places { length self.new.links.items ≡ length self.old.links.items }
+        ensures does { AtPlace self.old place (λ link. DoesAct N.on_event place (life.PeerLeaves cause) link self.old self.new) }
     {
-        let conn = self.links[place].id;
+        let link = &self.links[place];
+        let Some(peer) = open_peer(link) else {
+            return;
+        };
+        let conn = link.id;
         let reaction = self.node.on_leaving(self.alloc, conn);
         part_at(&mut self.links[place], cause, reaction.outcome, moment);
         self.notes.leaves(conn, peer, cause);
@@ -355,47 +368,22 @@ impl<N: Node, R: Read + Device, W: Write + Device> Desk<N, R, W> {
         self.send_all(&reaction.out, moment);
     }
 
-    /// The node is told that its neighbour is up, where that may come up on the connection. Where it may not, that ends.
+    /// The node is told that its neighbour is up, on a connection of which it was told nothing and which has not ended, where that
+    /// neighbour may come up on it. Where it may not, the connection ends.
     fn greet_waiting(&mut self, place: usize, peer: NodeNo, moment: Moment)
-        requires within { place < length self.old.links.items }
-        requires waits { StandsAt self.old.links.items place Standing.Waiting }
-        ensures tells { Tells N.on_event self.old self.new }
-        ensures places { length self.new.links.items ≡ length self.old.links.items }
-        ensures greets { AtPlace self.old place (λ link. Greets N.on_event place peer link self.old self.new) }
-    {
-        if may_come_up(&self.links[place], peer) {
-            self.tell_up(place, peer, moment);
-        } else {
-            self.end_here(place, End::Unwelcome, moment);
-        }
-    }
-
-    /// An act of the life of a connection. The node is told that its neighbour is up unless the connection has ended, and of a
-    /// message, or that its neighbour leaves, where a node is up on one that has not ended.
-    fn act<P: Wire>(&mut self, place: usize, act: Act, why: End, moment: Moment)
         requires { place < length self.old.links.items }
         ensures tells { Tells N.on_event self.old self.new }
         ensures places { length self.new.links.items ≡ length self.old.links.items }
-        ensures does { AtPlace self.old place (λ link. DoesAct N.on_event place act link self.old self.new) }
+        ensures does { AtPlace self.old place (λ link. DoesAct N.on_event place (life.PeerUp peer) link self.old self.new) }
     {
-        match act {
-            Act::Send(message) => self.send_here(place, &message, moment),
-            Act::PeerUp(peer) => {
-                if is_waiting(&self.links[place]) {
-                    self.greet_waiting(place, peer, moment);
-                }
-            }
-            Act::PeerLeaves(cause) => {
-                if let Some(peer) = open_peer(&self.links[place]) {
-                    self.tell_leaving(place, peer, cause, moment);
-                }
-            }
-            Act::Pass(message) => {
-                if let Some(peer) = open_peer(&self.links[place]) {
-                    self.tell_message::<P>(place, peer, message, moment);
-                }
-            }
-            Act::Drop => self.end_here(place, why, moment),
+        let link = &self.links[place];
+        if !is_waiting(link) {
+            return;
+        }
+        if may_come_up(link, peer) {
+            self.tell_up(place, peer, moment);
+        } else {
+            self.end_here(place, End::Unwelcome, moment);
         }
     }
 
@@ -408,7 +396,13 @@ impl<N: Node, R: Read + Device, W: Write + Device> Desk<N, R, W> {
     {
         let mut acts = acts;
         while let Some(act) = acts.take_first() {
-            self.act::<P>(place, act, why, moment);
+            match act {
+                Act::Send(message) => self.send_here(place, &message, moment),
+                Act::PeerUp(peer) => self.greet_waiting(place, peer, moment),
+                Act::PeerLeaves(cause) => self.tell_leaving(place, cause, moment),
+                Act::Pass(message) => self.tell_message::<P>(place, message, moment),
+                Act::Drop => self.end_here(place, why, moment),
+            }
         }
     }
 

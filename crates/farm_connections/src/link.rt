@@ -4,7 +4,7 @@ ghost use Rattle.std.specs.Prelude.{◌≡◌, ◌==◌, ◌+◌, ◌-◌, ◌^�
 ghost use Rattle.std.specs.List.{list_any};
 ghost use Rattle.farm_connections.specs.Desks.{is_to_be_told, mark_of, peer_of, standing_after};
 ghost use Rattle.farm_connections.specs.Doing.{HasEnded, IsToldOnly, awaits, end_after, left_for, open_peer};
-ghost use Rattle.farm_connections.specs.Sending.{GreetsOn, HasFlushed, IsSentOn};
+ghost use Rattle.farm_connections.specs.Sending.{GreetsOn, HasFlushed, IsSentOn, open_after};
 ghost use Rattle.farm_connections.specs.Turns.{may_come_up, standing_as};
 ghost use Rattle.farm_watch.specs.Table.{after_close, after_tick};
 
@@ -84,20 +84,15 @@ pub(crate) fn end_at<R: Read + Device, W: Write + Device>(
     }
 }
 
-/// A message of the node goes out on the connection, as any other one.
-pub(crate) fn post_at<R: Read + Device, W: Write + Device>(
-    link: &mut Link<R, W>,
-    message: &Message,
-    moment: Moment,
-)
-    ensures mark { mark_of link.new ≡ mark_of link.old }
-    ensures sent { IsSentOn message.now link.old link.new }
-    ensures unanswered { link.new.«open» ≡ (if message.now.header.request then link.old.«open» else link.old.«open» - 1) }
+/// How many requests of a connection the node has not answered once it sends this message on it.
+pub(crate) fn open_after(unanswered: u64, message: &Message) -> u64
+    ensures { result ≡ open_after unanswered message.now }
 {
-    if !message.header.request {
-        link.open = link.open.saturating_sub(1);
+    if message.header.request {
+        unanswered
+    } else {
+        unanswered.saturating_sub(1)
     }
-    send_at(link, message, moment);
 }
 
 /// A message goes out on the connection, unless that has ended. Where it cannot, the connection ends.

@@ -3,14 +3,14 @@
 //! What a node sends at a tick, or when it is woken, is not told here: those are answers of a front's workers, and who has
 //! the workers tells of each with its charge ([`farm_record::Recorded`]).
 
-ghost use Rattle.std.specs.Prelude.{◌≡◌, ◌++◌, codes, false, find, length, true, OnErr, OnOk};
+ghost use Rattle.std.specs.Prelude.{◌≡◌, find, OnErr, OnOk};
 ghost use Rattle.farm_record.specs.Lines.{line_of};
-ghost use Rattle.farm_record.specs.Recording.{Tells, TellsAll, is_of, passed_line, sent_word, takes, turn_line, up_event, with_conns};
+ghost use Rattle.farm_record.specs.Recording.{Tells, TellsAll, is_of, sent_word, up_event, with_conns};
 ghost use Rattle.farm_record.specs.declared.event.Event.TheVariants as Event;
 ghost use Rattle.farm_connections.specs.Recording.{RecordsReaction};
 
 use dia_base::{ConnId, NodeNo};
-use dia_message::{Message, Out};
+use dia_message::Out;
 use farm_node::{NodeError, Reaction};
 use farm_record::Recorder;
 use std::alloc::Global;
@@ -32,24 +32,11 @@ pub fn record_up(
     }
 }
 
-/// The node is told of a message.
-pub fn record_message(alloc: Global, recorder: &mut Recorder, conn: ConnId, message: &Message)
-    ensures told { Tells (passed_line (codes "deliver") conn message.now) (record recorder.old { came_at = recorder.new.came_at }) recorder.new }
-    ensures begins { takes recorder.old ≡ true → recorder.new.is_broken ≡ false → recorder.new.came_at ≡ length (recorder.old.lines.items ++ turn_line recorder.old.names.items recorder.old.turn) }
-{
-    if recorder.is_on() {
-        recorder.came(alloc, conn, message);
-    }
-}
-
 /// The node was told of the message that came last: where it did not take it, it is as it was, and nothing is told of it. Then
 /// what it sends for it.
 pub fn record_reaction(alloc: Global, recorder: &mut Recorder, reaction: &Reaction)
     ensures { RecordsReaction reaction.now.outcome reaction.now.out.items recorder.old recorder.new }
 {
-    if !recorder.is_on() {
-        return;
-    }
     if reaction.outcome.is_err() {
         recorder.refused();
     }

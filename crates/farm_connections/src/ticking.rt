@@ -5,6 +5,7 @@ ghost use Rattle.farm_node.specs.Events as event;
 ghost use Rattle.farm_watch.specs.Numbering.{numbered, numbered_effect};
 ghost use Rattle.farm_watch.specs.Table.{after_close, after_tick};
 ghost use Rattle.farm_connections.specs.Calls.{AllClose, AllTick};
+ghost use Rattle.farm_connections.specs.Counting.{CountsAll};
 ghost use Rattle.farm_connections.specs.Doing.{AtPlace, Closes, EndsOne, EndsUnanswered, GoesAndEnds, IsStill, Lived, Reacts, Ticks, unanswered_by};
 ghost use Rattle.farm_connections.specs.Desks.{Tells, kept_by, marks_of};
 
@@ -191,6 +192,8 @@ impl<N: Node, R: Read + Device, W: Write + Device> Desk<N, R, W> {
     /// What the node does at an event that is of no connection.
     fn react(&mut self, reaction: Reaction, moment: Moment)
         ensures goes { GoesAndEnds reaction.out.items reaction.outcome self.old.links.items self.new.links.items }
+        ensures records { self.new.recorder ≡ self.old.recorder }
+        ensures counts { CountsAll self.old.tally reaction.out.items self.new.tally }
         ensures places { length self.new.links.items ≡ length self.old.links.items }
         ensures kept { kept_by self.new ≡ kept_by self.old }
     {

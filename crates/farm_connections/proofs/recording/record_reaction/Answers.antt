@@ -1,19 +1,9 @@
-use Rattle.std.proofs.Common.{◌≡◌, false, rules, subst, sym, ◌∙◌}
-use Rattle.farm_record.specs.Recording.{TellsAll, sent_word, takes}
+use Rattle.std.proofs.Common.{◌≡◌, rules, subst, sym, ◌∙◌}
+use Rattle.farm_record.specs.Recording.{TellsAll, sent_word}
 use Rattle.farm_connections.specs.Recording.{IsTakenBack, StaysTold}
-use Rattle.farm_connections.proofs.Untold.{all_untold, stays_off, stays_told, taken_back}
+use Rattle.farm_connections.proofs.Untold.{stays_told, taken_back}
 use Rattle.farm_connections.proofs.recording.record_reaction.Goals as goal
 use Rattle.farm_connections.proofs.recording.record_reaction.Goals.{else-is_err, then-is_err}
-
-pub returns-then-not-is_on : goal.returns-then-not-is_on
-returns-then-not-is_on c =
-    let off = c.args.recorder.now in
-    let is : takes off ≡ false = sym c.is_on.ensures ∙ c.if-not-is_on.true in
-    record {
-      mid = off;
-      stays = stays_off c.args.reaction.now.outcome off is;
-      sends = all_untold (sent_word off.is_client) off c.args.reaction.now.out.items is;
-    }
 
 pub returns : goal.returns
 returns c =

@@ -4,7 +4,7 @@ use Rattle.farm_watch.specs.Table.{Connection, after_message}
 use Rattle.farm_watch.specs.declared.watch.Waits.{Waits}
 use Rattle.farm_connections.specs.declared.desk.Desk.{Desk}
 use Rattle.farm_connections.specs.declared.link.Link.{Link}
-use Rattle.farm_connections.specs.Desks.{kept_by}
+use Rattle.farm_connections.specs.Desks.{account_of, kept_by}
 use Rattle.farm_connections.specs.Naming.{awaited, misnamed}
 use Rattle.farm_connections.specs.Turns.{Mark}
 use Rattle.farm_connections.proofs.Placing.{keeping, same_marks, same_read}
@@ -27,10 +27,10 @@ same_links g c = elim c.if-asks_who_is_up.branch [
   | else-asks_who_is_up w ↦ ap (λ (desk : Desk _ _ _). desk.links) w.self-is
 ]
 
-same_node : (g : _) → (c : Joined-asks_who_is_up g) → c.if-asks_who_is_up.self.node ≡ c.args.self.now.node
-same_node g c = elim c.if-asks_who_is_up.branch [
-  | then-asks_who_is_up w ↦ ap (λ (desk : Desk _ _ _). desk.node) w.self-is
-  | else-asks_who_is_up w ↦ ap (λ (desk : Desk _ _ _). desk.node) w.self-is
+same_account : (g : _) → (c : Joined-asks_who_is_up g) → account_of c.if-asks_who_is_up.self ≡ account_of c.args.self.now
+same_account g c = elim c.if-asks_who_is_up.branch [
+  | then-asks_who_is_up w ↦ ap (λ (desk : Desk _ _ _). account_of desk) w.self-is
+  | else-asks_who_is_up w ↦ ap (λ (desk : Desk _ _ _). account_of desk) w.self-is
 ]
 
 -- the node that the answer does not name is not welcome
@@ -46,7 +46,7 @@ kept_out g c = elim c.if-asks_who_is_up.branch [
 pub returns-in_default-clause-heard : goal.returns-in_default-clause-heard
 returns-in_default-clause-heard g c = λ link read.
     let same = same_read c.args.self.now.links.items c.args.place c.index-link.result.now link c.requires c.index-link.ensures read in
-    (unheard_nowhere _ (site_there c.index-link.result.now link c.args.locals.now _ same c.in_default.ensures), record { node_is = refl; links_are = refl })
+    (unheard_nowhere _ (site_there c.index-link.result.now link c.args.locals.now _ same c.in_default.ensures), record { account_is = refl; links_are = refl })
 
 pub returns-in_default-unwelcome-clause-kept : goal.returns-in_default-unwelcome-clause-kept
 returns-in_default-unwelcome-clause-kept g c = kept_so_far g (goal.at.returns-in_default-unwelcome-clause-kept g c).Joined-asks_who_is_up
@@ -54,7 +54,7 @@ returns-in_default-unwelcome-clause-kept g c = kept_so_far g (goal.at.returns-in
 pub returns-in_default-unwelcome-clause-heard : goal.returns-in_default-unwelcome-clause-heard
 returns-in_default-unwelcome-clause-heard g c = λ link read.
     let same = same_read c.args.self.now.links.items c.args.place c.index-link.result.now link c.requires c.index-link.ensures read in
-    (unheard_here _ _ _ (site_there c.index-link.result.now link c.args.locals.now _ same c.in-Some.ensures) refl, record { node_is = same_node g (goal.at.returns-in_default-unwelcome-clause-heard g c).Joined-asks_who_is_up; links_are = ap (λ links. links.items) (same_links g (goal.at.returns-in_default-unwelcome-clause-heard g c).Joined-asks_who_is_up) })
+    (unheard_here _ _ _ (site_there c.index-link.result.now link c.args.locals.now _ same c.in-Some.ensures) refl, record { account_is = same_account g (goal.at.returns-in_default-unwelcome-clause-heard g c).Joined-asks_who_is_up; links_are = ap (λ links. links.items) (same_links g (goal.at.returns-in_default-unwelcome-clause-heard g c).Joined-asks_who_is_up) })
 
 pub returns-in-Ok-on_message-clause-kept : goal.returns-in-Ok-on_message-clause-kept
 returns-in-Ok-on_message-clause-kept g c =
@@ -86,7 +86,7 @@ returns-in-Ok-on_message-clause-heard g c = λ link read.
       kept_at seen link site c.args.message c.in-Ok.unwelcome.items nodes there c.deref-2.ensures.value out,
       record {
         acts_are = c.in-Ok-on_message.ensures.acts ∙ ap (λ (l : Link _ _). (after_message site nodes c.args.moment c.args.message l.watch).acts) same;
-        node_is = same_node g joined;
+        account_is = same_account g joined;
         links_are = ap (λ links. slice_set links.items c.args.place (record here { watch = c.on_message.new.self })) (same_links g joined)
             ∙ lives_on (λ (watch : Connection). after_message site nodes c.args.moment c.args.message watch) old.links.items c.args.place here link
             c.on_message.new.self same c.in-Ok-on_message.ensures.next;
@@ -103,7 +103,7 @@ returns-clause-heard g c = λ link read.
     let there = same_read old.links.items c.args.place seen link c.requires c.index-link.ensures read in (
       unheard_here _ _ _ (site_there seen link c.args.locals.now _ there c.in-Some.ensures) refl,
       record {
-        node_is = same_node g joined;
+        account_is = same_account g joined;
         links_are = ap (λ links. slice_set links.items c.args.place next) (same_links g joined)
             ∙ stays_here old.links.items c.args.place here next (ap (λ (watch : Connection). record here { watch = watch }) c.in-Err.ensures.err) before;
       },

@@ -22,12 +22,12 @@ returns-in-Err-clause-tells g c = no_way _ _ (c.end_here.ensures.kept ∙ c.acts
 pub returns-then-is_some-clause-closes : goal.returns-then-is_some-clause-closes
 returns-then-is_some-clause-closes g c = λ link read.
     let same = same_read c.args.self.now.links.items c.args.place c.index-link.result.now link c.requires c.index-link.ensures read in
-    is_over (subst (λ (l : Link _ _). is_some l.end ≡ true) same (sym c.is_some.ensures ∙ c.if-is_some.true)) (record { node_is = refl; links_are = refl })
+    is_over (subst (λ (l : Link _ _). is_some l.end ≡ true) same (sym c.is_some.ensures ∙ c.if-is_some.true)) (record { account_is = refl; links_are = refl })
 
 pub returns-in_default-clause-closes : goal.returns-in_default-clause-closes
 returns-in_default-clause-closes g c = λ link read.
     let same = same_read c.args.self.now.links.items c.args.place c.index-link.result.now link c.requires c.index-link.ensures read in
-    is_nowhere (site_there c.index-link.result.now link c.args.locals.now _ same c.in_default.ensures) (record { node_is = refl; links_are = refl })
+    is_nowhere (site_there c.index-link.result.now link c.args.locals.now _ same c.in_default.ensures) (record { account_is = refl; links_are = refl })
 
 pub returns-in-Ok-clause-closes : goal.returns-in-Ok-clause-closes
 returns-in-Ok-clause-closes g c = λ link read.

@@ -15,7 +15,7 @@ returns-in-Err-clause-tells g c = no_way _ _ (c.end_here.ensures.kept ∙ c.acts
 pub returns-then-is_some-clause-hears : goal.returns-then-is_some-clause-hears
 returns-then-is_some-clause-hears g c = λ link read.
     let same = same_read c.args.self.now.links.items c.args.place c.index-link.result.now link c.requires c.index-link.ensures read in
-    is_deaf (subst (λ (l : Link _ _). is_some l.end ≡ true) same (sym c.is_some.ensures ∙ c.if-is_some.true)) (record { node_is = refl; links_are = refl })
+    is_deaf (subst (λ (l : Link _ _). is_some l.end ≡ true) same (sym c.is_some.ensures ∙ c.if-is_some.true)) (record { account_is = refl; links_are = refl })
 
 pub returns-in-Ok-clause-hears : goal.returns-in-Ok-clause-hears
 returns-in-Ok-clause-hears g c = λ link read.

@@ -33,7 +33,7 @@ returns-then-is_some-clause-brings g c =
     let same = same_read links place c.index.result.now link within c.index.ensures read in (
       c.in-Some.ensures.number link (subst (λ ls. link ≡ get_or ls place link) (sym seen) read),
       where_over _ _ link.end (subst (λ (l : Link _ _). is_some l.end ≡ true) same (sym c.is_some.ensures ∙ c.if-is_some.true))
-          (record { node_is = refl; links_are = refl }),
+          (record { account_is = refl; links_are = refl }),
     ))
 
 pub loop-message-init : goal.loop-message-init

@@ -22,12 +22,12 @@ returns-in-Err-clause-tells g c = no_way _ _ c.acts_at_tick.ensures.kept
 pub returns-then-is_some-clause-ticks : goal.returns-then-is_some-clause-ticks
 returns-then-is_some-clause-ticks g c = λ link read.
     let same = same_read c.args.self.now.links.items c.args.place c.index-link.result.now link c.requires c.index-link.ensures read in
-    is_gone (subst (λ (l : Link _ _). is_some l.end ≡ true) same (sym c.is_some.ensures ∙ c.if-is_some.true)) (record { node_is = refl; links_are = refl })
+    is_gone (subst (λ (l : Link _ _). is_some l.end ≡ true) same (sym c.is_some.ensures ∙ c.if-is_some.true)) (record { account_is = refl; links_are = refl })
 
 pub returns-in_default-clause-ticks : goal.returns-in_default-clause-ticks
 returns-in_default-clause-ticks g c = λ link read.
     let same = same_read c.args.self.now.links.items c.args.place c.index-link.result.now link c.requires c.index-link.ensures read in
-    is_nowhere (site_there c.index-link.result.now link c.args.locals.now _ same c.in_default.ensures) (record { node_is = refl; links_are = refl })
+    is_nowhere (site_there c.index-link.result.now link c.args.locals.now _ same c.in_default.ensures) (record { account_is = refl; links_are = refl })
 
 pub returns-in-Ok-clause-ticks : goal.returns-in-Ok-clause-ticks
 returns-in-Ok-clause-ticks g c = λ link read.
